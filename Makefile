@@ -189,7 +189,7 @@ kernel:
 
 conform:
 	@scripts/need number python
-	@python3 -BS scripts/lanes.py --plan check_cli fixcheck fx_judge_c libfx_judge_c.x86_64.a
+	@scripts/run scripts.lanes --plan check_cli fixcheck fx_judge_c libfx_judge_c.x86_64.a
 	@scripts/build-program check_cli fixcheck
 	@scripts/build-libraries yachtjudge || true
 	@kernel/conform --scripts "$${N:-500}"

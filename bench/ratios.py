@@ -49,7 +49,7 @@ def read_kept(lines):
         yield title(name, int(threads)), {table: [float(it) for it in times.split()] for table, times in pairs}
 
 
-if __name__ == "__main__":
+def command():
     if sys.argv[1:2] == ["--keep"]:
         keep(sys.stdin, sys.argv[2].split(","))
     else:

@@ -3,14 +3,11 @@
 import glob
 import os
 import subprocess
-import sys
 from typing import NamedTuple
 
 from scripts.programs import given_time, run
 from scripts.repository import BUILD, ROOT
 
-# where the reader of logs is: in the repository, in the archive, and once installed
-PYTHON = ("bindings/python", "python", "../../share/yachtbanyan/python")
 RECORDER = os.path.join(BUILD, "record-in-flight")
 
 
@@ -32,7 +29,6 @@ RULES = {
 
 def judge():
     """Returns the reader of logs, or what is missing to judge them."""
-    sys.path += [os.path.join(ROOT, it) for it in PYTHON]
     try:
         import yachtjudge  # noqa: F401, to see whether its library is there
         import yachtlog

@@ -4,9 +4,6 @@ import os
 import re
 import sys
 
-if __name__ == "__main__":
-    sys.path.insert(1, f"{sys.path[0]}/..")
-
 from scripts.pages import anchors
 from scripts.repository import ROOT, read, write
 
@@ -96,5 +93,5 @@ def main(folder, is_arm):
     return 0
 
 
-if __name__ == "__main__":
-    sys.exit(main(sys.argv[-1], "--arm" in sys.argv[1:-1]))
+def command():
+    return main(sys.argv[-1], "--arm" in sys.argv[1:-1])

@@ -10,9 +10,6 @@ import re
 import subprocess
 import sys
 
-if __name__ == "__main__":
-    sys.path.insert(1, f"{sys.path[0]}/..")
-
 from scripts.repository import read
 
 # the number of cases of each check, and how many times it there may be if it is "about" so many
@@ -137,5 +134,5 @@ def main(name, seen, wrong, *left_out):
     return last_line(name, int(seen), int(wrong), left_out=[(int(count), tool) for count, _, tool in pairs])
 
 
-if __name__ == "__main__":
-    sys.exit(main(*sys.argv[1:]))
+def command():
+    return main(*sys.argv[1:])

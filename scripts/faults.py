@@ -3,9 +3,6 @@ what is expected there, and exits with status 3, as fixfiles does."""
 import re
 import sys
 
-if __name__ == "__main__":
-    sys.path.insert(1, f"{sys.path[0]}/..")
-
 from model.model import COMMANDS, ENTRIES, FILE_BYTES, LARGEST, LARGEST_TAG, LONGEST_LINE, LONGEST_SCRIPT, MAY_HAVE, OPENS, REQUESTS
 from model.model import Fault, Script, entry, link, tags
 from scripts.repository import read
@@ -149,5 +146,5 @@ def main(path):
     return BAD_SCRIPT
 
 
-if __name__ == "__main__":
-    sys.exit(main(sys.argv[1]))
+def command():
+    return main(sys.argv[1])

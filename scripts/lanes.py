@@ -19,9 +19,6 @@ import sys
 import tempfile
 import time
 
-if __name__ == "__main__":
-    sys.path.insert(1, f"{sys.path[0]}/..")
-
 from scripts import refusals
 from scripts.crate_times import KEPT, UNMEASURED, behind, crates, expected, in_words, measured, needed, static_libraries
 from scripts.proved import copy_below, take_back
@@ -265,6 +262,6 @@ def main(root, name):
     return 1
 
 
-if __name__ == "__main__":
+def command():
     os.chdir(ROOT)
-    sys.exit(plan(sys.argv[2:]) if sys.argv[1] == "--plan" else main(*sys.argv[1:]))
+    return plan(sys.argv[2:]) if sys.argv[1] == "--plan" else main(*sys.argv[1:])

@@ -65,5 +65,5 @@ def main(path):
     print("\n".join((complaints(lines) or [f"The end of {path}:", *lines[-20:]])[:20]), file=sys.stderr)
 
 
-if __name__ == "__main__":
+def command():
     main(sys.argv[1])

@@ -1,7 +1,5 @@
-"""Finds, reads and writes the files of this repository, and loads its commands as modules."""
+"""Finds, reads and writes the files of this repository."""
 import glob
-import importlib.machinery
-import importlib.util
 import os
 
 ROOT = os.path.dirname(os.path.dirname(os.path.abspath(__file__)))
@@ -64,12 +62,3 @@ def kept_beside(path, ending):
     """Returns the text of another file of a script's name, or nothing if it doesn't exist."""
     file = path.removesuffix("script") + ending
     return read(file) if os.path.exists(os.path.join(ROOT, file)) else ""
-
-
-def module(path):
-    """Returns a command, by its path from the top, as a module."""
-    name = os.path.basename(path).replace("-", "_")
-    loader = importlib.machinery.SourceFileLoader(name, os.path.join(ROOT, path))
-    made = importlib.util.module_from_spec(importlib.util.spec_from_loader(loader.name, loader))
-    loader.exec_module(made)
-    return made

@@ -3,7 +3,7 @@ hand. tests/check-conform looks at them."""
 from collections import Counter
 
 from scripts.listing import Listing, kept
-from scripts.repository import module, read_bytes
+from scripts.repository import read_bytes
 
 QUESTION = "examples/questions/open_any_beside_a_close"
 SHARED = "register 0; 1.1.1 close 0: 0; closed r1.0 old.txt"
@@ -81,7 +81,8 @@ def complaints_of_players(litmus):
 
 def complaints_of_litmus(fixcheck):
     """Yields for each row whether litmus reports it so, and a complaint."""
-    litmus = module("kernel/litmus")
+    from kernel import litmus
+
     yield from complaints_of_players(litmus)
     for what, script, found, kernel, workers, shared, texts, sums, is_wrong in rows():
         counts = {"kernel": Counter(kernel), "16 workers": Counter(workers)}

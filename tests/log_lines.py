@@ -1,4 +1,4 @@
-"""log_lines.py FOLDER: rows for bindings/python/yachtlog.py in a folder: what is a log, the faults of a text, arguments and exit statuses.
+"""log_lines: rows for the module yachtlog, which is found in PYTHONPATH first: what is a log, the faults of a text, arguments and exit statuses.
 Each row was derived by hand from docs/inside/FLIGHT.md. Prints each wrong row, and their number. tests/check-flights runs it on the modules and
 on wrong ones (WRONG), each of which must fail."""
 import contextlib
@@ -337,8 +337,7 @@ def count():
     return len(ROWS) + len(ARGUMENTS) + len(LACKING)
 
 
-def main(folder):
-    sys.path.insert(0, folder)
+def command():
     import yachtlog
 
     with tempfile.TemporaryDirectory() as room:
@@ -346,7 +345,3 @@ def main(folder):
     for it in wrong:
         print(*map(repr, it))
     print(f"log_lines: {count()} looked at, {len(wrong)} wrong")
-
-
-if __name__ == "__main__":
-    main(sys.argv[1])

@@ -6,8 +6,6 @@ import os
 import re
 import sys
 
-sys.path.insert(1, f"{sys.path[0]}/..")
-
 from model.model import play
 
 PART, NO_IO_URING = 2048, 77
@@ -65,7 +63,7 @@ def main(kind):
     return 0
 
 
-if __name__ == "__main__":
+def command():
     with open(os.environ["PID_FILE"], "w", encoding="utf-8") as file:
         file.write(str(os.getpid()))
-    sys.exit(main(sys.argv[1]))
+    return main(sys.argv[1])

@@ -4,10 +4,8 @@ import re
 import sys
 import time
 
-if __name__ == "__main__":
-    sys.path.insert(1, f"{sys.path[0]}/..")
-
 from model.model import ECANCELED, EBADF, Player, Script, completion_line, play, severs
+from scripts.repository import read_bytes
 
 # the number of random scripts
 RANDOM = 20
@@ -53,8 +51,7 @@ class Concurrent(Player):
 
 
 def example(name):
-    with open(f"{sys.path[0]}/../examples/{name}.script", "rb") as file:
-        return file.read()
+    return read_bytes(f"examples/{name}.script")
 
 
 def drawn(shape):
@@ -91,5 +88,5 @@ def play_as(what, is_async):
     return 0
 
 
-if __name__ == "__main__":
-    sys.exit(play_as(sys.argv[1], "--async" in sys.argv[2:]))
+def command():
+    return play_as(sys.argv[1], "--async" in sys.argv[2:])

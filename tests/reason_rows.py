@@ -225,7 +225,7 @@ def count():
     return sum(1 + len(others) for _, _, others in ROWS)
 
 
-if __name__ == "__main__":
+def command():
     for it in wrong_rows():
         print(*it)
     print(count())

@@ -493,8 +493,8 @@ def complaint(text, facts, tags=False):
     return "" if is_strict and before == after else "the last step has no point before itself"
 
 
-if __name__ == "__main__":
+def command():
     with open(sys.argv[1], encoding="latin-1") as log, open(sys.argv[2], encoding="ascii") as given:
         wrong = complaint(log.read(), json.load(given))
     print(wrong, end="\n" if wrong else "")
-    sys.exit(bool(wrong))
+    return bool(wrong)

@@ -1,5 +1,5 @@
 # Counts the cases of a check in bash, which sets its name, `check`, and a folder, `room`. It ends
-# by `scripts/checks.py "$check" "$looked" "$wrong" "${left[@]}"`.
+# by `scripts/run scripts.checks "$check" "$looked" "$wrong" "${left[@]}"`.
 
 looked=0 wrong=0 left=()
 

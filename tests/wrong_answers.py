@@ -14,7 +14,8 @@ from kernel.kernels import AGREES
 from model.model import Script, play
 from scripts.programs import LEGAL, NOT_LEGAL, UNDECIDED, run, verdict
 from model.replay import replayed
-from scripts.repository import ROOT, module, read, read_bytes, scripts_of, text_beside
+from scripts.repository import ROOT, read, read_bytes, scripts_of, text_beside
+from tests.check_verdicts import verdicts_of
 from tests.spoiled_lines import Spoiled
 from model.told_history import complaint_of
 
@@ -175,7 +176,7 @@ def names_told():
 
 def unordered(fixcheck):
     """Of the lines that have no order each left out, and each other line of the text named beside them."""
-    for script, text, *_ in module("tests/check-verdicts").verdicts_of(os.path.join(ROOT, UNORDERED)):
+    for script, text, *_ in verdicts_of(os.path.join(ROOT, UNORDERED)):
         text = text.decode()
         said = verdict(fixcheck, script, text)[1]
         if contradictions.SAYS not in said[0] or contradictions.FEWER.search(said[0]):
@@ -190,7 +191,7 @@ def unordered(fixcheck):
 
 def beside_closes(fixcheck):
     """Of lines that have no order if no other file is closed, each left out: an order gives the others."""
-    for script, text, *_ in module("tests/check-verdicts").verdicts_of(os.path.join(ROOT, UNORDERED)):
+    for script, text, *_ in verdicts_of(os.path.join(ROOT, UNORDERED)):
         said = verdict(fixcheck, script, text.decode())[1]
         if contradictions.CLOSES_NO_OTHER not in said[0] or contradictions.CANCELS in said[0] or len(said) < 3:
             continue

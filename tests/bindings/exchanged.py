@@ -1,4 +1,4 @@
-"""exchanged.py FOLDER TO: copies the libraries of a folder for ARM64. In a copy each store with release is an exchange: `stlr x, [y]`
+"""exchanged FOLDER TO: copies the libraries of a folder for ARM64. In a copy each store with release is an exchange: `stlr x, [y]`
 is `swpal x, xzr, [y]`. qemu-aarch64 7.2 on x86-64 lets a load pass an earlier `stlr`, which ARM64 forbids (store_load.c), and no
 `swpal`. It prints the number of stores of each library."""
 import shutil
@@ -49,5 +49,5 @@ def main(folder, to):
         shutil.copymode(path, Path(to) / path.name)
 
 
-if __name__ == "__main__":
+def command():
     main(*sys.argv[1:])

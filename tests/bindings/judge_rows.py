@@ -12,12 +12,11 @@ from pathlib import Path
 
 import yachtjudge
 import yachtlog
+from model import flight_states
 from rows import end, raised, raises, want
 from yachtjudge import BadEvent, BadScript, LogVerdict, NoMemory, Outcomes, Verdict, judge, judge_events, outcomes
 
 ROOT = Path(__file__).resolve().parents[2]
-sys.path.insert(1, str(ROOT))
-from model import flight_states
 
 WORDS = ["legal", "not legal", "undecided"]
 # the names of the faults and flaws by number, as docs/inside/FLIGHT.md and the header have them

@@ -1,17 +1,12 @@
 """Rows for yachtjudge.judge_events, explain_events and yachtevents that only Python has (judge_rows.py has the others), each derived by hand:
 numbers of calls, tags, the caller's own events, the reason of a log, what is raised, and the structs that an event and a request become."""
-import sys
-from pathlib import Path
-
 import yachtevents
 import yachtjudge
 import yachtlog
-from rows import end, raises, want
-from yachtjudge import LogVerdict, Point, Step, explain_events, judge_events
-
-sys.path.insert(1, str(Path(__file__).resolve().parents[2]))
 from model import flight_states
+from rows import end, raises, want
 from tests import reasons
+from yachtjudge import LogVerdict, Point, Step, explain_events, judge_events
 
 HEAD = "file a 61\nfile b 6262\ncall 1 sparse 2\ndone 1.1 0\n"
 

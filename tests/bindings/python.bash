@@ -4,7 +4,7 @@
 module=bindings/python
 
 python() {
-    PYTHONDONTWRITEBYTECODE=1 PYTHONPATH=$module YACHTBANYAN_LIB_DIR=${library-lib} python3 -B "$@"
+    PYTHONDONTWRITEBYTECODE=1 PYTHONPATH=$module:$PWD YACHTBANYAN_LIB_DIR=${library-lib} python3 -B "$@"
 }
 
 # the examples, by their numbers of result lines, of lists and of faults

@@ -5,8 +5,6 @@ from pathlib import Path
 
 import yachtjudge
 import yachtlog
-
-sys.path.insert(1, str(Path(__file__).resolve().parents[2]))
 from tests import reasons
 
 NONE = 2

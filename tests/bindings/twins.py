@@ -1,4 +1,4 @@
-"""twins.py NUMBER FOLDER..: checks the programs in the documentation of Rust sources that must not compile. Each must be followed by one
+"""twins NUMBER FOLDER..: checks the programs in the documentation of Rust sources that must not compile. Each must be followed by one
 that must, and that differs from it by one token. Then nothing but this token is what the compiler refuses. There must be NUMBER of them."""
 import pathlib
 import re
@@ -49,5 +49,5 @@ def main(number, *folders):
     return 1 if wrong else 0
 
 
-if __name__ == "__main__":
-    sys.exit(main(int(sys.argv[1]), *sys.argv[2:]))
+def command():
+    return main(int(sys.argv[1]), *sys.argv[2:])

@@ -1,0 +1,121 @@
+"""measure-logs [CALLS [COUNT]]: measures how long the verified judge takes for logs of calls in flight, and what it finds.
+
+For each number of open calls it prints the CPU seconds of a legal log of CALLS calls, those of a log that was spoiled near its end, their
+ratio, and the steps of the reason with their CPU seconds; then those of a spoiled log of 480,000 calls; then those of two legal logs, of
+60,000 calls, which the oracle (model/flight_states.py) judges too, and of eight times as many; then, of COUNT spoiled logs of 500
+calls for each way, the numbers of logs that are legal, not legal and undecided, and of those not legal that have a reason.
+
+With --targets the exit status is 1 if a ratio is above 2, if the log of 480,000 calls takes more than 10 CPU seconds, or if fewer than
+95 % of the logs of a way that are not legal have a reason, and each of these is printed. Else it only measures."""
+import collections
+import time
+
+from scripts.checks import arguments
+from model import flight_states
+from model.flight_logs import WAYS, Log, spoiled
+import yachtjudge
+import yachtlog
+
+# the numbers of open calls, and where a log is spoiled
+OPEN, NEAR_END = range(3, 9), 0.9
+LONG_CALLS, LONG_OPEN = 480_000, 6
+# the calls of a legal log, how many of them are open, and how many times as many the other one has
+LEGAL_CALLS, LEGAL_OPEN, TIMES = 60_000, 5, 8
+SLOTS = 4
+# what --targets wants: the largest ratio, the most CPU seconds of the long log, and the least share
+# of the logs with a reason, in percent
+RATIO, SECONDS, SHARE = 2, 10, 95
+
+
+class Judged:
+    """The verdict on a log, the reason of one that is not legal, and the CPU seconds that each took."""
+
+    def __init__(self, lines):
+        self.log = yachtlog.Log("\n".join(lines) + "\n")
+        self.verdict, self.seconds = self.timed(yachtjudge.judge_events, self.log)
+        self.word = self.verdict.word
+        self.steps, self.reason_seconds = (), 0.0
+        if self.word == "not legal":
+            self.steps, self.reason_seconds = self.timed(yachtjudge.explain_events, self.log, self.verdict.line)
+
+    def timed(self, function, *given):
+        began = time.process_time()
+        found = function(*given)
+        return found, time.process_time() - began
+
+    def reason(self):
+        return f"{len(self.steps)} steps {self.reason_seconds:.2f}"
+
+
+class Targets:
+    """The targets, and those that are missed."""
+
+    def __init__(self):
+        self.missed = []
+
+    def want(self, holds, what):
+        if not holds:
+            self.missed.append(what)
+
+
+def rows(calls, targets):
+    for width in OPEN:
+        lines = Log(calls, width, SLOTS, 0, width).lines
+        legal, wrong = Judged(lines), Judged(spoiled(lines, "stale", NEAR_END))
+        ratio = wrong.seconds / legal.seconds
+        print(f"{calls} calls, {width} open: {legal.word} {legal.seconds:.2f}, {wrong.word} {wrong.seconds:.2f}, ratio {ratio:.2f}; {wrong.reason()}")
+        targets.want((legal.word, wrong.word) == ("legal", "not legal") and ratio <= RATIO, f"ratio {ratio:.2f} at {width} open calls")
+
+
+def long_row(targets):
+    lines = spoiled(Log(LONG_CALLS, LONG_OPEN, SLOTS, 0, 1).lines, "stale", NEAR_END)
+    it = Judged(lines)
+    print(f"{LONG_CALLS} calls, {LONG_OPEN} open, {len(lines)} lines: {it.word} {it.seconds:.2f}; {it.reason()}")
+    targets.want(it.word == "not legal" and it.seconds <= SECONDS, f"{it.seconds:.2f} s for {LONG_CALLS} calls")
+
+
+def legal_rows():
+    """Prints how long a legal log takes, and the oracle on it, and a log of more calls."""
+    def lines_of(calls):
+        return Log(calls, LEGAL_OPEN, SLOTS, 0, 1).lines
+
+    lines, more = lines_of(LEGAL_CALLS), lines_of(TIMES * LEGAL_CALLS)
+    few, many = Judged(lines), Judged(more)
+    began = time.process_time()
+    found = flight_states.judged(few.log)
+    oracle = time.process_time() - began
+    print(f"{LEGAL_CALLS} calls, {LEGAL_OPEN} open, {len(lines)} lines: {few.word} {few.seconds:.2f}, the oracle {found.word} {oracle:.2f}, "
+          f"ratio {few.seconds / oracle:.3f}")
+    print(f"{TIMES * LEGAL_CALLS} calls, {LEGAL_OPEN} open, {len(more)} lines: {many.word} {many.seconds:.2f}, ratio {many.seconds / few.seconds:.1f}")
+
+
+def shares(count, targets):
+    for way in WAYS:
+        words = collections.Counter()
+        for seed in range(1, count + 1):
+            width, slots = 3 + seed % 5, 1 + seed % 6
+            settle = 100 if way == "lost" or seed % 3 == 0 else 0
+            lines = spoiled(Log(500, width, slots, settle, seed).lines, way, (3 + seed % 6) / 10)
+            if lines:
+                it = Judged(lines)
+                words[it.word] += 1
+                words["with a reason"] += bool(it.steps)
+        print(f"{way}: {dict(words)}")
+        targets.want(words["with a reason"] * 100 >= SHARE * words["not legal"], f"{words['with a reason']} reasons of {words['not legal']}: {way}")
+
+
+def main(asked):
+    targets = Targets()
+    rows(asked.calls, targets)
+    long_row(targets)
+    legal_rows()
+    shares(asked.count, targets)
+    if not asked.targets:
+        return 0
+    for what in targets.missed:
+        print(f"missed: {what}")
+    return bool(targets.missed)
+
+
+def command():
+    return main(arguments(__doc__, flags="targets", numbers={"calls": 5_000, "count": 60}))

@@ -1,0 +1,222 @@
+"""declare-core [--check]: writes the declarations of the core's exports for C and Rust, from the sources of fx_server_c and fx_server:
+bindings/c/core.h and bindings/rust/src/access/exports.rs; the functions and the limits of yachtbanyan(3) and yachtdirect(3), from the
+headers; and the numbers of the table of docs/use/LIMITS.md, from the constants that its rows name. With --check it writes nothing, prints
+each of these files that differs, and ends with status 1 if one does."""
+import re
+
+from scripts.checks import arguments
+from tests.page_numbers import constant
+from scripts.repository import ROOT, read, write
+
+WIDTH = 100
+SOURCE = "crates/fx_server_c/src/exports.rt"
+CODES = "crates/fx_server/src/codes.rt"
+LIMITS = "docs/use/LIMITS.md"
+# each type of a parameter for C and Rust; `Global` has no bytes, and a slice is two parameters
+TYPES = {
+    "u32": ("uint32_t ", "u32"),
+    "u64": ("uint64_t ", "u64"),
+    "Handle": ("yacht_core ", "Core"),
+    "&mut Handle": ("yacht_core *", "*mut Core"),
+    "&mut u64": ("uint64_t *", "*mut u64"),
+    "&mut CoreOutcome": ("yacht_outcome *", "*mut Outcome"),
+}
+
+
+class Export:
+    def __init__(self, name, given, result):
+        self.name, self.result, self.parameters = name, result, []
+        for it in re.findall(r"(\w+): ([^,\n]+)", given):
+            self.add(*it)
+
+    def add(self, name, kind):
+        if kind == "Global":
+            return
+        if kind == "&mut [WorkerPlace]":
+            self.parameters += [(name, "yacht_core *", "*mut Core"), ("count", "size_t ", "usize")]
+        else:
+            self.parameters.append((name, *TYPES[kind]))
+
+    def for_c(self):
+        """Returns its declaration in lines of at most 100 columns."""
+        head = f"{'int64_t' if self.result else 'void'} {self.name}("
+        lines, line = [], head
+        for at, (name, kind, _) in enumerate(self.parameters):
+            word = f"{kind}{name}" + (");" if at == len(self.parameters) - 1 else ",")
+            space = "" if line.endswith("(") or not line.strip() else " "
+            if len(line + space + word) > WIDTH:
+                lines.append(line)
+                line, space = " " * len(head), ""
+            line += space + word
+        return "\n".join([*lines, line])
+
+    def for_rust(self):
+        """Returns its declaration as rustfmt lays it out."""
+        given = [f"{name}: {kind}" for name, _, kind in self.parameters]
+        result = " -> i64" if self.result else ""
+        line = f"    pub(crate) fn {self.name}({', '.join(given)}){result};"
+        if len(line) <= WIDTH:
+            return line
+        return "\n".join([f"    pub(crate) fn {self.name}(", *(f"        {it}," for it in given), f"    ){result};"])
+
+    def same_type(self):
+        """Returns a line that the compiler refuses unless the stand-in has the same function."""
+        result = " -> i64" if self.result else ""
+        kinds = ", ".join(kind for *_, kind in self.parameters)
+        line = f"    let _: unsafe fn({kinds}){result} = stand_in::{self.name};"
+        if len(line) <= WIDTH:
+            return line
+        return f"    let _: unsafe fn({kinds}){result} =\n        stand_in::{self.name};"
+
+
+def exports():
+    found = re.findall(r'extern "C" fn (\w+)\((.*?)\)(?: -> (\w+))?\s*(?=requires|ensures|\{)', read(SOURCE), re.S)
+    return [Export(*it) for it in found]
+
+
+def documented(text, pattern):
+    """Returns what a pattern finds, each after the text of its description."""
+    found = re.findall(rf"((?:^ *///.*\n)+) *{pattern}", text, re.M)
+    return [(" ".join(re.findall(r"/// (.*)", words)), *rest) for words, *rest in found]
+
+
+def codes():
+    return documented(read(CODES), r"pub const (\w+): i64 = ([-\d]+);")
+
+
+def fields():
+    struct = re.search(r"pub struct CoreOutcome \{\n(.*?)\n\}", read("crates/fx_server/src/answers.rt"), re.S)[1]
+    return documented(f"{struct}\n", r"pub (\w+): u64,")
+
+
+def folded(words, first, rest, width=WIDTH):
+    """Returns a text in lines of at most 100 columns."""
+    lines, line = [], first
+    for word in words.split():
+        if len(line) + len(word) + (not line.endswith(" ")) > width:
+            lines.append(line.rstrip())
+            line = rest
+        line += word if line.endswith(" ") else f" {word}"
+    return "\n".join([*lines, line])
+
+
+def for_c():
+    about = f"""The C interface of the verified core, for this library alone: the shared library does not export its functions. There is one
+for each call that a user makes; {SOURCE} describes each. In the core's words a value is a file. The functions return the numbers of
+yachtbanyan.h: where that says YACHT_DROPPED, the core has returned the tag of a value that nobody uses any more. scripts/declare-core
+writes this file."""
+    members = "\n".join(f"{folded(words + ' */', '    /* ', '     * ')}\n    uint64_t {name};" for words, name in fields())
+    return f"""{folded(about + " */", "/* ", " * ")}
+#ifndef YACHT_CORE_H
+#define YACHT_CORE_H
+#include <stddef.h>
+#include <stdint.h>
+
+/* A worker of the core, which its place in memory owns: one pointer, or NULL if there is none. */
+typedef struct yacht_core {{
+    void *worker;
+}} yacht_core;
+
+/* The numbers that a call returns beside its answer. Each is 0 if there is no such file. */
+typedef struct yacht_outcome {{
+{members}
+}} yacht_outcome;
+
+{chr(10).join(it.for_c() for it in exports())}
+
+#endif
+"""
+
+
+def constants():
+    return "\n".join(f"{folded(words, '/// ', '/// ')}\npub(crate) const {name}: i64 = {value};" for words, name, value in codes())
+
+
+def outcome():
+    members = "\n".join(f"{folded(words, '    /// ', '    /// ')}\n    pub(crate) {name}: u64," for words, name in fields())
+    return f"""/// The numbers that a call returns beside its answer. Each is 0 if there is no such file.
+#[repr(C)]
+#[derive(Clone, Copy, Default)]
+pub(crate) struct Outcome {{
+{members}
+}}"""
+
+
+def for_rust():
+    about = f"""The exports of the verified core, and the numbers that they return. In the core's words a value is a file.
+`scripts/declare-core` writes this file from `{SOURCE}`, which describes each function."""
+    return f"""{folded(about, "//! ", "//! ")}
+#![allow(dead_code)]
+use super::core::Core;
+
+{outcome()}
+
+{constants()}
+
+#[cfg(not(yachtbanyan_stand_in))]
+unsafe extern "C" {{
+{chr(10).join(it.for_rust() for it in exports())}
+}}
+
+// The stand-in has the same functions.
+#[cfg(yachtbanyan_stand_in)]
+const _: () = {{
+    use super::stand_in;
+{chr(10).join(it.same_type() for it in exports())}
+}};
+"""
+
+
+def functions(header):
+    """Returns the functions of a header, each as its result, its name and its arguments."""
+    plain = re.sub(r"/\*.*?\*/", "", header, flags=re.S)
+    found = re.findall(r"^(?!typedef)([a-z][\w ]*?[ *]+)(yacht_\w+)\(([^;{]*?)\);", plain, re.M | re.S)
+    return [(result.strip(), name, [" ".join(it.split()) for it in given.split(",")]) for result, name, given in found]
+
+
+def for_manual(name):
+    """Returns a function that returns the manual page of a library with the functions of its header, and with its constants."""
+    def made():
+        page, header = read(f"man/{name}.3"), read(f"include/{name}.h")
+        lines = []
+        for result, function, given in functions(header):
+            lines += [f'.Ft "{result}"' if " " in result else f".Ft {result}", " ".join([f".Fn {function}", *(f'"{it}"' for it in given)])]
+        page = re.sub(r"(?:^\.Ft .*\n\.Fn .*\n)+", lambda _: "\n".join([*lines, ""]), page, count=1, flags=re.M)
+        return re.sub(r"(?<=^\.Dv )(YACHT_\w+)\n\([\d,]+\)", lambda it: f"{it[1]}\n({constant(name, it[1]):,})", page, flags=re.M)
+
+    return made
+
+
+def for_limits():
+    """Returns the page of limits with the number of each constant that a row of its table names."""
+    def row(found):
+        number, words, crate, name = found.groups()
+        value = constant(crate, name)
+        new = f"2^{value.bit_length()} - 1" if number.startswith("2^") and not value & (value + 1) else f"{value:,}"
+        return f"    {f'{new} {words.rstrip()}'.ljust(len(number) + 1 + len(words))}{crate}: {name}"
+
+    return re.sub(r"^    (2\^\d+ - 1|[\d,]+) (.* {2,})(\w+): ([A-Z_]+)$", row, read(LIMITS), flags=re.M)
+
+
+FILES = {
+    "man/yachtbanyan.3": for_manual("yachtbanyan"),
+    "man/yachtdirect.3": for_manual("yachtdirect"),
+    LIMITS: for_limits,
+    "bindings/c/core.h": for_c,
+    "bindings/rust/src/access/exports.rs": for_rust,
+}
+
+
+def stale():
+    """Returns the files that aren't as they would be written."""
+    return [path for path, made in FILES.items() if read(path) != made()]
+
+
+def command():
+    if arguments("declare-core [--check]", flags="check").check:
+        for path in stale():
+            print(f"{path} isn't what scripts/declare-core writes")
+        return 1 if stale() else 0
+    for path, made in FILES.items():
+        write(f"{ROOT}/{path}", made())
+    return 0

@@ -1,0 +1,98 @@
+"""check-allocations FIXFILES BENCH_TABLES: counts, by tests/watch.c, the allocations of calls that must make none, on which contracts are
+silent.
+
+FIXFILES plays submissions of 1,000 equal chains over each table, on one worker and on two. What it allocates while it reads the script is
+what it allocates for the same script with a bad last line, of which nothing is played. The rest must be that of a few chains: an allocation
+of a request, of a call on the table or of a close would be 1,000 more. A read of a byte makes room for it, once each. A call between
+submissions that is refused, or that changes the range, allocates for its line alone.
+
+BENCH_TABLES makes 15,000 or more calls on each shared table, and must allocate for its setting alone. Of calls that open and close a table
+or a ring it makes as many allocations as are kept here, so that none of these allocates once more. A call that ends with a failed
+allocation, and abandons its ring, makes no further one but for its last line."""
+
+from scripts.checks import Counted, arguments, status_of
+from scripts.programs import built
+from tests.counts import counted
+from tests.limits import lines, linked
+
+TIMES = 1_000
+# the most allocations of a submission, however many chains it has, and of a setting
+MOST = 100
+TABLES, WORKERS = ("words", "baton"), ("1", "2")
+# slot 0 has the file at first, and slot 1 has none
+HEAD = "file a 61", "register 0,-1"
+# the requests of a chain, and how often it allocates
+CHAINS = {
+    ("open a at 0",): 0, ("open b at 0",): 0, ("open a at 2",): 0, ("open a any",): 0, ("open a at 1", "read 1 0 0", "close 1"): 0,
+    ("close 1",): 0, ("close 2",): 0, ("update 0 0,-2",): 0, ("update 0 -1,0",): 0, ("update 0 -1,9",): 0, ("update 1 -1,0",): 0,
+    ("read 0 0 0",): 0, ("close 1", "close 0"): 0, ("read 1 0 1",): 1, ("read 0 0 1",): 1, ("read 0 0 1", "read 0 0 1"): 2,
+}
+# calls with a table and without one, and how often each allocates for the line that it prints:
+# once, and once more for a negative number
+CALLS = (
+    {"range 0 2": 1, "range 1 2": 2, "register 0": 2, "sparse 1": 2, "regupdate 2 0": 2, "regupdate 0 9": 2},
+    {"range 0 0": 1, "range 0 1": 2, "unregister": 2, "regupdate 0 0": 2, "register 9": 2, "sparse 257": 2},
+)
+# the kept number of allocations of calls of tests/failing_calls.py, with those that set them up and
+# end them
+ONCE = {"add - 0": 8, "prepare - 5": 3, "open words 1": 8, "open baton 1": 9, "tags - 0": 16}
+# the allocations of such a call that end it if they fail
+ENDING = "tags - 0", range(2, 17)
+# the work of bench/rows.txt, with the number of slots
+BENCHED = "look 16", "mix 16", "outside 256", "inside 256", "allocate 256"
+
+
+class Checks(Counted):
+    def __init__(self, given):
+        super().__init__("allocations")
+        self.fixfiles, self.bench_tables = given.fixfiles, given.bench_tables
+
+    def in_play(self, options, *script):
+        """Returns the number of allocations of a play, without those of the reading."""
+        whole, read = (counted([self.fixfiles, *options], lines(*it)) for it in (script, (*script, "no command")))
+        self.want((whole.ended[0], read.ended[0]) == (0, 3), f"{script[:4]} ends with status {whole.ended[0]}, and {read.ended[0]} with a bad line")
+        return whole.allocations - read.allocations
+
+    def want_each(self, each, what, options, *script):
+        found = self.in_play(options, *script)
+        self.want(each * TIMES <= found <= each * TIMES + MOST, f"{TIMES} times {what} with {options} make {found} allocations, and not {each} each")
+
+    def chains(self, table, workers):
+        for chain, each in CHAINS.items():
+            self.want_each(each, chain, ("--table", table, "--workers", workers), *HEAD, *linked(*chain) * TIMES, "submit")
+
+    def calls(self):
+        for more, those in zip(((), ("unregister",)), CALLS):
+            for call, each in those.items():
+                self.want_each(each, call, (), *HEAD, *more, *[call] * TIMES)
+
+    def benched(self, table):
+        for row in BENCHED:
+            ran = counted([self.bench_tables], "", TABLE_BENCH_ROW=f"{table} {row} 1")
+            self.want(ran.ended[0] == 0 and 0 < ran.allocations <= MOST, f"{table} {row} ends with status {ran.ended[0]} after {ran.allocations} allocations")
+
+    def once(self):
+        for line, wanted in ONCE.items():
+            one, two = (counted([self.bench_tables], f"{line}\n" * times).allocations for times in (1, 2))
+            self.want(two - one == wanted, f"`{line}` makes {two - one} allocations, and not {wanted}")
+        call, those = ENDING
+        for failing in those:
+            ran = counted([self.bench_tables], f"{call}\n", failing)
+            self.want((ran.ended[1], ran.allocations) == ("no setting\nend\n", failing + 1), f"`{call}`, where allocation {failing} fails, makes {ran.allocations}")
+
+
+def main(given):
+    built("watch.c")
+    checks = Checks(given)
+    for table in TABLES:
+        for workers in WORKERS:
+            checks.chains(table, workers)
+    checks.calls()
+    for table in ("counted", "baton", "lasting"):
+        checks.benched(table)
+    checks.once()
+    return checks.end()
+
+
+def command():
+    return status_of("allocations", main, arguments(__doc__, "fixfiles bench_tables"))

@@ -1,0 +1,388 @@
+"""check-claims: compares the pages with the sources. Checked are: each function in the tables of docs/inside/PROOFS.md, and that it has the
+clauses of its row; that each promise of README.md links to such a table; that each public call with a `requires` is among its
+preconditions; that its reading list has the files and lines that the headline's definition reaches; each quoted line of a law, and of
+the examples in README.md and docs/inside/LIBRARY.md; that each refusal in crates/WRONG_BODIES.md exists; the types and functions that any
+page names; the atomic steps of calls in docs/inside/PROOFS.md; the options of each command; and each number of the pages, by the
+rows of tests/numbers.txt (page_numbers.py). So it finds a page that is older than the code. Each kind of claims has some, and a wrong
+page of each is refused. `check-claims --draft REASON` writes rows for numbers that have none; `check-claims --spoil N` changes a digit
+of each of N numbers, at random, and prints the changes that are not noticed.
+
+A claim is written '`f`, `g`: `x`, `y`; `h`: `z`': f and g both have the clauses x and y, and h has z. Without clauses it refers to
+the whole contract. A word with a capital letter is a definition that the contract cites."""
+import collections
+import contextlib
+import glob
+import io
+import os
+import random
+import re
+from typing import NamedTuple
+
+from scripts import edits
+from scripts.clauses import functions_of
+from tests import page_numbers
+from scripts.checks import Counted, arguments
+from scripts.pages import anchor_of, blocks, rows, section
+from scripts.repository import ROOT, SOURCES, files_of, read
+
+PROOFS, BODIES = "docs/inside/PROOFS.md", "crates/WRONG_BODIES.md"
+CALLER = "Preconditions of the public calls"
+# the least number of claims of each kind
+LEAST = {"tables": 600, "conditions": 85, "reading list": 4, "promises": 6, "wrong bodies": 480, "quotes": 170,
+         "atomic steps": 14, "options": 20, "wrong claims": 3, "pages": 450, "numbers": 530, "wrong numbers": 66}
+# the least number of rows of tests/numbers.txt that are computed, in a file, or run by a check
+LEAST_HELD = 740
+# where the reading list of docs/inside/PROOFS.md begins
+HEADLINE = "crates/fx_ring/specs/Submission.antt"
+
+
+class Contract(NamedTuple):
+    """The contract of a public function: the names that may come before its own, those of its clauses, its words, and whether it has a
+    `requires`. A ghost member of a trait has one too, and a type with a model: its `impl Model`."""
+
+    name: str
+    owners: set
+    clauses: set
+    words: set
+    has_requires: bool = False
+
+    def known(self):
+        """Its clauses, and the definitions that it cites."""
+        return self.clauses | {it for it in self.words if it[0].isupper()}
+
+
+def sources():
+    """For each crate the contracts of its sources, all of its words, and what it exports."""
+    found, words, exported = {}, {}, {}
+    for crate in sorted(os.listdir(f"{ROOT}/crates")):
+        texts = {it: read(it) for it in files_of(crate, *SOURCES)}
+        words[crate] = {word for text in texts.values() for word in words_of(text)}
+        found[crate] = [contract for it, text in texts.items() if it.endswith(".rt") for contract in contracts_in(text, os.path.basename(it)[:-3])]
+        root = f"{ROOT}/crates/{crate}/src/lib.rt"
+        told = re.findall(r"^pub (?:use|mod) (?:\w+::)*([^;]*);", read(root) if os.path.exists(root) else "", flags=re.MULTILINE)
+        exported[crate] = set(re.findall(r"\w+", " ".join(told)))
+    return found, words, exported
+
+
+def contracts_in(text, file):
+    """Yields the contracts of a source, whose file has that name."""
+    for path, parts in functions_of(text):
+        owner, _, name = path.rpartition("::")
+        owners, heads = {file, *re.findall(r"\w+", owner)}, [re.match(r"(requires|ensures)\*?(?: (\w+))?", it) for it in parts[1:]]
+        if "for" not in owners or {"SharedTable", "FileTable"} & owners:
+            yield Contract(name, owners, {it[2] for it in heads}, words_of(" ".join(parts)), any(it[1] == "requires" for it in heads))
+    for head, body in re.findall(r"^(?:pub(?:\([a-z]+\))? )?(?:impl|trait)\b(.*?) \{\n(.*?)^\}", text, re.MULTILINE | re.DOTALL):
+        if model := re.fullmatch(r" Model for (\w+)", head):
+            yield Contract(model[1], {file, *words_of(head)}, set(), words_of(body))
+        for name, ghost in re.findall(r"^    ghost (\w+):(.*?);$", body, re.MULTILINE | re.DOTALL):
+            yield Contract(name, {file, *words_of(head)}, set(), words_of(ghost))
+
+
+def words_of(text):
+    return set(re.findall(r"\w+", text))
+
+
+def names_in(cell):
+    return [re.sub(r"\(.*", "", it) for it in re.findall(r"`([^`]+)`", cell) if not it.startswith("make ")]
+
+
+def groups(cell):
+    """Each '`f`, `g`: `x`, `y`' of a cell as its functions and its clauses; without a colon they are functions."""
+    for group in cell.split(";"):
+        functions, _, clauses = group.partition(": ")
+        if names_in(group):
+            yield names_in(functions), names_in(clauses)
+
+
+class Claims(Counted):
+    """Counts what is claimed by its kind too."""
+
+    def __init__(self):
+        super().__init__("claims")
+        self.kind, self.kinds = "tables", collections.Counter()
+        self.found, self.words, self.exported = sources()
+        self.scripts = {os.path.basename(it).split(".")[0] for way in ("examples/*", "examples/*/*", "kernel/*/*", "bindings/*") for it in glob.glob(f"{ROOT}/{way}")}
+        ways = "include/*.h", "bindings/rust*/src/**/*.rs", "bindings/python/*.py"
+        bindings = (os.path.relpath(it, ROOT) for way in ways for it in glob.glob(f"{ROOT}/{way}", recursive=True))
+        others = "kernel/conform.py", "kernel/rules.py", "kernel/kernels.py", "kernel/flights.py", "kernel/direct/traps.c", *files_of("bench_rust", "src"), *bindings
+        self.scripts |= {word for it in others for word in re.findall(r"\w+", read(it))}
+
+    def want(self, holds, what):
+        self.kinds[self.kind] += 1
+        super().want(holds, what)
+
+    def is_there(self, name, crates):
+        """Whether each part of a path is a word of the crates, or of the crate that it begins with."""
+        parts = name.split("::")
+        if parts[0] in self.found:
+            crates, parts = [parts[0]], parts[1:] or parts
+        if parts[0] in ("Vec", "String", "Box", "Rc", "Arc", *self.found):
+            return True
+        return any(all(it in self.words[crate] or os.path.exists(f"{ROOT}/crates/{crate}/src/{it}.rt") for it in parts) for crate in crates)
+
+    def contracts_of(self, name, crates):
+        """The contracts that a name means: of a type, a trait or a module's function, where a path says which."""
+        parts = [it for it in name.split("::") if it not in self.found]
+        return [it for crate in crates for it in self.found[crate] if it.name == parts[-1] and set(parts[:-1]) <= it.owners]
+
+    def claim(self, where, names, clauses, crates):
+        """Checks that each of the functions, which a user can call, has each of the clauses. A path may begin with its crate. If several
+        functions have the name, one has all of the clauses."""
+        for name in names:
+            named = [it for it in name.split("::")[:1] if it in self.found] or crates
+            contracts = self.contracts_of(name, named)
+            self.want(contracts or not clauses and self.is_there(name, named), f"{where}: there is no {name}")
+            known = max((it.known() for it in contracts), key=lambda it: len(it & set(clauses)), default=None)
+            for clause in clauses if contracts else ():
+                self.want(clause in known, f"{where}: {name} has no clause {clause}")
+
+    def row(self, file, heading, cell):
+        """The functions that a cell names, and what it claims of each of them. They are in a crate that the
+        heading names, or else in that of the last path."""
+        told = [it for it in re.findall(r"\b(?:fx|check)_\w+", heading) if it in self.found]
+        crates = told or list(self.found)
+        for names, clauses in groups(cell):
+            crates = told or [it.split("::")[0] for it in names if it.split("::")[0] in self.found] or crates
+            self.claim(f"{file}, {heading!r}", names, clauses, crates)
+
+    def conditions(self, told):
+        """Each public function with a `requires` is among those of which a caller must know."""
+        for crate, contracts in self.found.items():
+            for it in contracts if crate.startswith(("fx_", "check_")) and crate != "fx_cli" else ():
+                if it.has_requires and (it.owners | {it.name}) & self.exported[crate]:
+                    self.want(it.name in told, f"docs/inside/PROOFS.md: what a caller of {crate}'s {it.name} must know isn't there")
+
+    def page(self, file):
+        """Each `path::of::names`, each `TypeName` and each `name_of_words` of a page is one of the sources, a test, a script or
+        of bench_rust; or it is one of liburing. The wrong bodies by name are looked at by `wrong_bodies`."""
+        text = named_in(file)
+        if file == BODIES:
+            text = re.sub(r"^\|.*$", "", text, flags=re.MULTILINE)
+        for name in set(re.findall(r"`(\w+(?:::\w+)+|[A-Z]\w*[a-z]\w*|[a-z]+(?:_[a-z]+)+|YACHT_[A-Z_]+)[`(]", text)):
+            holds = self.is_there(name, list(self.found)) or is_test(name) or self.scripts.issuperset(name.split("::")) or name.startswith("io_uring_")
+            self.want(holds, f"{file}: there is no {name}")
+        for name, clauses in re.findall(r"`([\w:]+)`(?: and the others)? ensures? ((?:`\w+`(?! ensures)(?:, | and )?)+)", " ".join(text.split())):
+            self.claim(file, [name], re.findall(r"\w+", clauses.replace(" and ", " ")), list(self.found))
+
+
+def named_in(file):
+    """Returns a page; CHANGELOG.md without the names that are gone: those below `Removed`, in the first column of a table, and after
+    `in place of`, of any version."""
+    text = read(file)
+    if file == "CHANGELOG.md":
+        gone = r"^### Removed(?s:.*?)(?=^##)|^ *\|[^|]*\||in place of\s+`[^`]*`(?:(?:,| and)\s+`[^`]*`)*"
+        names = re.findall(r"`[^`]+`", " ".join(re.findall(gone, text, re.MULTILINE)))
+        text = re.sub("|".join(map(re.escape, names)), "", re.sub(gone, "", text, flags=re.MULTILINE))
+    return text
+
+
+def atomic_steps(page):
+    """Yields each call of which a row says how many atomic steps it makes, and whether that is the number of its clause `steps`."""
+    for counts, calls in re.findall(r"^\|[^|]* at most ([^|]*?) atomic steps[^|]*\| ([^|]*?)(?:: | \|)", page, re.MULTILINE):
+        names, kept, last = names_in(calls), {}, None
+        for text in (read(it) for it in files_of("*", "src") if f"impl {names[0].split('::')[0]} " in read(it)):
+            for name, most in re.findall(r"\bfn (\w+)|steps_taken pass\.new ≤ steps_taken pass\.old \+ ([^}]*?) \}", text):
+                last = name or last
+                kept |= {last: most} if most else {}
+        for name, most in zip(names, re.split(", | and ", counts), strict=True):
+            yield f"{name} in {most} steps", re.sub(r"^\((.*)\)$", r"\1", kept.get(name.split("::")[-1], "")) == most
+
+
+def options(page):
+    """Yields each option of a command on a page, and whether the command has it."""
+    commands = {it: read(f"completions/{it}") for it in ("fixfiles", "fixcheck")}
+    rooms = {"kernel": ("conform", "litmus", "judge-linux", "in-vm"), "scripts": ("draw-history",), "bindings/python": ("yachtlog.py",), "tests": ("check-claims",)}
+    commands |= {it: read(f"{room}/{it.removesuffix('.py').replace('-', '_')}.py") for room, those in rooms.items() for it in those}
+    for name, words in re.findall(rf"\b({'|'.join(commands)})\b((?: (?![#.|])\[?[\w./=<>-]+\]?)+)", page):
+        for option in re.findall(r"--([a-z][a-z-]*)", words):
+            yield f"{name} --{option}", re.search(rf'(?<![\w-])["]?(?:--)?{option}(?![\w-])', commands[name]) is not None
+
+
+# what a page claims of steps and options: the pages, and a wrong page of each kind
+NUMBERS = {
+    "atomic steps": (atomic_steps, [PROOFS], "| at most 2 and block + 2 atomic steps | `LastingTable::release`, `put`: `steps` |"),
+    "options": (options, ["README.md", "CHANGELOG.md", "examples/README.md", *sorted(glob.glob("docs/*/*.md", root_dir=ROOT))],
+                "    fixcheck --al\n`fixfiles --history`\n    conform --ruler NAME # any\n"),
+}
+
+
+def numbers(claims):
+    for kind, (claimed, pages, wrong) in NUMBERS.items():
+        claims.kind = kind
+        for page in pages:
+            for what, holds in claimed(page_numbers.newest(read(page)) if page == "CHANGELOG.md" else read(page)):
+                claims.want(holds, f"{page}: not right: {what}")
+        found = list(claimed(wrong))
+        claims.want(len(found) > 1 and not any(holds for _, holds in found), f"of wrong {kind} it is said: {found}")
+
+
+# a page, a row of it, and rows that are wrong
+PAGE_OF_ROWS, RIGHT_ROW = "at most 1,024 guards", ("at most {=fx_lasting.MOST_PASSES} guards", "")
+WRONG_ROWS = (
+    ("at most {=fx_lasting.MOST_INSTALLING} guards", ""), ("at most 1,024 guards", ""), ("up to 99 slots", "measured"), ("{=fx_base.NO_SUCH} names", ""),
+    ("most 1,024{=fx_base.MOST_ENTRIES}", ""), ("at most 1,024 guards", "in README.md"), ("at most 1,024 guards", "run by tests/check-names"),
+)
+
+
+def numbers_of_pages(claims, spoiled):
+    """Each number of a page is in a row of tests/numbers.txt, and each row is right. Wrong rows, and numbers with another digit,
+    are noticed."""
+    claims.kind, those = "numbers", page_numbers.read_rows()
+    for path in sorted({*page_numbers.pages(), *those}):
+        found = list(page_numbers.complaints(path, read(path), those.get(path, [])))
+        for it in found:
+            claims.want(False, it)
+        for _ in those.get(path, [])[len(found) :]:
+            claims.want(True, path)
+    kinds = collections.Counter(page_numbers.kind_of(*row) for rows in those.values() for row in rows)
+    print("# numbers: " + ", ".join(f"{count} {kind}" for kind, count in kinds.most_common()))
+    held = kinds.total() - kinds["explained"]
+    claims.want(held >= LEAST_HELD, f"{held} rows of numbers are computed, in a file or run by a check, and not {LEAST_HELD}")
+    claims.kind = "wrong numbers"
+    for row in (RIGHT_ROW, *WRONG_ROWS):
+        is_refused = any(page_numbers.complaints("README.md", PAGE_OF_ROWS, [row]))
+        claims.want(is_refused == (row != RIGHT_ROW), f"{'nothing' if row != RIGHT_ROW else 'something'} is said of the row {row} of {PAGE_OF_ROWS!r}")
+    for what, is_noticed in page_numbers.spoiled(random.Random(spoiled), spoiled):
+        claims.want(is_noticed, f"a wrong number isn't noticed: {what}")
+
+
+def refuses(name, refusal):
+    """Whether there is an edit of that name, a wrong step table, a test, an example or a check."""
+    if refusal == "make steps":
+        return f" X({name})" in read("model/lasting_table.h")
+    if refusal.startswith(("examples/", "tests/")):
+        return os.path.exists(f"{ROOT}/{refusal}")
+    if "::" in refusal:
+        return is_test(refusal)
+    crate, _, kind = refusal.partition("/")
+    return name in edits.names(kind.removesuffix(".txt"), crate=crate)
+
+
+def is_test(name):
+    """Of the crate that the name begins with."""
+    crate, _, test = name.rpartition("::")
+    return bool(crate) and any(re.search(rf"#\[test\]\s+fn {test}\b", read(it)) for it in files_of(crate, "src"))
+
+
+def tables_of_proofs(claims):
+    """The claims of docs/inside/PROOFS.md, table by table. The headings of those that name functions, and the calls of which a caller
+    must know, by its list."""
+    headings, told = set(), set()
+    for heading, cells in rows(read(PROOFS)):
+        is_head = cells[0] == "claim" or cells[1:] == ["contract"]
+        if not is_head and (heading == "Every function" or len(cells) == 2 and re.match("fx_|check_|example_|Laws", heading)):
+            claims.row(PROOFS, "fx_plain" if heading.startswith("Laws") else heading, cells[1])
+            headings.add(heading)
+    for item in re.split(r"^- ", section(read(PROOFS), f"## {CALLER}"), flags=re.MULTILINE)[1:]:
+        calls, _, what = " ".join(item.split()).partition(": ")
+        told |= {it.split("::")[-1] for it in names_in(calls)}
+        for part in (calls, what):
+            claims.row(PROOFS, CALLER, part)
+    return headings, told
+
+
+def imported_by(spec):
+    """The files of definitions, of any crate of this repository, that a file of definitions imports from."""
+    for crate, path in re.findall(r"^(?:pub )?use Rattle\.(fx_\w+)\.specs\.([\w.]+)\.\{", read(spec), re.MULTILINE):
+        if not path.startswith("declared."):
+            yield f"crates/{crate}/specs/{path.replace('.', '/')}.antt"
+
+
+def definitions_in(spec):
+    """The lines of a file of definitions, without imports, comments and blank lines."""
+    return [it for it in read(spec).split("\n") if it.strip() and not re.match(r" *--|(pub )?(use|mod) ", it)]
+
+
+def reached():
+    """The files of definitions that the headline's definition reaches, and how many lines of definitions they have."""
+    found, left = set(), [HEADLINE]
+    while left:
+        spec = left.pop()
+        left += [] if spec in found else imported_by(spec)
+        found.add(spec)
+    return found, sum(len(definitions_in(it)) for it in found)
+
+
+def is_list_of(part, files, lines):
+    """Whether a section has a row for each crate, with its files by their names, and both numbers."""
+    listed = [f"crates/{crate}/specs/{name}.antt" for _, (crate, names) in rows(part) if "fx_" in crate for name in names.split(", ")]
+    return sorted(listed) == sorted(files) and f"{len(files)} files with {lines} lines of definitions" in " ".join(part.split())
+
+
+def reading_list(claims):
+    """The reading list of docs/inside/PROOFS.md has these files and numbers. Lists with a file less or other numbers are refused."""
+    (files, lines), part = reached(), section(read(PROOFS), "## Reading list")
+    names = ", ".join(sorted(os.path.basename(it)[:-5] for it in files))
+    wanted = f"{len(files)} files with {lines} lines of definitions"
+    claims.want(is_list_of(part, files, lines), f"{PROOFS}: the reading list should have {wanted}: {names}")
+    row, numbers = "| fx_ring | Ring, Submission |", "2 files with 9 lines of definitions"
+    for page, is_right in ((f"{numbers}\n{row}", True), (f"{numbers}\n{row.replace('Ring, ', '')}", False), (f"{numbers.replace('9', '8')}\n{row}", False)):
+        made = is_list_of(page, ["crates/fx_ring/specs/Ring.antt", HEADLINE], 9)
+        claims.want(made == is_right, f"of a reading list that is {'right' if is_right else 'wrong'} the opposite is said: {page}")
+
+
+def promises_of_readme(claims, headings):
+    """Each promise of README.md leads to tables of docs/inside/PROOFS.md that name functions, and to nothing else of it."""
+    anchors = {anchor_of(it) for it in headings}
+    items = re.split(r"^- ", section(read("README.md"), "## Proved, tested, trusted").split("\n\n**")[0], flags=re.MULTILINE)[1:]
+    claims.want(items, "README.md promises nothing")
+    for item in items:
+        led = re.findall(r"\]\(docs/inside/PROOFS\.md#([\w-]+)\)", item)
+        claims.want(led and set(led) <= anchors, f"README.md: no table of {PROOFS} backs: {item[:60]}")
+
+
+def wrong_bodies(claims):
+    """What refuses a wrong body is there."""
+    for _, cells in rows(read(BODIES)):
+        if cells[0] != "wrong body":
+            refusals = re.findall(r"`([^`]+)`", cells[2])
+            claims.want(refusals, f"{BODIES}: nothing refuses {cells[0]}")
+            for refusal in refusals:
+                for name in names_in(cells[0]):
+                    claims.want(refuses(name, refusal), f"{BODIES}: {refusal} doesn't have {name}")
+
+
+def quotes(claims):
+    """Each line of a law, and of the examples of the library: a block of code with a call of the table, or an invariant."""
+    examples = (("example_library", "src", "proofs"),)
+    sources, specs = ("".join(read(file) for it in those for file in files_of(*it)) for those in (examples, (("*", "specs"),)))
+    found = {"law": 0, "example": 0}
+    for page in ("README.md", "docs/inside/LIBRARY.md", PROOFS):
+        for block in blocks(read(page), spans_gaps=True):
+            kind = "example" if any("table." in it or "abbrev pub invariant" in it for it in block) else "law" if any(" ≡ " in it for it in block) else None
+            for quoted in (re.split(r"(?:^|  )\s*(?:--|//)", it)[0].strip() for it in block if kind):
+                found[kind] += 1
+                claims.want(quoted in (sources if kind == "example" else specs), f"{page} quotes what no {kind} says: {quoted}")
+    claims.want(all(found.values()), "README.md, docs/inside/LIBRARY.md and docs/inside/PROOFS.md quote no law, or no example")
+
+
+def wrong_pages(claims):
+    """Claims that are wrong, each of which is refused."""
+    for names, clauses in ((["no_such_function"], []), (["PlainTable::release"], ["no_such_clause"]), (["fx_order::no_such_law"], [])):
+        with contextlib.redirect_stdout(io.StringIO()):
+            before, seen, kinds = claims.wrong, claims.seen, claims.kinds.copy()
+            claims.claim("a wrong page", names, clauses, list(claims.found))
+            is_refused = claims.wrong == before + 1
+        claims.wrong, claims.seen, claims.kinds = before, seen, kinds
+        claims.want(is_refused, f"the wrong claim {names} {clauses} is taken for a right one")
+
+
+def command():
+    given = arguments("check-claims [--draft REASON] [--spoil N]", options={"spoil": 60}, words=("draft",))
+    if given.draft:
+        page_numbers.draft(given.draft)
+        return 0
+    claims = Claims()
+    headings, told = tables_of_proofs(claims)
+    for claims.kind, what in (("conditions", lambda: claims.conditions(told)), ("reading list", lambda: reading_list(claims)),
+                              ("promises", lambda: promises_of_readme(claims, headings)), ("wrong bodies", lambda: wrong_bodies(claims)),
+                              ("quotes", lambda: quotes(claims)), ("wrong claims", lambda: wrong_pages(claims))):
+        what()
+    numbers(claims)
+    numbers_of_pages(claims, given.spoil)
+    claims.kind = "pages"
+    for path in ("README.md", "CHANGELOG.md", *(it for way in ("*/*.md", "docs/*/*.md") for it in sorted(glob.glob(way, root_dir=ROOT)))):
+        claims.page(path)
+    few = {kind: claims.kinds[kind] for kind, least in LEAST.items() if claims.kinds[kind] < least}
+    claims.want(not few, f"of these kinds there are few claims, of {LEAST}: {few}")
+    return claims.end("names looked at")

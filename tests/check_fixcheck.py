@@ -1,0 +1,347 @@
+"""check-fixcheck PROGRAM FIXFILES [COUNT [SEED]] [--few]: tests the verdicts of fixcheck, the PROGRAM.
+
+- The text of each example is legal, and a bad script is refused as fixfiles refuses it.
+- Each text that FIXFILES prints for COUNT random scripts, on 1, 2, 3 and 16 workers and over both tables, is legal. The model prints
+  the same text if it does the requests one at a time in the printed orders (model/replay.py). The history that --history prints is
+  legal and results in the text (model/told_history.py).
+- A text with a spoiled line, of each kind of tests/spoiled_lines.py, is legal exactly if model/orders.py finds an order for it, by an
+  exhaustive search. There must be enough of both. A refusal names the command of that line, and in nine of ten texts the line. In one
+  of a hundred it may name a later command: the rules may allow the spoiled line with another free slot or another order, which a
+  later command contradicts. The lines that a refusal names as a conflict have no order by themselves, whatever the other requests
+  answer, by an exhaustive search. If fixcheck found them by a search of its own, each is needed for that (model/contradictions.py).
+- With --keep-going, each submission of a text is a break in which a read has bytes of no file, and no other command; the rest is legal.
+- At most one text of five hundred is undecided; and, with few states, no text of one worker whose chains contend for few slots.
+- Texts at the limits and of the sizes between them are legal. A part with too many states hides no other part that has no order, nor a
+  slot that has none.
+- Texts of chains that 4 or 16 workers play at few slots, a request of one of them at a time, are legal, within 200,000 states.
+- With --few it runs the parts and a few of the others.
+
+tests/check-verdicts tests how a verdict is printed, and the arguments. This check also expects the number of cases of each kind."""
+import collections
+import functools
+import random
+import re
+import zlib
+
+from bench import measure_fixcheck
+from scripts.checks import Counted, arguments, status_of
+from model import contradictions
+from tests import fixcheck_rows
+from tests.fixcheck_rows import LEGAL_SIZES, PARTS
+from model.model import Player, play
+from model import orders
+from model.orders import TooManyOrders, ending_of
+from scripts.programs import LEGAL, NOT_LEGAL, UNDECIDED, in_parallel, in_processes, run, verdict
+from model.random_scripts import random_scripts
+from model.replay import replayed
+from scripts.repository import keep, scripts_of, text_beside
+from tests import spoiled_lines
+from tests.spoiled_lines import parsed
+from model.told_history import complaint_of
+from model.illegal import Illegal
+
+# the answer of a lack of memory: a checker accepts it, and the model never returns it
+NO_MEMORY = re.compile(r"^\S+ -12$", re.MULTILINE)
+# fixcheck may leave one of this many texts undecided: it claims nothing that isn't proved
+DECIDED_OF = 500
+# how many states the exhaustive search looks at
+LARGEST_SEARCH = 2_000
+# and one in which all but the named lines are free
+LARGEST_FREE_SEARCH = 1_000
+# of how many spoiled texts of a script a refusal is read, and the least refused texts of each kind
+NAMED_EACH, LEAST_OF_A_KIND = 8, 3
+# submissions of chains of four at four slots, played by one worker, and the states that decide each
+CONTENDED, CONTENDING_CHAINS, CONTENDED_STATES = 20, 16, 1_000
+# submissions that workers play in turns: the workers, the slots, the chains and the most members of
+# each, and a seed; and the states that decide each text
+PLAYED, PLAYED_STATES = ((16, 4, 40, 3, 4), (4, 12, 60, 4, 7), (4, 2, 60, 4, 8)), 200_000
+# of ten verdicts on a spoiled line the number that name it, and the states of each
+NAMED_OF_TEN, NAMED_STATES = 9, 20_000
+# one of this many may name a later command
+LATER_OF = 100
+# for each hundred scripts the least number of texts whose verdict names lines that have no order,
+# or lines that contradict each other for whatever reason, and of texts with several breaks
+LEAST_OF_100 = {"unordered": 2, "contradicting": 20, "broken": 10}
+# with --few: how many examples
+FEW = 8
+
+
+class Counts(Counted):
+    """What was looked at, of one script or of all. `of` counts texts by what they are, and verdicts on texts with a spoiled line by what
+    they are and the kind of that line: LEGAL or NOT_LEGAL; or of some `refused` ones those where the line is `named`, or a `later`
+    command."""
+
+    def __init__(self):
+        super().__init__("fixcheck")
+        self.of = collections.Counter()
+
+    def add(self, other):
+        self.seen, self.wrong, self.of = self.seen + other.seen, self.wrong + other.wrong, self.of + other.of
+
+    def total(self, what):
+        """Returns the number of verdicts, of all kinds of lines."""
+        return sum(count for it, count in self.of.items() if it[0] == what)
+
+    def note_undecided(self):
+        self.of["undecided"] += 1
+        self.seen += 1
+
+    def leaves_undecided(self, status, lines, message):
+        """Returns whether fixcheck reports that it decides neither."""
+        undecided = status == UNDECIDED and len(lines) == 1 and lines[0].startswith("undecided: submission ") and message == ""
+        if undecided:
+            self.note_undecided()
+        return undecided
+
+    def want(self, holds, what, script=b"", text=""):
+        """A script and a text that are wrong are kept."""
+        super().want(holds, what)
+        if script and not holds:
+            print(f"fixcheck: {' and '.join(keep(f'fixcheck-{zlib.crc32(script + text.encode())}', script, text))}", flush=True)
+
+
+def is_legal(fixcheck, counts, script, text, what):
+    """A text of fixfiles is legal, and its orders and its history give it."""
+    status, lines, message = verdict(fixcheck, script, text)
+    if counts.leaves_undecided(status, lines, message):
+        return
+    if (status, message, lines[:1]) != (LEGAL, "", ["legal"]):
+        counts.want(False, f"{what}: status {status}, {lines[:1]}, {message!r}", script, text)
+        return
+    try:
+        same = replayed(parsed(script), text, lines[1:]) == text
+        counts.want(same, f"{what}: the orders give another text", script, text)
+    except Illegal as wrong:
+        counts.want(False, f"{what}: {wrong}", script, text)
+    status, lines, message = verdict(fixcheck, script, text, "--history")
+    complaint = complaint_of(script, text, lines)
+    counts.want((status, message, complaint) == (LEGAL, "", None), f"{what}, its history: status {status}, {complaint}", script, text)
+
+
+def check_examples(fixcheck, counts, is_few):
+    for name, script in list(scripts_of("examples", "examples/faults"))[: FEW if is_few else None]:
+        text, fault = text_beside(name), play(script)[2]
+        if fault is None:
+            is_legal(fixcheck, counts, script, text, name)
+            continue
+        wanted = 3, [], f"fixcheck: script: line {fault.line}: {fault.name}\n"
+        holds = verdict(fixcheck, script, text) == wanted
+        counts.want(holds, f"{name} isn't refused at line {fault.line} with {fault.name}")
+
+
+def texts_of(fixfiles, script):
+    """The different texts on some numbers of workers over both tables."""
+    texts = set()
+    for workers in (1, 2, 3, 16):
+        for table in ("words", "baton"):
+            status, text, _ = run([fixfiles, "--workers", str(workers), "--table", table], script)
+            assert status == 0, status
+            texts.add(text)
+    return sorted(texts)
+
+
+def good_scripts(count, seed):
+    """Half of them have much that is odd."""
+    scripts = zip(random_scripts("random", seed, count), random_scripts("odd", seed, count))
+    return (both[nth % 2][1] for nth, both in enumerate(scripts))
+
+
+def check_spoiled(fixcheck, counts, script, text):
+    """The verdict on texts with a spoiled line, and what a refusal of some of them names."""
+    for nth, (kind, wrong) in enumerate(spoiled_lines.some_of(random.Random(script), script, text, len(spoiled_lines.KINDS))):
+        # a checker accepts an answer of a lack of memory
+        if NO_MEMORY.search(wrong.text):
+            continue
+        check_verdict(fixcheck, counts, script, kind, wrong.text)
+        if nth < NAMED_EACH:
+            check_named(fixcheck, counts, script, kind, wrong)
+
+
+def check_verdict(fixcheck, counts, script, kind, wrong):
+    """A spoiled text is legal exactly if an exhaustive search finds an order."""
+    try:
+        wanted = LEGAL if ending_of(parsed(script), wrong, splits=True) else NOT_LEGAL
+    except TooManyOrders:
+        counts.of["left out"] += 1
+        return
+    status, lines, message = verdict(fixcheck, script, wrong)
+    if not counts.leaves_undecided(status, lines, message):
+        counts.of[wanted, kind] += 1
+        counts.want((status, message) == (wanted, ""), f"{kind}: status {status} and {lines[:1]}, and not {wanted}", script, wrong)
+
+
+def complaint_of_search(script, text, lines):
+    """What is wrong with the lines that a search found to have no order, if a verdict names such lines: an order, or one needn't be named."""
+    return (contradictions.complaint_of(script, text, lines) or "") if contradictions.SAYS in "".join(lines[:1]) else None
+
+
+def complaint_of_names(script, text, lines):
+    """The same of any named lines, by themselves: an order, whatever the other requests answer and whichever are canceled."""
+    has_order = contradictions.order_of_named(script, text, lines, LARGEST_FREE_SEARCH)
+    return has_order if has_order is None else "an order gives these lines" * has_order
+
+
+def check_conflict(counts, kind, script, text, lines, complaint_of):
+    """Lines that are named, if any, have no order."""
+    try:
+        complaint = complaint_of(parsed(script), text, lines)
+    except TooManyOrders:
+        return
+    except (LookupError, TypeError, ValueError, StopIteration) as wrong:
+        complaint = f"it names what the text hasn't: {wrong!r}"
+    if complaint is not None:
+        counts.of[kind] += 1
+        counts.want(not complaint, f"{lines}: {complaint}", script, text)
+
+
+def check_named(fixcheck, counts, script, kind, wrong):
+    """What a refusal of a text with a spoiled line names."""
+    status, lines, _ = verdict(fixcheck, script, wrong.text, "--states", str(NAMED_STATES))
+    if status == NOT_LEGAL:
+        said = "".join(lines[:1])
+        has_command, has_line = wrong.is_named(said)
+        counts.of["refused", kind] += 1
+        counts.of["named", kind] += has_line
+        is_later = not has_command and min(spoiled_lines.named_of(said)[0], default=0) > wrong.command
+        counts.of["later", kind] += is_later
+        counts.want(has_command or is_later, f"{kind} in command {wrong.command}, line {wrong.at}: {said}", script, wrong.text)
+        check_conflict(counts, "unordered", script, wrong.text, lines, complaint_of_search)
+        check_conflict(counts, "contradicting", script, wrong.text, lines, complaint_of_names)
+
+
+def absent(files, count):
+    """So many bytes, all of them the same, that no file has."""
+    return next(it for it in (bytes([n]) * count for n in range(256)) if not any(it in content for content in files))
+
+
+def check_breaks(fixcheck, counts, script, text):
+    """Each submission in which a read has other bytes is a break, and the rest is legal: a read leaves the slots as they are."""
+    lines, those = text.split("\n")[:-1], parsed(script)
+    owners, wrong = spoiled_lines.owners_of(those, lines), {}
+    for at in spoiled_lines.places(lines, spoiled_lines.READ):
+        wrong.setdefault(owners[at], at)
+    if len(wrong) < 2:
+        return
+    for at in wrong.values():
+        place, res, _ = lines[at].split(" ")
+        lines[at] = f"{place} {res} {absent([content for _, content in those.files], int(res)).hex()}"
+    text = "".join(f"{it}\n" for it in lines)
+    status, told, message = verdict(fixcheck, script, text, "--keep-going", "--states", str(NAMED_STATES))
+    if told[-1:] and told[-1].startswith("undecided after"):
+        counts.note_undecided()
+        return
+    found = [int(it.split(" ")[3].rstrip(",")) for it in told if it.startswith("not legal: command ")]
+    wanted = NOT_LEGAL, "", sorted(wrong), f"legal after command {max(wrong)}"
+    counts.of["broken"] += 1
+    counts.want((status, message, found, told[-1]) == wanted, f"{told[:4]}, and not breaks at {sorted(wrong)}", script, text)
+
+
+def counts_of(fixcheck, fixfiles, script):
+    counts, texts = Counts(), texts_of(fixfiles, script)
+    counts.of["texts"] = len(texts)
+    for text in texts:
+        is_legal(fixcheck, counts, script, text, "a text of fixfiles")
+    check_spoiled(fixcheck, counts, script, texts[0])
+    check_breaks(fixcheck, counts, script, texts[0])
+    return counts
+
+
+def check_parts(fixcheck, counts):
+    rows = list(fixcheck_rows.parts())
+    for name, script, text, states, wanted, said in rows:
+        status, lines, message = verdict(fixcheck, script, text, "--states", str(states))
+        counts.want((status, message) == (wanted, "") and said in "".join(lines[:1]), f"{name}: status {status}, {lines[:1]}, and not {wanted}", script, text)
+    counts.want(len(rows) == PARTS, f"{len(rows)} texts of parts were looked at, and not {PARTS}")
+
+
+def check_sizes(fixcheck, counts):
+    """Texts of each size are legal."""
+    cases = list(fixcheck_rows.sizes())
+    for (name, *_), (status, _, message) in zip(cases, in_parallel(lambda it: verdict(fixcheck, it[1], it[2]), cases)):
+        counts.want((status, message) == (LEGAL, ""), f"{name}: status {status} and {message!r}")
+    counts.want(len(cases) == LEGAL_SIZES, f"{len(cases)} texts of sizes were looked at, and not {LEGAL_SIZES}")
+
+
+class InTurns(Player):
+    """The model, whose chains are played by some workers, a request of one of them at a time."""
+
+    def __init__(self, files, workers, rng):
+        super().__init__(files)
+        self.workers, self.rng = workers, rng
+
+    def lines_of(self, chains):
+        left, lines = [self.completions(nth, it) for nth, it in enumerate(chains, 1)], []
+        while left:
+            one = self.rng.choice(left[: self.workers])
+            line = next(one, None)
+            if line:
+                lines.append(line)
+            else:
+                left.remove(one)
+        return sorted(lines, key=lambda it: [int(part) for part in it.split(" ")[0].split(".")])
+
+
+def check_played(fixcheck, counts):
+    """Texts that workers wrote in turns are legal, with few states."""
+    for workers, slots, chains, members, seed in PLAYED:
+        rng = random.Random(seed)
+        script = measure_fixcheck.one(rng, slots, chains, lambda rng, most=members: rng.randint(1, most)).encode()
+        text, what = InTurns(parsed(script).files, workers, rng).play(parsed(script).commands), f"chains of {workers} workers at {slots} slots"
+        is_legal(fixcheck, counts, script, text, what)
+        status, _, message = verdict(fixcheck, script, text, "--states", str(PLAYED_STATES))
+        counts.want((status, message) == (LEGAL, ""), f"{what}, with {PLAYED_STATES} states: status {status}, {message!r}", script, text)
+
+
+def check_contended(fixcheck, counts, fixfiles):
+    for seed in range(CONTENDED):
+        script = measure_fixcheck.one(random.Random(seed), measure_fixcheck.SLOTS, CONTENDING_CHAINS, lambda _: measure_fixcheck.MEMBERS).encode()
+        _, text, _ = run([fixfiles, "--workers", "1"], script)
+        status, _, message = verdict(fixcheck, script, text, "--states", str(CONTENDED_STATES))
+        counts.want((status, message) == (LEGAL, ""), f"chains that contend, by one worker: status {status}, {message!r}", script, text)
+
+
+def want_named(counts, is_few):
+    """Of all texts with a spoiled line nine in ten name it, and there are some of each kind, which are printed."""
+    refused, named, later = map(counts.total, ("refused", "named", "later"))
+    counts.want(10 * named >= NAMED_OF_TEN * refused, f"of {refused} texts with a spoiled line {named} name it, which are few")
+    counts.want(LATER_OF * later <= refused, f"of {refused} texts with a spoiled line {later} name a later command, which are many")
+    for kind in () if is_few else spoiled_lines.KINDS:
+        refused, wrong = counts.of["refused", kind], counts.of[NOT_LEGAL, kind]
+        counts.want(min(refused, wrong) >= LEAST_OF_A_KIND, f"of texts with {kind} {wrong} aren't legal, and of {refused} the names were looked at, which are few")
+        print(f"fixcheck: {kind}: {counts.of['named', kind]} of {refused} name the line")
+
+
+def want_enough(counts, count, is_few):
+    """There are some texts of each kind."""
+    of, least, legal, others = counts.of, count // 40, counts.total(LEGAL), counts.total(NOT_LEGAL)
+    for what, number in () if is_few else LEAST_OF_100.items():
+        counts.want(100 * of[what] >= number * count, f"{of[what]} texts of {count} scripts are {what}, which are few")
+    counts.want(of["texts"] >= count, f"{of['texts']} texts of {count} scripts are few")
+    counts.want(legal >= least and others >= 10 * least, f"of the spoiled texts {legal} are legal and {others} aren't, which are few")
+    counts.want(of["undecided"] * DECIDED_OF <= counts.seen, f"{of['undecided']} of {counts.seen} are undecided, which are many")
+
+
+def main(given):
+    orders.LARGEST_SEARCH = LARGEST_SEARCH
+    fixcheck, fixfiles, count, is_few = given.program, given.fixfiles, given.count, given.few
+    counts = Counts()
+    check_parts(fixcheck, counts)
+    check_examples(fixcheck, counts, is_few)
+    if not is_few:
+        check_sizes(fixcheck, counts)
+        check_played(fixcheck, counts)
+        check_contended(fixcheck, counts, fixfiles)
+    examples = counts.seen
+    for those in in_processes(functools.partial(counts_of, fixcheck, fixfiles), good_scripts(count, given.seed), 4):
+        counts.add(those)
+    want_named(counts, is_few)
+    want_enough(counts, count, is_few)
+    of = counts.of
+    print(f"fixcheck: {examples} examples, sizes and parts; {of['texts']} texts of {count} random scripts are legal, and so are their orders and histories; of the spoiled texts {counts.total(LEGAL)} "
+          f"are legal and {counts.total(NOT_LEGAL)} aren't, {of['left out']} have too many orders to look at; of {of['unordered']} the lines that have no order were looked at, and of {of['contradicting']} those that contradict each other; {of['broken']} have several breaks; {of['undecided']} undecided")
+    return counts.end()
+
+
+def command():
+    numbers = {"count": 500, "seed": 1}
+    return status_of("fixcheck", main, arguments(__doc__, "program fixfiles", "few", numbers))

@@ -1,0 +1,344 @@
+"""check-flights [COUNT [SEED]]: compares the verified judge of logs (bindings/python/yachtlog.py) and the oracle model/flight_states.py
+with a search of all orders (model/tiny_flights.py) on COUNT tiny random logs, as they happened and spoiled. A log that a judge refuses must
+not be legal for the search either. Of a log that isn't legal, the beginning before the judge's line must be legal, and the one with it must
+not be. No log may be undecided. Each wrong judge of WRONG and WRONG_VERDICTS must differ on some log.
+
+Both by whole updates, which kernel/conform asks of the verified judge, must find on a third as many logs, of updates, what the search of all
+orders finds in which nothing comes between the accesses of an update. Without whole updates each must differ on some of these logs.
+
+Each step of the reason of a log that is not legal must follow from the log, and the last one must be a contradiction, by tests/reasons.py,
+which shares nothing with the library. That program must refuse a reason without one of its steps, and for the lines before the wrong one.
+Enough logs must have a reason. The rows of tests/reason_rows.py must hold: for each rule, steps that follow, and steps that don't.
+
+The rows of tests/log_lines.py must hold: what is a log, and how yachtlog.py ends. Each wrong module of that file must fail on a row.
+
+This machine's kernel must keep the rules of kernel/conform of calls in flight, also for the oracle, on as many logs as conform says. Logs of
+changed recorders, which show what a wrong kernel would show, must not be legal, nor those of a recorder that fails, nor, where it is
+asked, a log with an update of two steps."""
+import collections
+import concurrent.futures
+import os
+import re
+import shutil
+import tempfile
+from unittest import mock
+
+from scripts.checks import Counted, arguments, status_of
+from model import flight_states
+from kernel import conform, flights
+from kernel.kernels import NO_KERNEL, built_player
+from tests import log_lines
+from scripts.programs import in_parallel, run
+from tests import reason_rows
+from tests import reasons
+from scripts.repository import ROOT, read, write
+from model import tiny_flights
+import yachtlog
+
+HEAD = "".join(f"file {name} {content}\n" for name, content in tiny_flights.NAMES.items())
+# every so many logs that aren't legal, the line is compared too
+LINE_OF = 5
+LEGAL, NOT_LEGAL, REFUSED, NOT_DECIDED = "legal", "not legal", "refused", "undecided"
+JUDGES = "oracle", "verified judge"
+COUNT, SEED = 10_000, 1
+# the least number of tiny logs of updates, in 1,000, that are legal, and not by whole updates
+SPLIT = 8
+# the least share of the tiny logs that are not legal that must have a reason, in percent
+CERTIFIED = 89
+# the number of random scripts of which kernel/conform records its share of logs, of logs of the
+# kernel for the oracle, and of logs of each wrong recorder
+SCRIPTS, KERNEL_LOGS, WRONG_LOGS = 500, 500, 20
+# the number of logs of each rule for so many scripts, as kernel/conform describes them
+SHARES = {"chains_in_flight_are_requests_one_at_a_time": 100, "waiting_reads_hold_their_file": 50, "updates_in_flight_are_one_step": 50}
+# the number of logs of a recorder of which more than half have an answer before that of an earlier
+# call, since a thread of the kernel starts each request
+OVERLAPPING = 60
+# the number of cases that need a kernel with io_uring
+OF_KERNEL = 13
+# a log that is legal, but not if each update is one step
+BETWEEN = """file a 61
+call 1 sparse 2
+done 1.1 0
+call 2 update 0 0,0
+call 3 read 0 0 1
+done 3.1 1 61
+call 4 read 1 0 1
+done 4.1 -9
+done 2.1 2
+"""
+# rows for kernel/conform: the rule, the status of a recorder that prints this log, and whether it
+# passes; and changes of kernel/flights.py with which a row is wrong
+CHAINS, WHOLE = "chains_in_flight_are_requests_one_at_a_time", "updates_in_flight_are_one_step"
+CONFORM_ROWS = (CHAINS, 0, True), (CHAINS, 3, False), (WHOLE, 0, False)
+WRONG_CONFORM = {
+    "takes the log of a recorder that failed": {"recorded": lambda program, words, seed: (run([program])[1], "")},
+    "never asks for whole updates": {"RULES": {it: those._replace(is_whole=False) for it, those in flights.RULES.items()}},
+}
+# changes of kernel/flight, each with the arguments of the recorder
+WRONG_RECORDERS = {
+    "loses a close": ([], "links.c", "\t\tappend_close(of,", "\t\tstatic int is_lost;\n\t\tif (is_lost++)\n\t\t\tappend_close(of,"),
+    "closes twice": ([], "links.c", "\t\tremove_link(link);", '\t\tappend_close(of, "closed %.*s %s", (int)(name - link), link, name + 1);'),
+    "answers that a file is missing": ([], "chain.c", "\tif (res < 0)\n", "\tif (it->is_read)\n\t\tres = -9;\n\tif (res < 0)\n"),
+    "closes a file that a read waits for": (["--waiting-read"], "record.c", "\n\tfeed_a_pipe();",
+                                            '\n\tappend_close((struct member_name){ 2, 1 }, "closed 2.1.0 p0");\n\tfeed_a_pipe();'),
+}
+
+
+def without(pattern, lines):
+    return [it for it in lines if not re.match(pattern, it)]
+
+
+# what a wrong judge makes of a log before it searches
+WRONG = {
+    "sees no closes": lambda lines: without("closed|settled", lines),
+    "doesn't wait at settled": lambda lines: without("settled", lines),
+    "ends a hold with its answer": lambda lines: "\n".join(
+        re.sub(r"^(done (\S+)\.1 0 \S+)$", r"\1\nfree \2", it) for it in without("free", lines)).split("\n"),
+    "lets closes come early": lambda lines: without("closed|settled", lines) + [it for it in lines if it.startswith("closed")],
+    "calls everything at once": lambda lines: lines[:2] + [it for it in lines[2:] if it.startswith("call")] + without("call", lines[2:]),
+}
+
+
+# what a wrong judge makes of a verdict and its line
+WRONG_VERDICTS = {
+    "finds every log legal": lambda word, line: (LEGAL, 0),
+    "finds no log legal": lambda word, line: (NOT_LEGAL if word == LEGAL else word, line),
+    "names the line before": lambda word, line: (word, line - 1),
+    "names the line after": lambda word, line: (word, line + 1),
+}
+
+
+def verdict_of(lines, is_proved, is_whole=False):
+    """What the oracle or the verified judge says, perhaps by whole updates, and the line."""
+    try:
+        log = yachtlog.Log(HEAD + "\n".join(lines) + "\n")
+        verdict = log.judge(whole_updates=is_whole) if is_proved else flight_states.judged(log, is_whole=is_whole)
+    except ValueError:
+        return REFUSED, 0
+    return verdict.word, verdict.line - HEAD.count("\n")
+
+
+def is_right(word, line, lines, legal, wants_line=True, is_whole=False):
+    """Whether a verdict on a log is that of all orders."""
+    if word != NOT_LEGAL or not wants_line:
+        return (word == LEGAL) == legal
+    return not legal and is_legal(lines[: line - 1], is_whole) and not is_legal(lines[:line], is_whole)
+
+
+def facts_of(lines, line):
+    """Returns the reason why a log is not legal up to and with a line, as tests/reasons.py reads it, or nothing."""
+    import yachtjudge
+
+    return reasons.facts_of(yachtjudge.explain_events(yachtlog.Log(text_of(lines, len(lines))), line + HEAD.count("\n")))
+
+
+def text_of(lines, last):
+    """Returns the text of a log up to a line."""
+    return HEAD + "".join(f"{it}\n" for it in lines[:last])
+
+
+def without_step(facts, nth):
+    """Returns a reason without one of its steps. What follows from that step follows from none."""
+    return [(rule, lines, access, tuple(it - 1 if it > nth else -1 if it == nth else it for it in premises), *order)
+            for rule, lines, access, premises, *order in facts[:nth] + facts[nth + 1 :]]
+
+
+def complaint_of_reason(lines, line, facts):
+    """Returns what is wrong with a reason of a log, or what is not refused: the reason without a step, or for the lines before the last one,
+    which are legal."""
+    text = text_of(lines, line)
+    if why := reasons.complaint(text, facts):
+        return why
+    kept = [nth for nth in range(len(facts)) if not reasons.complaint(text, without_step(facts, nth))]
+    if kept:
+        return f"the reason is not refused without its step {kept[0]}"
+    return "" if reasons.complaint(text_of(lines, line - 1), facts) else "the reason is not refused for the lines before the last one"
+
+
+def is_legal(lines, is_whole=False):
+    try:
+        return tiny_flights.is_legal(lines, is_whole)
+    except KeyError:
+        return False
+
+
+def kernel_verdict(program, seed):
+    """What the oracle says of a log of this machine's kernel, or why there is no log."""
+    log, missing = flights.recorded(program, [], seed)
+    return missing or flight_states.judged(yachtlog.Log(log)).word
+
+
+def conform_rows():
+    """Returns for each row of kernel/conform whether it holds."""
+    with tempfile.TemporaryDirectory() as room, mock.patch.object(conform, "BUILD", room):
+        found = []
+        for rule, status, passes in CONFORM_ROWS:
+            program = os.path.join(room, f"recorder{status}")
+            write(program, f"#!/bin/sh\ncat << 'END'\n{BETWEEN}END\nexit {status}\n")
+            os.chmod(program, 0o755)
+            outcome = conform.of_log(yachtlog, program, flights.RULES[rule], rule, 1)
+            found.append(outcome.is_ok == passes and not outcome.skipped)
+    return found
+
+
+def changed_recorder(room, file, old, new):
+    """Builds the recorder with a change. Returns the program's path."""
+    sources = os.path.join(room, "kernel")
+    shutil.rmtree(sources, ignore_errors=True)
+    shutil.copytree(os.path.join(ROOT, "kernel"), sources)
+    path = os.path.join(sources, "flight", file)
+    assert old in read(path), old
+    write(path, read(path).replace(old, new, 1))
+    return flights.built_recorder(sources, os.path.join(room, "record"))
+
+
+def overlapping(program):
+    """Returns how many logs of a recorder have an answer before that of an earlier call."""
+    logs = (flights.recorded(program, [], seed)[0] for seed in range(1, OVERLAPPING + 1))
+    answers = ([int(it) for it in re.findall(r"^done (\d+)\.", log, re.MULTILINE)] for log in logs)
+    return sum(any(later < it for it, later in zip(those, those[1:])) for those in answers)
+
+
+def wrong_rows(folder):
+    """Returns the number of rows that are wrong for the modules of a folder, and what is printed. A traceback counts as none."""
+    _, said, fault = run([f"{ROOT}/scripts/run", "tests.log_lines"], env={**os.environ, "PYTHONPATH": folder, "YACHTBANYAN_LIB_DIR": f"{ROOT}/lib"})
+    last = re.search(r"^log_lines: (\d+) looked at, (\d+) wrong\n$", said, re.MULTILINE)
+    return int(last[2]) if last and int(last[1]) == log_lines.count() else -1, said[-2000:] + fault[-500:]
+
+
+def wrong_rows_of(change):
+    """The same for modules with a wrong change."""
+    name, old, new = change
+    with tempfile.TemporaryDirectory() as room:
+        folder = os.path.join(room, "python")
+        shutil.copytree(f"{ROOT}/bindings/python", folder)
+        path = os.path.join(folder, f"{name}.py")
+        assert old in read(path), old
+        write(path, read(path).replace(old, new, 1))
+        return wrong_rows(folder)
+
+
+class Checks(Counted):
+    def compare(self, count, seed):
+        """Compares the verdicts on random logs. Returns the logs, with the verdict of the verified judge and that of all orders."""
+        found, tallies = [], ({}, {})
+        for happened, lines in tiny_flights.logs(seed, count):
+            legal = is_legal(lines)
+            for is_proved, tally in enumerate(tallies):
+                word, line = verdict_of(lines, is_proved)
+                holds = is_right(word, line, lines, legal, tally.get(NOT_LEGAL, 0) % LINE_OF == 0) and (legal or not happened)
+                self.want(holds, f"the {JUDGES[is_proved]} says {word} {line}, and all orders {legal}:\n" + "\n".join(lines))
+                tally[word] = tally.get(word, 0) + 1
+            found.append((lines, (word, line), legal))
+        self.shares(count, tallies[0])
+        for name, tally in zip(JUDGES, tallies):
+            self.want(NOT_DECIDED not in tally, f"the {name} leaves a tiny log undecided")
+        return found
+
+    def whole_updates(self, count, seed):
+        """Compares the verdicts by whole updates on random logs of updates."""
+        split, differs = 0, [False, False]
+        for _, lines in tiny_flights.logs(seed, count, tiny_flights.PlayOfUpdates):
+            whole = is_legal(lines, True)
+            split += is_legal(lines) and not whole
+            for is_proved, name in enumerate(JUDGES):
+                word, line = verdict_of(lines, is_proved, is_whole=True)
+                self.want(is_right(word, line, lines, whole, is_whole=True),
+                          f"by whole updates the {name} says {word} {line}, and all orders {whole}:\n" + "\n".join(lines))
+                differs[is_proved] |= not is_right(*verdict_of(lines, is_proved), lines, whole, wants_line=False)
+        print(f"# {split} of {count} tiny logs of updates are legal, and not by whole updates")
+        self.want(split * 1_000 >= count * SPLIT, f"only {split} of {count} tiny logs of updates are legal, and not by whole updates")
+        for name, differs_there in zip(JUDGES, differs):
+            self.want(differs_there, f"the {name} differs on no log if it asks for no whole updates")
+
+    def lines(self):
+        """Checks the rows of tests/log_lines.py, and that each wrong module fails on one."""
+        wrong, said = wrong_rows(f"{ROOT}/bindings/python")
+        self.seen += log_lines.count() - 1
+        self.want(wrong == 0, f"rows of tests/log_lines.py are wrong:\n{said}")
+        for (name, old, new), found in zip(log_lines.WRONG, in_parallel(wrong_rows_of, log_lines.WRONG)):
+            self.want(found[0] > 0, f"{name}.py with {new!r} in place of {old!r} fails on no row: {found[1]}")
+
+    def shares(self, count, tally):
+        """Checks that enough logs are legal, and enough are not."""
+        for kind, share in ((LEGAL, 3), (NOT_LEGAL, 7)):
+            self.want(tally[kind] * share >= count, f"only {tally[kind]} of {count} logs are {kind}")
+
+    def reasons(self, found):
+        """Checks the reasons of the logs that are not legal, and their share."""
+        for last, why in reason_rows.wrong_rows():
+            self.want(False, f"reasons.py says of {last}: {why or 'nothing'}")
+        self.seen += reason_rows.count()
+        those = [(lines, line, facts_of(lines, line)) for lines, (word, line), _ in found if word == NOT_LEGAL]
+        for lines, line, facts in those:
+            why = complaint_of_reason(lines, line, facts) if facts else ""
+            self.want(not why, f"the reason of a log: {why}\n" + "\n".join(lines[:line]))
+        certified = sum(bool(facts) for *_, facts in those)
+        print(f"# {certified} of {len(those)} tiny logs that are not legal have a reason")
+        self.want(certified * 100 >= len(those) * CERTIFIED, f"only {certified} of {len(those)} logs that are not legal have a reason")
+
+    def wrong_judges(self, found):
+        """Checks that each wrong judge takes some log for legal that is not, and that no wrong verdict agrees with all orders."""
+        wrong = [lines for lines, _, legal in found if not legal]
+        for what, change in WRONG.items():
+            self.want(any(is_legal(change(it)) for it in wrong), f"a judge that {what} is wrong on no log")
+        for what, other in WRONG_VERDICTS.items():
+            differs = any(not is_right(*other(*verdict), lines, legal) for lines, verdict, legal in found)
+            self.want(differs, f"a verified judge that {what} differs on no log")
+
+    def conform(self):
+        """Checks the rows of kernel/conform on recorders that print a log, and that each change of kernel/flights.py is wrong on a row."""
+        self.want(all(conform_rows()), f"kernel/conform judges logs of a recorder otherwise: {conform_rows()}")
+        for what, those in WRONG_CONFORM.items():
+            with mock.patch.multiple(flights, **those):
+                self.want(not all(conform_rows()), f"a kernel/conform that {what} is wrong on no row")
+
+    def kernel(self):
+        """Checks this machine's kernel."""
+        status, missing = built_player()
+        if status == NO_KERNEL:
+            self.skip(OF_KERNEL, "io_uring", missing)
+            return
+        for rule in flights.RULES:
+            status, text, message = run([f"{ROOT}/kernel/conform", "--scripts", str(SCRIPTS), "--rule", rule])
+            passes = re.findall(rf"^  ok \d+ {rule}_\d+$", text, re.MULTILINE)
+            self.want(status == 0 and len(passes) == SHARES[rule], f"{rule}: {len(passes)} logs are legal: {text[-500:]}{message}")
+        for rule in flights.RULES:
+            self.want(self.skips(rule), f"{rule} is judged without the library, or isn't skipped by name")
+        with concurrent.futures.ThreadPoolExecutor(os.cpu_count()) as pool:
+            program = flights.built_recorder()
+            words = collections.Counter(pool.map(lambda seed: kernel_verdict(program, seed), range(1, KERNEL_LOGS + 1)))
+        self.want(words[LEGAL] == KERNEL_LOGS, f"the oracle finds logs of the kernel {dict(words)}")
+        with tempfile.TemporaryDirectory() as room:
+            self.want(overlapping(program) * 2 > OVERLAPPING, "few answers of the recorder come before that of an earlier call")
+            self.want(overlapping(changed_recorder(room, "chain.c", "\t\tsqe->flags |= IOSQE_ASYNC;\n", "")) * 2 < OVERLAPPING,
+                      "a recorder whose requests start at once is not noticed")
+            for what, (words, *change) in WRONG_RECORDERS.items():
+                self.want(self.is_found(changed_recorder(room, *change), words), f"a recorder that {what} is not noticed")
+
+    def skips(self, rule):
+        """Returns whether kernel/conform skips a rule without the library, and names it."""
+        command = [f"{ROOT}/kernel/conform", "--scripts", "10", "--rule", rule]
+        status, text, _ = run(command, env={**os.environ, "YACHTBANYAN_LIB_DIR": ROOT})
+        return status == 0 and f"  ok 1 {rule} # SKIP The library {ROOT}/libyachtjudge.so.5 was not found." in text
+
+    def is_found(self, program, words):
+        """Returns whether one of the logs of a recorder is not legal."""
+        logs = (flights.recorded(program, words, seed)[0] for seed in range(1, WRONG_LOGS + 1))
+        return any(flights.complaint_of(yachtlog, it)[0] for it in logs)
+
+
+def main(given):
+    checks = Checks("flights")
+    checks.lines()
+    found = checks.compare(given.count, given.seed)
+    checks.whole_updates(given.count // 3, given.seed)
+    checks.reasons(found)
+    checks.wrong_judges(found)
+    checks.conform()
+    checks.kernel()
+    return checks.end()
+
+
+def command():
+    return status_of("flights", main, arguments(__doc__, numbers={"count": COUNT, "seed": SEED}))

@@ -1,0 +1,273 @@
+"""check-page PROGRAM [FIXCHECK]: plays the samples of the pages on the program: the scripts of README.md and docs/use/SCRIPT.md, which must
+print the text beside or after them, and the script of each row of the table of faults, which must be refused for that fault on
+its last line. The printed lines in docs/inside/LIBRARY.md must be those that are kept of it, and the history in docs/inside/PROOFS.md that of
+model/picture. The tutorial of docs/use/RECORDING.md is followed by its commands, over the library. The reproducer of
+docs/use/BAD_ENTRY.md, the judge of docs/use/C.md and the crate without the library, by docs/use/RUST.md, are run. With FIXCHECK it looks at
+the history in docs/use/CHECKING.md, and at man/fixfiles.1 and man/fixcheck.1 too: their options, which are those of the completions too, their numbers and statuses are those of the
+programs' help, their examples are played, and mandoc, where it is there, finds nothing to complain of."""
+import os
+import re
+import shutil
+import subprocess
+import tempfile
+
+from scripts.checks import Counted, arguments, status_of
+from scripts.pages import blocks, rows, section
+from scripts.programs import run
+from scripts.repository import ROOT, read, write
+
+# the numbers of cases that need fixcheck, and mandoc
+OF_FIXCHECK, OF_MANDOC = 14, 3
+# the first lines of README.md that name its readers, and its largest number of bytes
+HEAD, MOST_BYTES = 12, 8_200
+# the number of cases of the tutorial, that of logs of which one must show the bug, the most lines
+# of a shortened log, and the number of logs without the bug
+OF_TUTORIAL, LOGS, MOST_LINES, LEGAL_LOGS = 6, 20, 15, 3
+
+
+def texts_of(page):
+    """The indented blocks of a page, each as a text."""
+    return ["".join(f"{line}\n" for line in it) for it in blocks(read(page))]
+
+
+def lines_of(piece):
+    """Returns the lines that a piece of a cell means: `X`, N times `X`, `X` and N times `Y`, or `X1` to `X9`."""
+    if first_and_last := re.fullmatch(r"`(\D+)(\d+)(.*)` to `\1(\d+)\3`", piece):
+        head, first, tail, last = first_and_last.groups()
+        return [f"{head}{nth}{tail}" for nth in range(int(first), int(last) + 1)]
+    line = ""
+    for part in piece.split(" and "):
+        times, text = re.fullmatch(r"(?:([0-9,]+) times )?`(.*)`", part).groups()
+        line += text * (int(times.replace(",", "")) if times else 1)
+    return [line]
+
+
+def faults(page):
+    """Each fault of the table, and the lines of its script."""
+    for name, cell in re.findall(r"^\| `([a-z-]+)` \| .* \| (.*) \|$", page, re.MULTILINE):
+        yield name, [line for piece in cell.split(", then ") for line in lines_of(piece)]
+
+
+def sample_of_readme():
+    """The script of the table in README.md, and the text beside it."""
+    cells = [it for heading, it in rows(read("README.md")) if heading == "Quick start"][1:]
+    return ["".join(f"{it[column].strip('`')}\n" for it in cells if it[column]) for column in (0, 1)]
+
+
+def sample_of(page):
+    """The first script of a page, and the text after it."""
+    those = texts_of(page)
+    at = next(nth for nth, it in enumerate(those) if it.startswith("file "))
+    return those[at : at + 2]
+
+
+def is_drawn(page):
+    """Whether a block of the page is the history that model/picture draws."""
+    status, drawn, _ = run([f"{ROOT}/model/picture"])
+    return status == 0 and drawn in texts_of(page)
+
+
+def numbers_in(text):
+    return {int(it.replace(",", "")) for it in re.findall(r"\d+(?:,\d{3})*", text)}
+
+
+def section_of(page, title):
+    return page.split(f".Sh {title}\n")[1].split("\n.Sh ")[0]
+
+
+def options_of(page):
+    """The options of a manual page, in its synopsis and in its list."""
+    synopsis = re.findall(r"[ |](?:Fl )?-([a-z][a-z-]*)", section_of(page, "SYNOPSIS"))
+    return [set(synopsis), set(re.findall(r"^\.It Fl .*?-([a-z][a-z-]*)", page, re.MULTILINE))]
+
+
+def example_is_played(page, programs):
+    """Checks that each command of the examples writes the lines after it. A file that `cat` shows is there."""
+    with tempfile.TemporaryDirectory() as room:
+        for command, wanted in re.findall(r"^\$ (.*)\n((?:[^$.].*\n)+)", section_of(page, "EXAMPLES"), re.MULTILINE):
+            if command.startswith("cat "):
+                write(os.path.join(room, command[4:]), wanted)
+                continue
+            name = command.split()[0]
+            words = ["sh", "-c", command.replace(name, '"$0"', 1), programs[name]]
+            if run(words, cwd=room) != (0, wanted, ""):
+                return False
+    return True
+
+
+def lint(path):
+    """What mandoc complains of, but that our own pages aren't installed."""
+    said = run(["mandoc", "-T", "lint", "-W", "style", path])[1]
+    return [it for it in said.splitlines() if not re.search(r"referenced manual not found: Xr (fix|io_uring)", it)]
+
+
+def manual_pages(programs):
+    """What is looked at of the manual pages, and whether it holds."""
+    for name, program in programs.items():
+        page, told_by = read(f"man/{name}.1"), subprocess.run([program, "--help"], capture_output=True, text=True, check=True).stdout
+        options = told_by.split("Options:")[1].split("\n\n")[0]
+        names, completed = (set(re.findall(r"--([a-z][a-z-]*)", it)) for it in (options, read(f"completions/{name}")))
+        yield f"the options of {name}(1)", options_of(page) == [names] * 2
+        yield f"completions/{name}", completed == names
+        yield f"the numbers of {name}(1)", numbers_in(options) <= numbers_in(section_of(page, "DESCRIPTION"))
+        statuses = re.findall(r"^  (\d)  ", told_by, re.MULTILINE)
+        yield f"the statuses of {name}(1)", statuses == re.findall(r"^\.It (\d)$", section_of(page, "EXIT STATUS"), re.MULTILINE)
+        yield f"the example of {name}(1)", example_is_played(page, programs)
+    made = subprocess.run([f"{ROOT}/scripts/manual"], capture_output=True, text=True, check=True).stdout
+    with tempfile.TemporaryDirectory() as room:
+        path = os.path.join(room, "fixfiles-script.5")
+        write(path, made)
+        for it in (*(f"{ROOT}/man/{name}.1" for name in programs), path) if shutil.which("mandoc") else ():
+            complaints = lint(it)
+            yield f"{os.path.basename(it)}, of which mandoc says {complaints[:3]},", not complaints
+
+
+def first_commands(checks):
+    """Checks that README.md is short, and that its first lines name both readers. Runs the two commands that it names first: a server over the
+    library, and the sample's script on this machine's kernel."""
+    text = read("README.md")
+    head = "\n".join(text.split("\n")[:HEAD])
+    is_short = len(text.encode()) <= MOST_BYTES and all(it in head for it in ("server's author", "kernel's maintainer"))
+    checks.want(is_short, f"README.md has {len(text.encode())} bytes, or its first {HEAD} lines don't name both readers")
+    serve, play = (re.split("  +#", it)[0].strip() for it in next(blocks(read("README.md"))))
+    made, _, serve = serve.partition(" && ")
+    checks.want((made, play) == ("make libraries", "make kernel"), f"README.md begins with the commands {made} and {play}")
+    if shutil.which("cargo") and os.path.exists(f"{ROOT}/lib/libyachtbanyan.a"):
+        target = {**os.environ, "CARGO_TARGET_DIR": f"{ROOT}/build/page", "PWD": ROOT}
+        found = subprocess.run(serve, shell=True, cwd=ROOT, env=target, capture_output=True, text=True).stdout
+        checks.want(found == read("tests/bindings/server.text"), f"the first command of README.md prints {found!r}")
+    else:
+        checks.skip(1, "cargo, or no library")
+    found = subprocess.run(["make", "-s", "kernel"], cwd=ROOT, capture_output=True, text=True)
+    if "kernel: skipped" in found.stderr:
+        checks.skip(1, "io_uring")
+    else:
+        checks.want(found.stdout == sample_of_readme()[1], f"`make kernel` prints {found.stdout!r}")
+
+
+def commands_of(page, word):
+    return [it[0] for it in blocks(page) if it[0].startswith(word)]
+
+
+def without_library(checks):
+    """Runs the command of docs/use/RUST.md that needs no library: the server of README.md over a stand-in."""
+    (command,) = commands_of(read("docs/use/RUST.md"), "RUSTFLAGS")
+    if shutil.which("cargo"):
+        where = {**os.environ, "CARGO_TARGET_DIR": f"{ROOT}/build/page/stand_in"}
+        found = subprocess.run(command, shell=True, cwd=ROOT, env=where, capture_output=True, text=True).stdout
+        checks.want(found == read("tests/bindings/server.text"), f"without the library the server prints {found!r}")
+    else:
+        checks.skip(1, "cargo")
+
+
+def tutorial(page, room):
+    """Follows the tutorial by its commands, with a log in a folder. Yields what is looked at, and whether it holds."""
+    (with_bug, without), (judge, shorten) = (commands_of(page, it) for it in ("cargo run --release --no-default", "YACHTBANYAN_LIB_DIR"))
+    path, where = os.path.join(room, "log"), {**os.environ, "CARGO_TARGET_DIR": f"{ROOT}/build/page", "PWD": ROOT}
+
+    def said(command, seed=""):
+        command = re.sub(r"\blog$", path, re.sub(r"(?<= cached )\d+", str(seed), command))
+        return subprocess.run(command, shell=True, cwd=ROOT, env=where, capture_output=True, text=True).stdout
+
+    for log, wants in zip((it for it in texts_of("docs/use/RECORDING.md") if it.startswith("file v -")), ("legal", "not legal: line 9: "), strict=True):
+        write(path, log)
+        yield f"the verdict on a log of RECORDING, {wants!r},", said(judge).startswith(f"{path}: {wants}")
+    reason = next(it for it in blocks(page) if it[0].startswith("log: not legal: line 9: "))
+    yield "the reason of RECORDING", said(judge).replace(f"{path}:", "log:").split() == " ".join(reason).split()
+    for seed in range(1, LOGS + 1):
+        said(with_bug, seed)
+        # lines with the reason may follow
+        if found := re.match(r".*: not legal: line \d+: (.*)\n", said(judge)):
+            break
+    short = said(shorten).splitlines()
+    yield f"one of {LOGS} logs of the table with a bug", found
+    yield f"the shortened log {short},", found and len(short) <= MOST_LINES and short[-1:] == [found[1]]
+    legal = [said(without, seed) + said(judge) == f"{path}: legal\n" for seed in range(1, LEGAL_LOGS + 1)]
+    yield "a log of the table without the bug", all(legal)
+
+
+def judge_in_c(checks):
+    """Checks that the second program of docs/use/C.md prints the lines after it."""
+    if not os.path.exists(f"{ROOT}/lib/libyachtjudge.a"):
+        checks.skip(1, "library")
+        return
+    those = list(blocks(read("docs/use/C.md"), spans_gaps=True))
+    at = next(nth for nth, it in enumerate(those) if "#include <yachtjudge.h>" in it)
+    with tempfile.TemporaryDirectory() as room:
+        source, program = (os.path.join(room, it) for it in ("judge.c", "judge"))
+        write(source, "".join(f"{it}\n" for it in those[at]))
+        built = run(["cc", "-Wall", "-Wextra", "-Werror", f"-I{ROOT}/include", source, f"{ROOT}/lib/libyachtjudge.a", "-o", program])
+        found = run([program])[1] if built[0] == 0 else built[2]
+    checks.want([it for it in found.split("\n") if it] == those[at + 1], f"the second program of docs/use/C.md prints {found!r}")
+
+
+def finding(checks):
+    """Checks that docs/use/BAD_ENTRY.md shows the reproducer, and what it prints on a kernel of the version that the page names."""
+    page, path = read("docs/use/BAD_ENTRY.md"), "kernel/reports/update_up_to_a_bad_entry.c"
+    code, printed = list(blocks(page))[:2]
+    checks.want("\n".join(code) in read(path), "docs/use/BAD_ENTRY.md shows another reproducer")
+    version = re.search(r"^Kernel (\d+\.\d+)\.\d+ prints$", page, re.MULTILINE)[1]
+    with tempfile.TemporaryDirectory() as room:
+        program = os.path.join(room, "reproducer")
+        status = run(["cc", f"{ROOT}/{path}", "-luring", "-o", program])[0] if shutil.which("cc") else 1
+        found = run([program]) if status == 0 and os.uname().release.startswith(f"{version}.") else None
+    if not found or found[:2] == (1, ""):
+        checks.skip(1, f"kernel {version} with io_uring, or liburing")
+    else:
+        checks.want(found[1].split("\n")[:-1] == printed, f"the reproducer of docs/use/BAD_ENTRY.md prints {found!r}")
+
+
+def recording(checks):
+    """Checks that docs/use/RECORDING.md shows lines of the recorder's example, and follows it."""
+    page, source = read("docs/use/RECORDING.md"), read("bindings/recorder/examples/cached.rs")
+    lines = "\n".join(it.strip() for it in source.splitlines())
+    for block in blocks(page):
+        if block[0].startswith("fn "):
+            checks.want("\n".join(it.strip() for it in block) in lines, f"docs/use/RECORDING.md has other lines than cached.rs: {block[0]}")
+    if not (shutil.which("cargo") and os.path.exists(f"{ROOT}/lib/libyachtjudge.so")):
+        checks.skip(OF_TUTORIAL, "cargo, or no library")
+        return
+    with tempfile.TemporaryDirectory() as room:
+        for what, holds in tutorial(page, room):
+            checks.want(holds, f"not right: {what}")
+
+
+def shows_history(fixcheck):
+    """Checks whether docs/use/CHECKING.md shows the history that fixcheck prints of its first example."""
+    return run([fixcheck, "--history", *(f"{ROOT}/examples/open_read_close.{it}" for it in ("script", "text"))])[1] in texts_of("docs/use/CHECKING.md")
+
+
+def main(given):
+    checks, program, page = Counted("page"), given.program, read("docs/use/SCRIPT.md")
+    first_commands(checks)
+    without_library(checks)
+    recording(checks)
+    finding(checks)
+    judge_in_c(checks)
+    for it, (script, text) in {"README.md": sample_of_readme(), "docs/use/SCRIPT.md": sample_of("docs/use/SCRIPT.md")}.items():
+        checks.want(run([program], script) == (0, text, ""), f"the sample of {it} prints another text")
+    checks.want(is_drawn("docs/inside/PROOFS.md"), "the history of docs/inside/PROOFS.md isn't the one that model/picture prints")
+    checks.want(read("crates/example_library/stdout") in texts_of("docs/inside/LIBRARY.md"), "docs/inside/LIBRARY.md has another text of example_library")
+    checks.want(read("crates/example_library/stdout").splitlines(True)[0] in texts_of("docs/inside/LIBRARY.md"), "docs/inside/LIBRARY.md has another text of first.rt")
+    first = [line for line in read("crates/example_library/src/first.rt").split("\n") if line]
+    checks.want(first in blocks(read("docs/inside/LIBRARY.md"), spans_gaps=True), "docs/inside/LIBRARY.md has another program than first.rt")
+    for name, holds in manual_pages({"fixfiles": program, "fixcheck": given.fixcheck}) if given.fixcheck else ():
+        checks.want(holds, f"not right: {name}")
+    if given.fixcheck:
+        checks.want(shows_history(given.fixcheck), "docs/use/CHECKING.md has another history than fixcheck prints")
+    table = dict(faults(section(page, "## Faults")))
+    names = re.findall(r'ScriptFault::\w+ => "([a-z-]+)"', read("crates/fx_language/src/fault.rt"))
+    checks.want(list(table) == names, f"the faults of docs/use/SCRIPT.md are not those of fx_language, in their order: {names}")
+    for name, lines in table.items():
+        at = 0 if name == "long-script" else len(lines)
+        found = run([program], "\n".join(lines))
+        checks.want(found == (3, "", f"fixfiles: line {at}: {name}\n"), f"the script of {name} ended with status {found[0]} and {found[2]!r}")
+    if not given.fixcheck:
+        checks.skip(OF_FIXCHECK, "fixcheck")
+    elif not shutil.which("mandoc"):
+        checks.skip(OF_MANDOC, "mandoc")
+    return checks.end("samples looked at")
+
+
+def command():
+    return status_of("page", main, arguments(__doc__, "program fixcheck?"))

@@ -1,0 +1,87 @@
+"""check-pictures FIXCHECK [--draw]: draws the pictures of docs/pictures again, from the histories that FIXCHECK prints, and compares them
+with the kept ones; with --draw it keeps the new ones. Checks that draw-history refuses the text of another script, that it says what a
+picture is, that it draws chains that share no slot side by side, and that docs/use/CHECKING.md shows the history that FIXCHECK prints."""
+import glob
+import os
+import re
+import tempfile
+
+from scripts.checks import Counted, arguments
+from model.model import play
+from scripts.pages import blocks
+from scripts.programs import run
+from scripts.repository import ROOT, read, read_bytes, write
+from model.told_history import complaint_of
+
+TAILS = "docs/pictures/tails.svg"
+EXAMPLE, OTHER = "examples/open_read_close", "examples/two_submissions"
+# independent chains, and the pixels that their picture may have each way
+CHAINS, MOST_PIXELS = 12, 1_200
+INDEPENDENT = "file a.txt 68656c6c6f\nsparse 12\n" + "".join(
+    f"open a.txt at {it} link\nread {it} 0 5 link\nclose {it}\n" for it in range(CHAINS)) + "submit\n"
+
+
+def history_of(fixcheck, sample):
+    """Returns the history of a sample, or nothing if it isn't a legal history of the text, or anything else is printed."""
+    status, history, message = run([fixcheck, "--history", f"{sample}.script", f"{sample}.text"], cwd=ROOT)
+    complaint = complaint_of(read_bytes(f"{sample}.script"), read(f"{sample}.text"), history.splitlines())
+    return history if (status, message, complaint) == (0, "", None) else ""
+
+
+def drawn(fixcheck, sample):
+    return run([f"{ROOT}/scripts/draw-history", "--text", f"{ROOT}/{sample}.text"], history_of(fixcheck, sample))[1]
+
+
+def pictures(checks, given):
+    for picture in sorted(glob.glob("docs/pictures/*.svg", root_dir=ROOT)):
+        sample = picture.removesuffix(".svg")
+        sample = sample if os.path.exists(f"{ROOT}/{sample}.script") else f"examples/{os.path.basename(sample)}"
+        # a picture without a script is drawn by hand
+        if not os.path.exists(f"{ROOT}/{sample}.script"):
+            continue
+        new = drawn(given.fixcheck, sample)
+        if given.draw and new:
+            write(picture, new)
+        checks.want(read(picture) == new, f"{picture} isn't what is drawn now; `make pictures` draws it again")
+        checks.want("not a trace" in new, f"{picture} doesn't say that it is no trace")
+    new = run([f"{ROOT}/scripts/draw-tails"])[1]
+    if given.draw and new:
+        write(TAILS, new)
+    checks.want(new and read(TAILS) == new, f"{TAILS} isn't what is drawn of bench/tails.txt; `make pictures` draws it again")
+
+
+def independent_chains(checks, fixcheck):
+    """Checks that the picture of independent chains is no staircase."""
+    with tempfile.TemporaryDirectory() as room:
+        for ending, content in (("script", INDEPENDENT), ("text", play(INDEPENDENT.encode())[0])):
+            write(os.path.join(room, f"chains.{ending}"), content)
+        sample = os.path.relpath(os.path.join(room, "chains"), ROOT)
+        size = re.search(r'width="(\d+)" height="(\d+)"', drawn(fixcheck, sample))
+        checks.want(size and max(map(int, size.groups())) <= MOST_PIXELS, f"{CHAINS} independent chains are drawn on {size and size[0]} pixels")
+
+
+def refused_texts(checks, fixcheck):
+    """Checks that a text of another script, and one with another result, are refused, and the right one isn't."""
+    history, is_right_taken = history_of(fixcheck, EXAMPLE), drawn(fixcheck, EXAMPLE) != ""
+    changed = read(f"{EXAMPLE}.text").replace("1.1.2 5 68656c6c6f", "1.1.2 4 68656c6c")
+    with tempfile.NamedTemporaryFile("w", suffix=".text") as file:
+        file.write(changed)
+        file.flush()
+        for path in (f"{ROOT}/{OTHER}.text", file.name):
+            status, picture, message = run([f"{ROOT}/scripts/draw-history", "--text", path], history)
+            holds = (status, picture) == (1, "") and message.startswith("draw-history: the text is not that of the history: ")
+            checks.want(holds and is_right_taken, f"draw-history takes a text of another history: {message!r}")
+
+
+def main(given):
+    checks = Counted("pictures")
+    pictures(checks, given)
+    independent_chains(checks, given.fixcheck)
+    refused_texts(checks, given.fixcheck)
+    shown = history_of(given.fixcheck, EXAMPLE).splitlines()
+    checks.want(shown and shown in blocks(read("docs/use/CHECKING.md")), "docs/use/CHECKING.md shows another history")
+    return checks.end()
+
+
+def command():
+    return main(arguments(__doc__, "fixcheck", "draw"))

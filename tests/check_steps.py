@@ -1,0 +1,96 @@
+"""check-steps: makes the steps of the lasting table (model/lasting_table.c) in every order of small programs, and of wrong tables, each of
+which must be found (step_orders.c). The families, with the numbers of their states and steps, and what is found of each wrong table must
+be the lines of tests/steps.txt.
+
+Then it changes the table by the edits of tests/wrong_steps.txt. An edit is a line with the table, the fault that must be found, a text
+that the table's sources have once, and what replaces it, with tabs between them. So each fault of the sources is reported of some
+wrong table or of some edit."""
+import contextlib
+import difflib
+import os
+import re
+import shutil
+import subprocess
+import tempfile
+import zlib
+
+from scripts.checks import Counted, status_of
+from scripts.programs import in_parallel, run
+from scripts.repository import ROOT, read
+
+# how the table is compiled if it has no edit
+RIGHT = "-O3", "-flto", "-Wall", "-Wextra", "-Werror"
+# the longest run: all families
+SECONDS = 600
+# a call of `want`
+FAULT = re.compile(r'want\([^"]*"([^"]+)"')
+
+
+def sources():
+    """Returns the texts of the table's sources."""
+    return [read(f"model/{it}") for it in sorted(os.listdir(f"{ROOT}/model")) if re.fullmatch(r"lasting_\w+\.c", it)]
+
+
+def built(room, name, texts, flags=("-O1", "-w")):
+    """Builds the table's program in a folder, from these texts of its sources. What was compiled before isn't again: an edit changes one of
+    them."""
+    objects = [object_of(room, it, flags) for it in [read("tests/step_orders.c"), *texts]]
+    subprocess.run(["cc", *flags, "-o", os.path.join(room, name), *objects], check=True)
+    return os.path.join(room, name)
+
+
+def object_of(room, text, flags):
+    path = os.path.join(room, f"{zlib.crc32(' '.join([*flags, text]).encode())}.o")
+    if not os.path.exists(path):
+        with tempfile.NamedTemporaryFile(dir=room, delete=False) as made:
+            subprocess.run(["cc", *flags, f"-I{ROOT}/model", "-x", "c", "-c", "-o", made.name, "-"], input=text, text=True, check=True)
+        # another thread may link one that it made, so that is never replaced
+        with contextlib.suppress(FileExistsError):
+            os.link(made.name, path)
+        os.unlink(made.name)
+    return path
+
+
+def first_fault(room, nth, old, new):
+    """Returns the first fault of the table with an edit, or what is wrong with the edit."""
+    texts = sources()
+    if sum(it.count(old) for it in texts) != 1:
+        return f"the sources have {old!r} {sum(it.count(old) for it in texts)} times, and not once"
+    status, text, _ = run([built(room, f"edit{nth}", [it.replace(old, new) for it in texts]), "--first"], seconds=SECONDS)
+    return text.splitlines()[-1].split(": ")[-1] if status == 1 and text else "nothing"
+
+
+def complaints_of_lines(found, kept):
+    """Returns the lines that differ from the kept ones."""
+    return [it for it in difflib.unified_diff(kept, found, "tests/steps.txt", "found", n=0, lineterm="") if not it.startswith("@@")]
+
+
+def main():
+    if shutil.which("cc") is None:
+        print("steps: there is no C compiler cc here, which builds the table")
+        return 1
+    checks, kept = Counted("steps"), read("tests/steps.txt").splitlines()
+    edits = [it.split("\t")[1:] for it in read("tests/wrong_steps.txt").splitlines()]
+    with tempfile.TemporaryDirectory() as room:
+        status, text, _ = run([built(room, "table", sources(), RIGHT)], seconds=SECONDS)
+        # the edits share its objects
+        built(room, "unchanged", sources())
+        faults = in_parallel(lambda it: first_fault(room, it[0], *it[1][1:]), list(enumerate(edits)))
+    found = text.splitlines()
+    print("\n".join(f"steps: {it}" for it in found))
+    checks.want(status == 0, f"the program ended with status {status}")
+    differs = complaints_of_lines(found, kept)
+    checks.want(not differs, "\n".join(["other lines than those of tests/steps.txt:", *differs]))
+    checks.seen += len(found)
+    for wrong in (found[1:], [*found, found[-1]], [re.sub(r"\d+(?= steps)", lambda it: str(int(it[0]) + 1), it) for it in found]):
+        checks.want(complaints_of_lines(wrong, kept), "wrong lines are taken for the kept ones")
+    for (fault, old, new), said in zip(edits, faults):
+        checks.want(said == fault, f"with {new!r} for {old!r} it is said: {said}, and not {fault}")
+    known = {fault for fault, *_ in edits} | {it.split(": ")[-1] for it in found}
+    for fault in sorted({fault for it in sources() for fault in FAULT.findall(it)}):
+        checks.want(fault in known, f"no wrong table and no edit shows this fault: {fault}")
+    return checks.end()
+
+
+def command():
+    return status_of("steps", main)

@@ -1,0 +1,121 @@
+"""check-wrong-bodies [--prover]: checks that tests/wrong-bodies distinguishes accepted edits from refused ones if several are tried in
+one check. Two of four edits of fx_baton change nothing: one in a function that may wait, and one in a function that calls a refused
+one. These must be reported as ACCEPTED, the other two as refused, each in its function. The output of scripts/refusals.py is checked
+too, and that each wrong body of NAMED has an edit, or a row in crates/WRONG_BODIES.md with what else refuses it.
+
+The prover's output is RECORDED, which it printed for these edits; with --prover it comes from the prover itself, in a copy of the
+crates."""
+import contextlib
+import io
+import re
+import sys
+import tempfile
+
+from scripts import edits, proved
+from tests import wrong_bodies
+from scripts.checks import Counted
+from scripts.refusals import complaints, refused_functions, unknown_lines
+from scripts.repository import read
+
+# each edit's text before and after it, in src/calls.rt, and the expected report
+EDITS = {
+    "wrong_count": ("        takes: 0,", "        takes: 1,", "refused in its function"),
+    "wrong_event": ("Call::Clear(slot), removed", "Call::Take(slot), removed", "refused in its function"),
+    "nothing_in_a_wait": (
+        "let closed = plain.release(node);", "let closed = plain.release(node); let _nothing = node;", "ACCEPTED"),
+    "nothing_in_a_caller": (
+        "let removed = plain.take(slot);", "let removed = plain.take(slot); let _nothing = slot;", "ACCEPTED"),
+}
+ALL_PROVED = """\
+fn fx_baton::calls::BatonTableSharedTable::clear: proved, may wait
+fn fx_baton::calls::BatonTableSharedTable::release: proved, may wait
+fn fx_baton::calls::BatonTableSharedTable::take: proved, may wait
+fn fx_baton::calls::retired: proved
+fn fx_baton::laws::split_keeps_rule: proved where its callers give what it asks
+logic=proved functions=37 may-wait=9
+"""
+BOTH_REFUSED = """\
+./proofs/Closing.antt:157:18: note: large solution: the implicit argument {b} of `◌∙◌` was filled in with a large term
+./proofs/calls/BatonTableSharedTable/take/Answers.antt:7:5: note: large solution: it was filled in with a large term
+./proofs/calls/BatonTableSharedTable/clear/Answers.antt:22:5: error: `give_back-requires`: the two types first differ
+impl fx_baton::calls::BatonTableSharedTable: not proved; it waits for the proof of `put`, `clear`, `take`
+note: src/calls.rt:211:1: it is not proved that what the function ensures holds when it returns (`returns-in-Some-Some`)
+fn fx_baton::calls::retired: no proof: expected answers in ./proofs/calls/retired/Answers.antt; `search` did not prove it
+note: `search` has not tried the goals of `fx_baton::calls::BatonTableSharedTable::clear`, which wait for a callee's proof
+fn fx_baton::calls::BatonTableSharedTable::clear: not proved; it calls `fx_baton::calls::retired`, which is not proved
+fn fx_baton::calls::BatonTableSharedTable::release: proved, may wait
+fn fx_baton::calls::BatonTableSharedTable::take: no proof: it calls `fx_baton::calls::retired`, which is not proved
+fn fx_baton::laws::split_keeps_rule: proved where its callers give what it asks
+logic=not-proved
+"""
+# the report of a crate with both
+TOLD = ["fx_baton::calls::retired is not proved:", "fx_baton::calls::BatonTableSharedTable::clear is not proved:",
+        "    src/calls.rt:211: it is not proved that what the function ensures holds when it returns"]
+# and without the line of a goal
+BY_HAND = "    proofs/calls/BatonTableSharedTable/clear/Answers.antt:22:5: error: `give_back-requires`: the two types first differ"
+# the wrong bodies that the design names
+NAMED = """look_counts_beside_the_slot retire_ignores_holders node_word_starts_at_one both_hand_the_file_out neither_hands_the_file_out
+    update_drops_what_it_replaced put_denies_a_replacement full_after_one_scan control_word_without_bias end_before_swap
+    slots_resolved_at_submission short_read_goes_on canceled_member_runs all_members_canceled look_answers_the_file_last_seen
+    look_answers_the_opening_file pass_works_on_a_copy pass_invents_events draw_repeats_a_chain draw_skips_a_chain
+    update_applied_up_to_bad_entry refused_open_is_closed read_of_the_file_the_chain_opened read_of_another_slot
+    unregister_leaves_a_file tear_down_leaves_a_file leading_zero_accepted look_tries_again look_never_spent look_spent_early
+    hard_link_restarts_a_severed_chain tag_given_at_removal tag_of_the_new_file""".split()
+TESTED = """one_thread_plays_all submit_opens_no_table submit_shares_out_chains_itself every_read_out_of_memory submit_always_out_of_memory
+    run_always_read_fault open_always_out_of_memory allocation_scans_for_ever""".split()
+# the prover's lines by the edits that are in the text
+NOTHING = ["nothing_in_a_wait", "nothing_in_a_caller"]
+RECORDED = {frozenset(EDITS): (BOTH_REFUSED, 1), frozenset(): (ALL_PROVED, 0), frozenset(NOTHING): (ALL_PROVED, 0),
+            **{frozenset([it]): (ALL_PROVED, 0) for it in NOTHING}}
+
+
+def recorded(folder, _paths=(), _jobs=()):
+    """What the prover said of the edits that are in the folder's text."""
+    text = read(f"{folder}/src/calls.rt")
+    there = frozenset(name for name, (old, new, _) in EDITS.items() if new in text and (old in new or old not in text))
+    return RECORDED.get(there, ("nothing is recorded of these edits", 2))
+
+
+def told_of_edits(wrong_bodies):
+    """The lines that wrong-bodies writes of the edits, tried in one check at first."""
+    with tempfile.TemporaryDirectory() as folder, contextlib.redirect_stdout(io.StringIO()) as told:
+        wrong_bodies.KEPT = folder
+        text = "".join(f"[{name}]\nfile: src/calls.rt\nold: {old}\nnew: {new}\n\n" for name, (old, new, _) in EDITS.items())
+        tried = [wrong_bodies.Edit("fx_baton", *it) for it in edits.parts(text)]
+        wrong = [it for it in tried if it.wrong]
+        if not wrong:
+            wrong_bodies.try_crates(tried, 1)
+    return [f"{it.name}: {it.wrong}" for it in wrong] + told.getvalue().splitlines()
+
+
+def main(by_prover):
+    checks = Counted("wrong bodies")
+    if not by_prover:
+        wrong_bodies.prove = recorded
+        proved.PARTS = ("src",)
+    lines = told_of_edits(wrong_bodies)
+    for name, (_, _, wanted) in EDITS.items():
+        is_told = any(it.startswith(f"fx_baton/{name}: {wanted} (") for it in lines)
+        checks.want(is_told, f"of {name} not '{wanted}' was reported, but: {' | '.join(lines)}")
+    said = complaints(BOTH_REFUSED.split("\n"))
+    checks.want(said == TOLD, f"refusals.py says {said}")
+    said = complaints([it for it in BOTH_REFUSED.split("\n") if not it.startswith("note: src")])
+    checks.want(said == [*TOLD[:2], BY_HAND], f"refusals.py says of a proof by hand {said}")
+    is_known = not refused_functions(ALL_PROVED.split("\n")) and not unknown_lines(f"{ALL_PROVED}{BOTH_REFUSED}".split("\n"))
+    checks.want(is_known, "a function that is proved is taken for a refused one")
+    names = "fx_baton::table::BatonTable::deal", "fx_baton::kinds::Deal::deal"
+    own, other = (wrong_bodies.is_function("fx_baton", it, "life", "BatonTable", "deal") for it in names)
+    place = wrong_bodies.function_at("impl A<B> for Table {\n    fn f() {\n        1\n    }\n}\n", 40)
+    is_found = own and not other and place == ("A", "Table", "f")
+    checks.want(is_found, "a method isn't known by its type if that is in another file")
+    stored = edits.names("wrong-bodies", "must-fail")
+    rows = {name for line in re.findall(r"^\| (`.*?) \|", read("crates/WRONG_BODIES.md"), re.MULTILINE) for name in re.findall(r"`(\w+)`", line)}
+    for name in (*NAMED, *TESTED):
+        checks.want(name in rows and (name in stored or name in TESTED), f"the wrong body {name} has no edit, or no row in crates/WRONG_BODIES.md")
+    is_unknown = unknown_lines(["fn fx_baton::calls::retired: looked at"])
+    checks.want(is_unknown, "a line that the prover doesn't write today is taken for a known one")
+    return checks.end()
+
+
+def command():
+    return main(sys.argv[1:] == ["--prover"])
