@@ -5,9 +5,9 @@ use Rattle.fx_lasting.proofs.Words.{Event, range_at_start, NodeAgrees, IsAllowed
 use Rattle.fx_lasting.proofs.Words.{held_in, held_of, taken_of, taking, Work, Glance, Change, ⊎_elim, ◌⊎◌, inr, word_of, hold_word_of, count_in}
 use Rattle.fx_lasting.proofs.Words.{name_in, full_name_in, HoldAgrees, GuardAgrees, WorkAgrees, sum_set, sum_by, get_elem?, length-set, set-get_or}
 use Rattle.fx_lasting.proofs.Words.{owed, seated, [], IsSeenBy, part_of_pass, ◌≤◌, inl, true, list_place, IsListedIn, written_in, Watch, WatchAgrees}
-use Rattle.fx_lasting.proofs.Frames.{busy, owner_stays, owner_same, slot_same, node_same, Leaves, keeps_other, guards_same, covers_same, sees_same}
-use Rattle.fx_lasting.proofs.Keeping.{Turn, After, Keeps, word_at, slot_word, step_kept, w, end, its_log, in_range, its_stock, names_on, LabelSame}
-use Rattle.fx_lasting.proofs.Keeping.{labels_same, met_same, range_left, LeavesFiles}
+use Rattle.fx_lasting.proofs.Frames.{busy, nodes_untouched, slot_same, node_same, Leaves, keeps_other, guards_same, covers_same, sees_same}
+use Rattle.fx_lasting.proofs.Keeping.{Turn, After, as_it_was, Keeps, word_at, slot_word, step_kept, w, end, its_log, in_range, stocks_untouched}
+use Rattle.fx_lasting.proofs.Keeping.{LabelSame, met_same, range_left, LeavesFiles}
 use Rattle.fx_lasting.proofs.slot_lemmas.Watching.{watch_same}
 use Rattle.fx_lasting.proofs.hold_lemmas.Lists.{ListGoesOn}
 use Rattle.fx_lasting.proofs.Places.{hold_words, hold_here, hold_node, hold_slot, hold_else, hold_alike, hold_list, hold_label}
@@ -17,23 +17,16 @@ module _ (turn : Turn) (h' front : List Event) (words' : List ℕ) (d : Work) (g
   open turn use {st, v, r, id, x, here, one}
 
   abbrev pub calm_after : After turn
-  calm_after = record {
+  calm_after = record (as_it_was turn) {
     h = h';
     front = front;
     words = words';
-    homes = st.homes;
-    phase = r.phase;
-    next_number = r.nodes.next_number;
-    debt = r.debt;
-    deed = r.deed;
     work = d;
     glance = g;
     change = c;
     asked = q;
     listed = l;
     still_listed = still;
-    where_is = r.nodes.where_is;
-    stock = x.stock;
     watch = o;
     more_met = more;
   }
@@ -63,34 +56,26 @@ module _ (turn : Turn) (h' front : List Event) (words' : List ℕ) (d : Work) (g
       λ i. ap (λ (f : ℕ → Option File). f i) s.files.at in step_kept turn calm_after record {
         words = s.words;
         homes = refl;
-        grows = s.files.grows;
-        legal = s.files.legal;
-        seen = s.seen;
-        own = s.own;
-        slots = λ i l. slot_same (s.slot_words i l) (at_is i) (λ q low high. refl) (λ f there seat. refl) (r.slots i l);
-        nodes = λ n l. node_same (slots_of v.start) r.node_of n (omega arith) (s.node_words n)
+        life = record { grows = s.files.grows; legal = s.files.legal; seen = s.seen; own = s.own };
+        nodes = nodes_untouched turn (w turn calm_after) s.files s.label_words s.owners
+            (λ n l. node_same (slots_of v.start) r.node_of n (omega arith) (s.node_words n)
             (let t = sum_set (taken_of n) st.views id v (w turn calm_after) here in let e = s.taken n in omega arith)
-            refl refl (r.phase n) (λ i f is there. (at_is i, ap count_in (s.slot_words i (inside n l i f is)))) (r.nodes.each n l);
-        owners = λ n l. ⊎_elim (λ same. owner_same st.views id v (w turn calm_after) here same n (r.phase n) (r.nodes.owners n l))
-            (λ none. owner_stays st.views id v (w turn calm_after) here n (λ bad. omega arith) (r.phase n) (r.nodes.owners n l)) s.owners;
-        labels = λ n l. labels_same v.start _ _ _ (written_in (r.phase n)) (s.label_words n) (r.nodes.labels n l);
-        removed = λ number. ap (λ (f : ℕ → Option File). f number) s.files.removed ∙ r.nodes.removed number;
-        unborn = r.nodes.unborn;
-        fresh = λ number l. ap (λ (f : ℕ → Bool). f number) s.files.fresh ∙ r.nodes.fresh number l;
-        named = names_on turn _ (λ i l. ap name_in (s.slot_words i l));
-        stock = its_stock turn;
-        stocks = λ n p e other at. at;
-        others = λ j u z other there at n range o work. keeps_other turn calm_after leaves j u z other there at n range o work;
-        held = s.held;
-        allowed = s.allowed;
-        lists = s.lists;
-        deed_on = λ i q l is. inl is;
-        its_bit = s.its_bit;
-        its = s.its;
-        holds = s.holds;
-        counts = s.counts;
-        moves = λ i l. inl (s.slot_words i l);
-        watches = s.watches;
+            refl refl (r.phase n) (λ i f is there. (at_is i, ap count_in (s.slot_words i (inside n l i f is)))) (r.nodes.each n l));
+        stocks = stocks_untouched turn words' (λ i l. ap name_in (s.slot_words i l));
+        slots = record {
+          each = λ i l. slot_same (s.slot_words i l) (at_is i) (λ q low high. refl) (λ f there seat. refl) (r.slots i l);
+          moves = λ i l. inl (s.slot_words i l);
+        };
+        holds = record {
+          others = λ j u z other there at n range o work. keeps_other turn calm_after leaves j u z other there at n range o work;
+          its = s.its;
+          held = s.held;
+          allowed = s.allowed;
+          files = s.holds;
+        };
+        list = record { words = s.lists; takers = λ i q l is. inl is; its_bit = s.its_bit };
+        range = s.counts;
+        watch = s.watches;
       }
     where
       inside : (n : ℕ) → n < nodes_of v.start → (i : ℕ) (f : File) → r.phase n ≡ seated i f → i < slots_of v.start

@@ -9,7 +9,8 @@ use Rattle.fx_lasting.proofs.Words.{leaving, retired, emptied, kept, owner, Glan
 use Rattle.fx_lasting.proofs.Words.{Yielding, Searching, Placing, Retiring, Emptying, Keeping, Nothing, Hot, Cold, Heating, taken_of, owed, sum_by}
 use Rattle.fx_lasting.proofs.Words.{suc, Deed, untouched, over, heated, has_acted, has_heated, Written, Unlabelled, label_of, written_in, file_in}
 use Rattle.fx_lasting.proofs.Counts.{tally_same}
-use Rattle.fx_lasting.proofs.Keeping.{Turn, After, Keeps, w, word_at, slot_word}
+use Rattle.fx_lasting.proofs.Words.{Bool, Event}
+use Rattle.fx_lasting.proofs.Keeping.{Turn, After, Homes, Keeps, NodesStep, LeavesFiles, LabelSame, labels_same, w, word_at, slot_word}
 
 -- the node that a pass alone works with, plus 1, or 0
 abbrev pub busy : Work → ℕ
@@ -267,6 +268,24 @@ module _ (turn : Turn) (a : After turn) where
       go (Emptying n) g = tt
       go (Keeping n lost) g = tt
 
+-- a step that leaves the phase, the number and the label of each node: it may change what takes the
+-- nodes' words count
+pub nodes_untouched : (turn : Turn) (w : View) {h' : List Event} {words' : List ℕ} {homes' : Homes} {debt' : ℕ → ℕ} → LeavesFiles turn h'
+    → ((n : ℕ) → LabelSame turn.v.start words' turn.st.words n) → (alone_in w.work ≡ alone_in turn.v.work) ⊎ (busy turn.v.work ≡ 0)
+    → ((n : ℕ) → n < nodes_of turn.v.start → NodeAgrees (state_after_all turn.v.start h').at (slots_of turn.v.start) (λ s. count_in (slot_word words' s))
+    turn.r.node_of turn.r.nodes.next_number n (word_at words' (word_of turn.v.start n)) (sum_by (taken_of n) (set turn.st.views turn.id w))
+    (owed debt' turn.v.start.passes n) (get_elem? homes' n) (turn.r.phase n))
+    → NodesStep turn h' words' homes' (set turn.st.views turn.id w) turn.r.phase turn.r.nodes.next_number debt'
+nodes_untouched turn w files labels alone each = let r = turn.r in record {
+  each = each;
+  owners = λ n l. ⊎_elim (λ still. owner_same turn.st.views turn.id turn.v w turn.here still n (r.phase n) (r.nodes.owners n l))
+      (λ none. owner_stays turn.st.views turn.id turn.v w turn.here n (λ bad. omega arith) (r.phase n) (r.nodes.owners n l)) alone;
+  labels = λ n l. labels_same turn.v.start _ _ _ (written_in (r.phase n)) (labels n) (r.nodes.labels n l);
+  removed = λ number. ap (λ (f : ℕ → Option File). f number) files.removed ∙ r.nodes.removed number;
+  unborn = r.nodes.unborn;
+  fresh = λ number l. ap (λ (f : ℕ → Bool). f number) files.fresh ∙ r.nodes.fresh number l;
+}
+
 -- how far a look-up is, where no slot's word and no take of the pass has changed
 pub sees_same : (k : Start) {word word' : ℕ → ℕ} (deed : ℕ → Deed) → ((s : ℕ) → s < slots_of k → word' s ≡ word s) → (g : Glance)
     → GlanceAgrees k word deed g → GlanceAgrees k word' deed g
@@ -276,21 +295,26 @@ sees_same k {word} {word'} deed same (Hot s m) at =
 sees_same k deed same (Cold s) at = at
 sees_same k deed same (Heating s) at = at
 
--- who may be unmarked, where no slot's word has changed
-module _ (turn : Turn) (words' : List ℕ) (same : (s : ℕ) → s < slots_of turn.v.start → slot_word words' s ≡ slot_word turn.st.words s) where
+-- who may be unmarked, where each hot slot stays hot
+module _ (turn : Turn) (words' : List ℕ) (hot : (s : ℕ) → s < slots_of turn.v.start → IsHot (slot_word turn.st.words s) → IsHot (slot_word words' s)) where
   open turn use {st, v, r, id, x, here, one}
 
-  pub covers_same : (p n : ℕ) → MayBeUnmarked (slot_word st.words) p (r.phase n) → MayBeUnmarked (slot_word words') p (r.phase n)
-  covers_same p n = dite (dec_le (suc n) (nodes_of v.start)) (λ l. go (r.phase n) (r.nodes.each n (omega (arith, l))))
+  pub covers_hot : (p n : ℕ) → MayBeUnmarked (slot_word st.words) p (r.phase n) → MayBeUnmarked (slot_word words') p (r.phase n)
+  covers_hot p n = dite (dec_le (suc n) (nodes_of v.start)) (λ l. go (r.phase n) (r.nodes.each n (omega (arith, l))))
       (λ g m. let e = r.nodes.unborn n (omega (arith, g)) in absurd (rw e at m))
     where
       go : (ph : Phase) → NodeAgrees (state_after_all v.start r.history).at (slots_of v.start) (λ s. count_in (slot_word st.words s)) r.node_of
           r.nodes.next_number n (word_at st.words (word_of v.start n)) (sum_by (taken_of n) st.views) (owed r.debt v.start.passes n)
           (get_elem? st.homes n) ph → MayBeUnmarked (slot_word st.words) p ph → MayBeUnmarked (slot_word words') p ph
-      go (seated i f) o hot = rw (same i o.inside) hot
+      go (seated i f) o is_hot = hot i o.inside is_hot
       go (leaving j t nx m f) o l = l
       go free o m = absurd m
       go (placed j l) o m = absurd m
       go (retired f) o m = absurd m
       go (emptied j) o m = absurd m
       go (kept j lost) o m = absurd m
+
+-- where no slot's word has changed
+pub covers_same : (turn : Turn) (words' : List ℕ) → ((s : ℕ) → s < slots_of turn.v.start → slot_word words' s ≡ slot_word turn.st.words s) → (p n : ℕ)
+    → MayBeUnmarked (slot_word turn.st.words) p (turn.r.phase n) → MayBeUnmarked (slot_word words') p (turn.r.phase n)
+covers_same turn words' same = covers_hot turn words' (λ s l is. rw (same s l) is)

@@ -1,6 +1,6 @@
 -- A step of a seat with one pass keeps the rule, if it keeps what the step changes.
 use Rattle.fx_lasting.proofs.Words.{Contains, contains_head, contains_only, ◌≡◌, ◌≢◌, ℕ, ◌+◌, ◌<◌, ◌≤◌, List, [], ◌∷◌, ◌++◌, map, set, length, sym}
-use Rattle.fx_lasting.proofs.Words.{refl, ap, ◌∙◌, subst, arith, get_or, Option, inr, eq-eqb, eqb, some, get_elem?, Closed, part_of_pass, Event}
+use Rattle.fx_lasting.proofs.Words.{refl, ap, ◌∙◌, subst, arith, get_or, Option, inl, inr, eq-eqb, eqb, some, get_elem?, Closed, part_of_pass, Event}
 use Rattle.fx_lasting.proofs.Words.{Action, sum_by, sum_set, sum_at, sum_of, sum_two, Bool, true, ⊎_elim, one_if, bit_here, once_is, held_by}
 use Rattle.fx_lasting.proofs.Words.{IsSeenBy, at_set, Allows, stepped, Act, Valid, carried_after, SlotAgrees, NodeAgrees, OwnerAgrees, WorkAgrees}
 use Rattle.fx_lasting.proofs.Words.{LogAgrees, ViewAgrees, lengths, Agrees, RangeCounts, HoldAgrees, GuardAgrees, GlanceAgrees, Heats, IsAllowed}
@@ -169,6 +169,57 @@ module _ (turn : Turn) where
     pub watch : Watch
     pub more_met : x.watch.met ≤ watch.met
 
+  -- as they are before the step, of which the pass sees all
+  abbrev pub as_it_was : After
+  as_it_was = record {
+    h = r.history;
+    front = r.history;
+    words = st.words;
+    homes = st.homes;
+    phase = r.phase;
+    next_number = r.nodes.next_number;
+    debt = r.debt;
+    deed = r.deed;
+    work = v.work;
+    glance = v.glance;
+    change = v.change;
+    asked = x.asked;
+    listed = x.listed;
+    still_listed = λ l. l;
+    where_is = r.nodes.where_is;
+    stock = x.stock;
+    watch = x.watch;
+    more_met = met_same x.watch.met;
+  }
+
+  -- the history goes on, and the pass has seen this part of it
+  pub record LifeStep (h' front : List Event) : Type 0 where
+    pub grows : Grows x.number r.history h'
+    pub legal : IsHistory v.start h'
+    pub seen : IsSeenBy front h'
+    pub own : part_of_pass x.number h' ≡ part_of_pass x.number front
+
+  -- the pass sees all of it
+  pub sees_all : {h' : List Event} → Grows x.number r.history h' → IsHistory v.start h' → LifeStep h' h'
+  sees_all grows legal = record { grows = grows; legal = legal; seen = ([], refl); own = refl }
+
+  -- nodes
+  pub record NodesStep (h' : List Event) (words' : List ℕ) (homes' : Homes) (views' : List View) (phase' : ℕ → Phase) (next' : ℕ) (debt' : ℕ → ℕ) : Type 0 where
+    pub each : (n : ℕ) → n < nodes_of v.start → NodeAgrees (state_after_all v.start h').at (slots_of v.start)
+        (λ s. count_in (slot_word words' s)) r.node_of next' n (word_at words' (word_of v.start n))
+        (sum_by (taken_of n) views') (owed debt' v.start.passes n) (get_elem? homes' n) (phase' n)
+    pub owners : (n : ℕ) → n < nodes_of v.start → OwnerAgrees views' n (phase' n)
+    pub labels : (n : ℕ) → n < nodes_of v.start → Labels v.start words' n (written_in (phase' n))
+    pub removed : (number : ℕ) → (state_after_all v.start h').removed number ≡ removed_in number (phase' (r.node_of number))
+    pub unborn : (n : ℕ) → nodes_of v.start ≤ n → phase' n ≡ free
+    pub fresh : (number : ℕ) → next' ≤ number → (state_after_all v.start h').fresh number ≡ true
+
+  -- where the nodes are
+  pub record StockStep (words' : List ℕ) (where_is' : ℕ → Whereabouts) (stock' : List ℕ) : Type 0 where
+    pub named : (s : ℕ) → s < slots_of v.start → NamesItsNode v.start where_is' s (slot_word words' s)
+    pub stock : StockAgrees v.start where_is' x.number stock'
+    pub others : (n q entry : ℕ) → q ≢ x.number → r.nodes.where_is n ≡ in_stock q entry → where_is' n ≡ in_stock q entry
+
   module _ (a : After) where
     abbrev pub w : View
     w = now v (logged x a.listed a.asked a.stock a.watch a.front) a.work a.glance a.change
@@ -187,64 +238,69 @@ module _ (turn : Turn) where
       pub heats : Heats v.start (λ s. a.deed s q) g
       pub work : WorkAgrees v.start a.phase j d
 
-    -- what a step has to keep
-    pub record Step : Type 0 where
-      pub words : length a.words ≡ length st.words
-      pub homes : length a.homes ≡ length st.homes
-      pub grows : Grows x.number r.history a.h
-      pub legal : IsHistory v.start a.h
-      pub seen : IsSeenBy a.front a.h
-      pub own : part_of_pass x.number a.h ≡ part_of_pass x.number a.front
-      pub slots : (s : ℕ) → s < slots_of v.start
+    -- slots
+    pub record SlotsStep : Type 0 where
+      pub each : (s : ℕ) → s < slots_of v.start
           → SlotAgrees v.start r.node_of a.phase (a.deed s) s ((state_after_all v.start a.h).at s) (slot_word a.words s)
-      pub nodes : (n : ℕ) → n < nodes_of v.start → NodeAgrees (state_after_all v.start a.h).at (slots_of v.start)
-          (λ s. count_in (slot_word a.words s)) r.node_of a.next_number n (word_at a.words (word_of v.start n))
-          (sum_by (taken_of n) views') (owed a.debt v.start.passes n) (get_elem? a.homes n) (a.phase n)
-      pub owners : (n : ℕ) → n < nodes_of v.start → OwnerAgrees views' n (a.phase n)
-      pub labels : (n : ℕ) → n < nodes_of v.start → Labels v.start a.words n (written_in (a.phase n))
-      pub removed : (number : ℕ) → (state_after_all v.start a.h).removed number ≡ removed_in number (a.phase (r.node_of number))
-      pub unborn : (n : ℕ) → nodes_of v.start ≤ n → a.phase n ≡ free
-      pub fresh : (number : ℕ) → a.next_number ≤ number → (state_after_all v.start a.h).fresh number ≡ true
-      pub named : (s : ℕ) → s < slots_of v.start → NamesItsNode v.start a.where_is s (slot_word a.words s)
-      pub stock : StockAgrees v.start a.where_is x.number a.stock
-      pub stocks : (n q entry : ℕ) → q ≢ x.number → r.nodes.where_is n ≡ in_stock q entry → a.where_is n ≡ in_stock q entry
+      pub moves : (s : ℕ) → s < slots_of v.start → MovesOn x.number s r.history a.h (slot_word st.words s) (slot_word a.words s)
+
+    -- holds: those of other passes, and of this one
+    pub record HoldsStep : Type 0 where
       pub others : (j : ℕ) (u : View) (z : Log) → j ≢ id → get_elem? st.views j ≡ some u → Contains u.logs z → z.number ≢ x.number
           → (0 < z.number) × (z.number ≤ v.start.passes)
           → LogAgrees v.start r.history st.words r.phase r.debt r.deed u.work u.glance z → WorkAgrees v.start r.phase j u.work
           → Keeps j z.number u.work u.glance
+      pub its : Keeps id x.number a.work a.glance
       pub held : held_by a.h x.number ≡ held_in a.work
       pub allowed : IsAllowed a.stock a.listed a.work
-      pub its : Keeps id x.number a.work a.glance
-      pub holds : (n : ℕ) → (state_after_all v.start a.h).holds n + held_of n v ≡ (state_after_all v.start r.history).holds n + held_of n w
-      pub lists : (p : ℕ) → p ≤ 1024 → ListGoesOn x.number a.listed p (word_at st.words (list_place p)) (word_at a.words (list_place p))
-      pub deed_on : (s q : ℕ) → s < slots_of v.start → a.deed s q ≢ untouched → (r.deed s q ≢ untouched) ⊎ ((q ≡ x.number) × (a.listed ≡ true))
+      pub files : (n : ℕ) → (state_after_all v.start a.h).holds n + held_of n v ≡ (state_after_all v.start r.history).holds n + held_of n w
+
+    -- the list of passes
+    pub record ListStep : Type 0 where
+      pub words : (p : ℕ) → p ≤ 1024 → ListGoesOn x.number a.listed p (word_at st.words (list_place p)) (word_at a.words (list_place p))
+      pub takers : (s q : ℕ) → s < slots_of v.start → a.deed s q ≢ untouched → (r.deed s q ≢ untouched) ⊎ ((q ≡ x.number) × (a.listed ≡ true))
       pub its_bit : a.listed ≡ true → (x.listed ≡ true) ⊎ IsListedIn (word_at a.words (list_place x.number)) x.number
-      pub counts : RangeCounts (state_after_all v.start a.h).at (range_at_start v.start) views' a.words
-      pub moves : (s : ℕ) → s < slots_of v.start → MovesOn x.number s r.history a.h (slot_word st.words s) (slot_word a.words s)
-      pub watches : WatchAgrees v.start a.h a.words x.number a.watch
+
+    -- the list is as it was, and no pass takes for the first time
+    pub list_untouched : ((p : ℕ) → p ≤ 1024 → word_at a.words (list_place p) ≡ word_at st.words (list_place p))
+        → ((s q : ℕ) → a.deed s q ≢ untouched → r.deed s q ≢ untouched) → (a.listed ≡ true → x.listed ≡ true) → ListStep
+    list_untouched same took was = record { words = λ p few. inl (same p few); takers = λ s q l is. inl (took s q is); its_bit = λ l. inl (was l) }
+
+    -- what a step has to keep: a record for each machine
+    pub record Step : Type 0 where
+      pub words : length a.words ≡ length st.words
+      pub homes : length a.homes ≡ length st.homes
+      pub life : LifeStep a.h a.front
+      pub nodes : NodesStep a.h a.words a.homes views' a.phase a.next_number a.debt
+      pub stocks : StockStep a.words a.where_is a.stock
+      pub slots : SlotsStep
+      pub holds : HoldsStep
+      pub list : ListStep
+      pub range : RangeCounts (state_after_all v.start a.h).at (range_at_start v.start) views' a.words
+      pub watch : WatchAgrees v.start a.h a.words x.number a.watch
 
     module _ (s : Step) where
       other_log : (j : ℕ) (u : View) (z : Log) → j ≢ id → get_elem? st.views j ≡ some u → Contains u.logs z
           → LogAgrees v.start a.h a.words a.phase a.debt a.deed u.work u.glance z
       other_log j u z other there at = let o = (r.holds.views j u there).logs z at in let n = not_there r here one other there z at in
-          let k = s.others j u z other there at n (its_range r j there at) o (r.holds.views j u there).work in
+          let k = s.holds.others j u z other there at n (its_range r j there at) o (r.holds.views j u there).work in
           let few : z.number ≤ 1024 = omega (arith, (its_range r j there at).1, r.shape.passes) in
           record {
-            seen = s.grows.seen z.front o.seen;
-            own = s.grows.parts z.number (λ same. n (sym same)) ∙ o.own;
-            held = s.grows.helds z.number (λ same. n (sym same)) ∙ o.held;
+            seen = s.life.grows.seen z.front o.seen;
+            own = s.life.grows.parts z.number (λ same. n (sym same)) ∙ o.own;
+            held = s.life.grows.helds z.number (λ same. n (sym same)) ∙ o.held;
             allowed = o.allowed;
-            list = λ l. stays_listed x.number a.listed z.number (s.lists z.number few) (o.list l);
+            list = λ l. stays_listed x.number a.listed z.number (s.list.words z.number few) (o.list l);
             unlisted = λ is. ⊎_elim (λ before. o.unlisted before) (λ same. absurd (n same))
-                (was_listed x.number a.listed z.number in_range.0 (its_range r j there at).0 (s.lists z.number few) is);
+                (was_listed x.number a.listed z.number in_range.0 (its_range r j there at).0 (s.list.words z.number few) is);
             hold = k.hold;
             guarded = k.guarded;
             sees = k.sees;
             heats = k.heats;
             takes_listed = λ i l is. ⊎_elim (λ before. o.takes_listed i l before)
-                (λ (own : (z.number ≡ x.number) × (a.listed ≡ true)). absurd (n own.0)) (s.deed_on i z.number l is);
+                (λ (own : (z.number ≡ x.number) × (a.listed ≡ true)). absurd (n own.0)) (s.list.takers i z.number l is);
             watch = let range = its_range r j there at in let mine = in_range in
-                watch_on v.start x.number z.number (λ same. n (sym same)) (omega (arith, n, range.0, range.1, mine.0, mine.1)) st.words a.words s.grows.seen s.moves z.watch o.watch;
+                watch_on v.start x.number z.number (λ same. n (sym same)) (omega (arith, n, range.0, range.1, mine.0, mine.1)) st.words a.words s.life.grows.seen s.slots.moves z.watch o.watch;
           }
 
       -- a seat without passes does nothing
@@ -254,25 +310,25 @@ module _ (turn : Turn) where
           go : (l : List Log) → u.logs ≡ l → WorkAgrees v.start a.phase j u.work
           go [] none = subst (WorkAgrees v.start a.phase j) (sym ((r.holds.views j u there).empty none).0) tt
           go (z ∷ l) is = let at = subst (λ (l : List Log). Contains l z) (sym is) (contains_head z l) in
-              (s.others j u z other there at (not_there r here one other there z at) (its_range r j there at)
+              (s.holds.others j u z other there at (not_there r here one other there z at) (its_range r j there at)
               ((r.holds.views j u there).logs z at) (r.holds.views j u there).work).work
 
       its_own : LogAgrees v.start a.h a.words a.phase a.debt a.deed a.work a.glance (logged x a.listed a.asked a.stock a.watch a.front)
       its_own = let few : x.number ≤ 1024 = omega (arith, in_range.1, r.shape.passes) in record {
-        seen = s.seen;
-        own = s.own;
-        held = s.held;
-        allowed = s.allowed;
-        list = λ l. ⊎_elim (λ was. stays_listed x.number a.listed x.number (s.lists x.number few) (its_log.list was)) (λ set. set) (s.its_bit l);
+        seen = s.life.seen;
+        own = s.life.own;
+        held = s.holds.held;
+        allowed = s.holds.allowed;
+        list = λ l. ⊎_elim (λ was. stays_listed x.number a.listed x.number (s.list.words x.number few) (its_log.list was)) (λ set. set) (s.list.its_bit l);
         unlisted = λ is. ⊎_elim (λ (same : word_at a.words (list_place x.number) ≡ word_at st.words (list_place x.number)).
-            a.still_listed (its_log.unlisted (subst (λ (z : ℕ). IsListedIn z x.number) same is))) (λ set. set.2) (s.lists x.number few);
-        hold = s.its.hold;
-        guarded = s.its.guarded;
-        sees = s.its.sees;
-        heats = s.its.heats;
+            a.still_listed (its_log.unlisted (subst (λ (z : ℕ). IsListedIn z x.number) same is))) (λ set. set.2) (s.list.words x.number few);
+        hold = s.holds.its.hold;
+        guarded = s.holds.its.guarded;
+        sees = s.holds.its.sees;
+        heats = s.holds.its.heats;
         takes_listed = λ i l is. ⊎_elim (λ before. a.still_listed (its_log.takes_listed i l before))
-            (λ (own : (x.number ≡ x.number) × (a.listed ≡ true)). own.1) (s.deed_on i x.number l is);
-        watch = s.watches;
+            (λ (own : (x.number ≡ x.number) × (a.listed ≡ true)). own.1) (s.list.takers i x.number l is);
+        watch = s.watch;
       }
 
       pub step_kept : Agrees v.start end
@@ -286,30 +342,30 @@ module _ (turn : Turn) where
         deed = a.deed;
         nodes = record {
           next_number = a.next_number;
-          each = s.nodes;
-          owners = s.owners;
-          labels = s.labels;
-          removed = s.removed;
-          unborn = s.unborn;
-          fresh = s.fresh;
+          each = s.nodes.each;
+          owners = s.nodes.owners;
+          labels = s.nodes.labels;
+          removed = s.nodes.removed;
+          unborn = s.nodes.unborn;
+          fresh = s.nodes.fresh;
           where_is = a.where_is;
-          named = s.named;
+          named = s.stocks.named;
           stocks = λ j u z e has. ⊎_elim
               (λ (t : (j ≡ id) × (w ≡ u)). let has' : Contains (logged x a.listed a.asked a.stock a.watch a.front ∷ []) z =
               subst (λ (y : View). Contains y.logs z) (sym t.1) has in
-              subst (λ (y : Log). StockAgrees v.start a.where_is y.number y.stock) (sym (contains_only (logged x a.listed a.asked a.stock a.watch a.front) z has')) s.stock)
+              subst (λ (y : Log). StockAgrees v.start a.where_is y.number y.stock) (sym (contains_only (logged x a.listed a.asked a.stock a.watch a.front) z has')) s.stocks.stock)
               (λ (t : (j ≢ id) × (get_elem? st.views j ≡ some u)). let o = r.nodes.stocks j u z t.1 has in record {
                 its = o.its;
-                here = λ entry n is. s.stocks n z.number entry (not_there r here one t.0 t.1 z has) (o.here entry n is);
+                here = λ entry n is. s.stocks.others n z.number entry (not_there r here one t.0 t.1 z has) (o.here entry n is);
               }) (at_set st.views id j w u e);
         };
-        slots = s.slots;
+        slots = s.slots.each;
         holds = record {
           views = λ j u e. ⊎_elim (λ (t : (j ≡ id) × (w ≡ u)).
               subst (λ (z : ℕ × View). ViewAgrees v.start a.h a.words a.phase a.debt a.deed z.0 z.1) (λ i. (sym t.0 i, t.1 i)) record {
                 logs = λ z h. subst (LogAgrees v.start a.h a.words a.phase a.debt a.deed a.work a.glance)
                     (sym (contains_only (logged x a.listed a.asked a.stock a.watch a.front) z h)) its_own;
-                work = s.its.work;
+                work = s.holds.its.work;
                 empty = λ none. absurd (omega (arith, ap (length {A = Log}) none));
                 start = inr refl;
               }) (λ (t : (j ≢ id) × (get_elem? st.views j ≡ some u)). record {
@@ -318,20 +374,20 @@ module _ (turn : Turn) where
                 empty = (r.holds.views j u t.1).empty;
                 start = (r.holds.views j u t.1).start;
               }) (at_set st.views id j w u e);
-          files = λ n. let t = sum_set (held_of n) st.views id v w here in let a = r.holds.files n in let b = s.holds n in omega arith;
+          files = λ n. let t = sum_set (held_of n) st.views id v w here in let a = r.holds.files n in let b = s.holds.files n in omega arith;
           listed = λ p low high is. ⊎_elim (λ before. r.holds.listed p low high before) (λ same. let z = in_range.1 in omega (arith, same, z))
-              (was_listed x.number a.listed p in_range.0 low (s.lists p high) is);
+              (was_listed x.number a.listed p in_range.0 low (s.list.words p high) is);
         };
-        range = s.counts;
+        range = s.range;
         life = record {
-          legal = s.legal;
-          known = of_replaced (IsKnown a.h) st.views (λ j u e. s.grows.seen u.known (r.life.known j u e)) id w (s.grows.seen v.known (r.life.known id v here));
+          legal = s.life.legal;
+          known = of_replaced (IsKnown a.h) st.views (λ j u e. s.life.grows.seen u.known (r.life.known j u e)) id w (s.life.grows.seen v.known (r.life.known id v here));
           passes = λ p. total_same (λ z. one_if (eqb z.number p)) st.views id w here one refl refl ∙ r.life.passes p;
           whole = let t = sum_set lengths st.views id v w here in let e = ap (length {A = Log}) one in let b = r.life.whole in omega arith;
           authors = λ p none. let t = r.life.passes p in let u = sum_at (logs_of p) st.views id v here in
               let its_one : x.number ≡ p → logs_of p v ≡ 1 =
               λ same. of_one (λ z. one_if (eqb z.number p)) one ∙ rw (eq-eqb x.number p same) refl in
-              s.grows.parts p (λ same. let a = its_one same in omega arith) ∙ r.life.authors p none;
+              s.life.grows.parts p (λ same. let a = its_one same in omega arith) ∙ r.life.authors p none;
         };
       }
 
@@ -343,10 +399,14 @@ module _ (turn : Turn) where
   pub in_its_stock : {n : ℕ} → (s : IsInStock x.stock n) → (n < nodes_of v.start) × (r.nodes.where_is n ≡ in_stock x.number s.0)
   in_its_stock {n} s = (its_stock.its.inside s.0 n s.1, its_stock.here s.0 n s.1)
 
-  -- the nodes that slots name, where no slot names another one
-  pub names_on : (words' : List ℕ) → ((s : ℕ) → s < slots_of v.start → name_in (slot_word words' s) ≡ name_in (slot_word st.words s))
-      → (s : ℕ) → s < slots_of v.start → NamesItsNode v.start r.nodes.where_is s (slot_word words' s)
-  names_on words' same s l = let o = r.nodes.named s l in record { node = o.node; named = same s l ∙ o.named; inside = o.inside; here = o.here }
+  -- each node is where it was, if no slot names another one
+  pub stocks_untouched : (words' : List ℕ) → ((s : ℕ) → s < slots_of v.start → name_in (slot_word words' s) ≡ name_in (slot_word st.words s))
+      → StockStep words' r.nodes.where_is x.stock
+  stocks_untouched words' same = record {
+    named = λ s l. let o = r.nodes.named s l in record { node = o.node; named = same s l ∙ o.named; inside = o.inside; here = o.here };
+    stock = its_stock;
+    others = λ n q entry other at. at;
+  }
 
   -- the effect of the step on its pass: from one that was listed, had asked and had in stock this
   moved_on : (a : After) (l : Bool) (q : Survey) (s : List ℕ) → ◌≡◌ {A = Bool × Survey × List ℕ} (a.listed, a.asked, a.stock) (l, q, s)

@@ -1,7 +1,7 @@
 -- Places are inside, and apart; and what a write to one of them leaves as it was.
 use Rattle.fx_lasting.proofs.Words.{◌≡◌, ◌≢◌, ℕ, ◌<◌, ◌≤◌, List, set, sym, arith, get_or-set_other, get_or-set_same, list_place, slot_place, word_of}
 use Rattle.fx_lasting.proofs.Words.{hold_word_of, slots_of, nodes_of, slot_of, group_at, group_place, pass_at, Start, PlacesAreInside, PlacesAreApart}
-use Rattle.fx_lasting.proofs.Words.{LabelsAreApart, NodesAreInOneLine, IsNoLabel, tag_word_of, number_word_of, length, length-set, refl}
+use Rattle.fx_lasting.proofs.Words.{LabelsAreApart, NodesAreInOneLine, IsNoLabel, tag_word_of, number_word_of, length, length-set, refl, dite, ℕ_discrete, subst}
 use Rattle.fx_lasting.proofs.range_lemmas.Groups.{CountAlike}
 use Rattle.fx_lasting.proofs.Keeping.{Turn, word_at, slot_word, LabelSame}
 
@@ -193,6 +193,12 @@ module _ (turn : Turn) (s : ℕ) (inside : s < slots_of turn.v.start) (new : ℕ
 
   pub slot_else : (i : ℕ) → i ≢ s → slot_word slot_words i ≡ slot_word st.words i
   slot_else i other = slot_apart (λ same. other (omega arith))
+
+  -- what holds of the slot's new word, and of each other slot's word, holds of each slot's word
+  pub slot_by : (P : ℕ → ℕ → Type 0) → P s new → ((i : ℕ) → i ≢ s → P i (slot_word st.words i)) → (i : ℕ) → P i (slot_word slot_words i)
+  slot_by P its else i = dite (ℕ_discrete i s)
+      (λ (same : i ≡ s). subst (λ (j : ℕ). P j (slot_word slot_words j)) (sym same) (subst (P s) (sym slot_here) its))
+      (λ (other : i ≢ s). subst (P i) (sym (slot_else i other)) (else i other))
 
   pub slot_hold : (p : ℕ) → 0 < p → word_at slot_words (hold_word_of v.start p) ≡ word_at st.words (hold_word_of v.start p)
   slot_hold p low = slot_apart (λ same. omega arith)

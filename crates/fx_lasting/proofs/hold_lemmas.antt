@@ -9,6 +9,7 @@ pub mod Looking
 pub mod Taking
 pub mod Retiring
 pub mod Finishing
+pub mod RoundSteps
 pub mod EndingHold
 pub mod Visiting
 pub mod Skimming

@@ -4,6 +4,7 @@ pub mod Watching
 pub mod SlotSteps
 pub mod Sights
 pub mod Swaps
+pub mod Emptying
 pub mod Installing
 pub mod SlotLaws
 pub mod SwapsOut

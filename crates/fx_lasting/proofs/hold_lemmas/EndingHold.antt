@@ -5,21 +5,13 @@ use Rattle.fx_lasting.proofs.Words.{◌≡◌, ℕ, ◌+◌, ◌<◌, ◌≤◌,
 use Rattle.fx_lasting.proofs.Words.{slots_of, nodes_of, hold_word_of, held_in, if_file, taken_of, taking, Phase, leaving, owner, file_in, removed_in}
 use Rattle.fx_lasting.proofs.Words.{changed_here, Work, Retiring, step, inr, ⊎_elim, Goes, sum_set, Agrees, Labels, label_of, written_in}
 use Rattle.fx_lasting.proofs.Counts.{owed_at}
-use Rattle.fx_lasting.proofs.Histories.{grows_none, each_changed}
-use Rattle.fx_lasting.proofs.Frames.{busy, does_now}
 use Rattle.fx_lasting.proofs.Keeping.{Turn, turn_of, After, word_at, slot_word, Made, by_turn, its_log, its_work, in_range, tells, w, end, labels_same}
-use Rattle.fx_lasting.proofs.node_lemmas.NodeSteps.{after, node_kept, own_keeps, guards_else}
+use Rattle.fx_lasting.proofs.node_lemmas.NodeSteps.{guards_else}
 use Rattle.fx_lasting.proofs.Places.{hold_words, hold_here, hold_node, hold_slot, hold_else, hold_label, hold_leaves}
-use Rattle.fx_lasting.proofs.hold_lemmas.Unheld.{NodeNow, in_phase}
+use Rattle.fx_lasting.proofs.hold_lemmas.RoundSteps.{its, node, retiring_same, round_after, round_kept, goes}
 
 module _ (turn : Turn) (f : File) (n t : ℕ) (nx : Round) (m : ℕ) (works : turn.v.work ≡ Retiring f n t nx m) (up : nx.guarded ≡ true) where
   open turn use {st, v, r, id, x, here, one}
-
-  its : (n < nodes_of v.start) × (r.phase n ≡ leaving id t nx m f)
-  its = subst (WorkAgrees v.start r.phase id) works (its_work turn)
-
-  node : NodeNow turn n (leaving id t nx m f)
-  node = in_phase turn its.0 its.1
 
   low : 0 < x.number
   low = (in_range turn).0
@@ -31,7 +23,7 @@ module _ (turn : Turn) (f : File) (n t : ℕ) (nx : Round) (m : ℕ) (works : tu
   its_word = word_at st.words (hold_word_of v.start x.number)
 
   no_debt : r.debt x.number ≡ 0
-  no_debt = let o = rw works at (its_log turn).hold in let none_owed = node.unowed up in
+  no_debt = let o = rw works at (its_log turn).hold in let none_owed = (node turn f n t nx m works).unowed up in
       let names : NamesNode its_word (r.debt x.number) n = subst (λ (b : Bool). StillNames b its_word (r.debt x.number) n) up o in
       ⊎_elim (λ (c : (its_word ≡ n + 1) × (r.debt x.number ≡ 0)). c.1)
       (λ (c : (its_word ≡ n + 1 + 4294967296) × (r.debt x.number ≡ n + 1)). absurd
@@ -43,55 +35,26 @@ module _ (turn : Turn) (f : File) (n t : ℕ) (nx : Round) (m : ℕ) (works : tu
   abbrev nx' : Round
   nx' = record nx { guarded = false }
 
-  abbrev ph : Phase
-  ph = leaving id t nx' m f
-
-  abbrev d : Work
-  d = Retiring f n t nx' m
-
   abbrev down_after : After turn
-  down_after = after turn n its.0 ph r.history words' st.homes r.debt d v.glance
+  down_after = round_after turn f n t nx m works words' r.debt nx' m
 
   same_slots : (s : ℕ) → s < slots_of v.start → slot_word words' s ≡ slot_word st.words s
   same_slots = hold_slot turn x.number low high 0
 
   ends_hold : Agrees v.start (end turn down_after)
-  ends_hold = node_kept turn n its.0 ph r.history words' st.homes r.debt d v.glance record {
+  ends_hold = let now = node turn f n t nx m works in round_kept turn f n t nx m works words' r.debt nx' m record {
     leaves_else = hold_leaves turn x.number low high 0 n;
-    homes = refl;
-    grows = grows_none x.number r.history;
-    legal = r.life.legal;
-    at = refl;
-    fresh = refl;
-    removed = λ k. r.nodes.removed k ∙ sym (each_changed (λ i z. removed_in k z ≡ removed_in k (r.phase i)) r.phase
-        (λ is. sym (ap (λ (i : ℕ). removed_in k (r.phase i)) is ∙ ap (removed_in k) its.1)) (λ _. refl));
-    label = labels_same v.start _ _ _ (label_of f.identity) (hold_label turn x.number low high 0 n)
-        (subst (λ (z : Phase). Labels v.start st.words n (written_in z)) its.1 (r.nodes.labels n its.0));
-    home_else = λ k l other. refl;
+    same_word = hold_node turn x.number low high 0 n;
+    same_label = hold_label turn x.number low high 0 n;
+    own = (hold_here turn x.number low high 0, no_debt);
     owed_else = λ k other. refl;
-    taken_else = λ k other. sym (ap (taking k) works);
-    free_else = λ k other bad. let a = ap busy works in other (omega arith);
-    may = inr (inr (ap owner its.1));
-    its_stock = λ is. cc (sym its.1 ∙ is);
-    at_slot = λ i h is. cc (sym its.1 ∙ is);
-    open_file = λ j u h other there holds is. sym (ap file_in its.1) ∙ is;
-    guards = λ p e ne range. guards_else turn n its.0 ph r.history words' st.homes r.debt d v.glance same_slots p e
-        (hold_else turn x.number low high 0 p ne) refl (λ may. let z : IsToVisit nx p = subst (MayBeUnmarked (slot_word st.words) p) its.1 may in z);
-    node = let a = node.counts in let c = hold_node turn x.number low high 0 n in
-        let k = sum_set (taken_of n) st.views id v (w turn down_after) here in let e = ap (taking n) works in record {
-          file = node.file;
-          counts = omega arith;
-          few_takes = node.few_takes;
-          few_marks = node.few_marks;
-          few_visits = node.few_visits;
-          unowed = λ bad. cc bad;
-        };
-    known = does_now st.views id v (w turn down_after) d here refl;
-    held = (its_log turn).held ∙ ap held_in works;
-    allowed = λ bad. cc bad;
-    its_own = own_keeps turn n its.0 ph r.history words' st.homes r.debt d v.glance same_slots refl (hold_here turn x.number low high 0, no_debt) tt
-        (its.0, changed_here r.phase n ph n refl);
-    holds = λ k. let a = ap (λ (z : Work). if_file k (held_in z)) works in omega arith;
+    owed_more = refl;
+    few_marks = now.few_marks;
+    few_visits = now.few_visits;
+    still_down = refl;
+    guards = λ p e ne range. guards_else turn n (its turn f n t nx m works).0 (leaving id t nx' m f) r.history words' st.homes r.debt (Retiring f n t nx' m) v.glance
+        same_slots p e (hold_else turn x.number low high 0 p ne) refl
+        (λ may. let z : IsToVisit nx p = subst (MayBeUnmarked (slot_word st.words) p) (its turn f n t nx m works).1 may in z);
   }
 
   pub end_hold : (slots : ℕ) (carried : List (ℕ × Option Closed)) → Made turn carried (hold_word_of v.start x.number) (λ _. 0)
@@ -102,12 +65,9 @@ module _ (turn : Turn) (f : File) (n t : ℕ) (nx : Round) (m : ℕ) (works : tu
     tt,
     ends_hold,
     record {
-      goes = λ g i a b c its'. let e : Retiring f n t nx m ≡ Retiring g i a b c = sym works ∙ its' in
-          let same : d ≡ Retiring g i a (record b { guarded = false }) c = cc e in
-          subst (λ (z : Work). Goes (v, carried) [] z v.glance (w turn down_after, carried)) same record {
-            stepped = tells turn down_after refl carried carried [] (grows_none x.number r.history) r.life.legal refl its.0;
-            carried = refl;
-          };
+      goes = λ g i a b c its'. let e = retiring_same turn f n t nx m works its' in
+          let same : Retiring f n t nx' m ≡ Retiring g i a (record b { guarded = false }) c = cc e in
+          subst (λ (z : Work). Goes (v, carried) [] z v.glance (w turn down_after, carried)) same (goes turn f n t nx m works words' r.debt nx' m carried);
     },
   )
 

@@ -6,9 +6,8 @@ use Rattle.fx_lasting.proofs.Words.{Work, Idle, Announced, Counted, Guarded, Owi
 use Rattle.fx_lasting.proofs.Words.{dite, dec_le, ⊎_elim, set-get_or, Round, round_from, IsToVisit, IsPassed, IsListedIn, list_place, Skims}
 use Rattle.fx_lasting.proofs.Words.{SkimsKeep, Goes, changed_at, true, Bool, IsAllowed}
 use Rattle.fx_lasting.proofs.Histories.{each_changed}
-use Rattle.fx_lasting.proofs.Keeping.{Turn, turn_of, word_at, slot_word, Made, by_turn, w, find_pass}
-use Rattle.fx_lasting.proofs.hold_lemmas.Visiting.{its, node, retiring_same, seen_after, Visited, visited, goes}
-use Rattle.fx_lasting.proofs.Places.{leaves_all}
+use Rattle.fx_lasting.proofs.Keeping.{Turn, turn_of, its_log, word_at, slot_word, Made, by_turn, w, find_pass}
+use Rattle.fx_lasting.proofs.hold_lemmas.RoundSteps.{its, node, retiring_same, round_after, RoundStep, round_kept, goes, reads}
 
 -- a pass whose hold word isn't 0 is listed
 speaks : (stock : List ℕ) (l : Bool) {word : ℕ} (debt : ℕ) (e : Work) → word ≢ 0 → HoldAgrees word debt e → IsAllowed stock l e → l ≡ true
@@ -63,43 +62,33 @@ module _ (turn : Turn) (f : File) (n t : ℕ) (nx : Round) (m : ℕ) (works : tu
       (λ is. still p ne range
       (⊎_elim (λ (c : (word_at st.words (hold_word_of v.start p) ≡ k + 1) × (r.debt p ≡ 0)). λ none. let a = c.0 in omega (arith, none))
       (λ (c : (word_at st.words (hold_word_of v.start p) ≡ k + 1 + 4294967296) × (r.debt p ≡ k + 1)). λ none. let a = c.0 in omega (arith, none)) hold)
-      (subst (MayBeUnmarked (slot_word st.words) p) (ap r.phase is ∙ (its turn f n t nx m works down).1) (guard clean)))
+      (subst (MayBeUnmarked (slot_word st.words) p) (ap r.phase is ∙ (its turn f n t nx m works).1) (guard clean)))
       (λ _. guard clean)
   guard_on p (Relieving h k own l) ne range hold guard = λ clean. each_changed (λ i z. MayBeUnmarked (slot_word st.words) p z) r.phase
       (λ is. still p ne range
       (⊎_elim (λ (c : (word_at st.words (hold_word_of v.start p) ≡ k + 1) × (r.debt p ≡ 0)). λ none. let a = c.0 in omega (arith, none))
       (λ (c : (word_at st.words (hold_word_of v.start p) ≡ k + 1 + 4294967296) × (r.debt p ≡ k + 1)). λ none. let a = c.0 in omega (arith, none)) hold)
-      (subst (MayBeUnmarked (slot_word st.words) p) (ap r.phase is ∙ (its turn f n t nx m works down).1) (guard clean)))
+      (subst (MayBeUnmarked (slot_word st.words) p) (ap r.phase is ∙ (its turn f n t nx m works).1) (guard clean)))
       (λ _. guard clean)
   guard_on p _ ne range hold guard = tt
 
-  skimmed : Visited turn f n t nx m works down st.words r.debt nx' m
-  skimmed = let a = (node turn f n t nx m works down).few_marks in record {
-    leaves_else = leaves_all turn n;
-    same_word = refl;
-    same_label = (refl, refl);
-    own = refl;
-    own_debt = refl;
-    owed_else = λ k ne. refl;
-    owed_more = refl;
-    few_marks = omega arith;
-    few_visits = omega arith;
-    still_down = refl;
-    guards = λ p e ne range hold guard. (hold, guard_on p e ne range hold guard);
-  }
+  skimmed : RoundStep turn f n t nx m works st.words r.debt nx' m
+  skimmed = let a = (node turn f n t nx m works).few_marks in let o = rw works at (its_log turn).hold in
+      let own = subst (λ (b : Bool). StillNames b (word_at st.words (hold_word_of v.start x.number)) (r.debt x.number) n) down o in
+      reads turn f n t nx m works nx' (own.0, own.1) (omega arith) (omega arith) refl guard_on
 
   skims : (slots : ℕ) (carried : List (ℕ × Option Closed))
       → Made turn carried (6 + index) (λ word. word) (Skims (step slots (6 + index) 0 0 none) (v, carried))
   skims slots carried = (
-    w turn (seen_after turn f n t nx m works down st.words r.debt nx' m),
+    w turn (round_after turn f n t nx m works st.words r.debt nx' m),
     keeps,
     tt,
-    rw (set-get_or st.words (6 + index) 0) (visited turn f n t nx m works down st.words r.debt nx' m skimmed),
+    rw (set-get_or st.words (6 + index) 0) (round_kept turn f n t nx m works st.words r.debt nx' m skimmed),
     record {
-      goes = λ g i a b c its'. let e = retiring_same turn f n t nx m works down its' in
+      goes = λ g i a b c its'. let e = retiring_same turn f n t nx m works its' in
           let same : Retiring f n t nx' m ≡ Retiring g i a nx' c = cc e in
-          subst (λ (d : Work). Goes (v, carried) [] d v.glance (w turn (seen_after turn f n t nx m works down st.words r.debt nx' m), carried)) same
-          (goes turn f n t nx m works down st.words r.debt nx' m carried);
+          subst (λ (d : Work). Goes (v, carried) [] d v.glance (w turn (round_after turn f n t nx m works st.words r.debt nx' m), carried)) same
+          (goes turn f n t nx m works st.words r.debt nx' m carried);
       inside = λ p low few at is. r.holds.listed p low few (subst (λ (i : ℕ). IsListedIn (word_at st.words i) p) (sym at) is);
     },
   )

@@ -12,95 +12,20 @@ use Rattle.fx_lasting.proofs.Histories.{grows_none, each_changed}
 use Rattle.fx_lasting.proofs.Frames.{busy, does_now, covers_same}
 use Rattle.fx_lasting.proofs.Keeping.{Turn, turn_of, After, word_at, slot_word, Made, by_turn, its_log, its_work, tells, w, end, find_pass, LabelSame}
 use Rattle.fx_lasting.proofs.Keeping.{labels_same}
-use Rattle.fx_lasting.proofs.node_lemmas.NodeSteps.{after, node_kept, own_keeps, guards_else}
+use Rattle.fx_lasting.proofs.node_lemmas.NodeSteps.{guards_else}
 use Rattle.fx_lasting.proofs.Places.{hold_words, hold_here, hold_node, hold_slot, hold_else, hold_label, pass_back, LeavesElse, leaves_all}
 use Rattle.fx_lasting.proofs.Places.{hold_leaves}
-use Rattle.fx_lasting.proofs.hold_lemmas.Unheld.{NodeNow, in_phase}
+use Rattle.fx_lasting.proofs.hold_lemmas.RoundSteps.{its, node, retiring_same, round_after, RoundStep, round_kept, goes, reads}
 
 module _ (turn : Turn) (f : File) (n t : ℕ) (nx : Round) (m : ℕ) (works : turn.v.work ≡ Retiring f n t nx m) (down : nx.guarded ≡ false) where
   open turn use {st, v, r, id, x, here, one}
-
-  pub its : (n < nodes_of v.start) × (r.phase n ≡ leaving id t nx m f)
-  its = subst (WorkAgrees v.start r.phase id) works (its_work turn)
-
-  pub node : NodeNow turn n (leaving id t nx m f)
-  node = in_phase turn its.0 its.1
-
-  pub retiring_same : {g : File} {i a : ℕ} {b : Round} {c : ℕ} → v.work ≡ Retiring g i a b c → Retiring f n t nx m ≡ Retiring g i a b c
-  retiring_same its' = sym works ∙ its'
 
   abbrev its_word : ℕ
   its_word = word_at st.words (hold_word_of v.start x.number)
 
   -- its own hold word names no node
-  pub own_none : (its_word ≡ 0) × (r.debt x.number ≡ 0)
+  own_none : (its_word ≡ 0) × (r.debt x.number ≡ 0)
   own_none = let o = rw works at (its_log turn).hold in subst (λ (b : Bool). StillNames b its_word (r.debt x.number) n) down o
-
-  -- the round is at nx' now, with m' marks
-  module _ (words' : List ℕ) (debt' : ℕ → ℕ) (nx' : Round) (m' : ℕ) where
-    abbrev ph : Phase
-    ph = leaving id t nx' m' f
-
-    abbrev pub seen_after : After turn
-    seen_after = after turn n its.0 ph r.history words' st.homes debt' (Retiring f n t nx' m') v.glance
-
-    pub record Visited : Type 0 where
-      pub leaves_else : LeavesElse turn n words'
-      pub same_word : word_at words' (word_of v.start n) ≡ word_at st.words (word_of v.start n)
-      pub same_label : LabelSame v.start words' st.words n
-      pub own : word_at words' (hold_word_of v.start x.number) ≡ word_at st.words (hold_word_of v.start x.number)
-      pub own_debt : debt' x.number ≡ r.debt x.number
-      pub owed_else : (k : ℕ) → k ≢ n → owed debt' v.start.passes k ≡ owed r.debt v.start.passes k
-      pub owed_more : owed debt' v.start.passes n + m ≡ owed r.debt v.start.passes n + m'
-      pub few_marks : m' < nx'.next
-      pub few_visits : nx'.next ≤ 2 ^ 16
-      pub still_down : nx'.guarded ≡ false
-      pub guards : (p : ℕ) (e : Work) → p ≢ x.number → (0 < p) × (p ≤ v.start.passes)
-          → HoldAgrees (word_at st.words (hold_word_of v.start p)) (r.debt p) e → GuardAgrees (slot_word st.words) r.phase p (r.debt p) e
-          → HoldAgrees (word_at words' (hold_word_of v.start p)) (debt' p) e × GuardAgrees (slot_word words') (changed_at r.phase n ph) p (debt' p) e
-
-    pub visited : Visited → Agrees v.start (end turn seen_after)
-    visited s = let o = own_none in let up : nx'.guarded ≡ true → ⊥ = λ bad. let z : false ≡ true = sym s.still_down ∙ bad in cc z in
-        node_kept turn n its.0 ph r.history words' st.homes debt' (Retiring f n t nx' m') v.glance record {
-          leaves_else = s.leaves_else;
-          homes = refl;
-          grows = grows_none x.number r.history;
-          legal = r.life.legal;
-          at = refl;
-          fresh = refl;
-          removed = λ k. r.nodes.removed k ∙ sym (each_changed (λ i z. removed_in k z ≡ removed_in k (r.phase i)) r.phase
-              (λ is. sym (ap (λ (i : ℕ). removed_in k (r.phase i)) is ∙ ap (removed_in k) its.1)) (λ _. refl));
-          label = labels_same v.start _ _ _ (label_of f.identity) s.same_label
-              (subst (λ (z : Phase). Labels v.start st.words n (written_in z)) its.1 (r.nodes.labels n its.0));
-          home_else = λ k l other. refl;
-          owed_else = s.owed_else;
-          taken_else = λ k other. sym (ap (taking k) works);
-          free_else = λ k other bad. let a = ap busy works in other (omega arith);
-          may = inr (inr (ap owner its.1));
-          its_stock = λ is. cc (sym its.1 ∙ is);
-          at_slot = λ i h is. cc (sym its.1 ∙ is);
-          open_file = λ j u h other there holds is. sym (ap file_in its.1) ∙ is;
-          guards = s.guards;
-          node = let a = node.counts in let b = s.owed_more in let c = s.same_word in
-              let k = sum_set (taken_of n) st.views id v (w turn seen_after) here in let e = ap (taking n) works in record {
-                file = node.file;
-                counts = omega arith;
-                few_takes = node.few_takes;
-                few_marks = s.few_marks;
-                few_visits = s.few_visits;
-                unowed = λ bad. absurd (up bad);
-              };
-          known = does_now st.views id v (w turn seen_after) (Retiring f n t nx' m') here refl;
-          held = (its_log turn).held ∙ ap held_in works;
-          allowed = λ bad. absurd (up bad);
-          its_own = own_keeps turn n its.0 ph r.history words' st.homes debt' (Retiring f n t nx' m') v.glance s.leaves_else.slots refl
-              (subst (λ (b : Bool). StillNames b (word_at words' (hold_word_of v.start x.number)) (debt' x.number) n) (sym s.still_down) (s.own ∙ o.0, s.own_debt ∙ o.1))
-              tt (its.0, changed_here r.phase n ph n refl);
-          holds = λ k. let a = ap (λ (d : Work). if_file k (held_in d)) works in omega arith;
-        }
-
-    pub goes : (carried : List (ℕ × Option Closed)) → Goes (v, carried) [] (Retiring f n t nx' m') v.glance (w turn seen_after, carried)
-    goes carried = record { stepped = tells turn seen_after refl carried carried [] (grows_none x.number r.history) r.life.legal refl its.0; carried = refl }
 
   -- a hold word that names nothing new
   module _ (pass : ℕ) (low : nx.next ≤ pass) (high : pass ≤ v.start.passes) (other : pass ≢ x.number)
@@ -117,7 +42,7 @@ module _ (turn : Turn) (f : File) (n t : ℕ) (nx : Round) (m : ℕ) (works : tu
         → p ≢ x.number → p ≢ pass → (k : ℕ) → MayBeUnmarked (slot_word st.words) p (r.phase k)
         → MayBeUnmarked (slot_word words') p (changed_at r.phase n (leaving id t (round_at nx pass) m' f) k)
     cover words' m' same p ne not_pass k may = each_changed (λ i z. MayBeUnmarked (slot_word words') p z) r.phase
-        (λ is. past p (subst (MayBeUnmarked (slot_word st.words) p) (ap r.phase is ∙ its.1) may) ne not_pass)
+        (λ is. past p (subst (MayBeUnmarked (slot_word st.words) p) (ap r.phase is ∙ (its turn f n t nx m works).1) may) ne not_pass)
         (λ _. covers_same turn words' same p k may)
 
     -- what a file held by a hold word needs, of a pass that isn't this one
@@ -141,36 +66,18 @@ module _ (turn : Turn) (f : File) (n t : ℕ) (nx : Round) (m : ℕ) (works : tu
         (λ _. guard none)
     guard_here not_so _ hold guard = tt
 
-    unnamed : word ≢ announced n → Visited st.words r.debt (round_at nx pass) m
-    unnamed not_so = let guards : (p : ℕ) (e : Work) → p ≢ x.number → (0 < p) × (p ≤ v.start.passes)
-        → HoldAgrees (word_at st.words (hold_word_of v.start p)) (r.debt p) e → GuardAgrees (slot_word st.words) r.phase p (r.debt p) e
-        → HoldAgrees (word_at st.words (hold_word_of v.start p)) (r.debt p) e
-        × GuardAgrees (slot_word st.words) (changed_at r.phase n (leaving id t (round_at nx pass) m f)) p (r.debt p) e =
-        λ p e ne range hold guard. (
-          hold,
-          dite (ℕ_discrete p pass)
-              (λ same. subst (λ (p : ℕ). HoldAgrees (word_at st.words (hold_word_of v.start p)) (r.debt p) e
-              → GuardAgrees (slot_word st.words) r.phase p (r.debt p) e
-              → GuardAgrees (slot_word st.words) (changed_at r.phase n (leaving id t (round_at nx pass) m f)) p (r.debt p) e) (sym same) (guard_here not_so e) hold guard)
-              (λ apart. guard_else st.words m (λ s l. refl) p e ne apart guard),
-        ) in
-        let a = node.few_marks in let b = r.shape.passes in record {
-          leaves_else = leaves_all turn n;
-          same_word = refl;
-          same_label = (refl, refl);
-          own = refl;
-          own_debt = refl;
-          owed_else = λ k ne. refl;
-          owed_more = refl;
-          few_marks = omega arith;
-          few_visits = omega arith;
-          still_down = down;
-          guards = guards;
-        }
+    unnamed : word ≢ announced n → RoundStep turn f n t nx m works st.words r.debt (round_at nx pass) m
+    unnamed not_so = let a = (node turn f n t nx m works).few_marks in let b = r.shape.passes in
+        reads turn f n t nx m works (round_at nx pass) own_none (omega arith) (omega arith) down
+        (λ p e ne range hold guard. dite (ℕ_discrete p pass)
+        (λ same. subst (λ (p : ℕ). HoldAgrees (word_at st.words (hold_word_of v.start p)) (r.debt p) e
+        → GuardAgrees (slot_word st.words) r.phase p (r.debt p) e
+        → GuardAgrees (slot_word st.words) (changed_at r.phase n (leaving id t (round_at nx pass) m f)) p (r.debt p) e) (sym same) (guard_here not_so e) hold guard)
+        (λ apart. guard_else st.words m (λ s l. refl) p e ne apart guard))
 
     -- of a word that names a node: it isn't marked, and its pass owes nothing
     named_clean : (k : ℕ) → NamesNode word (r.debt pass) k → word ≡ announced n → (r.debt pass ≡ 0) × (k ≡ n)
-    named_clean k hold is = let small = r.shape.nodes in let l = its.0 in ⊎_elim (λ (c : (word ≡ k + 1) × (r.debt pass ≡ 0)). (c.1, let a = c.0 in omega arith))
+    named_clean k hold is = let small = r.shape.nodes in let l = (its turn f n t nx m works).0 in ⊎_elim (λ (c : (word ≡ k + 1) × (r.debt pass ≡ 0)). (c.1, let a = c.0 in omega arith))
         (λ (c : (word ≡ k + 1 + 4294967296) × (r.debt pass ≡ k + 1)). absurd (let a = c.0 in omega arith)) hold
 
     -- a hold word that names the node isn't marked, and its pass owes nothing
@@ -226,7 +133,7 @@ module _ (turn : Turn) (f : File) (n t : ℕ) (nx : Round) (m : ℕ) (works : tu
       owes k = let a = owed_changed r.debt v.start.passes pass (n + 1) more high k in
           let b = ap (λ (d : ℕ). one_if (eqb d (k + 1))) no_debt in let c : one_if (eqb 0 (k + 1)) ≡ 0 = bit_else (k + 1) 0 (λ e. omega arith) in omega arith
 
-      made : Visited words₁ debt₁ (round_at nx pass) (m + 1)
+      made : RoundStep turn f n t nx m works words₁ debt₁ (round_at nx pass) (m + 1)
       made = let same = hold_slot turn pass more high (announced n + mark) in
           let guards : (p : ℕ) (e : Work) → p ≢ x.number → (0 < p) × (p ≤ v.start.passes)
           → HoldAgrees (word_at st.words (hold_word_of v.start p)) (r.debt p) e → GuardAgrees (slot_word st.words) r.phase p (r.debt p) e
@@ -240,12 +147,14 @@ module _ (turn : Turn) (f : File) (n t : ℕ) (nx : Round) (m : ℕ) (works : tu
           (now_marked e h is, excused (slot_word words₁) (changed_at r.phase n (leaving id t (round_at nx pass) (m + 1) f)) e)) hold)
           (λ apart. rw (hold_else turn pass more high (announced n + mark) p apart, changed_else r.debt pass (n + 1) p apart)
           (hold, guard_else words₁ (m + 1) same p e ne apart guard)) in
-          let a = node.few_marks in let b = r.shape.passes in let c = owes n in let d = bit_here (n + 1) (n + 1) refl in record {
+          let a = (node turn f n t nx m works).few_marks in let b = r.shape.passes in let c = owes n in let d = bit_here (n + 1) (n + 1) refl in record {
             leaves_else = hold_leaves turn pass more high (announced n + mark) n;
             same_word = hold_node turn pass more high (announced n + mark) n;
             same_label = hold_label turn pass more high (announced n + mark) n;
-            own = hold_else turn pass more high (announced n + mark) x.number (λ e. other (sym e));
-            own_debt = changed_else r.debt pass (n + 1) x.number (λ e. other (sym e));
+            own = (
+              hold_else turn pass more high (announced n + mark) x.number (λ e. other (sym e)) ∙ own_none.0,
+              changed_else r.debt pass (n + 1) x.number (λ e. other (sym e)) ∙ own_none.1,
+            );
             owed_else = λ k ne. let o = owes k in let z = bit_else (k + 1) (n + 1) (λ e. ne (omega arith)) in omega arith;
             owed_more = omega arith;
             few_marks = omega arith;
@@ -255,60 +164,46 @@ module _ (turn : Turn) (f : File) (n t : ℕ) (nx : Round) (m : ℕ) (works : tu
           }
 
     -- a step that writes what it read
-    read_so : (d : ℕ → ℕ) (nx' : Round) (m' : ℕ) → Visited st.words d nx' m'
-        → Agrees v.start record { words = set st.words (hold_word_of v.start pass) word; homes = st.homes; views = set st.views id (w turn (seen_after st.words d nx' m')) }
-    read_so d nx' m' s = rw (set-get_or st.words (hold_word_of v.start pass) 0) (visited st.words d nx' m' s)
+    read_so : (d : ℕ → ℕ) (nx' : Round) (m' : ℕ) → RoundStep turn f n t nx m works st.words d nx' m'
+        → Agrees v.start record { words = set st.words (hold_word_of v.start pass) word; homes = st.homes; views = set st.views id (w turn (round_after turn f n t nx m works st.words d nx' m')) }
+    read_so d nx' m' s = rw (set-get_or st.words (hold_word_of v.start pass) 0) (round_kept turn f n t nx m works st.words d nx' m' s)
 
     pub visits_either : (slots : ℕ) (carried : List (ℕ × Option Closed))
         → Made turn carried (hold_word_of v.start pass) (λ word. word) (Visits (step slots (hold_word_of v.start pass) 0 0 none) (v, carried))
     visits_either slots carried = dite (ℕ_discrete word (announced n))
         (λ is. (
-          w turn (seen_after st.words r.debt nx m),
+          w turn (round_after turn f n t nx m works st.words r.debt nx m),
           keeps,
           tt,
           read_so r.debt nx m still,
           record {
             other = λ g i a b c its' not_so. absurd (not_so (is ∙ names its'));
-            names = λ g i a b c its' _. subst (λ (d : Work). Goes (v, carried) [] d v.glance (w turn (seen_after st.words r.debt nx m), carried))
-                (retiring_same its') (goes st.words r.debt nx m carried);
+            names = λ g i a b c its' _. subst (λ (d : Work). Goes (v, carried) [] d v.glance (w turn (round_after turn f n t nx m works st.words r.debt nx m), carried))
+                (retiring_same turn f n t nx m works its') (goes turn f n t nx m works st.words r.debt nx m carried);
           },
         ))
         (λ not_so. (
-          w turn (seen_after st.words r.debt (round_at nx pass) m),
+          w turn (round_after turn f n t nx m works st.words r.debt (round_at nx pass) m),
           keeps,
           tt,
           read_so r.debt (round_at nx pass) m (unnamed not_so),
           record {
-            other = λ g i a b c its' _. let e = retiring_same its' in
+            other = λ g i a b c its' _. let e = retiring_same turn f n t nx m works its' in
                 let same : Retiring f n t (round_at nx pass) m ≡ Retiring g i a (round_at b pass) c = cc e in
-                rw (pass_back v.start pass) (subst (λ (d : Work). Goes (v, carried) [] d v.glance (w turn (seen_after st.words r.debt (round_at nx pass) m), carried))
-                same (goes st.words r.debt (round_at nx pass) m carried));
+                rw (pass_back v.start pass) (subst (λ (d : Work). Goes (v, carried) [] d v.glance (w turn (round_after turn f n t nx m works st.words r.debt (round_at nx pass) m), carried))
+                same (goes turn f n t nx m works st.words r.debt (round_at nx pass) m carried));
             names = λ g i a b c its' is. absurd (not_so (is ∙ sym (names its')));
           },
         ))
       where
         names : {g : File} {i a : ℕ} {b : Round} {c : ℕ} → v.work ≡ Retiring g i a b c → announced n ≡ announced i
-        names {i = i} its' = let same : n ≡ i = cc (retiring_same its') in ap announced same
+        names {i = i} its' = let same : n ≡ i = cc (retiring_same turn f n t nx m works its') in ap announced same
 
-        still : Visited st.words r.debt nx m
-        still = let a = node.few_marks in let b = node.few_visits in let guards : (p : ℕ) (e : Work) → p ≢ x.number → (0 < p) × (p ≤ v.start.passes)
-            → HoldAgrees (word_at st.words (hold_word_of v.start p)) (r.debt p) e → GuardAgrees (slot_word st.words) r.phase p (r.debt p) e
-            → HoldAgrees (word_at st.words (hold_word_of v.start p)) (r.debt p) e
-            × GuardAgrees (slot_word st.words) (changed_at r.phase n (leaving id t nx m f)) p (r.debt p) e =
-            λ p e ne range hold guard. guards_else turn n its.0 (leaving id t nx m f) r.history st.words st.homes r.debt (Retiring f n t nx m) v.glance
-            (λ s l. refl) p e refl refl (λ may. subst (MayBeUnmarked (slot_word st.words) p) its.1 may) hold guard in record {
-              leaves_else = leaves_all turn n;
-              same_word = refl;
-              same_label = (refl, refl);
-              own = refl;
-              own_debt = refl;
-              owed_else = λ k ne. refl;
-              owed_more = refl;
-              few_marks = node.few_marks;
-              few_visits = node.few_visits;
-              still_down = down;
-              guards = guards;
-            }
+        still : RoundStep turn f n t nx m works st.words r.debt nx m
+        still = let now = node turn f n t nx m works in reads turn f n t nx m works nx own_none now.few_marks now.few_visits down
+            (λ p e ne range hold guard. (guards_else turn n (its turn f n t nx m works).0 (leaving id t nx m f) r.history st.words st.homes r.debt
+            (Retiring f n t nx m) v.glance (λ s l. refl) p e refl refl
+            (λ may. subst (MayBeUnmarked (slot_word st.words) p) (its turn f n t nx m works).1 may) hold guard).1)
 
     abbrev Goal : ℕ → ℕ → Type 0
     Goal slots y = (carried : List (ℕ × Option Closed)) → Made turn carried (hold_word_of v.start pass) (λ _. y)
@@ -316,38 +211,38 @@ module _ (turn : Turn) (f : File) (n t : ℕ) (nx : Round) (m : ℕ) (works : tu
 
     marks_won : (slots : ℕ) → 0 < pass → word ≡ announced n → Goal slots (announced n + mark)
     marks_won slots more is carried = (
-      w turn (seen_after (words₁ more is) debt₁ (round_at nx pass) (m + 1)),
+      w turn (round_after turn f n t nx m works (words₁ more is) debt₁ (round_at nx pass) (m + 1)),
       keeps,
       tt,
-      visited (words₁ more is) debt₁ (round_at nx pass) (m + 1) (made more is),
+      round_kept turn f n t nx m works (words₁ more is) debt₁ (round_at nx pass) (m + 1) (made more is),
       record {
-        made = λ g i a b c its' _. let e = retiring_same its' in
+        made = λ g i a b c its' _. let e = retiring_same turn f n t nx m works its' in
             let same : Retiring f n t (round_at nx pass) (m + 1) ≡ Retiring g i a (round_at b pass) (c + 1) = cc e in
-            rw (pass_back v.start pass) (subst (λ (d : Work). Goes (v, carried) [] d v.glance (w turn (seen_after (words₁ more is) debt₁ (round_at nx pass) (m + 1)), carried))
-            same (goes (words₁ more is) debt₁ (round_at nx pass) (m + 1) carried));
-        missed = λ g i a b c its' not_so. absurd (not_so (is ∙ (let same : n ≡ i = cc (retiring_same its') in ap announced same)));
+            rw (pass_back v.start pass) (subst (λ (d : Work). Goes (v, carried) [] d v.glance (w turn (round_after turn f n t nx m works (words₁ more is) debt₁ (round_at nx pass) (m + 1)), carried))
+            same (goes turn f n t nx m works (words₁ more is) debt₁ (round_at nx pass) (m + 1) carried));
+        missed = λ g i a b c its' not_so. absurd (not_so (is ∙ (let same : n ≡ i = cc (retiring_same turn f n t nx m works its') in ap announced same)));
       },
     )
 
     marks_lost : (slots : ℕ) → word ≢ announced n → Goal slots word
     marks_lost slots not_so carried = (
-      w turn (seen_after st.words r.debt (round_at nx pass) m),
+      w turn (round_after turn f n t nx m works st.words r.debt (round_at nx pass) m),
       keeps,
       tt,
       read_so r.debt (round_at nx pass) m (unnamed not_so),
       record {
-        made = λ g i a b c its' is. absurd (not_so (is ∙ sym (let same : n ≡ i = cc (retiring_same its') in ap announced same)));
-        missed = λ g i a b c its' _. let e = retiring_same its' in
+        made = λ g i a b c its' is. absurd (not_so (is ∙ sym (let same : n ≡ i = cc (retiring_same turn f n t nx m works its') in ap announced same)));
+        missed = λ g i a b c its' _. let e = retiring_same turn f n t nx m works its' in
             let same : Retiring f n t (round_at nx pass) m ≡ Retiring g i a (round_at b pass) c = cc e in
-            rw (pass_back v.start pass) (subst (λ (d : Work). Goes (v, carried) [] d v.glance (w turn (seen_after st.words r.debt (round_at nx pass) m), carried))
-            same (goes st.words r.debt (round_at nx pass) m carried));
+            rw (pass_back v.start pass) (subst (λ (d : Work). Goes (v, carried) [] d v.glance (w turn (round_after turn f n t nx m works st.words r.debt (round_at nx pass) m), carried))
+            same (goes turn f n t nx m works st.words r.debt (round_at nx pass) m carried));
       },
     )
 
 -- the number of a pass that is visited isn't 0, since marks were counted before it
 more_than_none : (turn : Turn) (f : File) (n t : ℕ) (nx : Round) (m : ℕ) → turn.v.work ≡ Retiring f n t nx m → nx.guarded ≡ false → {pass : ℕ} → nx.next ≤ pass
     → 0 < pass
-more_than_none turn f n t nx m works down low = let a = (node turn f n t nx m works down).few_marks in omega arith
+more_than_none turn f n t nx m works down low = let a = (node turn f n t nx m works).few_marks in omega arith
 
 pub visits_keep : VisitsKeep Visits
 visits_keep k slots id i n t m pass nx f s x has works down low high other between place = by_turn slots (λ (k : Start). pass ≤ k.passes)

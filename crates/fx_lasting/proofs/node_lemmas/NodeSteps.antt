@@ -8,8 +8,8 @@ use Rattle.fx_lasting.proofs.Words.{IsInStock, in_stock, sum_by, sum_set, HoldAg
 use Rattle.fx_lasting.proofs.Words.{Labels, written_in, None, if_file, leaving, retired}
 use Rattle.fx_lasting.proofs.Histories.{Grows, grows_none, each_changed}
 use Rattle.fx_lasting.proofs.Frames.{busy, owner_stays, slot_same, node_same, Leaves, keeps_other, sees_same, covers_same, guards_same}
-use Rattle.fx_lasting.proofs.Keeping.{Turn, After, Keeps, Homes, word_at, slot_word, step_kept, w, end, its_log, in_range, its_stock, in_its_stock}
-use Rattle.fx_lasting.proofs.Keeping.{names_on, range_left, labels_same, met_same}
+use Rattle.fx_lasting.proofs.Keeping.{Turn, After, as_it_was, Keeps, Homes, word_at, slot_word, step_kept, w, end, its_log, in_range, in_its_stock}
+use Rattle.fx_lasting.proofs.Keeping.{stocks_untouched, list_untouched, range_left, labels_same}
 use Rattle.fx_lasting.proofs.Places.{LeavesElse}
 use Rattle.fx_lasting.proofs.slot_lemmas.Watching.{watch_same}
 
@@ -18,25 +18,15 @@ module _ (turn : Turn) (q : ℕ) (its : q < nodes_of turn.v.start) (ph : Phase) 
   open turn use {st, v, r, id, x, here, one}
 
   abbrev pub after_seen : After turn
-  after_seen = record {
+  after_seen = record (as_it_was turn) {
     h = h';
     front = front;
     words = words';
     homes = homes';
     phase = changed_at r.phase q ph;
-    next_number = r.nodes.next_number;
     debt = debt';
-    deed = r.deed;
     work = d;
     glance = g;
-    change = v.change;
-    asked = x.asked;
-    listed = x.listed;
-    still_listed = λ l. l;
-    where_is = r.nodes.where_is;
-    stock = x.stock;
-    watch = x.watch;
-    more_met = met_same x.watch.met;
   }
 
   abbrev before : ℕ → Option File
@@ -132,44 +122,43 @@ module _ (turn : Turn) (q : ℕ) (its : q < nodes_of turn.v.start) (ph : Phase) 
     node_kept_seen seen own = step_kept turn after_seen record {
       words = s.leaves_else.as_long;
       homes = s.homes;
-      grows = s.grows;
-      legal = s.legal;
-      seen = seen;
-      own = own;
-      slots = λ i l. slot_same (same_slots i l) (at_is i) (λ q low high. refl)
-          (λ f there seat. each_changed (λ m z. z ≡ r.phase m) r.phase
-          (λ same. let e = ap r.phase (sym same) ∙ seat in s.at_slot i f e ∙ (sym e ∙ ap r.phase (sym same))) (λ _. refl))
-          (r.slots i l);
-      nodes = λ n l. each_changed (λ n z. NodeAgrees (state_after_all v.start h').at (slots_of v.start)
-          (λ i. count_in (slot_word words' i)) r.node_of r.nodes.next_number n (word_at words' (word_of v.start n))
-          (sum_by (taken_of n) (set st.views id (w turn after_seen))) (owed debt' v.start.passes n) (get_elem? homes' n) z) r.phase
-          (λ same. rw same (node_same (slots_of v.start) r.node_of q (omega arith) refl refl refl refl ph
-          (λ i f is there. (at_is i, ap count_in (same_slots i (inside i f is)))) s.node))
-          (λ other. node_same (slots_of v.start) r.node_of n (omega arith) (s.leaves_else.nodes n other)
-          (let t = sum_set (taken_of n) st.views id v (w turn after_seen) here in let e = s.taken_else n other in omega arith)
-          (s.owed_else n other) (s.home_else n l other) (r.phase n)
-          (λ i f is there. (at_is i, ap count_in (same_slots i (inside_else n l i f is)))) (r.nodes.each n l));
-      owners = λ n l. each_changed (OwnerAgrees (set st.views id (w turn after_seen))) r.phase
-          (λ same. rw same s.known) (λ other. owner_stays st.views id v (w turn after_seen) here n (s.free_else n other) (r.phase n) (r.nodes.owners n l));
-      labels = λ n l. each_changed (λ n z. Labels v.start words' n (written_in z)) r.phase (λ same. rw same s.label)
-          (λ other. labels_same v.start _ _ _ (written_in (r.phase n)) (s.leaves_else.labels n other) (r.nodes.labels n l));
-      removed = s.removed;
-      unborn = λ n l. each_changed (λ m z. z ≡ free) r.phase (λ same. absurd (omega (arith, same, l, its))) (λ _. r.nodes.unborn n l);
-      fresh = λ number l. ap (λ (f : ℕ → Bool). f number) s.fresh ∙ r.nodes.fresh number l;
-      named = names_on turn _ (λ i l. ap name_in (same_slots i l));
-      stock = its_stock turn;
-      stocks = λ n p e other at. at;
-      others = λ j u z other there at n range o work. keeps_other turn after_seen leaves j u z other there at n range o work;
-      held = s.held;
-      allowed = s.allowed;
-      lists = λ p few. inl (s.leaves_else.lists p few);
-      deed_on = λ i p l is. inl is;
-      its_bit = λ l. inl l;
-      moves = λ i l. inl (same_slots i l);
-      watches = watch_same v.start x.number (s.grows.seen r.history ([], refl)) same_slots s.leaves_else.alike.0 x.watch (its_log turn).watch;
-      its = s.its_own;
-      holds = s.holds;
-      counts = range_left turn after_seen s.at s.leaves_else.alike refl refl;
+      life = record { grows = s.grows; legal = s.legal; seen = seen; own = own };
+      nodes = record {
+        each = λ n l. each_changed (λ n z. NodeAgrees (state_after_all v.start h').at (slots_of v.start)
+            (λ i. count_in (slot_word words' i)) r.node_of r.nodes.next_number n (word_at words' (word_of v.start n))
+            (sum_by (taken_of n) (set st.views id (w turn after_seen))) (owed debt' v.start.passes n) (get_elem? homes' n) z) r.phase
+            (λ same. rw same (node_same (slots_of v.start) r.node_of q (omega arith) refl refl refl refl ph
+            (λ i f is there. (at_is i, ap count_in (same_slots i (inside i f is)))) s.node))
+            (λ other. node_same (slots_of v.start) r.node_of n (omega arith) (s.leaves_else.nodes n other)
+            (let t = sum_set (taken_of n) st.views id v (w turn after_seen) here in let e = s.taken_else n other in omega arith)
+            (s.owed_else n other) (s.home_else n l other) (r.phase n)
+            (λ i f is there. (at_is i, ap count_in (same_slots i (inside_else n l i f is)))) (r.nodes.each n l));
+        owners = λ n l. each_changed (OwnerAgrees (set st.views id (w turn after_seen))) r.phase
+            (λ same. rw same s.known) (λ other. owner_stays st.views id v (w turn after_seen) here n (s.free_else n other) (r.phase n) (r.nodes.owners n l));
+        labels = λ n l. each_changed (λ n z. Labels v.start words' n (written_in z)) r.phase (λ same. rw same s.label)
+            (λ other. labels_same v.start _ _ _ (written_in (r.phase n)) (s.leaves_else.labels n other) (r.nodes.labels n l));
+        removed = s.removed;
+        unborn = λ n l. each_changed (λ m z. z ≡ free) r.phase (λ same. absurd (omega (arith, same, l, its))) (λ _. r.nodes.unborn n l);
+        fresh = λ number l. ap (λ (f : ℕ → Bool). f number) s.fresh ∙ r.nodes.fresh number l;
+      };
+      stocks = stocks_untouched turn words' (λ i l. ap name_in (same_slots i l));
+      slots = record {
+        each = λ i l. slot_same (same_slots i l) (at_is i) (λ q low high. refl)
+            (λ f there seat. each_changed (λ m z. z ≡ r.phase m) r.phase
+            (λ same. let e = ap r.phase (sym same) ∙ seat in s.at_slot i f e ∙ (sym e ∙ ap r.phase (sym same))) (λ _. refl))
+            (r.slots i l);
+        moves = λ i l. inl (same_slots i l);
+      };
+      holds = record {
+        others = λ j u z other there at n range o work. keeps_other turn after_seen leaves j u z other there at n range o work;
+        its = s.its_own;
+        held = s.held;
+        allowed = s.allowed;
+        files = s.holds;
+      };
+      list = list_untouched turn after_seen s.leaves_else.lists (λ i p is. is) (λ l. l);
+      range = range_left turn after_seen s.at s.leaves_else.alike refl refl;
+      watch = watch_same v.start x.number (s.grows.seen r.history ([], refl)) same_slots s.leaves_else.alike.0 x.watch (its_log turn).watch;
     }
       where
         inside : (i : ℕ) (f : File) → ph ≡ seated i f → i < slots_of v.start

@@ -4,12 +4,14 @@
 use Rattle.fx_lasting.proofs.Words.{◌≡◌, ◌≢◌, ℕ, ◌+◌, ◌-◌, ◌<◌, List, ◌∷◌, sym, refl, ap, ◌∙◌, arith, subst, Option, Some, None, Bool, true, false}
 use Rattle.fx_lasting.proofs.Words.{File, Event, Release, State, pass_event, HoldsAt, IsHistory, node_of_number, state_after_all, slots_of, count_in}
 use Rattle.fx_lasting.proofs.Words.{heat_in, hold_word_of, full_name_in, entry_in, Names, seated, file_in, taken_of, taking, held_of, if_file}
-use Rattle.fx_lasting.proofs.Words.{held_in, sum_at, bit_here, one_less_at, IsInside, Round, StillNames, NamesNode, MayBeUnmarked, HasItsHold, ⊎_elim}
+use Rattle.fx_lasting.proofs.Words.{held_in, sum_at, bit_here, one_less_at, Round, StillNames, NamesNode, MayBeUnmarked, HasItsHold, ⊎_elim}
 use Rattle.fx_lasting.proofs.Words.{guarded_round, first_visit, new_round, removal_work, leaving_work, is_guarding, one_less}
+use Rattle.fx_lasting.proofs.Words.{[], ◌▷◌, ◌++◌, map, part_of_pass, held_after, Action, changed_at, with_removed, ActsAt}
 use Rattle.fx_lasting.proofs.Counts.{owed_at}
-use Rattle.fx_lasting.proofs.Histories.{legal_more}
+use Rattle.fx_lasting.proofs.Histories.{legal_more, grows_one, grows_more, held_mine, part_mine}
+use Rattle.fx_lasting.proofs.Frames.{busy}
 use Rattle.fx_lasting.proofs.Keeping.{Turn, its_log, in_range, word_at, slot_word}
-use Rattle.fx_lasting.proofs.slot_lemmas.Swaps.{found, old_at, old_named, names_old, IsAlike, Begins, begins_first}
+use Rattle.fx_lasting.proofs.slot_lemmas.Swaps.{found, old_at, old_named, names_old, IsAlike, Begins, begins_first, Ends}
 use Rattle.fx_lasting.proofs.hold_lemmas.Unheld.{in_phase, on_node}
 
 module _ (turn : Turn) (s : ℕ) (inside : s < slots_of turn.v.start) (f : File) (n : ℕ) (its : HoldsAt turn.v.start turn.r.phase f n)
@@ -117,6 +119,46 @@ module _ (turn : Turn) (s : ℕ) (inside : s < slots_of turn.v.start) (f : File)
       unmarked = let o = in_phase turn its.0 sits in let a = o.unowed in let range = in_range turn in ⊎_elim (λ clean. clean.1)
           (λ full. absurd (let b = owed_at r.debt v.start.passes x.number n range.0 range.1 full.1 in omega arith)) names
 
-  -- the node that the removal names is the table's
-  pub knows : {guards : Bool} {counted : ℕ} {round : Round} → IsHeld guards counted round → IsInside v.start (removal_work round counted (Some f))
-  knows held = let a = held.alike.0 in let b = its.0 in omega arith
+  -- the work of the pass afterwards, by how it held the file
+  pub leaves_so : {guards : Bool} {counted : ℕ} {round : Round} → IsHeld guards counted round
+      → leaving_work v.start (is_guarding v.work) word f ≡ removal_work round counted (Some f)
+  leaves_so so = ap (λ (b : Bool). leaving_work v.start b word f) so.guarding ∙ so.leaves
+
+  pub own_hold : {guards : Bool} {counted : ℕ} {round : Round} → IsHeld guards counted round → HasItsHold (is_guarding v.work) word
+  own_hold so = subst (λ (b : Bool). HasItsHold b word) (sym so.guarding) so.own
+
+  -- The pass releases the file, and removes it by this action
+  module _ (a : Action) where
+    abbrev pub h₁ : List Event
+    h₁ = pass_event x a ∷ h₀
+
+    pub own_part : part_of_pass x.number h₁ ≡ map (pass_event x) ([] ▷ Release f ▷ a) ++ part_of_pass x.number r.history
+    own_part = part_mine h₀ refl ∙ ap (λ (l : List Event). pass_event x a ∷ l) (part_mine r.history refl)
+
+    pub ends_held : {guards : Bool} {counted : ℕ} {round : Round} → IsHeld guards counted round → {busy_with : ℕ} → busy v.work ≡ busy_with
+        → {new : Option File} {fresh : ℕ → Bool} → IsHistory v.start h₁ → ActsAt s a → held_after None a ≡ None
+        → state_after_all v.start h₁ ≡ record before {
+          at = changed_at before.at s new;
+          removed = with_removed before.removed (Some f);
+          fresh = fresh;
+          holds = (state_after_all v.start h₀).holds;
+        }
+        → Ends turn s inside (Some f) counted round busy_with h₁ new fresh
+    ends_held {counted = counted} {round = round} so works legal acts holds_none leads = record {
+      grows = grows_more refl (grows_one x.number r.history (pass_event x (Release f)) refl);
+      legal = legal;
+      acted = (h₀, pass_event x a, (pass_event x (Release f) ∷ [], refl), ([], refl), refl, acts);
+      holds = (state_after_all v.start h₀).holds;
+      leads = leads;
+      held = held_mine (pass_event x a) h₀ refl
+          ∙ (ap (λ (o : Option File). held_after o a) (held_mine (pass_event x (Release f)) r.history refl) ∙ holds_none);
+      let_go = let_go;
+      taken = λ g is. let e : f ≡ g = cc is in subst (λ (z : File). count_in counted + taking (r.node_of z.number) v.work ≡ count_in word) e
+          (subst (λ (i : ℕ). count_in counted + taking i v.work ≡ count_in word) (sym on_n) so.taken);
+      untaken = λ m apart. so.untaken m (λ same. apart f refl (same ∙ sym on_n));
+      works = works;
+      begins = so.begins;
+      hold_none = λ is. absurd (cc is);
+      hold = λ g is. let e : f ≡ g = cc is in subst (λ (z : File). StillNames round.guarded (word_at st.words (hold_word_of v.start x.number)) (r.debt x.number) (r.node_of z.number)) e
+          (subst (StillNames round.guarded (word_at st.words (hold_word_of v.start x.number)) (r.debt x.number)) (sym on_n) so.hold);
+    }

@@ -7,12 +7,11 @@ use Rattle.fx_lasting.proofs.Words.{taken_of, taking, owed, sum_by, sum_set, Pha
 use Rattle.fx_lasting.proofs.Words.{range_at_start, Outside, set_here, set_else, length-set, IsInside, removal_work, ◌-◌, ◌≤◌, Whereabouts, IsInStock}
 use Rattle.fx_lasting.proofs.Words.{as_stocked, as_swapped, first_log, Log, name_in, Labels, Placement, written_in, label_of, as_written}
 use Rattle.fx_lasting.proofs.Words.{most_carried, takes_are_few, name_carried, full_name_carried, entry_carried, takes_carried, heat_carried}
-use Rattle.fx_lasting.proofs.slot_lemmas.Swaps.{Begins, IsAlike, found, old_at, NotOf, not_old, old_named, d, swap_after, Swap, swap_kept}
-use Rattle.fx_lasting.proofs.slot_lemmas.Watching.{ActsThere}
-use Rattle.fx_lasting.proofs.Histories.{Grows, each_changed}
-use Rattle.fx_lasting.proofs.node_lemmas.StockMoves.{where_moved, stock_moved, moved_names, moved_slot, moved_stock, moved_stocks, one_entry}
-use Rattle.fx_lasting.proofs.Frames.{busy, owner_stays, node_same}
-use Rattle.fx_lasting.proofs.Keeping.{Turn, After, word_at, slot_word, tells_stocked, w, end, Homes, asks_alike, few_slots}
+use Rattle.fx_lasting.proofs.slot_lemmas.Swaps.{Ends, IsAlike, found, NotOf, not_old, d_inside, d_untaken, swap_after, Swap, swap_kept}
+use Rattle.fx_lasting.proofs.Histories.{each_changed}
+use Rattle.fx_lasting.proofs.node_lemmas.StockMoves.{where_moved, stock_moved, names_moved, tells_swapped}
+use Rattle.fx_lasting.proofs.Frames.{owner_stays, node_same}
+use Rattle.fx_lasting.proofs.Keeping.{Turn, After, word_at, slot_word, w, end, Homes, asks_alike, few_slots}
 use Rattle.fx_lasting.proofs.range_lemmas.Groups.{counts_filled}
 use Rattle.fx_lasting.proofs.Places.{slot_words, slot_here, slot_else, slot_alike}
 use Rattle.fx_lasting.proofs.hold_lemmas.Unheld.{in_phase}
@@ -55,45 +54,16 @@ module _ (turn : Turn) (s : ℕ) (inside : s < slots_of turn.v.start) (old : Opt
   abbrev pub put_after : After turn
   put_after = swap_after turn s inside old was counted alike round h₂ new_word (Some new_file) homes₁ phase₁ (number + 1) c₂ where₁ stock₁
 
-  -- what the events of the step do, and what the pass did before
-  pub record Puts : Type 0 where
-    pub grows : Grows x.number r.history h₂
-    pub legal : IsHistory v.start h₂
-    pub acted : ActsThere x.number s r.history h₂
-    pub holds : ℕ → ℕ
-    pub state : state_after_all v.start h₂ ≡ record before {
-      at = changed_at before.at s (Some new_file);
-      removed = with_removed before.removed old;
-      fresh = changed_at before.fresh number false;
-      holds = holds;
-    }
-    pub held : held_by h₂ x.number ≡ None
-    pub let_go : (m : ℕ) → holds m + held_of m v ≡ before.holds m
-    pub taken : (f : File) → old ≡ Some f → count_in counted + taking (r.node_of f.number) v.work ≡ count_in (found turn s inside)
-    pub untaken : (m : ℕ) → NotOf r.node_of m old → taking m v.work ≡ 0
-    pub works : busy v.work ≡ n + 1
-    pub begins : Begins turn s inside round
-    pub hold_none : old ≡ None → (word_at st.words (hold_word_of v.start x.number) ≡ 0) × (r.debt x.number ≡ 0)
-    pub hold : (f : File) → old ≡ Some f
-        → StillNames round.guarded (word_at st.words (hold_word_of v.start x.number)) (r.debt x.number) (r.node_of f.number)
-
   removed_same : (m : ℕ) → removed_in m (phase₁ (r.node_of m)) ≡ removed_in m (r.phase (r.node_of m))
   removed_same m = each_changed (λ q z. removed_in m z ≡ removed_in m (r.phase q)) r.phase
       (λ at. sym (ap (λ (q : ℕ). removed_in m (r.phase q)) at ∙ ap (removed_in m) its.1)) (λ _. refl)
 
-  untaken : (m : ℕ) → taking m (d turn s inside old was counted alike round) ≡ 0
-  untaken m = go old
-    where
-      go : (o : Option File) → taking m (removal_work round counted o) ≡ 0
-      go None = refl
-      go (Some f) = refl
-
-  module _ (does : Puts) where
+  module _ (does : Ends turn s inside old counted round (n + 1) h₂ (Some new_file) (changed_at before.fresh number false)) where
     there_now : (state_after_all v.start h₂).at s ≡ Some new_file
-    there_now = ap (λ (z : State). z.at s) does.state ∙ changed_here before.at s (Some new_file) s refl
+    there_now = ap (λ (z : State). z.at s) does.leads ∙ changed_here before.at s (Some new_file) s refl
 
     total_now : (m : ℕ) → NotOf r.node_of m old → sum_by (taken_of m) (set st.views id (w turn put_after)) ≡ sum_by (taken_of m) st.views
-    total_now m apart = let t = sum_set (taken_of m) st.views id v (w turn put_after) here in let b = does.untaken m apart in let c = untaken m in omega arith
+    total_now m apart = let t = sum_set (taken_of m) st.views id v (w turn put_after) here in let b = does.untaken m apart in let c = d_untaken turn s inside old was counted alike round m in omega arith
 
     its_apart : NotOf r.node_of n old
     its_apart = not_old turn s inside old was its.1 (λ g bad. cc bad)
@@ -128,28 +98,19 @@ module _ (turn : Turn) (s : ℕ) (inside : s < slots_of turn.v.start) (old : Opt
     node_else₁ {m} l other apart = node_same (slots_of v.start) r.node_of m (omega arith) refl (total_now m apart) refl
         (set_else st.homes n m (some (Some file)) other) (r.phase m)
         (λ i f is there. let away : i ≢ s = λ same. apart f (sym was ∙ (ap before.at (sym same) ∙ there)) (sym (in_phase turn l is).file.its_node) in
-        (ap (λ (z : State). z.at i) does.state ∙ changed_else before.at s (Some new_file) i away, ap count_in (slot_else turn s inside new_word i away)))
+        (ap (λ (z : State). z.at i) does.leads ∙ changed_else before.at s (Some new_file) i away, ap count_in (slot_else turn s inside new_word i away)))
         (r.nodes.each m l)
 
     installs : Swap turn s inside old was counted alike round h₂ new_word (Some new_file) homes₁ phase₁ (number + 1) c₂ where₁ stock₁
     installs = record {
-      grows = does.grows;
-      legal = does.legal;
-      acted = does.acted;
+      busy_with = n + 1;
       fresh = changed_at before.fresh number false;
-      holds = does.holds;
-      leads = does.state;
+      ends = does;
       fresh_on = λ m l. changed_else before.fresh number false m (λ same. omega (arith, l, same)) ∙ r.nodes.fresh m (omega (arith, late, l));
-      held = does.held;
-      let_go = does.let_go;
-      taken = does.taken;
       homes = length-set st.homes n (some (Some file));
       later = omega (arith, late);
       removed_else = removed_same;
-      named_new = moved_names turn s inside n its_entry new_word (name_carried n file.entry lost small few_lost);
-      named_else = moved_slot turn s inside n its_entry;
-      stock = moved_stock turn s inside n its_entry;
-      stocks = moved_stocks turn s inside n its_entry;
+      stays = names_moved turn s inside n its_entry new_word (name_carried n file.entry lost small few_lost);
       names = (full_name_carried n file.entry lost small few_lost ∙ ap (λ (i : ℕ). i + 1) (sym on_n), entry_carried n file.entry lost small few_lost);
       few_takes = let a = its_count in let b = takes_are_few v.start.passes lost few_lost in omega arith;
       no_heat = heat_carried n file.entry lost few_lost;
@@ -166,9 +127,6 @@ module _ (turn : Turn) (s : ℕ) (inside : s < slots_of turn.v.start) (old : Opt
       old_home = λ f is. set_else st.homes n (r.node_of f.number) (some (Some file)) (λ same. its_apart f is (sym same));
       owners = λ m l apart. each_changed (OwnerAgrees (set st.views id (w turn put_after))) r.phase (λ same. tt)
           (λ other. owner_stays st.views id v (w turn put_after) here m (λ bad. let b = does.works in other (omega arith)) (r.phase m) (r.nodes.owners m l));
-      begins = does.begins;
-      hold_none = does.hold_none;
-      hold = does.hold;
       counts = counts_filled id (w turn put_after) here r.range s old new_file (few_slots turn) was (slot_alike turn s inside new_word)
           (asks_alike turn put_after refl) out refl;
     }
@@ -179,15 +137,5 @@ module _ (turn : Turn) (s : ℕ) (inside : s < slots_of turn.v.start) (old : Opt
     pub put_tells : (xs : List Action) → part_of_pass x.number h₂ ≡ map (pass_event x) xs ++ part_of_pass x.number r.history → (carried homes : List (ℕ × Option Closed)) (e : ℕ) → get_elem? (first_log v.logs).stock e ≡ some n
         → Stepped (as_swapped e (name_in (found turn s inside) - 1) (v, carried)) xs (removal_work round counted old) v.glance c₂
         (w turn put_after, homes)
-    put_tells xs own carried homes e is = subst (λ (z : List ℕ × ℕ). Stepped (as_stocked (set z.0 z.1 (name_in (found turn s inside) - 1)) (v, carried)) xs
-        (removal_work round counted old) v.glance c₂ (w turn put_after, homes))
-        (λ i. (sym same_stock i, one_entry turn s inside n its_entry e (ap (λ (l : List ℕ). get_elem? l e) (sym same_stock) ∙ is) i))
-        (tells_stocked turn put_after refl carried homes xs does.grows does.legal own (knows old refl))
-      where
-        same_stock : (first_log v.logs).stock ≡ x.stock
-        same_stock = ap (λ (l : List Log). (first_log l).stock) one
-
-        knows : (o : Option File) → old ≡ o → IsInside v.start (removal_work round counted old)
-        knows None is = subst (λ (o : Option File). IsInside v.start (removal_work round counted o)) (sym is) tt
-        knows (Some f) is = subst (λ (o : Option File). IsInside v.start (removal_work round counted o)) (sym is)
-            (let n = (old_at turn s inside old was is).0 in let e = old_named turn s inside old was is in let same = alike.0 in omega arith)
+    put_tells xs own carried homes = tells_swapped turn s inside n its_entry put_after refl carried homes xs does.grows does.legal own
+        (d_inside turn s inside old was counted alike round)

@@ -1,22 +1,22 @@
 -- A replacement by a pass that holds the slot's file keeps the rule: the hold ends with the step,
 -- and the removal counts the takes without the pass's own.
 use Rattle.fx_lasting.proofs.Words.{◌≡◌, ◌≢◌, ℕ, ◌+◌, ◌-◌, ◌^◌, ◌<◌, List, [], ◌∷◌, sym, refl, ap, ◌∙◌, subst, arith, Option, Some, none, some, ◌≤◌}
-use Rattle.fx_lasting.proofs.Words.{keeps, gives, rest, eqb, either, Closed, File, numbered, Event, Release, Put, ◌▷◌, State, pass_event, WorkAgrees}
+use Rattle.fx_lasting.proofs.Words.{Action, changed_at, gives, rest, eqb, either, Closed, File, numbered, Event, Release, Put, ◌▷◌, State, pass_event, WorkAgrees}
 use Rattle.fx_lasting.proofs.Words.{HoldsAt, IsIn, part_of_pass, map, ◌++◌, state_after_all, slots_of, slot_place, count_in, full_name_in}
 use Rattle.fx_lasting.proofs.Words.{file_word_of, label_of, as_written, placed, taking, held_in, bit_here, bit_else, Outside, Renewing, ReplacesHeld}
 use Rattle.fx_lasting.proofs.Words.{ReplacesHeldKeep, step, exchanged, IsInStock, Bool, true, false, Round, StillNames, HoldsBesides, HasItsHold}
 use Rattle.fx_lasting.proofs.Words.{HoldAgrees, GuardAgrees, IsAllowed, Work, Placement, Relieving, ⊎_elim, hold_word_of, guarded_round, first_visit}
 use Rattle.fx_lasting.proofs.Words.{new_round, removal_work, leaving_work, is_guarding, Stepped, as_swapped, account, range_at_start, name_in}
 use Rattle.fx_lasting.proofs.node_lemmas.StockMoves.{names_a_node}
-use Rattle.fx_lasting.proofs.Histories.{grows_one, grows_more, legal_more, part_mine, held_mine, same_shape}
+use Rattle.fx_lasting.proofs.Histories.{legal_more, same_shape}
 use Rattle.fx_lasting.proofs.Frames.{busy}
 use Rattle.fx_lasting.proofs.Keeping.{Turn, turn_of, After, Made, by_turn, its_log, its_work, word_at, slot_word, w}
 use Rattle.fx_lasting.proofs.Places.{slot_back}
-use Rattle.fx_lasting.proofs.slot_lemmas.Sights.{sees_after, sees_kept, sees_slot}
-use Rattle.fx_lasting.proofs.slot_lemmas.Swaps.{found}
-use Rattle.fx_lasting.proofs.slot_lemmas.Installing.{Puts, put_after, put_agrees, put_tells}
+use Rattle.fx_lasting.proofs.slot_lemmas.Sights.{seen_instead}
+use Rattle.fx_lasting.proofs.slot_lemmas.Swaps.{found, Ends}
+use Rattle.fx_lasting.proofs.slot_lemmas.Installing.{put_after, put_agrees, put_tells}
 use Rattle.fx_lasting.proofs.slot_lemmas.SlotLaws.{file_carried, fresh_number}
-use Rattle.fx_lasting.proofs.slot_lemmas.HeldSlots.{there, on_n, h₀, legal₀, let_go, by_number, IsHeld, by_take, by_guard}
+use Rattle.fx_lasting.proofs.slot_lemmas.HeldSlots.{there, legal₀, by_number, IsHeld, by_take, by_guard, h₁, own_part, ends_held, leaves_so, own_hold}
 
 -- the file that a pass holds beside the one that it places
 pub held_besides : {d : Work} {f : File} {n own : ℕ} {l : Placement} → HoldsBesides d f n own l → held_in d ≡ Some f
@@ -85,11 +85,11 @@ module _ (turn : Turn) (s : ℕ) (inside : s < slots_of turn.v.start) (f : File)
   abbrev new_file : File
   new_file = numbered number file
 
-  abbrev event : Event
-  event = pass_event x (Put s new_file (Some f))
+  abbrev put : Action
+  put = Put s new_file (Some f)
 
   abbrev h₂ : List Event
-  h₂ = event ∷ h₀ turn s inside f n its.0 holds_it names_it
+  h₂ = h₁ turn s inside f n its.0 holds_it names_it put
 
   is_there : before.at s ≡ Some f
   is_there = there turn s inside f n its.0 holds_it names_it
@@ -97,41 +97,11 @@ module _ (turn : Turn) (s : ℕ) (inside : s < slots_of turn.v.start) (f : File)
   abbrev renewed : After turn
   renewed = put_after turn s inside (Some f) is_there counted so.alike round own lost file its.1 stocked small out number late on_own h₂
 
-  puts : Puts turn s inside (Some f) is_there counted so.alike round own lost file its.1 stocked small out number late on_own h₂
-  puts = record {
-    grows = grows_more refl (grows_one x.number r.history (pass_event x (Release f)) refl);
-    legal = legal_more v.start (legal₀ turn s inside f n its.0 holds_it names_it)
-        (let z = (same_shape v.start r.history).0 in (omega arith, r.nodes.fresh number late, sym is_there)) tt;
-    acted = (h₀ turn s inside f n its.0 holds_it names_it, event, (pass_event x (Release f) ∷ [], refl), ([], refl), refl, refl);
-    holds = (state_after_all v.start (h₀ turn s inside f n its.0 holds_it names_it)).holds;
-    state = refl;
-    held = held_mine event (h₀ turn s inside f n its.0 holds_it names_it) refl ∙ held_mine (pass_event x (Release f)) r.history refl;
-    let_go = let_go turn s inside f n its.0 holds_it names_it;
-    taken = λ g is. let e : f ≡ g = cc is in subst (λ (z : File). count_in counted + taking (r.node_of z.number) v.work ≡ count_in word) e
-        (subst (λ (i : ℕ). count_in counted + taking i v.work ≡ count_in word) (sym on) so.taken);
-    untaken = λ m apart. so.untaken m (λ same. apart f refl (same ∙ sym on));
-    works = its_busy turn f n own (as_written lost (label_of file)) works;
-    begins = so.begins;
-    hold_none = λ is. absurd (cc is);
-    hold = λ g is. let e : f ≡ g = cc is in subst (λ (z : File). StillNames round.guarded (word_at st.words (hold_word_of v.start x.number)) (r.debt x.number) (r.node_of z.number)) e
-        (subst (StillNames round.guarded (word_at st.words (hold_word_of v.start x.number)) (r.debt x.number)) (sym on) so.hold);
-  }
-    where
-      on : r.node_of f.number ≡ n
-      on = on_n turn s inside f n its.0 holds_it names_it
-
-  own_part : part_of_pass x.number h₂ ≡ map (pass_event x) ([] ▷ Release f ▷ Put s new_file (Some f)) ++ part_of_pass x.number r.history
-  own_part = part_mine (h₀ turn s inside f n its.0 holds_it names_it) refl ∙ ap (λ (l : List Event). event ∷ l) (part_mine r.history refl)
-
-  -- the work of the pass, by how it held the file
-  abbrev leaves : Work
-  leaves = leaving_work v.start (is_guarding v.work) word f
-
-  leaves_so : leaves ≡ removal_work round counted (Some f)
-  leaves_so = ap (λ (b : Bool). leaving_work v.start b word f) so.guarding ∙ so.leaves
-
-  own_hold : HasItsHold (is_guarding v.work) word
-  own_hold = subst (λ (b : Bool). HasItsHold b word) (sym so.guarding) so.own
+  puts : Ends turn s inside (Some f) counted round (own + 1) h₂ (Some new_file) (changed_at before.fresh number false)
+  puts = ends_held turn s inside f n its.0 holds_it names_it put so
+      (its_busy turn f n own (as_written lost (label_of file)) works)
+      (legal_more v.start (legal₀ turn s inside f n its.0 holds_it names_it)
+      (let z = (same_shape v.start r.history).0 in (omega arith, r.nodes.fresh number late, sym is_there)) tt) refl refl refl
 
   module _ (slots old_word : ℕ) (carried : List (ℕ × Option Closed)) (carries : carried ≡ (own, Some file) ∷ []) where
     abbrev new_word : ℕ
@@ -149,14 +119,16 @@ module _ (turn : Turn) (s : ℕ) (inside : s < slots_of turn.v.start) (f : File)
             let same : own ≡ m = (let a = its_busy turn f n own (as_written lost (label_of file)) works in
             let b = its_busy turn g k m (as_written more (label_of other)) works' in omega arith) in rw (← same_f, ← same_g, slot_back s) (
               number,
-              own_hold,
+              own_hold turn s inside f n its.0 holds_it names_it so,
               by_number turn s inside f n its.0 holds_it names_it,
               sym (r.numbering number) ∙ (on_own ∙ same),
               names_a_node turn inside,
               subst (λ (z : Work). Stepped (as_swapped e (name_in word - 1) (v, carried)) ([] ▷ Release f ▷ Put s new_file (Some f)) z v.glance
-                  (account (range_at_start v.start) s (Some f)) (w turn renewed, rest carried)) (sym leaves_so)
+                  (account (range_at_start v.start) s (Some f)) (w turn renewed, rest carried))
+                  (sym (leaves_so turn s inside f n its.0 holds_it names_it so))
                   (put_tells turn s inside (Some f) is_there counted so.alike round own lost file its.1 stocked small out number late on_own h₂ puts
-                  ([] ▷ Release f ▷ Put s new_file (Some f)) own_part carried (rest carried) e (at ∙ ap some (sym same))),
+                  ([] ▷ Release f ▷ put)
+                  (own_part turn s inside f n its.0 holds_it names_it put) carried (rest carried) e (at ∙ ap some (sym same))),
               refl,
             );
         loses = λ other. absurd (other is);
@@ -167,13 +139,8 @@ module _ (turn : Turn) (s : ℕ) (inside : s < slots_of turn.v.start) (f : File)
 renews_not : (turn : Turn) (s : ℕ) (inside : s < slots_of turn.v.start) (carried : List (ℕ × Option Closed)) (slots old_word new : ℕ)
     → slot_word turn.st.words s ≢ old_word
     → Made turn carried (slot_place s) (λ _. slot_word turn.st.words s) (ReplacesHeld (step slots (slot_place s) old_word new none) (turn.v, carried))
-renews_not turn s inside carried slots old_word new other = (
-  w turn (sees_after turn s inside),
-  keeps,
-  tt,
-  sees_kept turn s inside,
-  record { wins = λ g k m more e other' works at there is. absurd (other is); loses = λ _. sees_slot turn s inside carried slots old_word new },
-)
+renews_not turn s inside carried slots old_word new other = seen_instead turn s inside carried ReplacesHeld slots old_word new
+    (λ sees. record { wins = λ g k m more e other' works at there is. absurd (other is); loses = λ _. sees })
 
 pub replaces_held_keep : ReplacesHeldKeep ReplacesHeld
 replaces_held_keep k slots id i s own lost old new n file f m x has works carries small named inside out place made = rw made (by_turn slots

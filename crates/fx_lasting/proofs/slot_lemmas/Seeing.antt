@@ -7,7 +7,7 @@ use Rattle.fx_lasting.proofs.Words.{subst, without_file, some, label_of, as_writ
 use Rattle.fx_lasting.proofs.hold_lemmas.HeldFiles.{one_after}
 use Rattle.fx_lasting.proofs.node_lemmas.StockMoves.{names_a_node}
 use Rattle.fx_lasting.proofs.Keeping.{Turn, turn_of, Made, by_turn, word_at, slot_word, w}
-use Rattle.fx_lasting.proofs.slot_lemmas.Sights.{sees_after, sees_kept, sees_slot, there, named}
+use Rattle.fx_lasting.proofs.slot_lemmas.Sights.{seen_instead, there, named}
 use Rattle.fx_lasting.proofs.Places.{slot_back}
 use Rattle.fx_lasting.proofs.slot_lemmas.SlotLaws.{taken, removal, removal_agrees, removal_tells, put_action, putting, installed, installation_agrees}
 use Rattle.fx_lasting.proofs.slot_lemmas.SlotLaws.{installation_tells, new_number, file_carried}
@@ -16,13 +16,7 @@ module _ (turn : Turn) (s : ℕ) (inside : s < slots_of turn.v.start) (carried :
   open turn use {st, v, r, id, x, here, one}
 
   see : (slots : ℕ) → Made turn carried (slot_place s) (λ word. word) (Sees (step slots (slot_place s) 0 0 none) (v, carried))
-  see slots = (
-    w turn (sees_after turn s inside),
-    keeps,
-    tt,
-    sees_kept turn s inside,
-    sees_slot turn s inside carried slots 0 0,
-  )
+  see slots = seen_instead turn s inside carried Sees slots 0 0 (λ sees. sees)
 
   -- The word that the pass saw is exchanged for its name alone
   module _ (free_of : HasNoFile turn.v.work) (off : IsOffCount turn.v.start s turn.v.change) (slots old_word : ℕ) where
@@ -30,13 +24,8 @@ module _ (turn : Turn) (s : ℕ) (inside : s < slots_of turn.v.start) (carried :
     Takes y = Made turn carried (slot_place s) (λ _. y) (TakesIf (step slots (slot_place s) old_word (without_file old_word) none) (v, carried))
 
     takes_not : slot_word st.words s ≢ old_word → Takes (slot_word st.words s)
-    takes_not other = (
-      w turn (sees_after turn s inside),
-      keeps,
-      tt,
-      sees_kept turn s inside,
-      record { wins = λ is. absurd (other is); loses = λ _. sees_slot turn s inside carried slots old_word (without_file old_word) },
-    )
+    takes_not other = seen_instead turn s inside carried TakesIf slots old_word (without_file old_word)
+        (λ sees. record { wins = λ is. absurd (other is); loses = λ _. sees })
 
     takes : slot_word st.words s ≡ old_word → Takes (without_file old_word)
     takes is = subst (λ (z : ℕ). Takes (without_file z)) is (
@@ -64,13 +53,8 @@ module _ (turn : Turn) (s : ℕ) (inside : s < slots_of turn.v.start) (carried :
     Puts y = Made turn carried (slot_place s) (λ _. y) (Replaces (step slots (slot_place s) old_word (file_word_of n file.entry + lost) none) (v, carried))
 
     puts_not : slot_word st.words s ≢ old_word → Puts (slot_word st.words s)
-    puts_not other = (
-      w turn (sees_after turn s inside),
-      keeps,
-      tt,
-      sees_kept turn s inside,
-      record { wins = λ m more e f w' c' at is. absurd (other is); loses = λ _. sees_slot turn s inside carried slots old_word (file_word_of n file.entry + lost) },
-    )
+    puts_not other = seen_instead turn s inside carried Replaces slots old_word (file_word_of n file.entry + lost)
+        (λ sees. record { wins = λ m more e f w' c' at is. absurd (other is); loses = λ _. sees })
 
     puts : slot_word st.words s ≡ old_word → Puts (file_word_of n file.entry + lost)
     puts is = let does = putting turn s inside n lost file works small out slots carried carries number late on_n in (

@@ -1,9 +1,10 @@
 -- A load of a slot's word: the pass sees what is at the slot, and watches the slot.
 use Rattle.fx_lasting.proofs.Words.{◌≡◌, ◌≢◌, ℕ, ◌+◌, ◌<◌, ◌≤◌, ◌⊎◌, List, [], set, sym, refl, ap, ◌∙◌, subst, arith, Option, Some, None, none, step}
 use Rattle.fx_lasting.proofs.Words.{⊎_elim, inl, inr, dite, ℕ_discrete, Closed, File, Names, slots_of, slot_place, state_after_all}
-use Rattle.fx_lasting.proofs.Words.{node_of_number, Sees, Agrees, Watch, HasActed, IsOvertaken, first_log, Log}
+use Rattle.fx_lasting.proofs.Words.{node_of_number, Sees, Agrees, Watch, HasActed, IsOvertaken, first_log, Log, keeps}
+use Rattle.fx_lasting.specs.Laws.{Kind}
 use Rattle.fx_lasting.proofs.Histories.{grows_none}
-use Rattle.fx_lasting.proofs.Keeping.{Turn, word_at, slot_word, w, After, its_log, tells}
+use Rattle.fx_lasting.proofs.Keeping.{Turn, Made, word_at, slot_word, w, After, its_log, tells}
 use Rattle.fx_lasting.proofs.Calm.{read_watching, read_watching_kept}
 use Rattle.fx_lasting.proofs.range_lemmas.GroupSteps.{its_inside}
 use Rattle.fx_lasting.proofs.Peeking.{still}
@@ -83,3 +84,9 @@ module _ (turn : Turn) (s : ℕ) where
         overtaken = λ same lost. subst (λ (i : ℕ). IsOvertaken i (v, carried) (w turn sees_after, carried)) (sym (slot_back s))
             (changed_now (same ∙ slot_back s) lost);
       }
+
+      -- an exchange of another word leaves this one, and the pass sees it
+      pub seen_instead : (kind : Kind) (slots first second : ℕ) → (Sees (step slots (slot_place s) first second none) (v, carried) found (w turn sees_after, carried)
+          → kind (step slots (slot_place s) first second none) (v, carried) found (w turn sees_after, carried))
+          → Made turn carried (slot_place s) (λ _. found) (kind (step slots (slot_place s) first second none) (v, carried))
+      seen_instead kind slots first second makes = (w turn sees_after, keeps, tt, sees_kept, makes (sees_slot slots first second))

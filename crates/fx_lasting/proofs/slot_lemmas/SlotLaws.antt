@@ -9,18 +9,17 @@ use Rattle.fx_lasting.proofs.Words.{uncounted, group_of, range_at_start, Outside
 use Rattle.fx_lasting.proofs.Words.{HasNoFile, IsInStock, as_swapped, first_log, without_file, name_in, name_mask, bit_and, name_left, no_file_left}
 use Rattle.fx_lasting.proofs.Words.{no_takes_left, mask_leaves_name, mod-mul-add, le-mul_of_pos_right, Placement, label_of, as_written, either}
 use Rattle.fx_lasting.proofs.Words.{put_back, ActsAt}
-use Rattle.fx_lasting.proofs.slot_lemmas.Installing.{Puts, put_after, put_agrees, put_tells}
+use Rattle.fx_lasting.proofs.slot_lemmas.Emptying.{left, left_agrees, left_tells}
+use Rattle.fx_lasting.proofs.slot_lemmas.Installing.{put_after, put_agrees, put_tells}
 use Rattle.fx_lasting.proofs.node_lemmas.StockMoves.{names_a_node}
 use Rattle.fx_lasting.proofs.Histories.{grows_one, legal_more, part_mine, held_mine, same_shape}
-use Rattle.fx_lasting.proofs.Frames.{busy, owner_stays, node_same}
-use Rattle.fx_lasting.proofs.Keeping.{Turn, turn_of, After, word_at, slot_word, Made, by_turn, its_log, its_work, its_stock, in_range, tells, w, end}
-use Rattle.fx_lasting.proofs.Keeping.{asks_alike, few_slots}
-use Rattle.fx_lasting.proofs.range_lemmas.Groups.{in_range_so, counts_emptied}
-use Rattle.fx_lasting.proofs.slot_lemmas.Sights.{sees_after, sees_kept, sees_slot}
-use Rattle.fx_lasting.proofs.Places.{slot_else, slot_back, slot_alike}
+use Rattle.fx_lasting.proofs.Frames.{busy}
+use Rattle.fx_lasting.proofs.Keeping.{Turn, turn_of, After, word_at, slot_word, Made, by_turn, its_log, its_work, w, end}
+use Rattle.fx_lasting.proofs.range_lemmas.Groups.{in_range_so}
+use Rattle.fx_lasting.proofs.slot_lemmas.Sights.{seen_instead}
+use Rattle.fx_lasting.proofs.Places.{slot_back}
 use Rattle.fx_lasting.proofs.hold_lemmas.Looking.{unnamed}
-use Rattle.fx_lasting.proofs.slot_lemmas.Swaps.{begins_first, found, old_at, found_so, old_named, d, swap_after, Swap, swap_kept}
-use Rattle.fx_lasting.proofs.hold_lemmas.Unheld.{in_phase}
+use Rattle.fx_lasting.proofs.slot_lemmas.Swaps.{begins_first, found, found_so, Ends}
 use Rattle.fx_lasting.proofs.node_lemmas.Choosing.{no_file, no_take, not_busy, holds_none}
 
 -- the action empties a slot, whatever it is for
@@ -57,82 +56,37 @@ module _ (act : ℕ → Option File → Action) (does : IsRemoval act) (turn : T
   abbrev pub old : Option File
   old = (state_after_all v.start r.history).at s
 
-  abbrev h₁ : List Event
-  h₁ = pass_event x (act s old) ∷ r.history
-
-  -- the word keeps its name alone
-  abbrev left : ℕ
-  left = without_file (found turn s inside)
-
-  abbrev c₁ : Change
-  c₁ = account (range_at_start v.start) s old
-
-  abbrev its_round : Round
+  abbrev pub its_round : Round
   its_round = new_round (first_visit v.start.passes (found turn s inside))
 
-  abbrev pub removal : After turn
-  removal = swap_after turn s inside old refl (found turn s inside) (refl, refl) its_round h₁ left None st.homes r.phase r.nodes.next_number c₁ r.nodes.where_is x.stock
-
-  removes : Swap turn s inside old refl (found turn s inside) (refl, refl) its_round h₁ left None st.homes r.phase r.nodes.next_number c₁ r.nodes.where_is x.stock
-  removes = let o = its_log turn in let h = holds_none free_of o.hold in let e = does turn s inside in record {
+  pub ends : Ends turn s inside old (found turn s inside) its_round 0 (pass_event x (act s old) ∷ r.history) None (state_after_all v.start r.history).fresh
+  ends = let o = its_log turn in let h = holds_none free_of o.hold in let e = does turn s inside in record {
     grows = grows_one x.number r.history _ refl;
     legal = e.0;
     acted = (r.history, pass_event x (act s old), ([], refl), ([], refl), refl, e.3);
-    fresh = (state_after_all v.start r.history).fresh;
     holds = (state_after_all v.start r.history).holds;
     leads = e.1;
-    fresh_on = r.nodes.fresh;
     held = e.2 ∙ (o.held ∙ no_file free_of);
     let_go = λ n. let a = ap (if_file n) (no_file free_of) in omega arith;
     taken = λ f is. let a = no_take free_of (r.node_of f.number) in omega arith;
-    homes = refl;
-    later = omega arith;
-    removed_else = λ m. refl;
-    named_new = let o = r.nodes.named s inside in record { node = o.node; named = name_left (found turn s inside) ∙ o.named; inside = o.inside; here = o.here };
-    named_else = λ i n other at. at;
-    stock = its_stock turn;
-    stocks = λ n q e other at. at;
-    names = no_file_left (found turn s inside);
-    few_takes = let a = (no_takes_left (found turn s inside)).0 in omega arith;
-    no_heat = (no_takes_left (found turn s inside)).1;
-    seat = tt;
-    seat_apart = λ f is. absurd (cc is);
-    kept = λ n. inl refl;
-    nodes = λ n l apart. node_same (slots_of v.start) r.node_of n (omega arith) refl
-        (let t = sum_set (taken_of n) st.views id v (w turn removal) here in let a = no_take free_of n in let b = untaken n in omega arith)
-        refl refl (r.phase n) (λ i f is there. let other : i ≢ s = λ same. apart f (ap (λ (j : ℕ). (state_after_all v.start r.history).at j) (sym same) ∙ there)
-        (sym (in_phase turn l is).file.its_node) in
-        (ap (λ (z : State). z.at i) e.1 ∙ changed_else (state_after_all v.start r.history).at s None i other, ap count_in (slot_else turn s inside left i other)))
-        (r.nodes.each n l);
-    old_home = λ f is. refl;
-    owners = λ n l apart. owner_stays st.views id v (w turn removal) here n (λ bad. let a = not_busy free_of in omega arith) (r.phase n) (r.nodes.owners n l);
-    labels = λ n l apart. r.nodes.labels n l;
+    untaken = λ n apart. no_take free_of n;
+    works = not_busy free_of;
     begins = begins_first turn s inside (found turn s inside) (refl, refl);
     hold_none = λ is. (h.0, h.1);
     hold = λ f is. (h.0, h.1);
-    counts = counts_emptied id (w turn removal) here r.range s old (few_slots turn) refl (slot_alike turn s inside left)
-        (asks_alike turn removal refl) off refl;
   }
-    where
-      untaken : (n : ℕ) → taking n (d turn s inside old refl (found turn s inside) (refl, refl) its_round) ≡ 0
-      untaken n = go old
-        where
-          go : (o : Option File) → taking n (retiring_work v.start (found turn s inside) o) ≡ 0
-          go None = refl
-          go (Some f) = refl
+
+  abbrev pub removal : After turn
+  removal = left turn s inside old refl (found turn s inside) (refl, refl) its_round (pass_event x (act s old) ∷ r.history) ends off
 
   pub removal_agrees : Agrees v.start (end turn removal)
-  removal_agrees = swap_kept turn s inside old refl (found turn s inside) (refl, refl) its_round h₁ left None st.homes r.phase r.nodes.next_number c₁ r.nodes.where_is x.stock removes
+  removal_agrees = left_agrees turn s inside old refl (found turn s inside) (refl, refl) its_round (pass_event x (act s old) ∷ r.history) ends off
 
   pub removal_tells : (carried : List (ℕ × Option Closed))
-      → Stepped (v, carried) ([] ▷ act s old) (retiring_work v.start (found turn s inside) old) v.glance c₁ (w turn removal, carried)
-  removal_tells carried = tells turn removal refl carried carried ([] ▷ act s old) (grows_one x.number r.history _ refl) (does turn s inside).0
-      (part_mine r.history refl) (knows old refl)
-    where
-      knows : (o : Option File) → old ≡ o → IsInside v.start (retiring_work v.start (found turn s inside) old)
-      knows None is = subst (λ (o : Option File). IsInside v.start (retiring_work v.start (found turn s inside) o)) (sym is) tt
-      knows (Some f) is = subst (λ (o : Option File). IsInside v.start (retiring_work v.start (found turn s inside) o)) (sym is)
-          (let n = (old_at turn s inside old refl is).0 in let e = old_named turn s inside old refl is in omega arith)
+      → Stepped (v, carried) ([] ▷ act s old) (retiring_work v.start (found turn s inside) old) v.glance (account (range_at_start v.start) s old)
+      (w turn removal, carried)
+  removal_tells carried = left_tells turn s inside old refl (found turn s inside) (refl, refl) its_round (pass_event x (act s old) ∷ r.history) ends off
+      carried ([] ▷ act s old) (part_mine r.history refl)
 
   pub removal_made : (slots : ℕ) (carried : List (ℕ × Option Closed))
       → found turn s inside < 18446744073709551616
@@ -211,13 +165,13 @@ module _ (turn : Turn) (s : ℕ) (inside : s < slots_of turn.v.start) (old : Opt
     pub acts : ActsAt s a
 
   module _ (does : Effect) where
-    puts : Puts turn s inside old was (found turn s inside) (refl, refl) put_round n lost file its its_entry small out number late on_n h₂
+    puts : Ends turn s inside old (found turn s inside) put_round (n + 1) h₂ (Some new_file) (changed_at before.fresh number false)
     puts = let o = its_log turn in let h = rw works at o.hold in record {
       grows = grows_one x.number r.history _ refl;
       legal = does.legal;
       acted = (r.history, pass_event x a, ([], refl), ([], refl), refl, does.acts);
       holds = before.holds;
-      state = does.state;
+      leads = does.state;
       held = does.held ∙ (o.held ∙ ap held_in works);
       let_go = λ m. let a = ap (if_file m) (ap held_in works) in omega arith;
       taken = λ f is. let a = ap (taking (r.node_of f.number)) works in omega arith;
@@ -297,13 +251,8 @@ module _ (turn : Turn) (slots s n lost old_word : ℕ) (file : Closed) (carried 
   Goal y = Made turn carried (slot_place s) (λ _. y) (Exchanges (step slots (slot_place s) old_word (file_word_of n file.entry + lost) none) (v, carried))
 
   fails : word ≢ old_word → Goal word
-  fails other = (
-    w turn (sees_after turn s within),
-    keeps,
-    tt,
-    sees_kept turn s within,
-    record { wins = λ m more e f w' c' at is. absurd (other is); loses = λ _. sees_slot turn s within carried slots old_word (file_word_of n file.entry + lost) },
-  )
+  fails other = seen_instead turn s within carried Exchanges slots old_word (file_word_of n file.entry + lost) (λ sees.
+      record { wins = λ m more e f w' c' at is. absurd (other is); loses = λ _. sees })
 
   module _ (is : word ≡ old_word) where
     at_none : (state_after_all v.start r.history).at s ≡ None

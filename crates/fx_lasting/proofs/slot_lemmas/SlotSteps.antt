@@ -5,10 +5,10 @@ use Rattle.fx_lasting.proofs.Words.{SlotAgrees, Names, Agrees, slots_of, nodes_o
 use Rattle.fx_lasting.proofs.Words.{placed, seated, leaving, retired, emptied, kept, Work, Glance, ⊎_elim, ◌⊎◌, inr, dite, ℕ_discrete, slot_place}
 use Rattle.fx_lasting.proofs.Words.{word_of, count_in, name_in, full_name_in, entry_in, IsHot, cold_takes, tally, birth_word, owed, sum_set, sum_by}
 use Rattle.fx_lasting.proofs.Words.{get_elem?, length-set, MayBeUnmarked, dec_le, suc, written_in, MOST_SLOTS, without_slot}
-use Rattle.fx_lasting.proofs.Frames.{busy, owner_stays, owner_same, slot_same, node_same, Leaves, keeps_other, guards_same}
-use Rattle.fx_lasting.proofs.Keeping.{Turn, After, Keeps, word_at, slot_word, step_kept, w, end, its_stock, names_on, labels_same, met_same, its_log}
+use Rattle.fx_lasting.proofs.Frames.{busy, nodes_untouched, slot_same, node_same, Leaves, keeps_other, guards_same, covers_hot}
+use Rattle.fx_lasting.proofs.Keeping.{Turn, After, as_it_was, Keeps, word_at, slot_word, sees_all, stocks_untouched, step_kept, w, end, its_log}
 use Rattle.fx_lasting.proofs.Keeping.{range_left, LeavesFiles}
-use Rattle.fx_lasting.proofs.Places.{slot_words, slot_here, slot_node, slot_else, slot_hold, slot_alike, slot_list, slot_label}
+use Rattle.fx_lasting.proofs.Places.{slot_words, slot_here, slot_node, slot_else, slot_by, slot_hold, slot_alike, slot_list, slot_label}
 use Rattle.fx_lasting.proofs.slot_lemmas.Watching.{MovesOn, ActsThere, watch_none}
 
 module _ (turn : Turn) (s : ℕ) (inside : s < slots_of turn.v.start) (new : ℕ) (h' : List Event) (d : Work) (g : Glance) (deed' : ℕ → ℕ → Deed) where
@@ -18,25 +18,14 @@ module _ (turn : Turn) (s : ℕ) (inside : s < slots_of turn.v.start) (new : ℕ
   words' = slot_words turn s inside new
 
   abbrev pub slot_after : After turn
-  slot_after = record {
+  slot_after = record (as_it_was turn) {
     h = h';
     front = h';
     words = words';
-    homes = st.homes;
-    phase = r.phase;
-    next_number = r.nodes.next_number;
-    debt = r.debt;
     deed = deed';
     work = d;
     glance = g;
-    change = v.change;
-    asked = x.asked;
-    listed = x.listed;
-    still_listed = λ l. l;
-    where_is = r.nodes.where_is;
-    stock = x.stock;
     watch = without_slot MOST_SLOTS x.watch;
-    more_met = met_same x.watch.met;
   }
 
   abbrev old : ℕ
@@ -67,40 +56,23 @@ module _ (turn : Turn) (s : ℕ) (inside : s < slots_of turn.v.start) (new : ℕ
     pub its : Keeps turn slot_after id x.number d g
     pub holds : (n : ℕ) → (state_after_all v.start h').holds n + held_of n v ≡ (state_after_all v.start r.history).holds n + held_of n (w turn slot_after)
 
+  -- each hot slot stays hot
+  hot_on : (IsHot old → IsHot new) → (i : ℕ) → IsHot (slot_word st.words i) → IsHot (slot_word words' i)
+  hot_on hot = slot_by turn s inside new (λ i word. IsHot (slot_word st.words i) → IsHot word) hot (λ i other h. h)
+
   -- a guard of a file at a hot slot
   pub covers_slot : (IsHot old → IsHot new) → (p n : ℕ) → MayBeUnmarked (slot_word st.words) p (r.phase n) → MayBeUnmarked (slot_word words') p (r.phase n)
-  covers_slot hot p n = dite (dec_le (suc n) (nodes_of v.start)) (λ l. go (r.phase n) (r.nodes.each n (omega (arith, l))))
-      (λ z m. let e = r.nodes.unborn n (omega (arith, z)) in absurd (rw e at m))
-    where
-      go : (ph : Phase) → NodeAgrees (state_after_all v.start r.history).at (slots_of v.start) (λ s. count_in (slot_word st.words s)) r.node_of
-          r.nodes.next_number n (word_at st.words (word_of v.start n)) (sum_by (taken_of n) st.views) (owed r.debt v.start.passes n)
-          (get_elem? st.homes n) ph → MayBeUnmarked (slot_word st.words) p ph → MayBeUnmarked (slot_word words') p ph
-      go (seated i f) o is_hot = dite (ℕ_discrete i s)
-          (λ same. subst (λ (j : ℕ). IsHot (slot_word st.words j) → IsHot (slot_word words' j)) (sym same)
-          (λ h. rw (slot_here turn s inside new) (hot h)) is_hot)
-          (λ other. rw (slot_else turn s inside new i other) is_hot)
-      go (leaving j t nx m f) o l = l
-      go free o m = absurd m
-      go (placed j l) o m = absurd m
-      go (retired f) o m = absurd m
-      go (emptied j) o m = absurd m
-      go (kept j lost) o m = absurd m
+  covers_slot hot = covers_hot turn words' (λ i l. hot_on hot i)
 
   module _ (p : SlotStep) where
     at_is : (i : ℕ) → (state_after_all v.start h').at i ≡ (state_after_all v.start r.history).at i
     at_is i = ap (λ (f : ℕ → Option File). f i) p.files.at
 
     same_name : (i : ℕ) → full_name_in (slot_word words' i) ≡ full_name_in (slot_word st.words i)
-    same_name i = dite (ℕ_discrete i s)
-        (λ same. subst (λ (j : ℕ). full_name_in (slot_word words' j) ≡ full_name_in (slot_word st.words j)) (sym same)
-        (ap full_name_in (slot_here turn s inside new) ∙ p.name))
-        (λ other. ap full_name_in (slot_else turn s inside new i other))
+    same_name = slot_by turn s inside new (λ i word. full_name_in word ≡ full_name_in (slot_word st.words i)) p.name (λ i other. refl)
 
     same_own_name : (i : ℕ) → i < slots_of v.start → name_in (slot_word words' i) ≡ name_in (slot_word st.words i)
-    same_own_name i l = dite (ℕ_discrete i s)
-        (λ same. subst (λ (j : ℕ). name_in (slot_word words' j) ≡ name_in (slot_word st.words j)) (sym same)
-        (ap name_in (slot_here turn s inside new) ∙ p.own_name))
-        (λ other. ap name_in (slot_else turn s inside new i other))
+    same_own_name i l = slot_by turn s inside new (λ i word. name_in word ≡ name_in (slot_word st.words i)) p.own_name (λ i other. refl) i
 
     slot_now : SlotAgrees v.start r.node_of r.phase (deed' s) s ((state_after_all v.start h').at s) (slot_word words' s)
     slot_now = let o = r.slots s inside in rw (slot_here turn s inside new, at_is s)
@@ -120,9 +92,9 @@ module _ (turn : Turn) (s : ℕ) (inside : s < slots_of turn.v.start) (new : ℕ
           (λ same. inr (
             ap (λ (j : ℕ). deed' j q) same ∙ (p.deed_other q other ∙ sym (ap (λ (j : ℕ). r.deed j q) same)),
             same_name i,
-            subst (λ (j : ℕ). IsHot (slot_word st.words j) → IsHot (slot_word words' j)) (sym same) (λ h. rw (slot_here turn s inside new) (p.hot h)),
+            hot_on p.hot i,
           ))
-          (λ ne. inr (p.deed_else i q ne, same_name i, λ h. rw (slot_else turn s inside new i ne) h));
+          (λ ne. inr (p.deed_else i q ne, same_name i, hot_on p.hot i));
     }
 
     abbrev Node : ℕ → Phase → Type 0
@@ -165,39 +137,31 @@ module _ (turn : Turn) (s : ℕ) (inside : s < slots_of turn.v.start) (new : ℕ
     slot_kept = step_kept turn slot_after record {
       words = length-set st.words (slot_place s) new;
       homes = refl;
-      grows = p.files.grows;
-      legal = p.files.legal;
-      seen = ([], refl);
-      own = refl;
-      slots = λ i l. dite (ℕ_discrete i s) (λ same. rw same slot_now)
-          (λ other. slot_same (slot_else turn s inside new i other) (at_is i)
-          (λ q low high. p.deed_else i q other) (λ f there seat. refl) (r.slots i l));
-      nodes = λ n l. node_now n l (r.phase n) refl;
-      owners = λ n l. ⊎_elim (λ same. owner_same st.views id v (w turn slot_after) here same n (r.phase n) (r.nodes.owners n l))
-          (λ none. owner_stays st.views id v (w turn slot_after) here n (λ bad. omega arith) (r.phase n) (r.nodes.owners n l)) p.owners;
-      labels = λ n l. labels_same v.start _ _ _ (written_in (r.phase n)) (slot_label turn s inside new n) (r.nodes.labels n l);
-      removed = λ number. ap (λ (f : ℕ → Option File). f number) p.files.removed ∙ r.nodes.removed number;
-      unborn = r.nodes.unborn;
-      fresh = λ number l. ap (λ (f : ℕ → Bool). f number) p.files.fresh ∙ r.nodes.fresh number l;
-      named = names_on turn _ same_own_name;
-      stock = its_stock turn;
-      stocks = λ n p e other at. at;
-      others = λ j u z other there at n range o work. keeps_other turn slot_after leaves j u z other there at n range o work;
-      held = p.held;
-      allowed = p.allowed;
-      lists = λ i few. inl (slot_list turn s inside new i few);
-      deed_on = λ i q l is. dite (ℕ_discrete i s)
-          (λ same. let here : deed' s q ≢ untouched = λ e. is (ap (λ (j : ℕ). deed' j q) same ∙ e) in dite (ℕ_discrete q x.number)
-          (λ own. ⊎_elim (λ before. inl (λ e. before (sym (λ k. r.deed (same k) (own k)) ∙ e))) (λ has. inr (own, has)) (p.deed_own (λ e. here (ap (deed' s) own ∙ e))))
-          (λ other. inl (λ e. here (p.deed_other q other ∙ (sym (ap (λ (j : ℕ). r.deed j q) same) ∙ e)))))
-          (λ ne. inl (λ e. is (p.deed_else i q ne ∙ e)));
-      its_bit = λ l. inl l;
-      its = p.its;
-      holds = p.holds;
-      counts = range_left turn slot_after p.files.at (slot_alike turn s inside new) refl refl;
-      moves = λ i l. dite (ℕ_discrete i s)
-          (λ same. subst (λ (j : ℕ). MovesOn x.number j r.history h' (slot_word st.words j) (slot_word words' j)) (sym same)
-          (rw (slot_here turn s inside new) (inr p.moved)))
-          (λ other. inl (slot_else turn s inside new i other));
-      watches = watch_none v.start x.number r.shape.slots (p.files.grows.seen r.history ([], refl)) (slot_alike turn s inside new).0 x.watch (its_log turn).watch;
+      life = sees_all turn p.files.grows p.files.legal;
+      nodes = nodes_untouched turn (w turn slot_after) p.files (slot_label turn s inside new) p.owners (λ n l. node_now n l (r.phase n) refl);
+      stocks = stocks_untouched turn words' same_own_name;
+      slots = record {
+        each = λ i l. dite (ℕ_discrete i s) (λ same. rw same slot_now)
+            (λ other. slot_same (slot_else turn s inside new i other) (at_is i)
+            (λ q low high. p.deed_else i q other) (λ f there seat. refl) (r.slots i l));
+        moves = λ i l. slot_by turn s inside new (λ i word. MovesOn x.number i r.history h' (slot_word st.words i) word) (inr p.moved) (λ i other. inl refl) i;
+      };
+      holds = record {
+        others = λ j u z other there at n range o work. keeps_other turn slot_after leaves j u z other there at n range o work;
+        its = p.its;
+        held = p.held;
+        allowed = p.allowed;
+        files = p.holds;
+      };
+      list = record {
+        words = λ i few. inl (slot_list turn s inside new i few);
+        takers = λ i q l is. dite (ℕ_discrete i s)
+            (λ same. let here : deed' s q ≢ untouched = λ e. is (ap (λ (j : ℕ). deed' j q) same ∙ e) in dite (ℕ_discrete q x.number)
+            (λ own. ⊎_elim (λ before. inl (λ e. before (sym (λ k. r.deed (same k) (own k)) ∙ e))) (λ has. inr (own, has)) (p.deed_own (λ e. here (ap (deed' s) own ∙ e))))
+            (λ other. inl (λ e. here (p.deed_other q other ∙ (sym (ap (λ (j : ℕ). r.deed j q) same) ∙ e)))))
+            (λ ne. inl (λ e. is (p.deed_else i q ne ∙ e)));
+        its_bit = λ l. inl l;
+      };
+      range = range_left turn slot_after p.files.at (slot_alike turn s inside new) refl refl;
+      watch = watch_none v.start x.number r.shape.slots (p.files.grows.seen r.history ([], refl)) (slot_alike turn s inside new).0 x.watch (its_log turn).watch;
     }

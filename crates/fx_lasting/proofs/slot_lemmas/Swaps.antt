@@ -1,7 +1,7 @@
 -- A swap of a slot's word: a file leaves the slot, if there was one, and the slot gets another or
 -- none.
-use Rattle.fx_lasting.proofs.Words.{Round, StillNames, removal_work, alone_in, IsToVisit, new_round, inl, true, Whereabouts, at_slot, in_stock}
-use Rattle.fx_lasting.proofs.Words.{NamesItsNode, StockAgrees, name_in, ◌≡◌, ◌≢◌, ℕ, suc, ◌+◌, ◌-◌, ◌^◌, ◌<◌, ◌≤◌, List, [], set, length, sym, refl}
+use Rattle.fx_lasting.proofs.Words.{Round, StillNames, removal_work, alone_in, IsToVisit, new_round, inl, true, Whereabouts}
+use Rattle.fx_lasting.proofs.Words.{IsInside, NamesItsNode, ◌≡◌, ◌≢◌, ℕ, suc, ◌+◌, ◌-◌, ◌^◌, ◌<◌, ◌≤◌, List, [], set, length, sym, refl}
 use Rattle.fx_lasting.proofs.Words.{ap, ◌∙◌, subst, arith, Option, Some, None, get_elem?, Bool, false, inr, ⊎_elim, ◌⊎◌, dite, ℕ_discrete, dec_le}
 use Rattle.fx_lasting.proofs.Words.{eq-eqb, ne_eqb, File, Event, State, held_by, with_removed, changed_at, changed_here, changed_else, Agrees}
 use Rattle.fx_lasting.proofs.Words.{NodeAgrees, OwnerAgrees, WorkAgrees, SlotAgrees, Names, IsSeated, HoldAgrees, GuardAgrees, MayBeUnmarked}
@@ -12,10 +12,11 @@ use Rattle.fx_lasting.proofs.Words.{file_in, removed_in, first_visit, Found, Wor
 use Rattle.fx_lasting.proofs.Words.{label_of, MOST_SLOTS, without_slot}
 use Rattle.fx_lasting.proofs.Counts.{tally_same, tally_none}
 use Rattle.fx_lasting.proofs.Histories.{Grows, each_changed}
-use Rattle.fx_lasting.proofs.Frames.{does_now, slot_same, file_same, Leaves, keeps_other, guards_same, SlotGoesOn, sees_on, heats_on}
-use Rattle.fx_lasting.proofs.Keeping.{Turn, After, Homes, word_at, slot_word, step_kept, w, end, its_log, in_range, labels_same, met_same}
-use Rattle.fx_lasting.proofs.Places.{slot_words, slot_here, slot_node, slot_else, slot_hold, slot_list, slot_label, slot_alike}
-use Rattle.fx_lasting.proofs.slot_lemmas.Watching.{ActsThere, watch_none}
+use Rattle.fx_lasting.proofs.Frames.{busy, does_now, slot_same, file_same, Leaves, keeps_other, guards_same, SlotGoesOn, sees_on, heats_on}
+use Rattle.fx_lasting.proofs.Keeping.{Turn, After, as_it_was, Homes, word_at, slot_word, sees_all, list_untouched, step_kept, w, end, its_log, in_range, labels_same}
+use Rattle.fx_lasting.proofs.Places.{slot_words, slot_here, slot_node, slot_else, slot_by, slot_hold, slot_list, slot_label, slot_alike}
+use Rattle.fx_lasting.proofs.node_lemmas.StockMoves.{StaysNamed}
+use Rattle.fx_lasting.proofs.slot_lemmas.Watching.{ActsThere, MovesOn, watch_none}
 use Rattle.fx_lasting.proofs.hold_lemmas.Unheld.{in_phase}
 
 -- the node isn't that of the file
@@ -57,6 +58,28 @@ module _ (turn : Turn) (s : ℕ) (inside : s < slots_of turn.v.start) where
     visits = λ q low hot. (rw (ne_eqb (heat_in counted) 0 (λ none. omega (arith, hot, none, alike.1))) (omega arith), λ idle. let a = idle.0 in omega arith);
     listed = λ bad. cc bad;
   }
+
+  -- what the events of a step do, which removes this file and installs another one or none. The
+  -- removal has the takes of the word `counted`, and is to make this round. The pass worked alone
+  -- with the node `busy_with`, less 1, and holds nothing any more
+  pub record Ends (old : Option File) (counted : ℕ) (round : Round) (busy_with : ℕ) (h' : List Event) (new : Option File) (fresh : ℕ → Bool) : Type 0 where
+    pub grows : Grows x.number r.history h'
+    pub legal : IsHistory v.start h'
+    -- the pass acted at the slot
+    pub acted : ActsThere x.number s r.history h'
+    pub holds : ℕ → ℕ
+    pub leads : state_after_all v.start h'
+        ≡ record state { at = changed_at state.at s new; removed = with_removed state.removed old; fresh = fresh; holds = holds }
+    pub held : held_by h' x.number ≡ None
+    pub let_go : (n : ℕ) → holds n + held_of n v ≡ state.holds n
+    -- the removal doesn't count the take by which the pass held the file, if it held one
+    pub taken : (f : File) → old ≡ Some f → count_in counted + taking (r.node_of f.number) v.work ≡ count_in found
+    pub untaken : (n : ℕ) → NotOf r.node_of n old → taking n v.work ≡ 0
+    pub works : busy v.work ≡ busy_with
+    pub begins : Begins round
+    pub hold_none : old ≡ None → (word_at st.words (hold_word_of v.start x.number) ≡ 0) × (r.debt x.number ≡ 0)
+    pub hold : (f : File) → old ≡ Some f
+        → StillNames round.guarded (word_at st.words (hold_word_of v.start x.number)) (r.debt x.number) (r.node_of f.number)
 
   module _ (old : Option File) (was : state.at s ≡ old) where
     pub names_old : Names r.node_of found old
@@ -102,6 +125,13 @@ module _ (turn : Turn) (s : ℕ) (inside : s < slots_of turn.v.start) where
         go None is = subst P (sym (ap (removal_work round counted) is)) (idle is)
         go (Some f) is = subst P (sym (d_is f is)) (retires f is)
 
+    -- it is about the table's nodes, and takes from none
+    pub d_inside : IsInside v.start d
+    d_inside = by_retiring (IsInside v.start) (λ none. tt) (λ f is. (old_at old was is).0)
+
+    pub d_untaken : (n : ℕ) → taking n d ≡ 0
+    d_untaken n = by_retiring (λ q. taking n q ≡ 0) (λ none. refl) (λ f is. refl)
+
     -- the old file's node, after the swap
     abbrev gone_as : File → Phase
     gone_as f = leaving id (count_in counted) round 0 f
@@ -120,25 +150,19 @@ module _ (turn : Turn) (s : ℕ) (inside : s < slots_of turn.v.start) where
       phase' = gone old phase₁
 
       abbrev pub swap_after : After turn
-      swap_after = record {
+      swap_after = record (as_it_was turn) {
         h = h';
         front = h';
         words = slot_words turn s inside new_word;
         homes = homes';
         phase = phase';
         next_number = next';
-        debt = r.debt;
         deed = deed';
         work = d;
-        glance = v.glance;
         change = c;
-        asked = x.asked;
-        listed = x.listed;
-        still_listed = λ l. l;
         where_is = where_is';
         stock = stock';
         watch = without_slot MOST_SLOTS x.watch;
-        more_met = met_same x.watch.met;
       }
 
       abbrev after : State
@@ -150,27 +174,15 @@ module _ (turn : Turn) (s : ℕ) (inside : s < slots_of turn.v.start) where
           (get_elem? homes' n)
 
       pub record Swap : Type 0 where
-        pub grows : Grows x.number r.history h'
-        pub legal : IsHistory v.start h'
-        -- the pass acted at the slot
-        pub acted : ActsThere x.number s r.history h'
+        pub busy_with : ℕ
         pub fresh : ℕ → Bool
-        pub holds : ℕ → ℕ
-        pub leads : after ≡ record state { at = changed_at state.at s new; removed = with_removed state.removed old; fresh = fresh; holds = holds }
+        pub ends : Ends old counted round busy_with h' new fresh
         pub fresh_on : (number : ℕ) → next' ≤ number → fresh number ≡ true
-        -- the pass holds nothing any more, and the removal doesn't count the take by which it held
-        -- the file, if it held one
-        pub held : held_by h' x.number ≡ None
-        pub let_go : (n : ℕ) → holds n + held_of n v ≡ state.holds n
-        pub taken : (f : File) → old ≡ Some f → count_in counted + taking (r.node_of f.number) v.work ≡ count_in found
         pub homes : length homes' ≡ length st.homes
         pub later : r.nodes.next_number ≤ next'
         pub removed_else : (m : ℕ) → removed_in m (phase₁ (r.node_of m)) ≡ removed_in m (r.phase (r.node_of m))
         -- the nodes that slots name, and those of stocks
-        pub named_new : NamesItsNode v.start where_is' s new_word
-        pub named_else : (i n : ℕ) → i ≢ s → r.nodes.where_is n ≡ at_slot i → where_is' n ≡ at_slot i
-        pub stock : StockAgrees v.start where_is' x.number stock'
-        pub stocks : (n q e : ℕ) → q ≢ x.number → r.nodes.where_is n ≡ in_stock q e → where_is' n ≡ in_stock q e
+        pub stays : StaysNamed turn s new_word where_is' stock'
         -- the new file of the slot
         pub names : Names r.node_of new_word new
         pub few_takes : count_in new_word ≤ cold_takes v.start.passes
@@ -183,11 +195,6 @@ module _ (turn : Turn) (s : ℕ) (inside : s < slots_of turn.v.start) where
         pub old_home : (f : File) → old ≡ Some f → get_elem? homes' (r.node_of f.number) ≡ get_elem? st.homes (r.node_of f.number)
         pub owners : (n : ℕ) → n < nodes_of v.start → NotOf r.node_of n old → OwnerAgrees (set st.views id (w turn swap_after)) n (phase₁ n)
         pub labels : (n : ℕ) → n < nodes_of v.start → NotOf r.node_of n old → Labels v.start st.words n (written_in (phase₁ n))
-        -- the pass
-        pub begins : Begins round
-        pub hold_none : old ≡ None → (word_at st.words (hold_word_of v.start x.number) ≡ 0) × (r.debt x.number ≡ 0)
-        pub hold : (f : File) → old ≡ Some f
-            → StillNames round.guarded (word_at st.words (hold_word_of v.start x.number)) (r.debt x.number) (r.node_of f.number)
         pub counts : RangeCounts (changed_at state.at s new) (range_at_start v.start) (set st.views id (w turn swap_after)) (slot_words turn s inside new_word)
 
       module _ (p : Swap) where
@@ -207,23 +214,23 @@ module _ (turn : Turn) (s : ℕ) (inside : s < slots_of turn.v.start) where
         same_phase {n} is apart other = else_phase apart ∙ ⊎_elim (λ same. same ∙ is) (λ mine. absurd (other mine.0 (sym is ∙ mine.1))) (p.kept n)
 
         at_else : (i : ℕ) → i ≢ s → after.at i ≡ state.at i
-        at_else i other = ap (λ (z : State). z.at i) p.leads ∙ changed_else state.at s new i other
+        at_else i other = ap (λ (z : State). z.at i) p.ends.leads ∙ changed_else state.at s new i other
 
         at_here : after.at s ≡ new
-        at_here = ap (λ (z : State). z.at s) p.leads ∙ changed_here state.at s new s refl
+        at_here = ap (λ (z : State). z.at s) p.ends.leads ∙ changed_here state.at s new s refl
 
         -- the old file's node
         old_node : {f : File} → old ≡ Some f → Node (r.node_of f.number) (gone_as f)
         old_node {f} is = let its = old_at old was is in let o = in_phase turn its.0 its.1 in let a = o.counts in let b = o.unowed in
             let t = sum_set (taken_of (r.node_of f.number)) st.views id v (w turn swap_after) here in
-            let e = p.taken f is in
-            let z = by_retiring (λ q. taking (r.node_of f.number) q ≡ 0) (λ none. refl) (λ g at. refl) in
+            let e = p.ends.taken f is in
+            let z = d_untaken (r.node_of f.number) in
             record {
               file = file_same p.later (p.old_home f is) o.file;
               counts = omega arith;
               few_takes = omega arith;
-              few_marks = p.begins.some_next;
-              few_visits = p.begins.few_next;
+              few_marks = p.ends.begins.some_next;
+              few_visits = p.ends.begins.few_next;
               unowed = λ up. b;
             }
 
@@ -237,7 +244,7 @@ module _ (turn : Turn) (s : ℕ) (inside : s < slots_of turn.v.start) where
         covers q range n may = by_old r.node_of old {n = n} (MayBeUnmarked (slot_word (slot_words turn s inside new_word)) q (phase' n))
             (λ f is same. let hot = subst (MayBeUnmarked (slot_word st.words) q) (ap r.phase same ∙ (old_at old was is).1) may in
             subst (MayBeUnmarked (slot_word (slot_words turn s inside new_word)) q) (sym (ap phase' same ∙ out_here is))
-            (p.begins.visits q range.0 hot))
+            (p.ends.begins.visits q range.0 hot))
             (λ apart. go apart (r.phase n) refl may)
           where
             -- a seated file is elsewhere, if it isn't the old one
@@ -280,7 +287,7 @@ module _ (turn : Turn) (s : ℕ) (inside : s < slots_of turn.v.start) where
 
         -- what was removed
         removed_now : (m : ℕ) → after.removed m ≡ removed_in m (phase' (r.node_of m))
-        removed_now m = ap (λ (z : State). z.removed m) p.leads ∙ go old refl
+        removed_now m = ap (λ (z : State). z.removed m) p.ends.leads ∙ go old refl
           where
             go : (o : Option File) → old ≡ o → with_removed state.removed o m ≡ removed_in m (gone o phase₁ (r.node_of m))
             go None is = r.nodes.removed m ∙ sym (p.removed_else m)
@@ -309,57 +316,57 @@ module _ (turn : Turn) (s : ℕ) (inside : s < slots_of turn.v.start) where
         swap_kept = let o = its_log turn in step_kept turn swap_after record {
           words = length-set st.words (slot_place s) new_word;
           homes = p.homes;
-          grows = p.grows;
-          legal = p.legal;
-          seen = ([], refl);
-          own = refl;
-          slots = λ i l. dite (ℕ_discrete i s) (λ same. rw (same, slot_here turn s inside new_word, at_here) record {
-            names = p.names;
-            seat = seat_now new refl p.seat;
-            takes = let a = p.few_takes in omega arith;
-            heat = p.no_heat ∙ sym (tally_same (λ q. has_heated (deed' s q)) (λ q. false) v.start.passes
-                (λ q low high. ap (λ (f : ℕ → Deed). has_heated (f q)) (changed_here r.deed s (λ p. untouched) s refl)) ∙ tally_none v.start.passes);
-          }) (λ other. slot_other i l other);
-          nodes = λ n l. rw (slot_node turn s inside new_word n) (by_old r.node_of old {n = n} (Node n (phase' n))
-              (λ f is same. rw (same, out_here is) (old_node is)) (λ apart. rw (else_phase apart) (p.nodes n l apart)));
-          owners = λ n l. by_old r.node_of old {n = n} (OwnerAgrees (set st.views id (w turn swap_after)) n (phase' n))
-              (λ f is same. rw (same, out_here is) (does_now st.views id v (w turn swap_after)
-              (Retiring f (r.node_of f.number) (count_in counted) round 0) here (ap alone_in (d_is f is))))
-              (λ apart. rw (else_phase apart) (p.owners n l apart));
-          labels = λ n l. by_old r.node_of old {n = n} (Labels v.start (slot_words turn s inside new_word) n (written_in (phase' n)))
-              (λ f is same. rw (same, out_here is) (old_label is))
-              (λ apart. rw (else_phase apart) (labels_same v.start _ _ _ (written_in (phase₁ n)) (slot_label turn s inside new_word n) (p.labels n l apart)));
-          removed = removed_now;
-          unborn = λ n l. same_phase (r.nodes.unborn n l) (not_old old was (r.nodes.unborn n l) (λ f bad. cc bad)) (λ z bad. cc bad);
-          fresh = λ number l. ap (λ (z : State). z.fresh number) p.leads ∙ p.fresh_on number l;
-          named = λ i l. dite (ℕ_discrete i s) (λ same. rw (same, slot_here turn s inside new_word) p.named_new)
-              (λ other. let o = r.nodes.named i l in record {
-                node = o.node;
-                named = ap name_in (slot_else turn s inside new_word i other) ∙ o.named;
-                inside = o.inside;
-                here = p.named_else i o.node other o.here;
-              });
-          stock = p.stock;
-          stocks = p.stocks;
-          others = λ j u z other there at n range o work. keeps_other turn swap_after leaves j u z other there at n range o work;
-          held = p.held ∙ by_retiring (λ q. None ≡ held_in q) (λ none. refl) (λ f is. refl);
-          allowed = by_retiring (IsAllowed stock' x.listed) (λ none. tt) (λ f is. p.begins.listed);
-          lists = λ i few. inl (slot_list turn s inside new_word i few);
-          deed_on = λ i q l is. ⊎_elim (λ new. absurd (is new)) (λ same. inl (λ e. is (same.0 ∙ e))) (slots_on q i);
-          its_bit = λ l. inl l;
-          its = record {
-            hold = rw (slot_hold turn s inside new_word x.number (in_range turn).0)
-                (by_retiring (HoldAgrees (word_at st.words (hold_word_of v.start x.number)) (r.debt x.number)) p.hold_none p.hold);
-            guarded = by_retiring (GuardAgrees (slot_word (slot_words turn s inside new_word)) phase' x.number (r.debt x.number)) (λ none. tt) (λ f is. tt);
-            sees = sees_on v.start (slot_word st.words) (slot_word (slot_words turn s inside new_word)) (λ i. r.deed i x.number) (λ i. deed' i x.number)
-                (λ i l. slots_on x.number i) v.glance o.sees;
-            heats = heats_on v.start (slot_word st.words) (slot_word (slot_words turn s inside new_word)) (λ i. r.deed i x.number) (λ i. deed' i x.number)
-                (λ i l. slots_on x.number i) v.glance o.heats;
-            work = by_retiring (WorkAgrees v.start phase' id) (λ none. tt) (λ f is. ((old_at old was is).0, out_here is));
+          life = sees_all turn p.ends.grows p.ends.legal;
+          nodes = record {
+            each = λ n l. rw (slot_node turn s inside new_word n) (by_old r.node_of old {n = n} (Node n (phase' n))
+                (λ f is same. rw (same, out_here is) (old_node is)) (λ apart. rw (else_phase apart) (p.nodes n l apart)));
+            owners = λ n l. by_old r.node_of old {n = n} (OwnerAgrees (set st.views id (w turn swap_after)) n (phase' n))
+                (λ f is same. rw (same, out_here is) (does_now st.views id v (w turn swap_after)
+                (Retiring f (r.node_of f.number) (count_in counted) round 0) here (ap alone_in (d_is f is))))
+                (λ apart. rw (else_phase apart) (p.owners n l apart));
+            labels = λ n l. by_old r.node_of old {n = n} (Labels v.start (slot_words turn s inside new_word) n (written_in (phase' n)))
+                (λ f is same. rw (same, out_here is) (old_label is))
+                (λ apart. rw (else_phase apart) (labels_same v.start _ _ _ (written_in (phase₁ n)) (slot_label turn s inside new_word n) (p.labels n l apart)));
+            removed = removed_now;
+            unborn = λ n l. same_phase (r.nodes.unborn n l) (not_old old was (r.nodes.unborn n l) (λ f bad. cc bad)) (λ z bad. cc bad);
+            fresh = λ number l. ap (λ (z : State). z.fresh number) p.ends.leads ∙ p.fresh_on number l;
           };
-          holds = λ n. let a = p.let_go n in let b = by_retiring (λ q. if_file n (held_in q) ≡ 0) (λ none. refl) (λ f is. refl) in
-              let g = ap (λ (z : State). z.holds n) p.leads in omega arith;
-          counts = rw p.leads p.counts;
-          moves = λ i l. dite (ℕ_discrete i s) (λ same. inr (inl (subst (λ (j : ℕ). ActsThere x.number j r.history h') (sym same) p.acted))) (λ other. inl (slot_else turn s inside new_word i other));
-          watches = watch_none v.start x.number r.shape.slots (p.grows.seen r.history ([], refl)) (slot_alike turn s inside new_word).0 x.watch o.watch;
+          stocks = record {
+            named = slot_by turn s inside new_word (λ i word. i < slots_of v.start → NamesItsNode v.start where_is' i word) (λ _. p.stays.slot) (λ i other l.
+                let o = r.nodes.named i l in record { node = o.node; named = o.named; inside = o.inside; here = p.stays.other_slots i o.node other o.here });
+            stock = p.stays.stock;
+            others = p.stays.other_stocks;
+          };
+          slots = record {
+            each = λ i l. dite (ℕ_discrete i s) (λ same. rw (same, slot_here turn s inside new_word, at_here) record {
+              names = p.names;
+              seat = seat_now new refl p.seat;
+              takes = let a = p.few_takes in omega arith;
+              heat = p.no_heat ∙ sym (tally_same (λ q. has_heated (deed' s q)) (λ q. false) v.start.passes
+                  (λ q low high. ap (λ (f : ℕ → Deed). has_heated (f q)) (changed_here r.deed s (λ p. untouched) s refl)) ∙ tally_none v.start.passes);
+            }) (λ other. slot_other i l other);
+            moves = λ i l. slot_by turn s inside new_word (λ i word. MovesOn x.number i r.history h' (slot_word st.words i) word)
+                (inr (inl p.ends.acted)) (λ i other. inl refl) i;
+          };
+          holds = record {
+            others = λ j u z other there at n range o work. keeps_other turn swap_after leaves j u z other there at n range o work;
+            its = record {
+              hold = rw (slot_hold turn s inside new_word x.number (in_range turn).0)
+                  (by_retiring (HoldAgrees (word_at st.words (hold_word_of v.start x.number)) (r.debt x.number)) p.ends.hold_none p.ends.hold);
+              guarded = by_retiring (GuardAgrees (slot_word (slot_words turn s inside new_word)) phase' x.number (r.debt x.number)) (λ none. tt) (λ f is. tt);
+              sees = sees_on v.start (slot_word st.words) (slot_word (slot_words turn s inside new_word)) (λ i. r.deed i x.number) (λ i. deed' i x.number)
+                  (λ i l. slots_on x.number i) v.glance o.sees;
+              heats = heats_on v.start (slot_word st.words) (slot_word (slot_words turn s inside new_word)) (λ i. r.deed i x.number) (λ i. deed' i x.number)
+                  (λ i l. slots_on x.number i) v.glance o.heats;
+              work = by_retiring (WorkAgrees v.start phase' id) (λ none. tt) (λ f is. ((old_at old was is).0, out_here is));
+            };
+            held = p.ends.held ∙ by_retiring (λ q. None ≡ held_in q) (λ none. refl) (λ f is. refl);
+            allowed = by_retiring (IsAllowed stock' x.listed) (λ none. tt) (λ f is. p.ends.begins.listed);
+            files = λ n. let a = p.ends.let_go n in let b = by_retiring (λ q. if_file n (held_in q) ≡ 0) (λ none. refl) (λ f is. refl) in
+                let g = ap (λ (z : State). z.holds n) p.ends.leads in omega arith;
+          };
+          list = list_untouched turn swap_after (slot_list turn s inside new_word)
+              (λ i q is. ⊎_elim (λ new. absurd (is new)) (λ same e. is (same.0 ∙ e)) (slots_on q i)) (λ l. l);
+          range = rw p.ends.leads p.counts;
+          watch = watch_none v.start x.number r.shape.slots (p.ends.grows.seen r.history ([], refl)) (slot_alike turn s inside new_word).0 x.watch o.watch;
         }

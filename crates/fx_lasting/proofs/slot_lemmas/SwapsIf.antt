@@ -7,7 +7,7 @@ use Rattle.fx_lasting.proofs.hold_lemmas.HeldFiles.{one_after}
 use Rattle.fx_lasting.proofs.node_lemmas.StockMoves.{names_a_node}
 use Rattle.fx_lasting.proofs.Keeping.{Turn, turn_of, Made, by_turn, word_at, slot_word, w}
 use Rattle.fx_lasting.proofs.Places.{slot_back}
-use Rattle.fx_lasting.proofs.slot_lemmas.Sights.{sees_after, sees_kept, named, sees_slot, there}
+use Rattle.fx_lasting.proofs.slot_lemmas.Sights.{seen_instead, named, there}
 use Rattle.fx_lasting.proofs.slot_lemmas.SlotLaws.{taken}
 use Rattle.fx_lasting.proofs.slot_lemmas.SwapsOut.{removal, removal_agrees, removal_tells}
 
@@ -20,13 +20,8 @@ module _ (turn : Turn) (s : ℕ) (inside : s < slots_of turn.v.start) (carried :
   Swaps y = Made turn carried (slot_place s) (λ _. y) (SwapsIf (step slots (slot_place s) old_word (empty_word_of n) none) (v, carried))
 
   swaps_not : slot_word st.words s ≢ old_word → Swaps (slot_word st.words s)
-  swaps_not other = (
-    w turn (sees_after turn s inside),
-    keeps,
-    tt,
-    sees_kept turn s inside,
-    record { wins = λ m e at makes is. absurd (other is); loses = λ _. sees_slot turn s inside carried slots old_word (empty_word_of n) },
-  )
+  swaps_not other = seen_instead turn s inside carried SwapsIf slots old_word (empty_word_of n)
+      (λ sees. record { wins = λ m e at makes is. absurd (other is); loses = λ _. sees })
 
   swaps : slot_word st.words s ≡ old_word → Swaps (empty_word_of n)
   swaps is = (
