@@ -113,13 +113,9 @@ open_stays (CloseOf k) true p p' at files live live' fits = absurd (no_phase p C
 pub open_stands : (p : Phase) (at : Option File) (files : List File) → is_installed p ≡ true → Stands p at files → HasOne at files
 open_stands (Live a b) at files live stands = stands
 open_stands (Ending a b) at files live stands = stands
-open_stands Free at files live stands = absurd cc
-open_stands Opening at files live stands = absurd cc
-open_stands Closing at files live stands = absurd cc
+open_stands _ at files live stands = absurd cc
 
 pub stands_open : (p : Phase) (at : Option File) (files : List File) → is_installed p ≡ true → HasOne at files → Stands p at files
 stands_open (Live a b) at files live one = one
 stands_open (Ending a b) at files live one = one
-stands_open Free at files live one = absurd cc
-stands_open Opening at files live one = absurd cc
-stands_open Closing at files live one = absurd cc
+stands_open _ at files live one = absurd cc

@@ -81,15 +81,7 @@ other _ h k p none b = (
 
 pub fits_of : (slots : List Slot) (d : Transition) → IsEnabled slots d → Fits d (phase_at slots (key_concerned d).slot)
 fits_of slots (Reserves k) can = can.2
-fits_of slots (Opens k opened) can = can.1
-fits_of slots (Starts k) can = can.1
-fits_of slots (Finishes k) can = can.1
-fits_of slots (Holds k) can = can.1
-fits_of slots (Releases k) can = can.1
-fits_of slots (Ends k) can = can.1
-fits_of slots (Asks k) can = can.1
-fits_of slots (Closes k) can = can.1
-fits_of slots (FailsToClose k) can = can.1
+fits_of slots _ can = can.1
 
 -- the phase of a key whose number the slot has, and of one whose number it hasn't
 pub phase_here : (slots : List Slot) (k : LifeKey) → (slot_numbered slots k.slot).number ≡ k.number → phase_of slots k ≡ phase_at slots k.slot
@@ -110,15 +102,7 @@ pub number_before : (slots : List Slot) (d : Transition) → IsEnabled slots d
     → ((slot_numbered slots (key_concerned d).slot).number ≡ (key_concerned d).number)
     ⊎ (((key_concerned d).number ≡ (slot_numbered slots (key_concerned d).slot).number + 1) × (phase_at slots (key_concerned d).slot ≡ Free) × (d ≡ Reserves (key_concerned d)))
 number_before slots (Reserves k) can = inr (can.1, can.2, refl)
-number_before slots (Opens k opened) can = inl can.0.1
-number_before slots (Starts k) can = inl can.0.1
-number_before slots (Finishes k) can = inl can.0.1
-number_before slots (Holds k) can = inl can.0.1
-number_before slots (Releases k) can = inl can.0.1
-number_before slots (Ends k) can = inl can.0.1
-number_before slots (Asks k) can = inl can.0.1
-number_before slots (Closes k) can = inl can.0.1
-number_before slots (FailsToClose k) can = inl can.0.1
+number_before slots _ can = inl can.0.1
 
 pub grows : (slots : List Slot) (d : Transition) → IsEnabled slots d → (slot_numbered slots (key_concerned d).slot).number ≤ (key_concerned d).number
 grows slots d can = elim (number_before slots d can) [ inl e ↦ omega arith | inr w ↦ omega (arith, w.0) ]

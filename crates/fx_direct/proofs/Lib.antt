@@ -1,6 +1,7 @@
 mod Asking
 mod Calls
 mod Counting
+mod FirstUse
 mod Listing
 mod Lives
 mod Mistakes

@@ -1,6 +1,6 @@
 -- The keys of the lives under way.
 use Rattle.fx_direct.proofs.Words.{arith, ◌≡◌, ◌≢◌, ℕ, ◌+◌, ◌<◌, ◌==◌, ◌&&◌, inl, inr, Bool, false, List, [], ◌∷◌, length, refl, sym, ap, ◌∙◌, subst, if◌then◌else◌}
-use Rattle.fx_direct.proofs.Words.{cases_eq, eq-eqb, ne_eqb, AllByRecursion, LifeKey, Phase, Slot, Free, Opening, Live, Ending, Closing, slot_numbered, phase_at, is_free}
+use Rattle.fx_direct.proofs.Words.{cases_eq, eq-eqb, ne_eqb, AllByRecursion, LifeKey, Phase, Slot, Free, slot_numbered, phase_at, is_free}
 use Rattle.fx_direct.proofs.Words.{HasLife, same_key, life_at}
 use Rattle.fx_direct.specs.Keys.{FitsBits}
 use Rattle.fx_direct.specs.Living.{appearances, keys_at, AreKeysOf}
@@ -21,10 +21,7 @@ each_one : (slots : List Slot) (rest : List ℕ) (s : ℕ) (p : Phase) → phase
     → AllByRecursion (HasLife slots) (keys_at slots rest)
     → AllByRecursion (HasLife slots) (if is_free p then keys_at slots rest else life_at slots s ∷ keys_at slots rest)
 each_one slots rest s Free e lt all = all
-each_one slots rest s Opening e lt all = (((lt, refl), λ f. let g : Opening ≡ Free = sym e ∙ f in cc), all)
-each_one slots rest s (Live a b) e lt all = (((lt, refl), λ f. let g : Live a b ≡ Free = sym e ∙ f in cc), all)
-each_one slots rest s (Ending a b) e lt all = (((lt, refl), λ f. let g : Ending a b ≡ Free = sym e ∙ f in cc), all)
-each_one slots rest s Closing e lt all = (((lt, refl), λ f. let g : Closing ≡ Free = sym e ∙ f in cc), all)
+each_one slots rest s p e lt all = (((lt, refl), λ f. let g : p ≡ Free = sym e ∙ f in cc), all)
 
 each_life : (slots : List Slot) (rest : List ℕ) → AllByRecursion (λ slot. slot < length slots) rest → AllByRecursion (HasLife slots) (keys_at slots rest)
 each_life slots [] all = tt
@@ -44,10 +41,7 @@ once_one : (slots : List Slot) (rest : List ℕ) (s : ℕ) (k : LifeKey) (p : Ph
 once_one slots rest s k Free e life same =
     let other : s ≢ k.slot = λ (at : s ≡ k.slot). life.1 (sym (ap (phase_at slots) at) ∙ e) in
     let here = adds_none s k.slot other in omega arith
-once_one slots rest s k Opening e life same = let one = one_key slots s k life in omega arith
-once_one slots rest s k (Live a b) e life same = let one = one_key slots s k life in omega arith
-once_one slots rest s k (Ending a b) e life same = let one = one_key slots s k life in omega arith
-once_one slots rest s k Closing e life same = let one = one_key slots s k life in omega arith
+once_one slots rest s k _ e life same = let one = one_key slots s k life in omega arith
 
 once : (slots : List Slot) (rest : List ℕ) (k : LifeKey) → HasLife slots k → appearances k (keys_at slots rest) ≡ times_in k.slot rest
 once slots [] k life = refl
@@ -56,10 +50,7 @@ once slots (s ∷ rest) k life = once_one slots rest s k (phase_at slots s) refl
 -- a slot with a life isn't vacant
 not_vacant : (p : Phase) (b : Bool) → p ≢ Free → is_free p && b ≡ false
 not_vacant Free b busy = absurd (busy refl)
-not_vacant Opening b busy = refl
-not_vacant (Live x y) b busy = refl
-not_vacant (Ending x y) b busy = refl
-not_vacant Closing b busy = refl
+not_vacant _ b busy = refl
 
 rest_inside : (slots : List Slot) (order : Order) (rest : List ℕ) → IsMachine slots order → AreOthers order rest
     → AllByRecursion (λ slot. slot < length slots) rest

@@ -14,14 +14,12 @@ use Rattle.std.proofs.lemmas.List.{get_or_past}
 
 asked : (h : List Transition) (k : LifeKey) (p : Phase) → IsBalanced h k p → (p ≡ Ending 0 0 → ⊥) → 0 < times (ends k) h
     → times (starts k) h ≡ times (finishes k) h → times (holds k) h ≡ times (releases k) h → times (asks k) h ≡ 1 + times (fails k) h
-asked h k Free b due ended requests users = let f1 = b.ended in let f2 = b.asked in let f3 = b.opened in let f4 = b.once in omega arith
-asked h k Opening b due ended requests users = let f1 = b.ended in let f2 = b.asked in let f3 = b.opened in let f4 = b.once in omega arith
-asked h k Closing b due ended requests users = let f1 = b.ended in let f2 = b.asked in let f3 = b.opened in let f4 = b.once in omega arith
 asked h k (Live r u) b due ended requests users = let f1 = b.ended in let f3 = b.opened in let f4 = b.once in absurd (omega arith)
 asked h k (Ending r u) b due ended requests users =
     let f1 = b.requests in let f2 = b.users in
     let er : r ≡ 0 = omega arith in let eu : u ≡ 0 = omega arith in
     absurd (due (ap (λ (x : ℕ). Ending x u) er ∙ ap (λ (x : ℕ). Ending 0 x) eu))
+asked h k _ b due ended requests users = let f1 = b.ended in let f2 = b.asked in let f3 = b.opened in let f4 = b.once in omega arith
 
 due_here : (slots : List Slot) (k : LifeKey) → NoCloseIsDue slots → phase_of slots k ≡ Ending 0 0 → ⊥
 due_here slots k due e = elim (cases_eq (slot_numbered slots k.slot).number k.number) [
@@ -97,14 +95,12 @@ IsOver slots k = (k.number ≤ (slot_numbered slots k.slot).number) × ((slot_nu
 busy : (t : Transition) (p : Phase) → Fits t p → ((k : LifeKey) → t ≡ Reserves k → ⊥) → p ≡ Free → ⊥
 busy (Reserves k) p fits new e = new k refl
 busy (Opens k b) p fits new e = let f : Free ≡ Opening = sym e ∙ fits in cc
-busy (Starts k) p fits new e = let f : is_live p ≡ is_live Free = ap is_live e in cc
 busy (Finishes k) p fits new e = let f : requests_in p ≡ requests_in Free = ap requests_in e in omega arith
-busy (Holds k) p fits new e = let f : is_live p ≡ is_live Free = ap is_live e in cc
 busy (Releases k) p fits new e = let f : users_in p ≡ users_in Free = ap users_in e in omega arith
-busy (Ends k) p fits new e = let f : is_live p ≡ is_live Free = ap is_live e in cc
 busy (Asks k) p fits new e = let f : Free ≡ Ending 0 0 = sym e ∙ fits in cc
 busy (Closes k) p fits new e = let f : Free ≡ Closing = sym e ∙ fits in cc
 busy (FailsToClose k) p fits new e = let f : Free ≡ Closing = sym e ∙ fits in cc
+busy _ p fits new e = let f : is_live p ≡ is_live Free = ap is_live e in cc
 
 -- the number of the transition's slot, which is its key's, and whose life isn't over; or a new one
 told : (slots : List Slot) (t : Transition) → IsEnabled slots t
@@ -159,10 +155,7 @@ earlier_part start earlier (t ∷ later) can = earlier_part start earlier later 
 -- a phase that isn't free is that of a slot inside
 free_unless : (p : Phase) → (p ≢ Free → ⊥) → p ≡ Free
 free_unless Free busy = refl
-free_unless Opening busy = absurd (busy (λ e. cc))
-free_unless (Live a b) busy = absurd (busy (λ e. cc))
-free_unless (Ending a b) busy = absurd (busy (λ e. cc))
-free_unless Closing busy = absurd (busy (λ e. cc))
+free_unless _ busy = absurd (busy (λ e. cc))
 
 pub over_now : (slots : List Slot) (k : LifeKey) → (HasLife slots k → ⊥) → (slot_numbered slots k.slot).number ≡ k.number → phase_at slots k.slot ≡ Free
 over_now slots k gone same = elim (cases_lt k.slot (length slots)) [

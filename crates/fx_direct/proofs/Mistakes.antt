@@ -1,33 +1,13 @@
 -- The worlds of a flight in which a close doesn't wait.
-use Rattle.fx_direct.proofs.Words.{arith, Bool, List, [], ◌∷◌, refl, true, false, Some, None, World, DirectMoment, Pending, pending, OpenAt, UseOf, CloseOf}
-use Rattle.fx_direct.proofs.Words.{Does, Accesses, Transition, Reserves, Opens, Starts, Ends, Asks, Closes, Put, Look, Take, Loses, slots_with, table_after, Action, DirectCall}
+use Rattle.fx_direct.proofs.Words.{arith, [], ◌∷◌, refl, true, false, Some, None, World, DirectMoment, pending, OpenAt, UseOf, CloseOf}
+use Rattle.fx_direct.proofs.Words.{Does, Accesses, Reserves, Opens, Starts, Ends, Asks, Closes, Put, Look, Take}
+use Rattle.fx_direct.proofs.FirstUse.{accessed, done, only, use1, w1, w2, w3, w4}
 use Rattle.fx_direct.specs.Round.{one_slot, some_file, first_key, second_key}
 use Rattle.fx_direct.specs.Flight.{ComesBy}
 use Rattle.fx_direct.specs.Haste.{IsEnabledInHaste, other_file, HasteIsWrong}
 
-abbrev done : World → Transition → List Pending → World
-done w d calls = record { slots = slots_with w.slots d; table = w.table; calls = calls }
-
-abbrev accessed : World → Action → List Pending → World
-accessed w a calls = record { slots = w.slots; table = table_after w.table a; calls = calls }
-
 abbrev Goes : World → DirectMoment → World → Type 0
 Goes w m v = ComesBy IsEnabledInHaste w m v
-
-abbrev use1 : Pending
-use1 = pending (UseOf first_key) false
-
-abbrev w1 : World
-w1 = done one_slot (Reserves first_key) (pending (OpenAt first_key) false ∷ [])
-
-abbrev w2 : World
-w2 = accessed w1 (Put 0 some_file None) (pending (OpenAt first_key) true ∷ [])
-
-abbrev w3 : World
-w3 = done w2 (Opens first_key true) []
-
-abbrev w4 : World
-w4 = done w3 (Starts first_key) (use1 ∷ [])
 
 abbrev w5 : World
 w5 = done w4 (Ends first_key) (use1 ∷ [])
@@ -49,9 +29,6 @@ w10 = accessed w9 (Put 0 other_file None) (pending (OpenAt second_key) true ∷ 
 
 abbrev w11 : World
 w11 = accessed w10 (Look 0 (Some other_file)) (pending (OpenAt second_key) true ∷ use1 ∷ [])
-
-only : (c : DirectCall) (made : Bool) (rest : List Pending) → Loses c made (pending c made ∷ rest) rest
-only c made rest = record { front = []; rest = rest; was = refl; is = refl }
 
 c1 : Goes one_slot (Does (Reserves first_key)) w1
 c1 = ((omega arith, refl, refl, omega arith), refl, refl)

@@ -1,39 +1,22 @@
 -- The worlds of a flight that goes round.
-use Rattle.fx_direct.proofs.Words.{arith, Bool, List, [], ◌∷◌, refl, true, false, Some, None, World, Pending, pending, OpenAt, UseOf, CloseOf}
-use Rattle.fx_direct.proofs.Words.{Does, Accesses, Others, Transition, Reserves, Opens, Starts, Finishes, Holds, Releases, Ends, Asks, Closes, FailsToClose, Put, Look, Release, Take, Close}
-use Rattle.fx_direct.proofs.Words.{Comes, Loses, slots_with, table_after, Action, DirectCall}
+use Rattle.fx_direct.proofs.Words.{arith, [], ◌∷◌, refl, true, false, Some, None, World, pending, OpenAt, UseOf, CloseOf}
+use Rattle.fx_direct.proofs.Words.{Does, Accesses, Others, Reserves, Opens, Starts, Finishes, Holds, Releases, Ends, Asks, Closes, FailsToClose, Put, Look, Release, Take, Close}
+use Rattle.fx_direct.proofs.Words.{Comes}
+use Rattle.fx_direct.proofs.FirstUse.{accessed, done, only, use1, w1, w2, w3, w4}
 use Rattle.fx_direct.specs.Round.{one_slot, some_file, first_key, second_key, GoesRound}
 use Rattle.fx_direct.proofs.Words.{zero, suc, phase_at, Free, IsEmptyStart, ℕ, ◌≡◌}
 
-abbrev done : World → Transition → List Pending → World
-done w d calls = record { slots = slots_with w.slots d; table = w.table; calls = calls }
-
-abbrev accessed : World → Action → List Pending → World
-accessed w a calls = record { slots = w.slots; table = table_after w.table a; calls = calls }
-
-abbrev w1 : World
-w1 = done one_slot (Reserves first_key) (pending (OpenAt first_key) false ∷ [])
-
-abbrev w2 : World
-w2 = accessed w1 (Put 0 some_file None) (pending (OpenAt first_key) true ∷ [])
-
-abbrev w3 : World
-w3 = done w2 (Opens first_key true) []
-
-abbrev w4 : World
-w4 = done w3 (Starts first_key) (pending (UseOf first_key) false ∷ [])
-
 abbrev w5 : World
-w5 = done w4 (Holds first_key) (pending (UseOf first_key) false ∷ [])
+w5 = done w4 (Holds first_key) (use1 ∷ [])
 
 abbrev w6 : World
-w6 = accessed w5 (Look 0 (Some some_file)) (pending (UseOf first_key) false ∷ [])
+w6 = accessed w5 (Look 0 (Some some_file)) (use1 ∷ [])
 
 abbrev w7 : World
-w7 = done w6 (Ends first_key) (pending (UseOf first_key) false ∷ [])
+w7 = done w6 (Ends first_key) (use1 ∷ [])
 
 abbrev w8 : World
-w8 = accessed w7 (Release some_file) (pending (UseOf first_key) false ∷ [])
+w8 = accessed w7 (Release some_file) (use1 ∷ [])
 
 abbrev w9 : World
 w9 = done w8 (Finishes first_key) []
@@ -65,9 +48,6 @@ w15 = done w14 (Reserves second_key) (pending (OpenAt second_key) false ∷ [])
 abbrev w16 : World
 w16 = done w15 (Opens second_key false) []
 
-only : (c : DirectCall) (made : Bool) → Loses c made (pending c made ∷ []) []
-only c made = record { front = []; rest = []; was = refl; is = refl }
-
 c1 : Comes one_slot (Does (Reserves first_key)) w1
 c1 = ((omega arith, refl, refl, omega arith), refl, refl)
 
@@ -75,7 +55,7 @@ c2 : Comes w1 (Accesses (OpenAt first_key) (Put 0 some_file None)) w2
 c2 = ((omega arith, refl, refl), record { front = []; rest = []; earlier = false; later = true; was = refl; is = refl; may = (refl, refl, refl) }, refl)
 
 c3 : Comes w2 (Does (Opens first_key true)) w3
-c3 = (((omega arith, refl), refl), only (OpenAt first_key) true, refl)
+c3 = (((omega arith, refl), refl), only (OpenAt first_key) true [], refl)
 
 c4 : Comes w3 (Does (Starts first_key)) w4
 c4 = (((omega arith, refl), refl), refl, refl)
@@ -93,7 +73,7 @@ c8 : Comes w7 (Accesses (UseOf first_key) (Release some_file)) w8
 c8 = (omega arith, record { front = []; rest = []; earlier = false; later = false; was = refl; is = refl; may = refl }, refl)
 
 c9 : Comes w8 (Does (Finishes first_key)) w9
-c9 = (((omega arith, refl), omega arith), only (UseOf first_key) false, refl)
+c9 = (((omega arith, refl), omega arith), only (UseOf first_key) false [], refl)
 
 c10 : Comes w9 (Does (Releases first_key)) w10
 c10 = (((omega arith, refl), omega arith), refl, refl)
@@ -102,7 +82,7 @@ c11 : Comes w10 (Does (Asks first_key)) w11
 c11 = (((omega arith, refl), refl), refl, refl)
 
 ca : Comes w11 (Does (FailsToClose first_key)) wa
-ca = (((omega arith, refl), refl), only (CloseOf first_key) false, refl)
+ca = (((omega arith, refl), refl), only (CloseOf first_key) false [], refl)
 
 cb : Comes wa (Does (Asks first_key)) wb
 cb = (((omega arith, refl), refl), refl, refl)
@@ -114,13 +94,13 @@ c13 : Comes w12 (Others (Close some_file)) w13
 c13 = ((refl, refl), tt, refl)
 
 c14 : Comes w13 (Does (Closes first_key)) w14
-c14 = (((omega arith, refl), refl), only (CloseOf first_key) true, refl)
+c14 = (((omega arith, refl), refl), only (CloseOf first_key) true [], refl)
 
 c15 : Comes w14 (Does (Reserves second_key)) w15
 c15 = ((omega arith, refl, refl, omega arith), refl, refl)
 
 c16 : Comes w15 (Does (Opens second_key false)) w16
-c16 = (((omega arith, refl), refl), only (OpenAt second_key) false, refl)
+c16 = (((omega arith, refl), refl), only (OpenAt second_key) false [], refl)
 
 free : (slot : ℕ) → phase_at one_slot.slots slot ≡ Free
 free zero = refl

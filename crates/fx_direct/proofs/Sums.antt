@@ -1,6 +1,6 @@
 -- The counts of all slots, and one slot that is written.
 use Rattle.fx_direct.proofs.Words.{arith, ◌≡◌, ℕ, ◌+◌, ◌<◌, ◌≤◌, List, length, ap, LifeKey, Phase, Slot, unused, phase_at, with_phase}
-use Rattle.fx_direct.proofs.Words.{Free, Opening, Live, Ending, Closing, calls_in, lives_in}
+use Rattle.fx_direct.proofs.Words.{Free, calls_in, lives_in}
 use Rattle.fx_direct.specs.Phases.{calls_in_flight, lives_of}
 use Rattle.std.specs.Prelude.{◌*◌, ◌^◌}
 use Rattle.std.proofs.lemmas.List.Sums.{sum_by-set, sum_by-le, get_or-le-sum_by}
@@ -23,10 +23,7 @@ calls_low slots slot inside = get_or-le-sum_by (λ (s : Slot). calls_in s.phase)
 
 pub one_life : (p : Phase) → lives_in p ≤ 1
 one_life Free = omega arith
-one_life Opening = omega arith
-one_life (Live a b) = omega arith
-one_life (Ending a b) = omega arith
-one_life Closing = omega arith
+one_life _ = omega arith
 
 pub lives_high : (slots : List Slot) → lives_of slots ≤ length slots
 lives_high slots =

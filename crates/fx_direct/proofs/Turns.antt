@@ -1,7 +1,7 @@
 -- Each transition of the machine, and each access, keeps what is sound.
 use Rattle.fx_direct.proofs.Words.{arith, ◌≡◌, ◌≢◌, ℕ, ◌+◌, ◌-◌, ◌<◌, ◌≤◌, ◌==◌, Bool, true, false, List, [], ◌∷◌, ◌++◌, length, refl, sym, ap, inl, inr}
 use Rattle.fx_direct.proofs.Words.{◌∙◌, subst, Option, Some, None, cases_eq, append-nil, ne_eqb, eq-eqb, File, LifeKey, Phase, Slot, State, if◌then◌else◌}
-use Rattle.fx_direct.proofs.Words.{calls_in, is_installed, life_at, FailsToClose, Free, Opening, Live, Ending, Closing, is_live, requests_in, users_in, with_counts, DirectCall, OpenAt, UseOf, CloseOf, key_of_call}
+use Rattle.fx_direct.proofs.Words.{calls_in, is_installed, life_at, FailsToClose, Live, Ending, is_live, requests_in, users_in, with_counts, DirectCall, OpenAt, UseOf, CloseOf, key_of_call}
 use Rattle.fx_direct.proofs.Words.{Pending, pending, DirectMoment, Does, Accesses, Others, Transition, Reserves, Opens, Starts, Finishes, Holds, Releases, Ends, Asks, Closes}
 use Rattle.fx_direct.proofs.Words.{slot_numbered, phase_at, key_concerned, NamesLastLife, IsEnabled, slots_with, TurnsCalls, files_under, same_key}
 use Rattle.fx_direct.proofs.Words.{Action, Allocate, Clear, Close, Look, Put, Release, Take, Full, changed_at, table_after, Makes, IsElsewhere}
@@ -13,57 +13,37 @@ use Rattle.fx_direct.proofs.Moves.{Sound, Fitting, still, first, last, more, les
 
 live_open : (p : Phase) → is_live p ≡ true → is_installed p ≡ true
 live_open (Live a b) e = refl
-live_open Free e = absurd cc
-live_open Opening e = absurd cc
 live_open (Ending a b) e = refl
-live_open Closing e = absurd cc
+live_open _ e = absurd cc
 
 requests_open : (p : Phase) → 0 < requests_in p → is_installed p ≡ true
 requests_open (Live a b) e = refl
 requests_open (Ending a b) e = refl
-requests_open Free e = absurd (omega arith)
-requests_open Opening e = absurd (omega arith)
-requests_open Closing e = absurd (omega arith)
+requests_open _ e = absurd (omega arith)
 
 users_open : (p : Phase) → 0 < users_in p → is_installed p ≡ true
 users_open (Live a b) e = refl
 users_open (Ending a b) e = refl
-users_open Free e = absurd (omega arith)
-users_open Opening e = absurd (omega arith)
-users_open Closing e = absurd (omega arith)
+users_open _ e = absurd (omega arith)
 
 counts_open : (p : Phase) (a b : ℕ) → is_installed p ≡ true → is_installed (with_counts p a b) ≡ true
 counts_open (Live x y) a b e = refl
 counts_open (Ending x y) a b e = refl
-counts_open Free a b e = e
-counts_open Opening a b e = e
-counts_open Closing a b e = e
+counts_open _ a b e = e
 
 counts_calls : (p : Phase) (a b : ℕ) → is_installed p ≡ true → calls_in (with_counts p a b) ≡ a
 counts_calls (Live x y) a b e = refl
 counts_calls (Ending x y) a b e = refl
-counts_calls Free a b e = absurd cc
-counts_calls Opening a b e = absurd cc
-counts_calls Closing a b e = absurd cc
+counts_calls _ a b e = absurd cc
 
 calls_requests : (p : Phase) → is_installed p ≡ true → calls_in p ≡ requests_in p
 calls_requests (Live x y) e = refl
 calls_requests (Ending x y) e = refl
-calls_requests Free e = absurd cc
-calls_requests Opening e = absurd cc
-calls_requests Closing e = absurd cc
+calls_requests _ e = absurd cc
 
 pub within : (slots : List Slot) (d : Transition) → IsEnabled slots d → (key_concerned d).slot < length slots
 within slots (Reserves k) can = can.0
-within slots (Opens k opened) can = can.0.0
-within slots (Starts k) can = can.0.0
-within slots (Finishes k) can = can.0.0
-within slots (Holds k) can = can.0.0
-within slots (Releases k) can = can.0.0
-within slots (Ends k) can = can.0.0
-within slots (Asks k) can = can.0.0
-within slots (Closes k) can = can.0.0
-within slots (FailsToClose k) can = can.0.0
+within slots _ can = can.0.0
 
 -- Transitions.
 
