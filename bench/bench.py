@@ -185,7 +185,8 @@ def measure_tables(program):
             ratios.tell("bench", ratios.title(name, threads), rounds, 1)
 
 
-def main(given):
+def command():
+    given = arguments(__doc__, "program tables", flags="instructions")
     program, tables = given.program, given.tables
     plain, differ = plain_program(), 0
     if given.instructions:
@@ -202,7 +203,3 @@ def main(given):
     measure_crews(program)
     measure_tables(tables)
     return 1 if differ else 0
-
-
-def command():
-    return main(arguments(__doc__, "program tables", flags="instructions"))

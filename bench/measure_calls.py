@@ -48,7 +48,9 @@ def missed(table, times):
     return [int(it.replace(",", "")) for it in re.findall(r"(?:D1 |LLd) misses: +([\d,]+)", ran.stderr)]
 
 
-def main(given):
+def command():
+    os.chdir(ROOT)
+    given = arguments(__doc__, numbers={"times": 10_000})
     those = locked()
     for table in TABLES:
         for calls in CALLS:
@@ -59,8 +61,3 @@ def main(given):
     for table in RANDOM:
         small, large = ((last - first) / times for first, last in zip(missed(table, times), missed(table, 2 * times)))
         print(f"{table}: look at random: {small:.2f} lines beyond 32 KB, {large:.2f} beyond 1 MB", flush=True)
-
-
-def command():
-    os.chdir(ROOT)
-    return main(arguments(__doc__, numbers={"times": 10_000}))

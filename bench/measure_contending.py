@@ -19,7 +19,8 @@ def texts_of(script, is_async, times):
     return len(texts), verdicts["legal"]
 
 
-def main(given):
+def command():
+    given = arguments(__doc__, numbers={"scripts": 200, "times": 10})
     status, missing = built_player()
     if status:
         sys.exit(f"measure-contending: {missing}")
@@ -28,7 +29,3 @@ def main(given):
     for name, is_async in (("as it is", 0), ("with IOSQE_ASYNC", 1)):
         found = in_parallel(lambda it, way=is_async: texts_of(it, way, given.times), scripts)
         print(f"{name}: {sum(many for many, _ in found)} texts, {sum(legal for _, legal in found)} of them legal, at most {max(found)[0]} of a script")
-
-
-def command():
-    main(arguments(__doc__, numbers={"scripts": 200, "times": 10}))

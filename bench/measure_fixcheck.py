@@ -169,7 +169,8 @@ def of_one_worker():
     yield "the heaviest submission", heaviest_submission()[0]
 
 
-def main(given):
+def command():
+    given = arguments(__doc__, "program fixfiles", numbers={"count": 60, "kind": 0})
     print(f"# {os.cpu_count()} processors, a load of {os.getloadavg()[0]:.1f}", flush=True)
     built("step.c")
     for nth, name in enumerate(KINDS, 1):
@@ -180,7 +181,3 @@ def main(given):
         row.ask(given.program, script, text)
         print(f"{name}, {text.count('closed ')} files closed: {row.told()}", flush=True)
     print(f"# at the end a load of {os.getloadavg()[0]:.1f}", flush=True)
-
-
-def command():
-    main(arguments(__doc__, "program fixfiles", numbers={"count": 60, "kind": 0}))

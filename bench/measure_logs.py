@@ -104,7 +104,8 @@ def shares(count, targets):
         targets.want(words["with a reason"] * 100 >= SHARE * words["not legal"], f"{words['with a reason']} reasons of {words['not legal']}: {way}")
 
 
-def main(asked):
+def command():
+    asked = arguments(__doc__, flags="targets", numbers={"calls": 5_000, "count": 60})
     targets = Targets()
     rows(asked.calls, targets)
     long_row(targets)
@@ -115,7 +116,3 @@ def main(asked):
     for what in targets.missed:
         print(f"missed: {what}")
     return bool(targets.missed)
-
-
-def command():
-    return main(arguments(__doc__, flags="targets", numbers={"calls": 5_000, "count": 60}))

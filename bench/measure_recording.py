@@ -93,7 +93,8 @@ def in_turns():
     print(f"in turns: {calls} calls in {seconds:.1f} s, {busy} of them begun while another one is open")
 
 
-def main(given):
+def command():
+    given = arguments(__doc__, numbers={"logs": 20, "few": 10})
     print(f"# {os.cpu_count()} processors, a load of {os.getloadavg()[0]:.1f}")
     built_recorder(RECORDER, "--no-default-features", "--bins", "--examples")
     seeds, few = range(1, given.logs + 1), range(1, given.few + 1)
@@ -109,7 +110,3 @@ def main(given):
         for table, plan in SHORTENED:
             shorten(room, table, plan, 5)
     in_turns()
-
-
-def command():
-    main(arguments(__doc__, numbers={"logs": 20, "few": 10}))

@@ -331,7 +331,9 @@ def complaint_of(options):
     return ""
 
 
-def main(options):
+def command():
+    options = arguments(__doc__, options={"scripts": 500, "seed": 1, "seconds": 120, "player": PLAYER, "fixcheck": FIXCHECK},
+                        words=("rule",))
     complaint = complaint_of(options)
     if complaint:
         print(f"conform: {complaint}", file=sys.stderr)
@@ -351,8 +353,3 @@ def main(options):
     print(f"# {judged}; {what}", flush=True)
     those = [] if options.rule in flights.RULES else list(tests(options))
     return report(those + (list(in_flight(options)) if options.player == PLAYER else []))
-
-
-def command():
-    return main(arguments(__doc__, options={"scripts": 500, "seed": 1, "seconds": 120, "player": PLAYER, "fixcheck": FIXCHECK},
-                            words=("rule",)))

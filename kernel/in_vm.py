@@ -107,13 +107,15 @@ def words_of(words):
     return ["/play", *words], True
 
 
-def main(words):
-    command = words[1:] if words[:1] == ["--with"] else None
-    if command == []:
+def command():
+    signal.signal(signal.SIGTERM, lambda *_: sys.exit(143))
+    words = sys.argv[1:]
+    asked = words[1:] if words[:1] == ["--with"] else None
+    if asked == []:
         sys.exit(__doc__)
-    program, reads = words_of(words) if command is None else ([], False)
+    program, reads = words_of(words) if asked is None else ([], False)
     given = sys.stdin.buffer.read() if reads else b""
-    if command is None and os.environ.get(ROOM):
+    if asked is None and os.environ.get(ROOM):
         return written(*played_there(os.environ[ROOM], program, given))
     with tempfile.TemporaryDirectory(prefix="in-vm-") as room:
         try:
@@ -125,11 +127,6 @@ def main(words):
             print(f"in-vm: {why}", file=sys.stderr)
             return ENDED
         try:
-            return run_with(machine, room, command) if command else written(*played(machine, program, given))
+            return run_with(machine, room, asked) if asked else written(*played(machine, program, given))
         finally:
             machine.end()
-
-
-def command():
-    signal.signal(signal.SIGTERM, lambda *_: sys.exit(143))
-    return main(sys.argv[1:])

@@ -189,7 +189,13 @@ def by_search(given, script, text, status, said):
     return status
 
 
-def main(given):
+def command():
+    parser = argparse.ArgumentParser(usage=__doc__)
+    parser.add_argument("--states", type=int, default=orders.LARGEST_SEARCH)
+    parser.add_argument("--fixcheck", default=FIXCHECK, type=os.path.abspath)
+    parser.add_argument("script")
+    parser.add_argument("text")
+    given = parser.parse_args()
     try:
         with open(given.script, "rb") as file:
             script = file.read()
@@ -216,12 +222,3 @@ def main(given):
         print(said, end="")
         return status
     return by_search(given, script, text, status, said)
-
-
-def command():
-    parser = argparse.ArgumentParser(usage=__doc__)
-    parser.add_argument("--states", type=int, default=orders.LARGEST_SEARCH)
-    parser.add_argument("--fixcheck", default=FIXCHECK, type=os.path.abspath)
-    parser.add_argument("script")
-    parser.add_argument("text")
-    return main(parser.parse_args())

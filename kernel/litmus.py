@@ -18,7 +18,6 @@ import subprocess
 import sys
 from typing import NamedTuple
 
-from scripts.checks import status_of
 from kernel import kernels
 from kernel.kernels import PLAYER
 from scripts import listing
@@ -266,7 +265,8 @@ def report(judge, found, counts):
     return [*lines, *sums(counts, found, rows)], any(it.is_wrong for it in rows)
 
 
-def main(path, plays, fixfiles, fixcheck):
+def count_texts(path, plays, fixfiles, fixcheck):
+    """Prints the report of a script. Returns the exit status."""
     script = read_bytes(path)
     try:
         found = Allowed(listing.asked(fixcheck, script))
@@ -327,4 +327,4 @@ def command():
         if not os.path.exists(program):
             print(f"litmus: there is no program {program}", file=sys.stderr)
             return 2
-    return status_of("litmus", main, os.path.abspath(options.script), times, *both)
+    return count_texts(os.path.abspath(options.script), times, *both)

@@ -1,4 +1,4 @@
-"""archive_pages.py [--arm] FOLDER: writes the pages of the archive (scripts/dist), or of that for ARM64, into a folder. They name the archive's
+"""archive_pages [--arm] FOLDER: writes the pages of the archive (scripts/dist), or of that for ARM64, into a folder. They name the archive's
 commands in place of those of make, and links to files that the archive doesn't have become plain words."""
 import os
 import re
@@ -84,14 +84,11 @@ def with_links(text, source, page, is_arm=False):
     return re.sub(r"\[([^][]*)\]\(([^)\s]+)\)", replaced, text)
 
 
-def main(folder, is_arm):
+def command():
+    folder, is_arm = sys.argv[-1], "--arm" in sys.argv[1:-1]
     for source, page in (ARM_PAGES if is_arm else PAGES).items():
         text = with_links(with_commands(read(source)), source, page, is_arm)
         # the archive has these folders at its top, and its crate has the library inside
         text = re.sub(r"\bbindings/(?=(recorder|python)\b)|YACHTBANYAN_LIB_DIR=\.\./\.\./lib ", "", text)
         write(os.path.join(os.path.abspath(folder), page), text)
     return 0
-
-
-def command():
-    return main(sys.argv[-1], "--arm" in sys.argv[1:-1])

@@ -69,7 +69,13 @@ def build(room, name, machine, began):
     return 0
 
 
-def main(gate, name, machines):
+def command():
+    words = sys.argv[1:]
+    gate = Gate(*words[1:3]) if words[:1] == ["--gate"] else None
+    name, *machines = (words[3:] if gate else words) or [""]
+    if not machines or any(it not in TARGETS for it in machines):
+        sys.exit(__doc__)
+    os.chdir(ROOT)
     below = crates()
     began = gate.began if gate else time.time()
     machines = [it for it in machines if not is_kept(path_of(name, it), name, below)]
@@ -85,13 +91,3 @@ def main(gate, name, machines):
             if status:
                 return status
     return 0
-
-
-def command():
-    words = sys.argv[1:]
-    beside = words[:1] == ["--gate"]
-    name, *machines = (words[3:] if beside else words) or [""]
-    if not machines or any(it not in TARGETS for it in machines):
-        sys.exit(__doc__)
-    os.chdir(ROOT)
-    return main(Gate(*words[1:3]) if beside else None, name, machines)

@@ -3,7 +3,7 @@
 A check ends with its cases in the Test Anything Protocol, which prove(1) reads: the plan, which is the number of cases in
 tests/cases.txt, and a line for each case. Complaints, and the last line, which is for people, are comments of that protocol.
 
-checks.py NAME SEEN WRONG [NUMBER:TOOL..]: ends a check that is written in bash. NUMBER cases were left out, since TOOL is missing."""
+checks NAME SEEN WRONG [NUMBER:TOOL..]: ends a check that is written in bash. NUMBER cases were left out, since TOOL is missing."""
 import argparse
 import os
 import re

@@ -292,7 +292,13 @@ def read(path):
         return file.read()
 
 
-def main(asked):
+def command():
+    parser = argparse.ArgumentParser(usage=__doc__)
+    parser.add_argument("--text")
+    parser.add_argument("--slots", type=span)
+    parser.add_argument("--chains", type=span)
+    parser.add_argument("file", nargs="?")
+    asked = parser.parse_args()
     try:
         history = History(read(asked.file).splitlines())
         text = read(asked.text) if asked.text else None
@@ -309,12 +315,3 @@ def main(asked):
         print(f"draw-history: {wrong.filename} can't be read: {wrong.strerror}", file=sys.stderr)
         return 1
     return 0
-
-
-def command():
-    parser = argparse.ArgumentParser(usage=__doc__)
-    parser.add_argument("--text")
-    parser.add_argument("--slots", type=span)
-    parser.add_argument("--chains", type=span)
-    parser.add_argument("file", nargs="?")
-    return main(parser.parse_args())

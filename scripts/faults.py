@@ -1,4 +1,4 @@
-"""faults.py SCRIPT: reads a script as model/model.py does. If it is invalid, prints on standard error the fault, its line and column, and
+"""faults SCRIPT: reads a script as model/model.py does. If it is invalid, prints on standard error the fault, its line and column, and
 what is expected there, and exits with status 3, as fixfiles does."""
 import re
 import sys
@@ -136,7 +136,8 @@ def fault_of_script(script):
     return None
 
 
-def main(path):
+def command():
+    path = sys.argv[1]
     with open(path, "rb") as file:
         script = file.read(LONGEST_SCRIPT + 1)
     fault = fault_of_script(script)
@@ -144,7 +145,3 @@ def main(path):
         return 0
     print(f"{explanation(path, script, fault)}\nNothing was played. {PAGE} describes the language and its faults.", file=sys.stderr)
     return BAD_SCRIPT
-
-
-def command():
-    return main(sys.argv[1])

@@ -1,6 +1,6 @@
-"""lanes.py CRATE NAME: proves the crates that a program depends on, builds the program, and leaves it at bin/NAME, for
+"""lanes CRATE NAME: proves the crates that a program depends on, builds the program, and leaves it at bin/NAME, for
 scripts/build-program.
-lanes.py --plan CRATE NAME..: prints how long that takes of several programs, before the first one begins, or nothing if each of them is
+lanes --plan CRATE NAME..: prints how long that takes of several programs, before the first one begins, or nothing if each of them is
 newer than all sources.
 
 Crates that don't depend on each other are proved in parallel, as far as memory goes. The crates on the longest paths to the program

@@ -36,7 +36,8 @@ def seconds_of(room, name, below):
     return proof, spent(folder, "rt", "check", "--test", "--jobs", "1") if has_tests else 0
 
 
-def main(names):
+def command():
+    names = sys.argv[1:]
     below, known = crates(), measured()
     with tempfile.TemporaryDirectory() as room:
         for it in ("crates", "crates.txt", "HANDLES"):
@@ -47,7 +48,3 @@ def main(names):
             head = [it for it in read(FILE).splitlines() if it.startswith("#")]
             rows = [f"{it} {known[it][0]} {known[it][1]}" for it in below if it in known]
             write(FILE, "".join(f"{it}\n" for it in [*head, *rows]))
-
-
-def command():
-    main(sys.argv[1:])

@@ -111,7 +111,8 @@ def debian_package(folder, version, major, date, to):
     return path
 
 
-def main(folder, date, to):
+def command():
+    folder, date, to = sys.argv[1], int(sys.argv[2]), sys.argv[3]
     os.umask(0o022)
     with open(f"{folder}/VERSION", encoding="utf-8") as it:
         version = it.read().strip()
@@ -121,7 +122,3 @@ def main(folder, date, to):
             it.write(content)
         print(f"{to}/{name}")
     print(debian_package(folder, version, major, date, to))
-
-
-def command():
-    main(sys.argv[1], int(sys.argv[2]), sys.argv[3])

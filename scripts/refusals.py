@@ -1,4 +1,4 @@
-"""refusals.py LOG: prints in a few lines why a crate was not proved, from the prover's output: a line `fn NAME: ` for each function, and
+"""refusals LOG: prints in a few lines why a crate was not proved, from the prover's output: a line `fn NAME: ` for each function, and
 errors in proof files.
 
 `proved` may be followed by `, may wait`, `, may abort` or `where its callers give what it asks`: these are proved too. A function that

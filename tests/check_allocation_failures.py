@@ -8,7 +8,7 @@ tests/failing_calls.py so, and must print the answers that the call documents. W
 import os
 
 from tests.allocation_failures import Outcomes, scripts
-from scripts.checks import arguments, status_of
+from scripts.checks import arguments
 from tests.counts import Failures
 from tests.failing_calls import calls
 from scripts.repository import ROOT, read, read_bytes
@@ -57,7 +57,8 @@ def check_verdict(checks, fixcheck, name, options, is_whole):
     checks.fail(asked, [fixcheck, *options, script, "-"], given, verdict_kind, VERDICTS[not is_whole], ["status 5"])
 
 
-def main(given):
+def command():
+    given = arguments(__doc__, "program fixcheck? calls?", "few")
     checks, open_read_close = Failures(NAME, MOST), read("examples/open_read_close.script")
     if not checks.can_fail():
         return 1
@@ -71,7 +72,3 @@ def main(given):
     for call in calls() if given.calls else ():
         checks.fail(call.name(), [given.calls], f"{call.words}\n", call.kind, "done", call.wanted)
     return checks.end("failed")
-
-
-def command():
-    return status_of(NAME, main, arguments(__doc__, "program fixcheck? calls?", "few"))

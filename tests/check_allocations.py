@@ -10,7 +10,7 @@ BENCH_TABLES makes 15,000 or more calls on each shared table, and must allocate 
 or a ring it makes as many allocations as are kept here, so that none of these allocates once more. A call that ends with a failed
 allocation, and abandons its ring, makes no further one but for its last line."""
 
-from scripts.checks import Counted, arguments, status_of
+from scripts.checks import Counted, arguments
 from scripts.programs import built
 from tests.counts import counted
 from tests.limits import lines, linked
@@ -81,7 +81,8 @@ class Checks(Counted):
             self.want((ran.ended[1], ran.allocations) == ("no setting\nend\n", failing + 1), f"`{call}`, where allocation {failing} fails, makes {ran.allocations}")
 
 
-def main(given):
+def command():
+    given = arguments(__doc__, "fixfiles bench_tables")
     built("watch.c")
     checks = Checks(given)
     for table in TABLES:
@@ -92,7 +93,3 @@ def main(given):
         checks.benched(table)
     checks.once()
     return checks.end()
-
-
-def command():
-    return status_of("allocations", main, arguments(__doc__, "fixfiles bench_tables"))

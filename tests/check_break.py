@@ -50,13 +50,10 @@ def complaint(gate):
     return ""
 
 
-def main(gate):
-    wrong = complaint(gate and Gate(*gate))
-    print(f"break: {wrong or 'a wrong release is refused, and its line says why'}")
-    return last_line("break", 1, int(wrong != ""))
-
-
 def command():
     parser = argparse.ArgumentParser(usage=__doc__)
     parser.add_argument("--gate", nargs=2)
-    return main(parser.parse_args().gate)
+    gate = parser.parse_args().gate
+    wrong = complaint(gate and Gate(*gate))
+    print(f"break: {wrong or 'a wrong release is refused, and its line says why'}")
+    return last_line("break", 1, int(wrong != ""))

@@ -70,7 +70,7 @@ class Checks:
                     counted.want(it, "said")
                 if left_out:
                     counted.skip(left_out, "cc")
-                status = shared.status_of(name, counted.end)
+                status = counted.end()
             also = f" and {left_out} left out" if left_out else ""
             holds = status == wanted and said.getvalue().startswith(lines) and said.getvalue().endswith(f"# {name}: {len(claims)} looked at{also}, {claims.count(False)} wrong\n")
             self.want(holds, f"Counted ends with status {status} and {said.getvalue()!r} of {claims}")
@@ -94,7 +94,7 @@ class Checks:
 
     def check_hang(self):
         status, lines = self.ran("end", "tests/check-limits", SPOIL, "--few", "--seconds", "2")
-        holds = (status, len(lines)) == (1, 1) and re.match(r"# limits: .* didn't end within 2 s$", lines[0])
+        holds = (status, len(lines)) == (1, 1) and re.match(r"# check-limits: .* didn't end within 2 s$", lines[0])
         self.want(holds, f"check-limits on a program without end ended with status {status} and said: {lines[-1]}")
 
     def check_meetings(self, fixcheck):
@@ -171,7 +171,8 @@ def check_fixcheck(checks, program):
     checks.check("tests/check-allocation-failures", program, SPOIL, "--few", least=lambda cases: cases // 3, changes=("byte",))
 
 
-def main(given):
+def command():
+    given = arguments(__doc__, "program fixcheck")
     if shutil.which("cc") is None:
         print("checks: there is no C compiler cc here, which builds what stands for a wrong program")
         return 1
@@ -186,7 +187,3 @@ def main(given):
     checks.check("tests/check-fixcheck", given.fixcheck, SPOIL, "2", "--few", least=lambda cases: 1, changes=("line", "byte"))
     checks.check_answers(given.fixcheck)
     return shared.last_line("checks", checks.seen, checks.wrong)
-
-
-def command():
-    return main(arguments(__doc__, "program fixcheck"))

@@ -10,7 +10,7 @@ import shutil
 import subprocess
 import tempfile
 
-from scripts.checks import Counted, arguments, status_of
+from scripts.checks import Counted, arguments
 from scripts.programs import built, difference, preloaded, run
 from scripts.repository import ROOT, kept_beside, read_bytes, scripts_of, text_beside
 
@@ -151,7 +151,8 @@ class Examples(Counted):
         self.play("the script of help", 1, script, text_beside(OPEN_READ_CLOSE))
 
 
-def main(given):
+def command():
+    given = arguments(__doc__, "program", "few")
     examples = Examples(given.program)
     examples.examples(given.few)
     if not given.few:
@@ -166,7 +167,3 @@ def main(given):
         examples.arguments()
         examples.help()
     return examples.end("played")
-
-
-def command():
-    return status_of("examples", main, arguments(__doc__, "program", "few"))

@@ -12,7 +12,7 @@ import tempfile
 import time
 
 from model.model import play
-from scripts.checks import Counted, status_of
+from scripts.checks import Counted
 from scripts.programs import given_time, run
 from scripts.repository import ROOT, read_bytes, write
 
@@ -116,7 +116,8 @@ def check_machine(checks):
         checks.want(text == play(read_bytes(script))[0], f"{script} on {kernels[0]}: {found} {text}"[:900])
 
 
-def main(fixcheck):
+def command():
+    fixcheck = os.path.abspath(sys.argv[1])
     with tempfile.TemporaryDirectory() as room:
         checks = Checks(room)
         check_missing(checks)
@@ -126,7 +127,3 @@ def main(fixcheck):
             check_stand_ins(checks, fixcheck)
             check_machine(checks)
         return checks.end()
-
-
-def command():
-    return status_of("in-vm", main, os.path.abspath(sys.argv[1]))

@@ -4,7 +4,7 @@ it measures the memory that the largest submissions need; check-allocation-failu
 it plays some short scripts, with --memory it only measures, over one table. A run may take N seconds."""
 import re
 
-from scripts.checks import Counted, arguments, status_of
+from scripts.checks import Counted, arguments
 from tests.limits import CHAINS, ENTRIES, MEMBERS, SCRIPT_BYTES, heaviest_submission, large_text, limits
 from scripts.programs import difference, limited, run
 from tests.sweeps import BY_WORKERS, sweeps
@@ -88,7 +88,10 @@ def check_memory(program, table, told):
         told.want(least <= most, f"{name} takes more than {most:,} KiB")
 
 
-def main(given):
+def command():
+    global LONGEST
+    given = arguments(__doc__, "program", "few memory", options={"seconds": LONGEST})
+    LONGEST = given.seconds
     told, program = Counted("limits"), [given.program]
     if given.memory:
         check_memory(program, "words", told)
@@ -99,10 +102,3 @@ def main(given):
         for table in BYTES_PER_NUMBER:
             check_memory(program, table, told)
     return told.end()
-
-
-def command():
-    global LONGEST
-    asked = arguments(__doc__, "program", "few memory", options={"seconds": LONGEST})
-    LONGEST = asked.seconds
-    return status_of("limits", main, asked)

@@ -12,7 +12,7 @@ call must return, and each installed file must be closed once. --few leaves thes
 import random
 import re
 
-from scripts.checks import Counted, arguments, status_of
+from scripts.checks import Counted, arguments
 from tests.limits import CHAINS, MEMBERS, lines
 from scripts.programs import LEGAL, UNDECIDED, built, in_parallel, in_turns, run, verdict
 from model.random_scripts import random_scripts
@@ -106,7 +106,8 @@ def crowds(given, checks):
     print(f"meetings: {len(every)} crowds of {CROWD} workers on {', '.join(map(str, SIZES))} slots, {len(every) - found.count(None)} wrong")
 
 
-def main(options):
+def command():
+    options = arguments(__doc__, "program fixcheck", "few", {"count": 300, "seed": 1}, {"turn": 100})
     built("step.c")
     checks, all_cases = Counted("meetings"), cases(options.count, options.seed)
     results = in_parallel(lambda it: judged(options, it), all_cases)
@@ -126,8 +127,3 @@ def main(options):
     print(f"meetings: {options.count} played in turns of {options.turn} instructions, of which over {' and '.join(TABLES)} "
           f"{' and '.join(map(str, differ.values()))} give a text that differs from one worker's; {undecided} undecided")
     return checks.end()
-
-
-def command():
-    numbers = {"count": 300, "seed": 1}
-    return status_of("meetings", main, arguments(__doc__, "program fixcheck", "few", numbers, {"turn": 100}))

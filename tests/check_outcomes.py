@@ -21,7 +21,7 @@ import os
 import random
 import re
 
-from scripts.checks import Counted, arguments, status_of
+from scripts.checks import Counted, arguments
 from model.illegal import Illegal
 from model.interleavings import Interleavings, TooManyOrders, texts_of_all_orders
 from scripts import listing
@@ -289,7 +289,8 @@ class Checks(Counted):
         print(f"outcomes: of {len(those)} examples the kept text is listed, and {alone} have no other")
 
 
-def main(given):
+def command():
+    given = arguments(__doc__, "fixcheck", "few", {"count": 2000, "seed": 1})
     checks, seed = Checks(given.fixcheck), given.seed
     checks.tiny(given.count, seed)
     checks.limits()
@@ -299,8 +300,3 @@ def main(given):
     checks.ask(those, seed)
     checks.ask_of_requests(those)
     return checks.end()
-
-
-def command():
-    numbers = {"count": 2000, "seed": 1}
-    return status_of("outcomes", main, arguments(__doc__, "fixcheck", "few", numbers))

@@ -11,7 +11,7 @@ import shutil
 import subprocess
 import tempfile
 
-from scripts.checks import Counted, arguments, status_of
+from scripts.checks import Counted, arguments
 from scripts.pages import blocks, rows, section
 from scripts.programs import run
 from scripts.repository import ROOT, read, write
@@ -237,7 +237,8 @@ def shows_history(fixcheck):
     return run([fixcheck, "--history", *(f"{ROOT}/examples/open_read_close.{it}" for it in ("script", "text"))])[1] in texts_of("docs/use/CHECKING.md")
 
 
-def main(given):
+def command():
+    given = arguments(__doc__, "program fixcheck?")
     checks, program, page = Counted("page"), given.program, read("docs/use/SCRIPT.md")
     first_commands(checks)
     without_library(checks)
@@ -267,7 +268,3 @@ def main(given):
     elif not shutil.which("mandoc"):
         checks.skip(OF_MANDOC, "mandoc")
     return checks.end("samples looked at")
-
-
-def command():
-    return status_of("page", main, arguments(__doc__, "program fixcheck?"))

@@ -73,7 +73,8 @@ def refused_texts(checks, fixcheck):
             checks.want(holds and is_right_taken, f"draw-history takes a text of another history: {message!r}")
 
 
-def main(given):
+def command():
+    given = arguments(__doc__, "fixcheck", "draw")
     checks = Counted("pictures")
     pictures(checks, given)
     independent_chains(checks, given.fixcheck)
@@ -81,7 +82,3 @@ def main(given):
     shown = history_of(given.fixcheck, EXAMPLE).splitlines()
     checks.want(shown and shown in blocks(read("docs/use/CHECKING.md")), "docs/use/CHECKING.md shows another history")
     return checks.end()
-
-
-def command():
-    return main(arguments(__doc__, "fixcheck", "draw"))

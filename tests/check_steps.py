@@ -14,7 +14,7 @@ import subprocess
 import tempfile
 import zlib
 
-from scripts.checks import Counted, status_of
+from scripts.checks import Counted
 from scripts.programs import in_parallel, run
 from scripts.repository import ROOT, read
 
@@ -65,7 +65,7 @@ def complaints_of_lines(found, kept):
     return [it for it in difflib.unified_diff(kept, found, "tests/steps.txt", "found", n=0, lineterm="") if not it.startswith("@@")]
 
 
-def main():
+def command():
     if shutil.which("cc") is None:
         print("steps: there is no C compiler cc here, which builds the table")
         return 1
@@ -90,7 +90,3 @@ def main():
     for fault in sorted({fault for it in sources() for fault in FAULT.findall(it)}):
         checks.want(fault in known, f"no wrong table and no edit shows this fault: {fault}")
     return checks.end()
-
-
-def command():
-    return status_of("steps", main)

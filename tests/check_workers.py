@@ -7,7 +7,7 @@ that are played together share one table, so each takes little memory. The size 
 at once, also if several threads make it, from 262,144 bytes on."""
 
 from tests.allocation_failures import Outcomes
-from scripts.checks import Counted, arguments, status_of
+from scripts.checks import Counted, arguments
 from tests.counts import counted
 from tests.limits import BYTES, CHAINS, ENTRIES, MEMBERS, heaviest_submission, lines, linked
 from scripts.programs import built
@@ -136,7 +136,8 @@ class Workers(Counted):
             self.want(holds, f"for {chains} chains over {table} {workers} workers ask for {few:,} bytes, and {MOST_WORKERS} for {most:,}")
 
 
-def main(given):
+def command():
+    given = arguments(__doc__, "program", "few")
     built("watch.c")
     checks = Workers(given.program)
     checks.want([is_within(2, it, 3) for it in (1, 2, 3, 4)] == [False, True, True, False], "a number past a bound is allowed")
@@ -156,7 +157,3 @@ def main(given):
             checks.check_writes(table, workers)
     checks.check_table("words", 1, ())
     return checks.end()
-
-
-def command():
-    return status_of("workers", main, arguments(__doc__, "program", "few"))

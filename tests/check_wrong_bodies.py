@@ -88,7 +88,8 @@ def told_of_edits(wrong_bodies):
     return [f"{it.name}: {it.wrong}" for it in wrong] + told.getvalue().splitlines()
 
 
-def main(by_prover):
+def command():
+    by_prover = sys.argv[1:] == ["--prover"]
     checks = Counted("wrong bodies")
     if not by_prover:
         wrong_bodies.prove = recorded
@@ -115,7 +116,3 @@ def main(by_prover):
     is_unknown = unknown_lines(["fn fx_baton::calls::retired: looked at"])
     checks.want(is_unknown, "a line that the prover doesn't write today is taken for a known one")
     return checks.end()
-
-
-def command():
-    return main(sys.argv[1:] == ["--prover"])

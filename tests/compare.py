@@ -7,7 +7,7 @@ scripts, and keeps none; with --large only one of the largest submissions. The n
 import itertools
 import random
 
-from scripts.checks import Counted, arguments, status_of
+from scripts.checks import Counted, arguments
 from tests.limits import CHAINS, large_submission, limits
 from model.model import ECANCELED, Script, has_failed, play, requests_of
 from scripts.programs import difference, run
@@ -83,7 +83,8 @@ def hard_links_that_matter(text, written):
         for place, request, linked_by in requests_of(Script(text)) if (*place[:2], place[2] + 1) in results)
 
 
-def main(given):
+def command():
+    given = arguments(__doc__, "program", "few large", {"count": 4000, "seed": 1})
     checks, keeps = Counted("compare"), not given.few and not given.large
     randoms = [] if given.large else list(odd_scripts(random.Random(given.seed), given.seed, given.count))
     large = [] if given.few else list(itertools.islice(large_scripts(given.seed), 1 if given.large else None))
@@ -108,8 +109,3 @@ def main(given):
     print(f"compare: {played} scripts played: {len(randoms)} random ones, {len(randoms) - len(names)} of them good, with {hard} failed hard links that a member follows; "
           f"the others with {len(set(names))} faults; {len(large)} of the largest submissions, and {played - len(randoms) - len(large)} kept ones")
     return checks.end()
-
-
-def command():
-    numbers = {"count": 4000, "seed": 1}
-    return status_of("compare", main, arguments(__doc__, "program", "few large", numbers))

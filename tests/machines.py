@@ -1,4 +1,4 @@
-"""machines.py KIND: speaks as the virtual machine of kernel/in-vm does (kernel/vm/init.c), in place of QEMU, for tests/check-in-vm. KIND is
+"""machines KIND: speaks as the virtual machine of kernel/in-vm does (kernel/vm/init.c), in place of QEMU, for tests/check-in-vm. KIND is
 `right`, which plays as the model does; `late`, which answers the first play after the second one; or a fault: `wrong` changes the result
 of 1.1.1, `dead` ends at once, `oopses` ends at the first script, after a line on its console, and `lacks-io-uring` has a player that finds
 none. The file of the variable PID_FILE gets the number of the process."""
@@ -44,7 +44,10 @@ def text_of(kind, given):
     return (re.sub(r"^1\.1\.1 .*", "1.1.1 -77", text, count=1, flags=re.MULTILINE) if kind == "wrong" else text).encode()
 
 
-def main(kind):
+def command():
+    with open(os.environ["PID_FILE"], "w", encoding="utf-8") as file:
+        file.write(str(os.getpid()))
+    kind = sys.argv[1]
     if kind == "dead":
         return 1
     send(b"ready 0.0.7\n")
@@ -61,9 +64,3 @@ def main(kind):
             while kept:
                 answer(*kept.pop())
     return 0
-
-
-def command():
-    with open(os.environ["PID_FILE"], "w", encoding="utf-8") as file:
-        file.write(str(os.getpid()))
-    return main(sys.argv[1])

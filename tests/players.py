@@ -1,4 +1,4 @@
-"""players.py KIND [--async]: plays the script of standard input as a player that tests/check-conform has judged: as the model does, or
+"""players KIND [--async]: plays the script of standard input as a player that tests/check-conform has judged: as the model does, or
 with a fault. A play is a start of this program, so it imports little."""
 import re
 import sys

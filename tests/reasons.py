@@ -1,4 +1,4 @@
-"""reasons.py LOG FACTS: checks the reason why a log of calls in flight is not legal: whether each of its steps follows from the log and from
+"""reasons LOG FACTS: checks the reason why a log of calls in flight is not legal: whether each of its steps follows from the log and from
 earlier steps, and whether they contradict each other. Written from docs/inside/FLIGHT.md and docs/inside/MODEL.md alone; it shares nothing with
 the library. FACTS has a list in JSON, with a list for each step: the rule, the lines of the events that it is applied to, the number of an
 access, the numbers of earlier steps, the earlier point, the later point, and whether the points differ in time. A point is ["event", LINE],

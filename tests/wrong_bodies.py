@@ -306,31 +306,6 @@ def look(edits):
     return len(bad)
 
 
-def main(beside, gate, is_fit, is_named, names):
-    tried = edits_of("wrong-bodies")
-    if is_fit:
-        tried += edits_of("must-fail")
-        bad = look(tried)
-        return last_line("edits", len(tried), bad)
-    if is_named:
-        those = named()
-        tried = [it for it in tried if it.name in those]
-    tried, unknown = chosen(tried, names)
-    if unknown:
-        print(f"wrong-bodies: there is no {', '.join(unknown)}")
-        return 1
-    look(tried)
-    if shutil.which("rt") is None:
-        return subprocess.run([f"{ROOT}/scripts/need", "toolchain"], check=False).returncode
-    shutil.rmtree(KEPT, ignore_errors=True)
-    os.makedirs(KEPT)
-    tallies = try_crates([it for it in tried if not it.wrong], beside, gate)
-    here, elsewhere, accepted = (sum(it.counts[kind] for it in tallies) for kind in ("here", "refused", "proved"))
-    print(f"wrong-bodies: {len(tried)} tried, {here + elsewhere} refused, {elsewhere} of them elsewhere, {accepted} accepted")
-    key = "wrong-bodies" if is_named and not names else "wrong-bodies --some"
-    return last_line(key, len(tried), len(tried) - here - elsewhere, "tried")
-
-
 def command():
     parser = argparse.ArgumentParser(usage=__doc__)
     parser.add_argument("--beside", type=int, default=1)
@@ -339,4 +314,25 @@ def command():
     parser.add_argument("--named", action="store_true")
     parser.add_argument("names", nargs="*")
     options = parser.parse_args()
-    return main(options.beside, options.gate and Gate(*options.gate), options.fit, options.named, options.names)
+    tried = edits_of("wrong-bodies")
+    if options.fit:
+        tried += edits_of("must-fail")
+        bad = look(tried)
+        return last_line("edits", len(tried), bad)
+    if options.named:
+        those = named()
+        tried = [it for it in tried if it.name in those]
+    tried, unknown = chosen(tried, options.names)
+    if unknown:
+        print(f"wrong-bodies: there is no {', '.join(unknown)}")
+        return 1
+    look(tried)
+    if shutil.which("rt") is None:
+        return subprocess.run([f"{ROOT}/scripts/need", "toolchain"], check=False).returncode
+    shutil.rmtree(KEPT, ignore_errors=True)
+    os.makedirs(KEPT)
+    tallies = try_crates([it for it in tried if not it.wrong], options.beside, options.gate and Gate(*options.gate))
+    here, elsewhere, accepted = (sum(it.counts[kind] for it in tallies) for kind in ("here", "refused", "proved"))
+    print(f"wrong-bodies: {len(tried)} tried, {here + elsewhere} refused, {elsewhere} of them elsewhere, {accepted} accepted")
+    key = "wrong-bodies" if options.named and not options.names else "wrong-bodies --some"
+    return last_line(key, len(tried), len(tried) - here - elsewhere, "tried")
