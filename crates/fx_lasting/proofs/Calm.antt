@@ -1,10 +1,10 @@
 -- Steps at which no slot and no node changes: they change the pass alone, and perhaps its hold word
 -- or a word that counts or asks.
-use Rattle.fx_lasting.proofs.Words.{alone_in, ◌≡◌, ◌≢◌, ℕ, ◌+◌, ◌<◌, List, set, length, refl, ap, ◌∙◌, subst, arith, Option, Bool, held_by, File}
+use Rattle.fx_lasting.proofs.Words.{alone_in, ◌≡◌, ◌≢◌, ℕ, ◌+◌, ◌<◌, List, set, length, refl, ap, subst, arith, Option, Bool, held_by, File}
 use Rattle.fx_lasting.proofs.Words.{Event, range_at_start, NodeAgrees, IsAllowed, Agrees, RangeCounts, Survey, slots_of, nodes_of, state_after_all}
-use Rattle.fx_lasting.proofs.Words.{held_in, held_of, taken_of, taking, Work, Glance, Change, ⊎_elim, ◌⊎◌, inr, word_of, hold_word_of, count_in}
+use Rattle.fx_lasting.proofs.Words.{held_in, held_of, taken_of, taking, Work, Glance, Change, ◌⊎◌, inr, word_of, hold_word_of, count_in}
 use Rattle.fx_lasting.proofs.Words.{name_in, full_name_in, HoldAgrees, GuardAgrees, WorkAgrees, sum_set, sum_by, get_elem?, length-set, set-get_or}
-use Rattle.fx_lasting.proofs.Words.{owed, seated, [], IsSeenBy, part_of_pass, ◌≤◌, inl, true, list_place, IsListedIn, written_in, Watch, WatchAgrees}
+use Rattle.fx_lasting.proofs.Words.{owed, seated, [], IsSeenBy, part_of_pass, ◌≤◌, inl, true, list_place, IsListedIn, Watch, WatchAgrees}
 use Rattle.fx_lasting.proofs.Frames.{busy, nodes_untouched, slot_same, node_same, Leaves, keeps_other, guards_same, covers_same, sees_same}
 use Rattle.fx_lasting.proofs.Keeping.{Turn, After, as_it_was, Keeps, word_at, slot_word, step_kept, w, end, its_log, in_range, stocks_untouched}
 use Rattle.fx_lasting.proofs.Keeping.{LabelSame, met_same, range_left, LeavesFiles}

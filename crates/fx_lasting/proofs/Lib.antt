@@ -8,6 +8,7 @@ pub mod Passing
 pub mod Peeking
 pub mod Places
 pub mod Running
+pub mod Turns
 pub mod WholeHistory
 pub mod WordBounds
 pub mod Words

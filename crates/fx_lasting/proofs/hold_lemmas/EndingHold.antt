@@ -1,11 +1,11 @@
 -- A pass that removed the file that it held by its hold word stores 0 there: nobody has marked the
 -- word, since it alone visits the node's passes.
-use Rattle.fx_lasting.proofs.Words.{Round, IsToVisit, NamesNode, StillNames, EndsItsHold, EndsItsHoldKeep, MayBeUnmarked, WorkAgrees}
-use Rattle.fx_lasting.proofs.Words.{◌≡◌, ℕ, ◌+◌, ◌<◌, ◌≤◌, List, [], sym, refl, ap, ◌∙◌, subst, arith, Option, none, keeps, Closed, File, Bool, true, false}
-use Rattle.fx_lasting.proofs.Words.{slots_of, nodes_of, hold_word_of, held_in, if_file, taken_of, taking, Phase, leaving, owner, file_in, removed_in}
-use Rattle.fx_lasting.proofs.Words.{changed_here, Work, Retiring, step, inr, ⊎_elim, Goes, sum_set, Agrees, Labels, label_of, written_in}
+use Rattle.fx_lasting.proofs.Words.{Round, IsToVisit, NamesNode, StillNames, EndsItsHold, EndsItsHoldKeep, MayBeUnmarked}
+use Rattle.fx_lasting.proofs.Words.{◌≡◌, ℕ, ◌+◌, ◌<◌, ◌≤◌, List, [], refl, subst, arith, Option, none, keeps, Closed, File, Bool, true, false}
+use Rattle.fx_lasting.proofs.Words.{slots_of, hold_word_of, leaving}
+use Rattle.fx_lasting.proofs.Words.{Work, Retiring, step, ⊎_elim, Goes, Agrees}
 use Rattle.fx_lasting.proofs.Counts.{owed_at}
-use Rattle.fx_lasting.proofs.Keeping.{Turn, turn_of, After, word_at, slot_word, Made, by_turn, its_log, its_work, in_range, tells, w, end, labels_same}
+use Rattle.fx_lasting.proofs.Keeping.{Turn, turn_of, After, word_at, slot_word, Made, by_turn, its_log, in_range, w, end}
 use Rattle.fx_lasting.proofs.node_lemmas.NodeSteps.{guards_else}
 use Rattle.fx_lasting.proofs.Places.{hold_words, hold_here, hold_node, hold_slot, hold_else, hold_label, hold_leaves}
 use Rattle.fx_lasting.proofs.hold_lemmas.RoundSteps.{its, node, retiring_same, round_after, round_kept, goes}

@@ -13,9 +13,6 @@ held_in_part (e ∷ h) p = dite (ℕ_discrete e.pass p)
     (λ mine. let i = eq-eqb e.pass p mine in rw (i, i) (ap (λ (held : Option File). held_after held e.action) (held_in_part h p)))
     (λ other. rw (ne_eqb e.pass p other) (held_in_part h p))
 
-pub held_same : (h h' : List Event) (p : ℕ) → part_of_pass p h ≡ part_of_pass p h' → held_by h p ≡ held_by h' p
-held_same h h' p same = held_in_part h p ∙ (ap (λ (l : List Event). held_by l p) same ∙ sym (held_in_part h' p))
-
 module _ (k : Start) (s : Shared) (r : Agrees k s) where
   -- the file that a pass holds is open
   is_open : {f : File} (seat : ℕ) (d : Work) → held_in d ≡ Some f → WorkAgrees k r.phase seat d → (n : ℕ) × HoldsAt k r.phase f n

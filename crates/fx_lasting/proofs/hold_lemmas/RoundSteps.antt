@@ -1,6 +1,6 @@
 -- A step of a pass that retires a file: its round moves on, and the file's node stays with it.
-use Rattle.fx_lasting.proofs.Words.{false, Round, ◌≡◌, ◌≢◌, ℕ, ◌+◌, ◌^◌, ◌<◌, ◌≤◌, List, [], set, sym, refl, ap, ◌∙◌, subst, arith, Option, Closed, File}
-use Rattle.fx_lasting.proofs.Words.{WorkAgrees, HoldAgrees, GuardAgrees, StillNames, slots_of, nodes_of, word_of, hold_word_of, held_in, if_file, taken_of}
+use Rattle.fx_lasting.proofs.Words.{false, Round, ◌≡◌, ◌≢◌, ℕ, ◌+◌, ◌^◌, ◌<◌, ◌≤◌, List, [], sym, refl, ap, ◌∙◌, subst, arith, Option, Closed, File}
+use Rattle.fx_lasting.proofs.Words.{WorkAgrees, HoldAgrees, GuardAgrees, StillNames, nodes_of, word_of, hold_word_of, held_in, if_file, taken_of}
 use Rattle.fx_lasting.proofs.Words.{taking, owed, Phase, leaving, owner, file_in, removed_in, changed_at, changed_here, Work, Retiring, inr, Goes, sum_set}
 use Rattle.fx_lasting.proofs.Words.{true, Bool, Agrees, Labels, label_of, written_in}
 use Rattle.fx_lasting.proofs.Histories.{grows_none, each_changed}

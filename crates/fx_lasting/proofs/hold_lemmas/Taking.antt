@@ -15,7 +15,7 @@ use Rattle.fx_lasting.proofs.Frames.{busy, guards_same}
 use Rattle.fx_lasting.proofs.Keeping.{Turn, turn_of, After, slot_word, Made, by_turn, its_log, its_work, in_range, tells, w, none_added}
 use Rattle.fx_lasting.proofs.hold_lemmas.Looking.{word, there, size_so, named, unnamed, name_cases}
 use Rattle.fx_lasting.proofs.Places.{slot_words, slot_hold}
-use Rattle.fx_lasting.proofs.slot_lemmas.SlotSteps.{slot_after, SlotStep, slot_kept, covers_slot}
+use Rattle.fx_lasting.proofs.slot_lemmas.SlotSteps.{NamesSame, DeedStep, slot_after, SlotStep, slot_kept, covers_slot}
 use Rattle.fx_lasting.proofs.hold_lemmas.Unheld.{in_phase}
 
 -- one take more, and nothing else
@@ -129,20 +129,16 @@ module _ (turn : Turn) (s : ℕ) (inside : s < slots_of turn.v.start) where
     new_is : new ≡ found + 1
     new_is = let a = room in omega arith
 
-    same_name : full_name_in new ≡ full_name_in found
-    same_name = ap full_name_in new_is ∙ (one_take found room).0
-
-    own_name : name_in new ≡ name_in found
-    own_name = ap name_in new_is ∙ (one_take found room).4
-
-    same_entry : entry_in new ≡ entry_in found
-    same_entry = ap entry_in new_is ∙ (one_take found room).1
-
     same_heat : heat_in new ≡ heat_in found
     same_heat = ap heat_in new_is ∙ (one_take found room).2
 
-    still_hot : IsHot found → IsHot new
-    still_hot h = let a = same_heat in omega arith
+    same_word : NamesSame new found
+    same_word = let z = one_take found room in record {
+      own = ap name_in new_is ∙ z.4;
+      full = ap full_name_in new_is ∙ z.0;
+      entry = ap entry_in new_is ∙ z.1;
+      hot = λ h. let a = same_heat in omega arith;
+    }
 
     one_more : count_in new ≡ count_in found + 1
     one_more = ap count_in new_is ∙ (one_take found room).3
@@ -157,22 +153,20 @@ module _ (turn : Turn) (s : ℕ) (inside : s < slots_of turn.v.start) where
 
     -- what the pass has done at the slot, after its take
     pub record Standing (g : Glance) (deed' : ℕ → ℕ → Deed) : Type 0 where
-      pub takes : count_in new ≤ cold_takes v.start.passes + tally (λ q. has_acted (deed' s q)) v.start.passes
-      pub heat : heat_in new ≡ tally (λ q. has_heated (deed' s q)) v.start.passes
-      pub deed_else : (i q : ℕ) → i ≢ s → deed' i q ≡ r.deed i q
-      pub deed_other : (q : ℕ) → q ≢ x.number → deed' s q ≡ r.deed s q
-      pub deed_own : deed' s x.number ≢ untouched → (r.deed s x.number ≢ untouched) ⊎ (x.listed ≡ true)
+      pub deeds : DeedStep turn s new deed'
       pub sees : GlanceAgrees v.start (slot_word (slot_words turn s inside new)) (λ i. deed' i x.number) g
       pub heats : Heats v.start (λ i. deed' i x.number) g
       pub is : g ≡ glance_after v.start.passes s found
 
     cold_still : count_in found < cold_takes v.start.passes → Standing Nothing r.deed
     cold_still few = record {
-      takes = let a = one_more in omega arith;
-      heat = same_heat ∙ (r.slots s inside).heat;
-      deed_else = λ i q other. refl;
-      deed_other = λ q other. refl;
-      deed_own = λ is. inl is;
+      deeds = record {
+        takes = let a = one_more in omega arith;
+        heat = same_heat ∙ (r.slots s inside).heat;
+        elsewhere = λ i q other. refl;
+        others = λ q other. refl;
+        its = λ is. inl is;
+      };
       sees = tt;
       heats = λ i l is. absurd (no_heat i l is);
       is = sym (ap (λ (b : Bool). cond b Nothing (Heating s)) (lt-ltb (count_in found) (cold_takes v.start.passes) few));
@@ -180,13 +174,15 @@ module _ (turn : Turn) (s : ℕ) (inside : s < slots_of turn.v.start) where
 
     heats_now : cold_takes v.start.passes ≤ count_in found → Standing (Heating s) (does_here over)
     heats_now many = record {
-      takes = let a = one_more in let b = (r.slots s inside).takes in let c = counts_here over has_acted in
-          let d = ap (λ (e : Deed). one_if (has_acted e)) nothing_done in omega arith;
-      heat = let a = same_heat in let b = (r.slots s inside).heat in let c = counts_here over has_heated in
-          let d = ap (λ (e : Deed). one_if (has_heated e)) nothing_done in omega arith;
-      deed_else = does_there over;
-      deed_other = does_other over;
-      deed_own = λ is. inr has;
+      deeds = record {
+        takes = let a = one_more in let b = (r.slots s inside).takes in let c = counts_here over has_acted in
+            let d = ap (λ (e : Deed). one_if (has_acted e)) nothing_done in omega arith;
+        heat = let a = same_heat in let b = (r.slots s inside).heat in let c = counts_here over has_heated in
+            let d = ap (λ (e : Deed). one_if (has_heated e)) nothing_done in omega arith;
+        elsewhere = does_there over;
+        others = does_other over;
+        its = λ is. inr has;
+      };
       sees = (inside, λ bad. let e : over ≡ heated = sym (does_own over) ∙ bad in cc e);
       heats = λ i l is. dite (ℕ_discrete i s) (λ same. ap Heating (sym same))
           (λ other. absurd (no_heat i l (sym (does_there over i x.number other) ∙ is)));
@@ -205,16 +201,9 @@ module _ (turn : Turn) (s : ℕ) (inside : s < slots_of turn.v.start) where
       none_taken : there turn s inside ≡ None → SlotStep turn s inside new h₀ d g deed'
       none_taken is = let o = its_log turn in let h = rw works at o.hold in record {
         files = record { grows = grows_one x.number r.history _ refl; legal = legal_more v.start r.life.legal (size_so turn s inside, sym is) tt; at = refl; fresh = refl; removed = refl };
-        own_name = own_name;
-        name = same_name;
-        entry = same_entry;
-        hot = still_hot;
+        names = same_word;
         moved = inl (r.history, pass_event x (Look s None), ([], refl), ([], refl), refl, refl);
-        takes = so.takes;
-        heat = so.heat;
-        deed_else = so.deed_else;
-        deed_other = so.deed_other;
-        deed_own = so.deed_own;
+        deeds = so.deeds;
         counts = λ n f l at. let e = (in_phase turn l at).there in let bad : None ≡ Some f = sym is ∙ e in absurd (cc bad);
         taken = λ n l else. sym (ap (taking n) works);
         owners = inl (ap alone_in (sym works));
@@ -245,16 +234,9 @@ module _ (turn : Turn) (s : ℕ) (inside : s < slots_of turn.v.start) where
         file_taken : SlotStep turn s inside new h₁ (holding f n) g deed'
         file_taken = let o = its_log turn in let h = rw works at o.hold in record {
           files = record { grows = grows_one x.number r.history _ refl; legal = legal_more v.start r.life.legal (size_so turn s inside, sym is) tt; at = refl; fresh = refl; removed = refl };
-          own_name = own_name;
-          name = same_name;
-          entry = same_entry;
-          hot = still_hot;
+          names = same_word;
           moved = inl (r.history, pass_event x (Look s (Some f)), ([], refl), ([], refl), refl, refl);
-          takes = so.takes;
-          heat = so.heat;
-          deed_else = so.deed_else;
-          deed_other = so.deed_other;
-          deed_own = so.deed_own;
+          deeds = so.deeds;
           counts = λ m h l' at'. let same = one_seat m h l' at' in let c = (in_phase turn l' at').counts in let a = one_more in
               let t = sum_set (taken_of m) st.views id v (w turn after₁) here in let b = not_taking m in
               let e : taking m (holding f n) ≡ 1 = may.takes m f n ∙ bit_here m n (sym same) in omega arith;
@@ -359,16 +341,15 @@ module _ (turn : Turn) (s : ℕ) (inside : s < slots_of turn.v.start) where
         let own = guards_same turn hot_after x.number v.work (slot_hold turn s inside hot_word x.number (in_range turn).0) refl
         (covers_slot turn s inside hot_word r.history v.work Nothing (does_here heated) (λ _. is_hot) x.number) o.hold o.guarded in record {
           files = none_added turn;
-          own_name = z.4;
-          name = z.0;
-          entry = z.1;
-          hot = λ _. is_hot;
+          names = record { own = z.4; full = z.0; entry = z.1; hot = λ _. is_hot };
           moved = inr (let b = z.2 in omega arith);
-          takes = let a = (r.slots s inside).takes in let b = z.3 in let c = counts_over in omega arith;
-          heat = let a = (r.slots s inside).heat in let b = z.2 in let c = counts_here heated has_heated in let d = ap one_if not_counted in omega arith;
-          deed_else = does_there heated;
-          deed_other = does_other heated;
-          deed_own = λ is. inr has;
+          deeds = record {
+            takes = let a = (r.slots s inside).takes in let b = z.3 in let c = counts_over in omega arith;
+            heat = let a = (r.slots s inside).heat in let b = z.2 in let c = counts_here heated has_heated in let d = ap one_if not_counted in omega arith;
+            elsewhere = does_there heated;
+            others = does_other heated;
+            its = λ is. inr has;
+          };
           counts = λ n f l at. let c = (in_phase turn l at).counts in let a = z.3 in
               let t = sum_set (taken_of n) st.views id v (w turn hot_after) here in omega arith;
           taken = λ n l else. refl;

@@ -1,19 +1,18 @@
 -- A pass that removed a hot file visits the hold words of the others: where one names the node, the
 -- pass marks it.
-use Rattle.fx_lasting.proofs.Words.{Nearing, Relieving, StillNames, Bool, true, false, Round, round_at, IsToVisit, IsPassed, ◌≡◌, ◌≢◌, ℕ, ◌+◌, ◌^◌}
-use Rattle.fx_lasting.proofs.Words.{◌<◌, ◌≤◌, List, [], set, sym, refl, ap, ◌∙◌, subst, arith, Option, none, keeps, Closed, File, WorkAgrees}
-use Rattle.fx_lasting.proofs.Words.{HoldAgrees, GuardAgrees, MayBeUnmarked, slots_of, nodes_of, word_of, hold_word_of, held_in, if_file, taken_of}
-use Rattle.fx_lasting.proofs.Words.{taking, owed, Phase, leaving, owner, file_in, removed_in, changed_at, changed_here, changed_else, Work, Announced}
+use Rattle.fx_lasting.proofs.Words.{Nearing, Relieving, StillNames, Bool, true, false, Round, round_at, IsToVisit, IsPassed, ◌≡◌, ◌≢◌, ℕ, ◌+◌}
+use Rattle.fx_lasting.proofs.Words.{◌<◌, ◌≤◌, List, [], set, sym, refl, ap, ◌∙◌, subst, arith, Option, none, keeps, Closed, File}
+use Rattle.fx_lasting.proofs.Words.{HoldAgrees, GuardAgrees, MayBeUnmarked, slots_of, hold_word_of}
+use Rattle.fx_lasting.proofs.Words.{owed, Phase, leaving, changed_at, changed_here, changed_else, Work, Announced}
 use Rattle.fx_lasting.proofs.Words.{Guarded, Owing, Yielding, Retiring, Visits, Marks, VisitsKeep, MarksKeep, step, inr, ⊎_elim, dite, ℕ_discrete}
-use Rattle.fx_lasting.proofs.Words.{eqb, one_if, announced, mark, set-get_or, exchanged, bit_here, bit_else, NamesNode, Goes, sum_set, Start, dec_le}
-use Rattle.fx_lasting.proofs.Words.{Agrees, either, Labels, label_of, written_in}
+use Rattle.fx_lasting.proofs.Words.{eqb, one_if, announced, mark, set-get_or, exchanged, bit_here, bit_else, NamesNode, Goes, Start, dec_le}
+use Rattle.fx_lasting.proofs.Words.{Agrees, either}
 use Rattle.fx_lasting.proofs.Counts.{owed_changed}
-use Rattle.fx_lasting.proofs.Histories.{grows_none, each_changed}
-use Rattle.fx_lasting.proofs.Frames.{busy, does_now, covers_same}
-use Rattle.fx_lasting.proofs.Keeping.{Turn, turn_of, After, word_at, slot_word, Made, by_turn, its_log, its_work, tells, w, end, find_pass, LabelSame}
-use Rattle.fx_lasting.proofs.Keeping.{labels_same}
+use Rattle.fx_lasting.proofs.Histories.{each_changed}
+use Rattle.fx_lasting.proofs.Frames.{covers_same}
+use Rattle.fx_lasting.proofs.Keeping.{Turn, turn_of, word_at, slot_word, Made, by_turn, its_log, w, find_pass}
 use Rattle.fx_lasting.proofs.node_lemmas.NodeSteps.{guards_else}
-use Rattle.fx_lasting.proofs.Places.{hold_words, hold_here, hold_node, hold_slot, hold_else, hold_label, pass_back, LeavesElse, leaves_all}
+use Rattle.fx_lasting.proofs.Places.{hold_words, hold_here, hold_node, hold_slot, hold_else, hold_label, pass_back}
 use Rattle.fx_lasting.proofs.Places.{hold_leaves}
 use Rattle.fx_lasting.proofs.hold_lemmas.RoundSteps.{its, node, retiring_same, round_after, RoundStep, round_kept, goes, reads}
 

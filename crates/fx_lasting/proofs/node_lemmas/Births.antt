@@ -2,10 +2,10 @@
 use Rattle.fx_lasting.proofs.Words.{◌⊎◌, HoldsAt, Renewing, File, IsIn, changed_else, ◌≡◌, ◌≢◌, ℕ, ◌+◌, ◌<◌, ◌≤◌, List, [], ◌∷◌, set, sym, refl, ap, ◌∙◌, subst, arith, Option, Some, None, none, some}
 use Rattle.fx_lasting.proofs.Words.{keeps, takes, gives, rest, set_here, set_else, Closed, WorkAgrees, MayBeUnmarked, nodes_of, word_of, hold_word_of}
 use Rattle.fx_lasting.proofs.Words.{held_in, if_file, taken_of, taking, owed, Phase, free, placed, seated, leaving, retired, emptied, kept, owner}
-use Rattle.fx_lasting.proofs.Words.{file_in, removed_in, changed_here, Log, Work, Idle, Searching, Placing, Emptying, Seeks, Births, Rests, SeeksKeep}
+use Rattle.fx_lasting.proofs.Words.{file_in, changed_here, Log, Work, Idle, Searching, Placing, Emptying, Seeks, Births, Rests, SeeksKeep}
 use Rattle.fx_lasting.proofs.Words.{BirthsKeep, RestsKeep, birth_word, step, inl, inr, ⊎_elim, dite, ℕ_discrete, sum_by, sum_set, length-set, Start}
 use Rattle.fx_lasting.proofs.Words.{Agrees, first_log, HasNoFile, HoldAgrees, IsAllowed, GuardAgrees, rested, IsInside, changed_at, IsInStock, Bool}
-use Rattle.fx_lasting.proofs.Words.{Nearing, Relieving, HoldsBesides, true, cond, le-ltb, get_or, HasItsPlace, Placement, as_written, Unlabelled}
+use Rattle.fx_lasting.proofs.Words.{Counted, Guarded, Announced, Nearing, Relieving, HoldsBesides, cond, le-ltb, get_or, HasItsPlace, Placement, as_written, Unlabelled}
 use Rattle.fx_lasting.proofs.Histories.{grows_none}
 use Rattle.fx_lasting.proofs.Frames.{HasBesides, alone_cases, busy, covers_same, does_now}
 use Rattle.fx_lasting.proofs.Keeping.{Turn, turn_of, After, Homes, word_at, slot_word, Made, by_turn, its_log, its_work, its_stock, in_its_stock, tells, tells_less, w, end}
@@ -197,27 +197,32 @@ module _ (turn : Turn) where
         (λ z. let same : z.0 ≡ n = cc (sym z.3) in inr (inr (z.1, subst (λ (i : ℕ). HasBesides v.work i z.1) same z.2))) (alone_cases v.work e.1))
         works
 
-    its_node : (n < nodes_of v.start) × (owner (r.phase n) ≡ id + 1) × (file_in (r.phase n) ≡ None) × ((m : ℕ) → removed_in m (r.phase n) ≡ None)
-        × ((p : ℕ) → MayBeUnmarked (slot_word st.words) p (r.phase n) → ⊥) × (sum_by (taken_of n) st.views ≡ 0) × (owed r.debt v.start.passes n ≡ 0)
-        × (r.phase n ≢ free)
-    its_node = ⊎_elim
-        (λ e. let o = subst (WorkAgrees v.start r.phase id) e (its_work turn) in let z = in_phase turn o.0 o.1 in
-        (o.0, ap owner o.1, ap file_in o.1, λ m. ap (removed_in m) o.1, λ p may. rw o.1 at may, z.untaken, z.unowed, λ bad. cc (sym o.1 ∙ bad)))
-        (λ e. ⊎_elim (λ is. placed_node is.0 (subst (WorkAgrees v.start r.phase id) is.1 (its_work turn)))
-        (λ is. placed_node is.0 (placed_besides is.0 is.1)) e) its_work_is
-      where
-        placed_besides : (l : Placement) → HasBesides v.work n l → IsIn v.start r.phase n (placed id l)
-        placed_besides l has = ⊎_elim
-            (λ (z : (f : File) × (held : ℕ) × HoldsBesides v.work f held n l). ⊎_elim
-            (λ (e : v.work ≡ Renewing z.0 z.1 n l). let both : HoldsAt v.start r.phase z.0 z.1 × IsIn v.start r.phase n (placed id l) = subst (WorkAgrees v.start r.phase id) e (its_work turn) in both.1)
-            (λ (e : v.work ≡ Relieving z.0 z.1 n l). let both : HoldsAt v.start r.phase z.0 z.1 × IsIn v.start r.phase n (placed id l) = subst (WorkAgrees v.start r.phase id) e (its_work turn) in both.1) z.2)
-            (λ (z : (m : ℕ) × (v.work ≡ Nearing m n l)). let both : (z.0 < nodes_of v.start) × IsIn v.start r.phase n (placed id l) = subst (WorkAgrees v.start r.phase id) z.1 (its_work turn) in both.1) has
+    -- what holds of each work with the place, and of the same work after the rest
+    by_rest : (P : Work → Work → Type 0) → P (Emptying n) Idle → ((l : Placement) → P (Placing n l) (Searching n))
+        → ((f : File) (held : ℕ) (l : Placement) → P (Renewing f held n l) (Counted f held) × P (Relieving f held n l) (Guarded f held))
+        → ((m : ℕ) (l : Placement) → P (Nearing m n l) (Announced m)) → P v.work (rested v.work)
+    by_rest P out unplaced held near = ⊎_elim
+        (λ (e : v.work ≡ Emptying n). subst (λ (z : Work). P z (rested z)) (sym e) out)
+        (λ y. ⊎_elim
+        (λ (e : (l : Placement) × (v.work ≡ Placing n l)). subst (λ (z : Work). P z (rested z)) (sym e.1) (unplaced e.0))
+        (λ (e : (l : Placement) × HasBesides v.work n l). ⊎_elim
+        (λ (z : (f : File) × (held : ℕ) × HoldsBesides v.work f held n e.0). ⊎_elim
+        (λ (is : v.work ≡ Renewing z.0 z.1 n e.0). subst (λ (d : Work). P d (rested d)) (sym is) (held z.0 z.1 e.0).0)
+        (λ (is : v.work ≡ Relieving z.0 z.1 n e.0). subst (λ (d : Work). P d (rested d)) (sym is) (held z.0 z.1 e.0).1) z.2)
+        (λ (z : (m : ℕ) × (v.work ≡ Nearing m n e.0)). subst (λ (d : Work). P d (rested d)) (sym z.1) (near z.0 e.0)) e.1) y) its_work_is
 
-        placed_node : (l : Placement) → IsIn v.start r.phase n (placed id l) → (n < nodes_of v.start) × (owner (r.phase n) ≡ id + 1) × (file_in (r.phase n) ≡ None)
-            × ((m : ℕ) → removed_in m (r.phase n) ≡ None) × ((p : ℕ) → MayBeUnmarked (slot_word st.words) p (r.phase n) → ⊥)
-            × (sum_by (taken_of n) st.views ≡ 0) × (owed r.debt v.start.passes n ≡ 0) × (r.phase n ≢ free)
-        placed_node l o = let z = in_phase turn o.0 o.1 in
-            (o.0, ap owner o.1, ap file_in o.1, λ m. ap (removed_in m) o.1, λ p may. rw o.1 at may, z.untaken, z.unowed, λ bad. cc (sym o.1 ∙ bad))
+    -- the node has no file, and nobody else knows it
+    abbrev Its : Type 0
+    Its = (n < nodes_of v.start) × (owner (r.phase n) ≡ id + 1) × (file_in (r.phase n) ≡ None) × (sum_by (taken_of n) st.views ≡ 0)
+        × (owed r.debt v.start.passes n ≡ 0)
+
+    its_node : Its
+    its_node = by_rest (λ d e. WorkAgrees v.start r.phase id d → Its)
+        (λ (o : IsIn v.start r.phase n (emptied id)). let z = in_phase turn o.0 o.1 in (o.0, ap owner o.1, ap file_in o.1, z.untaken, z.unowed)) placed_node
+        (λ f held l. (λ both. placed_node l both.1, λ both. placed_node l both.1)) (λ m l both. placed_node l both.1) (its_work turn)
+      where
+        placed_node : (l : Placement) → IsIn v.start r.phase n (placed id l) → Its
+        placed_node l o = let z = in_phase turn o.0 o.1 in (o.0, ap owner o.1, ap file_in o.1, z.untaken, z.unowed)
 
     -- what the pass does afterwards: nothing, or it may place this node again, or it holds what it
     -- held
@@ -233,17 +238,6 @@ module _ (turn : Turn) where
     abbrev rest_after : After turn
     rest_after = own_after turn n its_node.0 free r.history words₀ homes₀ d
 
-    -- what is known of it then
-    record Rested (e : Work) : Type 0 where
-      busy_so : busy v.work ≡ n + 1
-      holds : held_in e ≡ held_in v.work
-      taken : (m : ℕ) → taking m e ≡ taking m v.work
-      allowed : IsAllowed x.stock x.listed e
-      work : WorkAgrees v.start (changed_at r.phase n free) id e
-      inside : IsInside v.start e
-      guarded : GuardAgrees (slot_word words₀) (changed_at r.phase n free) x.number (r.debt x.number) e
-      hold : HoldAgrees (word_at st.words (hold_word_of v.start x.number)) (r.debt x.number) e
-
     -- the other node isn't this one, whose file isn't installed
     apart : (f : File) (held : ℕ) → HoldsAt v.start r.phase f held → held ≢ n
     apart f held o same = let bad : None ≡ Some f = sym its_node.2 ∙ (ap (λ (i : ℕ). file_in (r.phase i)) (sym same) ∙ o.1) in cc bad
@@ -251,75 +245,27 @@ module _ (turn : Turn) where
     stays_open : (f : File) (held : ℕ) → HoldsAt v.start r.phase f held → HoldsAt v.start (changed_at r.phase n free) f held
     stays_open f held o = (o.0, ap file_in (changed_else r.phase n free held (apart f held o)) ∙ o.1)
 
-    rested_so : Rested d
-    rested_so = let o = its_log turn in let agrees = its_work turn in ⊎_elim
-        (λ (e : v.work ≡ Emptying n). let h = rw e at o.hold in subst (λ (z : Work). Rested (rested z)) (sym e) record {
-          busy_so = ap busy e;
-          holds = sym (ap held_in e);
-          taken = λ m. sym (ap (taking m) e);
-          allowed = tt;
-          work = tt;
-          inside = tt;
-          guarded = tt;
-          hold = (h.0, h.1);
-        })
-        (λ y. ⊎_elim
-        (λ (e : (l : Placement) × (v.work ≡ Placing n l)). let h = rw e.1 at o.hold in subst (λ (z : Work). Rested (rested z)) (sym e.1) record {
-          busy_so = ap busy e.1;
-          holds = sym (ap held_in e.1);
-          taken = λ m. sym (ap (taking m) e.1);
-          allowed = subst (IsAllowed x.stock x.listed) e.1 o.allowed;
-          work = (its_node.0, changed_here r.phase n free n refl);
-          inside = its_node.0;
-          guarded = tt;
-          hold = (h.0, h.1);
-        })
-        (λ (e : (l : Placement) × HasBesides v.work n l). ⊎_elim
-        (λ (z : (f : File) × (held : ℕ) × HoldsBesides v.work f held n e.0). ⊎_elim
-        (λ (is : v.work ≡ Renewing z.0 z.1 n e.0). let h = rw is at o.hold in
-        let both : HoldsAt v.start r.phase z.0 z.1 × IsIn v.start r.phase n (placed id e.0) = subst (WorkAgrees v.start r.phase id) is agrees in
-        subst (λ (z : Work). Rested (rested z)) (sym is) record {
-          busy_so = ap busy is;
-          holds = sym (ap held_in is);
-          taken = λ m. sym (ap (taking m) is);
-          allowed = tt;
-          work = stays_open z.0 z.1 both.0;
-          inside = both.0.0;
-          guarded = tt;
-          hold = (h.0, h.1);
-        })
-        (λ (is : v.work ≡ Relieving z.0 z.1 n e.0).
-        let both : HoldsAt v.start r.phase z.0 z.1 × IsIn v.start r.phase n (placed id e.0) = subst (WorkAgrees v.start r.phase id) is agrees in
-        let guards : r.debt x.number ≡ 0 → MayBeUnmarked (slot_word st.words) x.number (r.phase z.1) =
-        subst (GuardAgrees (slot_word st.words) r.phase x.number (r.debt x.number)) is o.guarded in
-        let can : IsInStock x.stock n × (x.listed ≡ true) = subst (IsAllowed x.stock x.listed) is o.allowed in
-        subst (λ (z : Work). Rested (rested z)) (sym is) record {
-          busy_so = ap busy is;
-          holds = sym (ap held_in is);
-          taken = λ m. sym (ap (taking m) is);
-          allowed = can.1;
-          work = stays_open z.0 z.1 both.0;
-          inside = both.0.0;
-          guarded = λ none. subst (MayBeUnmarked (slot_word words₀) x.number) (sym (changed_else r.phase n free z.1 (apart z.0 z.1 both.0)))
-              (covers_same turn words₀ (node_slot turn n its_node.0 0) x.number z.1 (guards none));
-          hold = subst (HoldAgrees (word_at st.words (hold_word_of v.start x.number)) (r.debt x.number)) is o.hold;
-        }) z.2)
-        (λ (z : (m : ℕ) × (v.work ≡ Nearing m n e.0)).
-        let both : (z.0 < nodes_of v.start) × IsIn v.start r.phase n (placed id e.0) = subst (WorkAgrees v.start r.phase id) z.1 agrees in
-        let can : IsInStock x.stock n × (x.listed ≡ true) = subst (IsAllowed x.stock x.listed) z.1 o.allowed in
-        subst (λ (z : Work). Rested (rested z)) (sym z.1) record {
-          busy_so = ap busy z.1;
-          holds = sym (ap held_in z.1);
-          taken = λ m. sym (ap (taking m) z.1);
-          allowed = can.1;
-          work = both.0;
-          inside = both.0;
-          guarded = tt;
-          hold = subst (HoldAgrees (word_at st.words (hold_word_of v.start x.number)) (r.debt x.number)) z.1 o.hold;
-        }) e.1) y) its_work_is
+    knows_rested : IsInside v.start d
+    knows_rested = by_rest (λ d e. WorkAgrees v.start r.phase id d → IsInside v.start e) (λ a. tt) (λ l a. its_node.0) (λ f held l. (λ a. a.0.0, λ a. a.0.0))
+        (λ m l a. a.0) (its_work turn)
+
+    busy_so : busy v.work ≡ n + 1
+    busy_so = by_rest (λ d e. busy d ≡ n + 1) refl (λ l. refl) (λ f held l. (refl, refl)) (λ m l. refl)
+
+    as_taken : (m : ℕ) → taking m d ≡ taking m v.work
+    as_taken m = by_rest (λ d e. taking m e ≡ taking m d) refl (λ l. refl) (λ f held l. (refl, refl)) (λ k l. refl)
+
+    still_guarded : GuardAgrees (slot_word words₀) (changed_at r.phase n free) x.number (r.debt x.number) d
+    still_guarded = by_rest (λ d e. WorkAgrees v.start r.phase id d → GuardAgrees (slot_word st.words) r.phase x.number (r.debt x.number) d
+        → GuardAgrees (slot_word words₀) (changed_at r.phase n free) x.number (r.debt x.number) e) (λ a g. tt) (λ l a g. tt)
+        (λ f held l. (
+          λ a g. tt,
+          λ a g none. subst (MayBeUnmarked (slot_word words₀) x.number) (sym (changed_else r.phase n free held (apart f held a.0)))
+              (covers_same turn words₀ (node_slot turn n its_node.0 0) x.number held (g none)),
+        )) (λ m l a g. tt) (its_work turn) (its_log turn).guarded
 
     resting : Agrees v.start (end turn rest_after)
-    resting = let q = its_node in let c = rested_so in
+    resting = let q = its_node in let o = its_log turn in
         own_node_kept turn n q.0 free r.history words₀ homes₀ d record {
           leaves_else = node_leaves turn n q.0 0;
           hold_words = node_hold turn n q.0 0;
@@ -328,22 +274,25 @@ module _ (turn : Turn) where
           mine = inl q.1;
           empty = q.2;
           still_empty = refl;
-          node = let t = sum_set (taken_of n) st.views id v (w turn rest_after) here in let b = q.5 in
-              let e = c.taken n in rw (node_here turn n q.0 0) record {
+          node = let t = sum_set (taken_of n) st.views id v (w turn rest_after) here in let b = q.3 in
+              let e = as_taken n in rw (node_here turn n q.0 0) record {
                 counts = refl;
                 at_home = set_here st.homes n (some None) (let a = r.shape.homes in let b = q.0 in omega arith);
                 untaken = omega arith;
-                unowed = q.6;
+                unowed = q.4;
               };
           known = tt;
           label = tt;
-          holds = c.holds;
-          taken = c.taken;
-          free_else = λ m other bad. let a = c.busy_so in other (omega arith);
-          allowed = c.allowed;
-          hold = c.hold;
-          guarded = c.guarded;
-          work = c.work;
+          holds = by_rest (λ d e. held_in e ≡ held_in d) refl (λ l. refl) (λ f held l. (refl, refl)) (λ m l. refl);
+          taken = as_taken;
+          free_else = λ m other bad. let a = busy_so in other (omega arith);
+          allowed = by_rest (λ d e. IsAllowed x.stock x.listed d → IsAllowed x.stock x.listed e) (λ a. tt) (λ l a. a) (λ f held l. (λ a. tt, λ a. a.1))
+              (λ m l a. a.1) o.allowed;
+          hold = by_rest (λ d e. HoldAgrees (word_at st.words (hold_word_of v.start x.number)) (r.debt x.number) d
+              → HoldAgrees (word_at st.words (hold_word_of v.start x.number)) (r.debt x.number) e) (λ h. h) (λ l h. h) (λ f held l. (λ h. h, λ h. h)) (λ m l h. h) o.hold;
+          guarded = still_guarded;
+          work = by_rest (λ d e. WorkAgrees v.start r.phase id d → WorkAgrees v.start (changed_at r.phase n free) id e) (λ a. tt)
+              (λ l a. (q.0, changed_here r.phase n free n refl)) (λ f held l. (λ a. stays_open f held a.0, λ a. stays_open f held a.0)) (λ m l a. a.0) (its_work turn);
         } ([], refl) refl
 
     pub rests : (slots : ℕ) (carried : List (ℕ × Option Closed)) → carried ≡ (n, None) ∷ []
@@ -354,7 +303,7 @@ module _ (turn : Turn) where
       tt,
       rw has resting,
       record {
-        stepped = tells turn rest_after refl carried (rest carried) [] (grows_none x.number r.history) r.life.legal refl rested_so.inside;
+        stepped = tells turn rest_after refl carried (rest carried) [] (grows_none x.number r.history) r.life.legal refl knows_rested;
         carried = refl;
       },
     )

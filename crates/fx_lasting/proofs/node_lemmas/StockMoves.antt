@@ -3,7 +3,7 @@
 use Rattle.fx_lasting.proofs.Words.{◌≡◌, ◌≢◌, ℕ, ◌+◌, ◌-◌, ◌<◌, List, Option, set, length-set, sym, refl, ap, ◌∙◌, subst, arith, some, some-injective}
 use Rattle.fx_lasting.proofs.Words.{get_elem?, dite, ℕ_discrete, set_here, set_else, stands_at, slots_of, nodes_of, name_in, changed_at, changed_here}
 use Rattle.fx_lasting.proofs.Words.{changed_else, Whereabouts, at_slot, in_stock, IsInStock, NamesItsNode, StockAgrees, NamesANode, Bool, Survey, Closed}
-use Rattle.fx_lasting.proofs.Words.{Event, Action, IsHistory, part_of_pass, map, ◌++◌, pass_event, IsInside, Stepped, as_stocked, as_swapped, first_log, Log}
+use Rattle.fx_lasting.proofs.Words.{Action, IsHistory, part_of_pass, map, ◌++◌, pass_event, IsInside, Stepped, as_stocked, as_swapped, first_log, Log}
 use Rattle.fx_lasting.proofs.Histories.{Grows}
 use Rattle.fx_lasting.proofs.Keeping.{Turn, After, slot_word, its_stock, in_its_stock, tells_as, w}
 

@@ -12,7 +12,11 @@ use Rattle.fx_lasting.proofs.Running.{swapped_then, at_swapped, number_is, own_s
 use Rattle.fx_lasting.proofs.Running.{runs_within, does_then}
 use Rattle.fx_lasting.specs.Ends.{Does}
 use Rattle.fx_lasting.specs.range.Tries.{IsPlacing}
-use Rattle.fx_lasting.specs.slots.ByNode.{TriedExchange}
+use Rattle.fx_lasting.specs.slots.ByNode.{MayEmpty, TriedEmptying, TriedExchange}
+use Rattle.fx_lasting.specs.Laws.{Kind}
+use Rattle.fx_lasting.proofs.Words.{HasNoFile, IsOffCount, slots_of, ⊎_elim, inl}
+use Rattle.fx_lasting.proofs.slot_lemmas.Seeing.{takes_if_keep}
+use Rattle.fx_lasting.proofs.slot_lemmas.SwapsIf.{swaps_if_keep}
 use Rattle.fx_lasting.specs.slots.SwapSteps.{SwapsIf}
 use Rattle.fx_lasting.specs.declared.answers.Miss.TheVariants.{Empty, Other, Again}
 use Rattle.fx_lasting.proofs.Passing.{adds_so}
@@ -263,6 +267,32 @@ module _ {k : Start} {p : ℕ} {m : Sat} (at : IsAtWork k p m) (stock : List ℕ
         ),
         won.4 ∙ w.places,
       )
+
+  -- it did one of the two
+  pub emptied_so : (r : Result ℕ Miss) (now : List ℕ) (m' : Sat) → TriedEmptying TakesIf SwapsIf k slot node stock now m r m'
+      → TriedOut k slot node now m r m' × (m'.1 ≡ m.1)
+  emptied_so (Ok word) now m' tried = ⊎_elim
+      (λ w. subst (λ (l : List ℕ). TriedOut k slot node l m (Ok word) m' × (m'.1 ≡ m.1)) (sym w.0) (left_name (Ok word) m' w.1))
+      (λ w. subst (λ (l : List ℕ). TriedOut k slot node l m (Ok word) m' × (m'.1 ≡ m.1)) (sym w.3)
+      (moved_name w.0 (empty_word_of w.0) w.1 word m' w.2 refl w.4)) tried
+  emptied_so (Err miss) now m' it = ((it.0, it.1, it.2 ∙ its), it.3)
+
+-- an idle pass may empty the slot so
+pub may_empty : {k : Start} {p : ℕ} {m : Sat} → IsAtWork k p m → HasNoFile m.0.work → (slot node : ℕ) → slot < slots_of k → IsOffCount k slot m.0.change
+    → MayEmpty TakesIf SwapsIf k slot node m
+may_empty at idle slot node inside off = record {
+  left = λ slots id old tries m' still places named. takes_if_keep _ slots id _ slot old _ m' _ (still_at_work at still).pass
+      (rw still.work idle) inside (still.change ∙ off) refl refl;
+  swapped = λ own has slots id old tries m' still places named. let now = still_at_work at still in
+      swaps_if_keep _ slots id _ slot own old _ m' _ now.pass (rw still.work idle) inside (still.change ∙ off)
+      (has.0, ap (λ (l : List ℕ). get_elem? l has.0) (sym (stock_is now) ∙ still.stock) ∙ has.1) refl refl;
+}
+
+-- exchanges that left the name at the slot
+pub left_so : (leaves swaps : Kind) (k : Start) (slot node : ℕ) (stock : List ℕ) (m m' : Sat) (r : Result ℕ Miss)
+    → TriedExchange leaves k slot node None m r m' → TriedEmptying leaves swaps k slot node stock stock m r m'
+left_so leaves swaps k slot node stock m m' (Ok word) w = inl (refl, w)
+left_so leaves swaps k slot node stock m m' (Err miss) it = (it.0, it.1, refl, it.2)
 
 module _ {st : At} {m m₁ m₂ : Sat} {found n : ℕ} (still : Does m [] m.0.work n m₁) (few : n + 1 ≤ 4) (saw : Sees st m₁ found m₂) where
   pub lost_run : Does m [] m.0.work 4 m₂

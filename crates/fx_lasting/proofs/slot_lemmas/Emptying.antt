@@ -1,5 +1,5 @@
 -- A slot loses its file, whether the pass holds the file or nothing.
-use Rattle.fx_lasting.proofs.Words.{Round, ◌≡◌, ◌≢◌, ℕ, ◌+◌, ◌<◌, List, set, sym, refl, ap, ◌∙◌, arith, Option, None, get_elem?, some, Closed, File}
+use Rattle.fx_lasting.proofs.Words.{Round, ◌≡◌, ◌≢◌, ℕ, ◌<◌, List, sym, refl, ap, ◌∙◌, arith, Option, None, get_elem?, some, Closed, File}
 use Rattle.fx_lasting.proofs.Words.{Event, Action, State, changed_else, pass_event, part_of_pass, map, ◌++◌, Agrees, state_after_all, slots_of}
 use Rattle.fx_lasting.proofs.Words.{count_in, heat_in, full_name_in, name_in, taken_of, sum_set, Stepped, inl, IsOffCount, account, range_at_start}
 use Rattle.fx_lasting.proofs.Words.{removal_work, Whereabouts, IsInStock, as_swapped, first_log, without_file, name_left, no_file_left, no_takes_left}

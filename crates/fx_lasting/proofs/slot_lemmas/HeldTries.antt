@@ -1,18 +1,20 @@
 -- A removal by a pass that holds the file: what its steps leave.
-use Rattle.fx_lasting.proofs.Words.{◌≡◌, ℕ, ◌+◌, ◌-◌, ◌<◌, ◌≤◌, List, [], sym, ap, ◌∙◌, subst, arith, Option, Some, None, set, get_elem?, some, inr}
-use Rattle.fx_lasting.proofs.Words.{false, File, Release, Take, Close, ◌▷◌, Start, Sat, Work, Glance, Outside, Counted, Runs, Stepped}
-use Rattle.fx_lasting.proofs.Words.{Names, NamesANode, IsInStock, IsStockOf, as_stocked, as_swapped, full_name_in, name_in, nodes_of, pass_in}
-use Rattle.fx_lasting.proofs.Words.{node_of_number, account, range_at_start, IsAtWork, Ok, Closed, Adds, adds_then, no_use, DoesNothing}
+use Rattle.fx_lasting.proofs.Words.{◌≡◌, ℕ, ◌<◌, ◌≤◌, List, [], sym, ap, ◌∙◌, subst, arith, Option, Some, None, set, get_elem?, some, inr}
+use Rattle.fx_lasting.proofs.Words.{false, File, Release, Take, Close, ◌▷◌, Start, Sat, Work, Glance, Outside, Counted, Runs}
+use Rattle.fx_lasting.proofs.Words.{Names, IsStockOf, as_stocked, as_swapped, pass_in}
+use Rattle.fx_lasting.proofs.Words.{node_of_number, range_at_start, IsAtWork, Ok, Closed, Adds, adds_then, no_use, DoesNothing}
 use Rattle.fx_lasting.proofs.Words.{ReleasesFile, Released, LookedUp, Opening, PassView, Holding, Hold, TableId, LastingPass, IsPassOf, IsBetweenCalls, opening_of, view_of, pass_of}
 use Rattle.fx_lasting.proofs.Words.{Change, Doing, HasActed, HasTriedIf, Miss, KeyFault, TriesKey, fault_for, meetings, LookedByKey, HeldByKey, WasSo, FitsMiss, IsSeenBy, ⊎_elim, inl}
 use Rattle.fx_lasting.proofs.slot_lemmas.ByNode.{acts_then, at_once, begun_at, its_own, names_inside, with_stock, stock_moved, was_further}
 use Rattle.fx_lasting.proofs.Passing.{adds_so}
-use Rattle.fx_lasting.proofs.Running.{runs_within, swapped_then, number_is, own_stock}
+use Rattle.fx_lasting.proofs.Running.{runs_within, swapped_then, number_is, own_stock, stock_is, still_at_work}
 use Rattle.fx_lasting.proofs.slot_lemmas.Watching.{acted_further}
 use Rattle.fx_lasting.specs.slots.Alone.{TriedOutHeld, LeftAlone}
 use Rattle.fx_lasting.specs.Ends.{Does}
 use Rattle.fx_lasting.specs.Laws.{Kind}
-use Rattle.fx_lasting.specs.slots.ByNode.{TriedExchange, WonExchange}
+use Rattle.fx_lasting.specs.slots.ByNode.{MayEmpty, TriedEmptying, TriedExchange, WonExchange}
+use Rattle.fx_lasting.proofs.Words.{IsOffCount, slots_of, refl}
+use Rattle.fx_lasting.proofs.slot_lemmas.SwapsHeld.{swaps_held_keep, takes_held_keep}
 use Rattle.fx_lasting.specs.slots.SwapSteps.{SwapsHeld, TakesHeld}
 use Rattle.fx_lasting.proofs.Words.{Err, Result, empty_word_of, slot_of}
 use Rattle.fx_lasting.proofs.Words.{Bool, Guarded, HasItsHold, HoldsAlone, is_guarding, leaving_work}
@@ -69,6 +71,25 @@ module _ {k : Start} {p : ℕ} {m : Sat} (at : IsAtWork k p m) (stock : List ℕ
             (subst (λ (l : List ℕ). Acts w z.0 z.1 (as_stocked l m) 4 k slot m.0.glance (is_guarding m.0.work)) same run),
         z.4 ∙ w.places,
       )
+
+  -- it did one of the two
+  pub emptied_held : (r : Result ℕ Miss) (now : List ℕ) (m' : Sat) → TriedEmptying TakesHeld SwapsHeld k slot node stock now m r m'
+      → TriedOutHeld k slot node now m r m' × (m'.1 ≡ m.1)
+  emptied_held (Ok word) now m' tried = ⊎_elim
+      (λ w. subst (λ (l : List ℕ). TriedOutHeld k slot node l m (Ok word) m' × (m'.1 ≡ m.1)) (sym w.0) (left_held (Ok word) m' w.1))
+      (λ w. subst (λ (l : List ℕ). TriedOutHeld k slot node l m (Ok word) m' × (m'.1 ≡ m.1)) (sym w.3)
+      (moved_held w.0 (empty_word_of w.0) w.1 word m' w.2 refl w.4)) tried
+  emptied_held (Err miss) now m' it = ((it.0, it.1, it.2 ∙ its), it.3)
+
+  -- it may empty the slot so
+  pub may_empty_held : slot < slots_of k → IsOffCount k slot m.0.change → MayEmpty TakesHeld SwapsHeld k slot node m
+  may_empty_held inside off = record {
+    left = λ slots id old tries m' still places named. takes_held_keep _ slots id _ slot old _ node f m' _ (still_at_work at still).pass
+        (subst (λ (w : Work). HoldsAlone w f node) (sym still.work) works) named inside (still.change ∙ off) refl refl;
+    swapped = λ own has slots id old tries m' still places named. let now = still_at_work at still in
+        swaps_held_keep _ slots id _ slot own old _ node f m' _ now.pass (subst (λ (w : Work). HoldsAlone w f node) (sym still.work) works) named inside
+        (still.change ∙ off) (has.0, ap (λ (l : List ℕ). get_elem? l has.0) (sym (stock_is now) ∙ still.stock) ∙ has.1) refl refl;
+  }
 
 -- a pass that holds a file, and has done nothing more
 pub adds_held : {id : TableId} {k : Start} {p : LastingPass} {f : File} {hold : Hold} → IsPassOf id k p → (view_of p).doing ≡ Holding f hold → {m' : Sat}

@@ -1,12 +1,12 @@
 -- A replacement by a pass that holds the slot's file keeps the rule: the hold ends with the step,
 -- and the removal counts the takes without the pass's own.
 use Rattle.fx_lasting.proofs.Words.{◌≡◌, ◌≢◌, ℕ, ◌+◌, ◌-◌, ◌^◌, ◌<◌, List, [], ◌∷◌, sym, refl, ap, ◌∙◌, subst, arith, Option, Some, none, some, ◌≤◌}
-use Rattle.fx_lasting.proofs.Words.{Action, changed_at, gives, rest, eqb, either, Closed, File, numbered, Event, Release, Put, ◌▷◌, State, pass_event, WorkAgrees}
-use Rattle.fx_lasting.proofs.Words.{HoldsAt, IsIn, part_of_pass, map, ◌++◌, state_after_all, slots_of, slot_place, count_in, full_name_in}
+use Rattle.fx_lasting.proofs.Words.{Action, changed_at, gives, rest, eqb, either, Closed, File, numbered, Event, Release, Put, ◌▷◌, State, WorkAgrees}
+use Rattle.fx_lasting.proofs.Words.{HoldsAt, IsIn, state_after_all, slots_of, slot_place, full_name_in}
 use Rattle.fx_lasting.proofs.Words.{file_word_of, label_of, as_written, placed, taking, held_in, bit_here, bit_else, Outside, Renewing, ReplacesHeld}
-use Rattle.fx_lasting.proofs.Words.{ReplacesHeldKeep, step, exchanged, IsInStock, Bool, true, false, Round, StillNames, HoldsBesides, HasItsHold}
+use Rattle.fx_lasting.proofs.Words.{ReplacesHeldKeep, step, exchanged, IsInStock, Bool, true, false, Round, HoldsBesides}
 use Rattle.fx_lasting.proofs.Words.{HoldAgrees, GuardAgrees, IsAllowed, Work, Placement, Relieving, ⊎_elim, hold_word_of, guarded_round, first_visit}
-use Rattle.fx_lasting.proofs.Words.{new_round, removal_work, leaving_work, is_guarding, Stepped, as_swapped, account, range_at_start, name_in}
+use Rattle.fx_lasting.proofs.Words.{new_round, is_guarding, Stepped, as_swapped, account, range_at_start, name_in}
 use Rattle.fx_lasting.proofs.node_lemmas.StockMoves.{names_a_node}
 use Rattle.fx_lasting.proofs.Histories.{legal_more, same_shape}
 use Rattle.fx_lasting.proofs.Frames.{busy}

@@ -1,15 +1,30 @@
 -- A step on the word of a slot, whose file stays there.
 use Rattle.fx_lasting.proofs.Words.{alone_in, inl, true, Deed, untouched, has_acted, has_heated, heat_in, ◌≡◌, ◌≢◌, ℕ, ◌+◌, ◌<◌, ◌≤◌, List, [], set}
-use Rattle.fx_lasting.proofs.Words.{sym, refl, ap, ◌∙◌, subst, arith, Option, Some, None, Bool, held_by, File, Event, NodeAgrees, IsAllowed}
+use Rattle.fx_lasting.proofs.Words.{sym, refl, ap, ◌∙◌, subst, arith, Option, Some, None, held_by, File, Event, NodeAgrees, IsAllowed}
 use Rattle.fx_lasting.proofs.Words.{SlotAgrees, Names, Agrees, slots_of, nodes_of, state_after_all, held_in, held_of, taken_of, taking, Phase, free}
 use Rattle.fx_lasting.proofs.Words.{placed, seated, leaving, retired, emptied, kept, Work, Glance, ⊎_elim, ◌⊎◌, inr, dite, ℕ_discrete, slot_place}
 use Rattle.fx_lasting.proofs.Words.{word_of, count_in, name_in, full_name_in, entry_in, IsHot, cold_takes, tally, birth_word, owed, sum_set, sum_by}
-use Rattle.fx_lasting.proofs.Words.{get_elem?, length-set, MayBeUnmarked, dec_le, suc, written_in, MOST_SLOTS, without_slot}
+use Rattle.fx_lasting.proofs.Words.{get_elem?, length-set, MayBeUnmarked, MOST_SLOTS, without_slot}
 use Rattle.fx_lasting.proofs.Frames.{busy, nodes_untouched, slot_same, node_same, Leaves, keeps_other, guards_same, covers_hot}
 use Rattle.fx_lasting.proofs.Keeping.{Turn, After, as_it_was, Keeps, word_at, slot_word, sees_all, stocks_untouched, step_kept, w, end, its_log}
 use Rattle.fx_lasting.proofs.Keeping.{range_left, LeavesFiles}
 use Rattle.fx_lasting.proofs.Places.{slot_words, slot_here, slot_node, slot_else, slot_by, slot_hold, slot_alike, slot_list, slot_label}
 use Rattle.fx_lasting.proofs.slot_lemmas.Watching.{MovesOn, ActsThere, watch_none}
+
+-- a slot's new word names the file that the old one named, and a hot slot stays hot
+pub record NamesSame (new old : ℕ) : Type 0 where
+  pub own : name_in new ≡ name_in old
+  pub full : full_name_in new ≡ full_name_in old
+  pub entry : entry_in new ≡ entry_in old
+  pub hot : IsHot old → IsHot new
+
+-- the slot's new word counts what passes have done there, after a deed of the pass
+pub record DeedStep (turn : Turn) (s new : ℕ) (deed' : ℕ → ℕ → Deed) : Type 0 where
+  pub takes : count_in new ≤ cold_takes turn.v.start.passes + tally (λ p. has_acted (deed' s p)) turn.v.start.passes
+  pub heat : heat_in new ≡ tally (λ p. has_heated (deed' s p)) turn.v.start.passes
+  pub elsewhere : (i q : ℕ) → i ≢ s → deed' i q ≡ turn.r.deed i q
+  pub others : (q : ℕ) → q ≢ turn.x.number → deed' s q ≡ turn.r.deed s q
+  pub its : deed' s turn.x.number ≢ untouched → (turn.r.deed s turn.x.number ≢ untouched) ⊎ (turn.x.listed ≡ true)
 
 module _ (turn : Turn) (s : ℕ) (inside : s < slots_of turn.v.start) (new : ℕ) (h' : List Event) (d : Work) (g : Glance) (deed' : ℕ → ℕ → Deed) where
   open turn use {st, v, r, id, x, here, one}
@@ -33,18 +48,10 @@ module _ (turn : Turn) (s : ℕ) (inside : s < slots_of turn.v.start) (new : ℕ
 
   pub record SlotStep : Type 0 where
     pub files : LeavesFiles turn h'
-    -- the word names the same file, and stays hot
-    pub own_name : name_in new ≡ name_in old
-    pub name : full_name_in new ≡ full_name_in old
-    pub entry : entry_in new ≡ entry_in old
-    pub hot : IsHot old → IsHot new
+    pub names : NamesSame new old
     -- the pass acted there, or heated it
     pub moved : ActsThere x.number s r.history h' ⊎ (heat_in old < heat_in new)
-    pub takes : count_in new ≤ cold_takes v.start.passes + tally (λ p. has_acted (deed' s p)) v.start.passes
-    pub heat : heat_in new ≡ tally (λ p. has_heated (deed' s p)) v.start.passes
-    pub deed_else : (i q : ℕ) → i ≢ s → deed' i q ≡ r.deed i q
-    pub deed_other : (q : ℕ) → q ≢ x.number → deed' s q ≡ r.deed s q
-    pub deed_own : deed' s x.number ≢ untouched → (r.deed s x.number ≢ untouched) ⊎ (x.listed ≡ true)
+    pub deeds : DeedStep turn s new deed'
     -- the takes of the file's node, and those of others
     pub counts : (n : ℕ) (f : File) → n < nodes_of v.start → r.phase n ≡ seated s f
         → word_at st.words (word_of v.start n) + count_in new ≡ birth_word + sum_by (taken_of n) (set st.views id (w turn slot_after))
@@ -69,32 +76,32 @@ module _ (turn : Turn) (s : ℕ) (inside : s < slots_of turn.v.start) (new : ℕ
     at_is i = ap (λ (f : ℕ → Option File). f i) p.files.at
 
     same_name : (i : ℕ) → full_name_in (slot_word words' i) ≡ full_name_in (slot_word st.words i)
-    same_name = slot_by turn s inside new (λ i word. full_name_in word ≡ full_name_in (slot_word st.words i)) p.name (λ i other. refl)
+    same_name = slot_by turn s inside new (λ i word. full_name_in word ≡ full_name_in (slot_word st.words i)) p.names.full (λ i other. refl)
 
     same_own_name : (i : ℕ) → i < slots_of v.start → name_in (slot_word words' i) ≡ name_in (slot_word st.words i)
-    same_own_name i l = slot_by turn s inside new (λ i word. name_in word ≡ name_in (slot_word st.words i)) p.own_name (λ i other. refl) i
+    same_own_name i l = slot_by turn s inside new (λ i word. name_in word ≡ name_in (slot_word st.words i)) p.names.own (λ i other. refl) i
 
     slot_now : SlotAgrees v.start r.node_of r.phase (deed' s) s ((state_after_all v.start h').at s) (slot_word words' s)
     slot_now = let o = r.slots s inside in rw (slot_here turn s inside new, at_is s)
-        record { names = names ((state_after_all v.start r.history).at s) o.names; seat = o.seat; takes = p.takes; heat = p.heat }
+        record { names = names ((state_after_all v.start r.history).at s) o.names; seat = o.seat; takes = p.deeds.takes; heat = p.deeds.heat }
       where
         names : (found : Option File) → Names r.node_of old found → Names r.node_of new found
-        names None o = p.name ∙ o
-        names (Some f) o = (p.name ∙ o.0, p.entry ∙ o.1)
+        names None o = p.names.full ∙ o
+        names (Some f) o = (p.names.full ∙ o.0, p.names.entry ∙ o.1)
 
     leaves : Leaves turn slot_after
     leaves = record {
-      guards = λ q e other range. guards_same turn slot_after q e (slot_hold turn s inside new q range.0) refl (covers_slot p.hot q);
+      guards = λ q e other range. guards_same turn slot_after q e (slot_hold turn s inside new q range.0) refl (covers_slot p.names.hot q);
       owned = λ n some not_mine. refl;
       spare = λ n q e is at other. is;
       open_file = λ j u f n other there holds at. at;
       slots = λ i q l other. dite (ℕ_discrete i s)
           (λ same. inr (
-            ap (λ (j : ℕ). deed' j q) same ∙ (p.deed_other q other ∙ sym (ap (λ (j : ℕ). r.deed j q) same)),
+            ap (λ (j : ℕ). deed' j q) same ∙ (p.deeds.others q other ∙ sym (ap (λ (j : ℕ). r.deed j q) same)),
             same_name i,
-            hot_on p.hot i,
+            hot_on p.names.hot i,
           ))
-          (λ ne. inr (p.deed_else i q ne, same_name i, hot_on p.hot i));
+          (λ ne. inr (p.deeds.elsewhere i q ne, same_name i, hot_on p.names.hot i));
     }
 
     abbrev Node : ℕ → Phase → Type 0
@@ -143,7 +150,7 @@ module _ (turn : Turn) (s : ℕ) (inside : s < slots_of turn.v.start) (new : ℕ
       slots = record {
         each = λ i l. dite (ℕ_discrete i s) (λ same. rw same slot_now)
             (λ other. slot_same (slot_else turn s inside new i other) (at_is i)
-            (λ q low high. p.deed_else i q other) (λ f there seat. refl) (r.slots i l));
+            (λ q low high. p.deeds.elsewhere i q other) (λ f there seat. refl) (r.slots i l));
         moves = λ i l. slot_by turn s inside new (λ i word. MovesOn x.number i r.history h' (slot_word st.words i) word) (inr p.moved) (λ i other. inl refl) i;
       };
       holds = record {
@@ -157,9 +164,9 @@ module _ (turn : Turn) (s : ℕ) (inside : s < slots_of turn.v.start) (new : ℕ
         words = λ i few. inl (slot_list turn s inside new i few);
         takers = λ i q l is. dite (ℕ_discrete i s)
             (λ same. let here : deed' s q ≢ untouched = λ e. is (ap (λ (j : ℕ). deed' j q) same ∙ e) in dite (ℕ_discrete q x.number)
-            (λ own. ⊎_elim (λ before. inl (λ e. before (sym (λ k. r.deed (same k) (own k)) ∙ e))) (λ has. inr (own, has)) (p.deed_own (λ e. here (ap (deed' s) own ∙ e))))
-            (λ other. inl (λ e. here (p.deed_other q other ∙ (sym (ap (λ (j : ℕ). r.deed j q) same) ∙ e)))))
-            (λ ne. inl (λ e. is (p.deed_else i q ne ∙ e)));
+            (λ own. ⊎_elim (λ before. inl (λ e. before (sym (λ k. r.deed (same k) (own k)) ∙ e))) (λ has. inr (own, has)) (p.deeds.its (λ e. here (ap (deed' s) own ∙ e))))
+            (λ other. inl (λ e. here (p.deeds.others q other ∙ (sym (ap (λ (j : ℕ). r.deed j q) same) ∙ e)))))
+            (λ ne. inl (λ e. is (p.deeds.elsewhere i q ne ∙ e)));
         its_bit = λ l. inl l;
       };
       range = range_left turn slot_after p.files.at (slot_alike turn s inside new) refl refl;

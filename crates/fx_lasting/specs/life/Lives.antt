@@ -1,5 +1,5 @@
 -- Passes as they are handed out and gathered.
-use Rattle.std.specs.Prelude.{◌≡◌, ℕ, ◌+◌, ◌-◌, true, false, List, [], flat_map, Option}
+use Rattle.std.specs.Prelude.{◌≡◌, ◌≤◌, ℕ, ◌+◌, ◌-◌, true, false, List, [], flat_map, Option}
 use Rattle.atomic_table.specs.declared.shared.Seat.{Seat}
 use mathlib.Core.Option.{some}
 use lib.ListN.{get_elem?}
@@ -11,6 +11,7 @@ use Rattle.fx_lasting.specs.Agrees.{Agrees}
 use Rattle.fx_lasting.specs.life.Closing.{files_with_slots}
 use Rattle.fx_lasting.specs.life.Cuts.{new_logs, first_view}
 use Rattle.fx_lasting.specs.Passes.{Shared, HasNoFile, state_after_all}
+use Rattle.fx_lasting.specs.declared.life.layout.TheConstants.{MOST_PASSES, MOST_INSTALLING}
 use Rattle.fx_lasting.specs.declared.pass.LastingPass.{LastingPass}
 use Rattle.fx_lasting.specs.declared.table.LastingTable.{LastingTable}
 use Rattle.fx_lasting.specs.declared.view.Change.TheVariants.{Outside}
@@ -18,6 +19,11 @@ use Rattle.fx_lasting.specs.declared.view.Glance.TheVariants.{None as Nothing}
 use Rattle.fx_lasting.specs.declared.view.Log.{Log}
 use Rattle.fx_lasting.specs.declared.view.Start.{Start}
 use Rattle.fx_lasting.specs.declared.view.View.{View}
+
+-- a table may have this number of passes, and the first `installing` of them install files
+abbrev pub ArePasses : (installing passes : ℕ) → Type 0
+ArePasses installing passes = (1 ≤ passes) × (passes ≤ MOST_PASSES) × (1 ≤ installing)
+    × (installing ≤ MOST_INSTALLING) × (installing ≤ passes)
 
 -- the view of a seat that has the new passes from p to the last
 abbrev pub dealt : Start → ℕ → View

@@ -1,8 +1,6 @@
 -- The removal by a key that one pass makes: the pass holds the file of the key, and its hold ends
 -- with the step that empties the slot.
-use Rattle.std.specs.Prelude.{◌≡◌, ℕ, ◌+◌, ◌<◌, ◌⊎◌, List, [], Option, Some, None, Result, Ok, Err}
-use mathlib.Core.Option.{some}
-use lib.ListN.{get_elem?}
+use Rattle.std.specs.Prelude.{◌≡◌, ℕ, ◌+◌, ◌⊎◌, List, [], Option, Some, None, Result, Ok, Err}
 use Rattle.fx_base.specs.Identity.{Identity}
 use Rattle.fx_plain.specs.History.{◌▷◌}
 use Rattle.fx_plain.specs.declared.event.Action.TheVariants.{Release, Take}
@@ -19,11 +17,11 @@ use Rattle.fx_lasting.specs.slots.ByNode.{FailedIf, FitsMiss, WasSo}
 use Rattle.fx_lasting.specs.slots.ByKey.{HeldByKey, HoldsAtKey, IsKeyOf, LookedByKey, TriesKey}
 use Rattle.fx_lasting.specs.slots.ByKey.{fault_for}
 use Rattle.fx_lasting.specs.Fields.{full_name_in}
-use Rattle.fx_lasting.specs.Passes.{Sat, HoldsAlone, is_guarding, nodes_of, node_of_number}
+use Rattle.fx_lasting.specs.Passes.{Sat, HoldsAlone, is_guarding, node_of_number}
 use Rattle.fx_lasting.specs.Runs.{Runs}
 use Rattle.fx_lasting.specs.nodes.Stocks.{IsStockOf}
 use Rattle.fx_lasting.specs.Tables.{opening_of, view_of}
-use Rattle.fx_lasting.specs.Effects.{HasItsHold, as_stocked, as_swapped, leaving_work, pass_in}
+use Rattle.fx_lasting.specs.Effects.{HasItsHold, as_stocked, leaving_work, pass_in}
 use Rattle.fx_lasting.specs.declared.answers.Miss.{Miss}
 use Rattle.fx_lasting.specs.declared.answers.TakenIf.{TakenIf}
 use Rattle.fx_lasting.specs.declared.answers.TakenIf.TheVariants as taken

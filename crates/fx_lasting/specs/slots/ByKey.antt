@@ -18,10 +18,6 @@ use Rattle.fx_lasting.specs.Tables.{opening_of, view_of}
 use Rattle.fx_lasting.specs.slots.Watches.{HasActed}
 use Rattle.fx_lasting.specs.declared.answers.Miss.{Miss}
 use Rattle.fx_lasting.specs.declared.answers.Miss.TheVariants as miss
-use Rattle.fx_lasting.specs.declared.answers.PutIf.{PutIf}
-use Rattle.fx_lasting.specs.declared.answers.PutIf.TheVariants as put
-use Rattle.fx_lasting.specs.declared.answers.TakenIf.{TakenIf}
-use Rattle.fx_lasting.specs.declared.answers.TakenIf.TheVariants as taken
 use Rattle.fx_lasting.specs.declared.key.Key.{Key}
 use Rattle.fx_lasting.specs.declared.key_answers.KeyFault.{KeyFault}
 use Rattle.fx_lasting.specs.declared.key_answers.KeyFault.TheVariants.{NoSlot, Empty, Other, Again}

@@ -1,6 +1,6 @@
 -- The calls that empty or replace a slot if its file is on a node that the caller names.
 use Rattle.std.specs.Prelude.{◌≡◌, ◌≢◌, ℕ, ◌+◌, ◌<◌, List, [], Option, Some, None, Result}
-use Rattle.std.specs.Prelude.{Ok, Err, ◌⊎◌, ◌==◌}
+use Rattle.std.specs.Prelude.{Ok, Err, ◌⊎◌, ◌==◌, slice_set}
 use mathlib.Core.Option.{some, none}
 use prog.Atomic.{either}
 use Rattle.atomic_table.specs.Table.{step, Allows}
@@ -18,14 +18,14 @@ use Rattle.fx_table.specs.declared.values.Doing.TheVariants.{Retiring as Retires
 use Rattle.fx_lasting.specs.slots.SlotAgrees.{Names}
 use Rattle.fx_lasting.specs.Ends.{Does}
 use Rattle.fx_lasting.specs.holds.HeldFiles.{IsOneOnItsNode}
-use Rattle.fx_lasting.specs.Fields.{full_name_in, without_file}
+use Rattle.fx_lasting.specs.Fields.{empty_word_of, full_name_in, without_file}
 use Rattle.fx_lasting.specs.Agrees.{Agrees}
 use Rattle.fx_lasting.specs.Laws.{Kind}
 use Rattle.fx_lasting.specs.life.Layout.{slot_place}
 use Rattle.fx_lasting.specs.Passes.{Sat, nodes_of, node_of_number, state_after_all}
 use Rattle.fx_lasting.specs.Runs.{Runs}
 use Rattle.fx_lasting.specs.Tables.{opening_of, view_of, meetings}
-use Rattle.fx_lasting.specs.nodes.Stocks.{IsStockOf}
+use Rattle.fx_lasting.specs.nodes.Stocks.{IsInStock, IsStockOf}
 use Rattle.fx_lasting.specs.Effects.{At, Sees, as_stocked, as_swapped, pass_in, retiring_work}
 use Rattle.fx_lasting.specs.Effects.{MeetsOne, slot_of}
 use Rattle.fx_lasting.specs.slots.Watches.{HasActed}
@@ -169,6 +169,24 @@ abbrev pub TriedExchange : Kind → Start → ℕ → ℕ → Option ℕ → Sat
 TriedExchange kind k slot node new m (Ok word) m' = WonExchange kind slot node new m word m'
 TriedExchange kind k slot node new m (Err miss) m' =
     FailedIf k slot node miss m m' × Does m [] m.0.work 4 m' × (m'.1 ≡ m.1)
+
+-- a pass may empty the slot by such exchanges: by steps of one kind, which leave the name at the
+-- slot, and by steps of another one, after which the slot names a node of the pass's stock
+pub record MayEmpty (leaves swaps : Kind) (k : Start) (slot node : ℕ) (m : Sat) : Type 0 where
+  pub left : MayExchange leaves k slot node None m
+  pub swapped : (own : ℕ) → IsInStock (pass_in m).stock own
+      → MayExchange swaps k slot node (Some (empty_word_of own)) m
+
+-- a pass that tried to empty a slot by such steps; it had the stock `before`, and has this stock now
+abbrev pub TriedEmptying : (leaves swaps : Kind) → Start → (slot node : ℕ)
+    → (before stock : List ℕ) → Sat → Result ℕ Miss → Sat → Type 0
+TriedEmptying leaves swaps k slot node before stock m (Ok word) m' =
+    ((stock ≡ before) × TriedExchange leaves k slot node None m (Ok word) m')
+    ⊎ ((own : ℕ) × (entry : ℕ) × (get_elem? before entry ≡ some own)
+    × (stock ≡ slice_set before entry node)
+    × TriedExchange swaps k slot node (Some (empty_word_of own)) m (Ok word) m')
+TriedEmptying leaves swaps k slot node before stock m (Err miss) m' =
+    FailedIf k slot node miss m m' × Does m [] m.0.work 4 m' × (stock ≡ before) × (m'.1 ≡ m.1)
 
 -- a pass that tried to empty a slot, whose word named the node, and has this stock now
 abbrev pub TriedOut : Start → (slot node : ℕ) → List ℕ → Sat → Result ℕ Miss → Sat → Type 0

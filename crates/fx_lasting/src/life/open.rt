@@ -8,7 +8,7 @@ ghost use Rattle.fx_table.specs.Opening.{IsGivenBack, lasting_opening, size_of};
 ghost use Rattle.fx_table.specs.Pass.{IsIdle};
 ghost use Rattle.fx_lasting.specs.life.Firsts.{AreFirstWords, AreLabelled, AreNamed};
 ghost use Rattle.fx_lasting.specs.life.Layout.{slot_place, node_place, words_for, stock_of, stocks_back};
-ghost use Rattle.fx_lasting.specs.life.Lives.{HasAllPasses, IsNewPass};
+ghost use Rattle.fx_lasting.specs.life.Lives.{ArePasses, HasAllPasses, IsNewPass};
 ghost use Rattle.fx_lasting.specs.Fields.{birth_word, file_word_of};
 ghost use Rattle.fx_lasting.specs.Passes.{empty_slots};
 ghost use Rattle.fx_lasting.specs.Tables.{view_of, opening_of_table, first_passes, IsPassOfTable};
@@ -113,16 +113,13 @@ impl LastingTable {
     {
         let stocks = first_stocks(alloc, slots, passes, installing)?;
         let mut list = Vec::with_capacity(alloc, passes as usize)?;
-        match LastingTable::start_sparse(alloc, slots, range, passes, installing) {
-            Ok((table, seat)) => {
-                table.deal(seat, &mut list, stocks);
-                Ok((table, list))
-            }
-            Err(refused) => {
-                list.destroy_empty();
-                Err(refused)
-            }
-        }
+        let started = LastingTable::start_sparse(alloc, slots, range, passes, installing);
+        let Ok((table, seat)) = started else {
+            list.destroy_empty();
+            return Err(NoMemory);
+        };
+        table.deal(seat, &mut list, stocks);
+        Ok((table, list))
     }
 
     // Creates the shared table with empty slots, and a seat with all passes.
@@ -135,9 +132,7 @@ impl LastingTable {
     ) -> Result<(LastingTable, Seat<Option<OpenFile>, View>), NoMemory>
         requires size { size ≤ MOST_SLOTS }
         requires range { range.0 + range.1 ≤ size }
-        requires passes { (1 ≤ passes) × (passes ≤ MOST_PASSES) }
-        requires installing { (1 ≤ installing) × (installing ≤ MOST_INSTALLING) }
-        requires of_all { installing ≤ passes }
+        requires passes { ArePasses installing passes }
         ensures opened { IfOk result (λ (t, _).
             opening_of_table t ≡ lasting_opening (empty_slots size range) passes) }
         ensures installing { IfOk result (λ (t, _). t.table.shared.key.installing ≡ installing) }
@@ -177,9 +172,7 @@ impl LastingTable {
         installing: u32,
     ) -> Result<(LastingTable, Seat<Option<OpenFile>, View>), (PlainTable, NoMemory)>
         requires settled { IsSettled (state_of plain) }
-        requires passes { (1 ≤ passes) × (passes ≤ MOST_PASSES) }
-        requires installing { (1 ≤ installing) × (installing ≤ MOST_INSTALLING) }
-        requires of_all { installing ≤ passes }
+        requires passes { ArePasses installing passes }
         ensures opened { IfOk result (λ (t, _).
             opening_of_table t ≡ lasting_opening plain passes) }
         ensures installing { IfOk result (λ (t, _). t.table.shared.key.installing ≡ installing) }

@@ -7,19 +7,16 @@ ghost use Rattle.std.specs.Prelude.{◌≡◌, ℕ, ◌+◌, ◌<◌, ◌≤◌,
 ghost use Rattle.fx_plain.specs.declared.event.File.{File};
 ghost use Rattle.fx_table.specs.Opening.{size_of};
 ghost use Rattle.fx_table.specs.Pass.{IsHoldOf, IsIdle};
-ghost use Rattle.fx_lasting.specs.slots.Alone.{HasTakenHeld, TakesAlone, TriedOutHeld};
+ghost use Rattle.fx_lasting.specs.slots.Alone.{HasTakenHeld, TakesAlone};
 ghost use Rattle.fx_words.specs.Words.{entry_in};
 ghost use Rattle.fx_lasting.specs.AtWork.{IsAtWork};
 ghost use Rattle.fx_lasting.specs.Ends.{Does};
 ghost use Rattle.fx_lasting.specs.slots.ByNode.{TriesTake};
-ghost use Rattle.fx_lasting.specs.Laws.{IsOffCount};
 ghost use Rattle.fx_lasting.specs.Fields.{full_name_in};
-ghost use Rattle.fx_lasting.specs.Effects.{HasItsHold, leaving_work, pass_in, retiring_work};
-ghost use Rattle.fx_lasting.specs.Passes.{HoldsAlone};
+ghost use Rattle.fx_lasting.specs.Effects.{HasItsHold, leaving_work, retiring_work};
 ghost use Rattle.fx_lasting.specs.Tables.{view_of, steps_taken, opening_of_table, IsPassOfTable};
 
-use crate::answers::{Miss, TakenIf};
-use crate::fields::empty_word;
+use crate::answers::TakenIf;
 use crate::key::Key;
 use crate::key_answers::{KeyLook, KeyTaken};
 use crate::kinds::{EndingHold, SwappingHeld, TakingHeld};
@@ -104,7 +101,9 @@ impl LastingTable {
         let inside = self.is_in_range(slot);
         self.lower(&mut pass.seat, slot, inside);
         let entry = pass.next_entry;
-        match self.try_out_held(&mut pass.seat, &mut pass.stock, entry, slot, node, word) {
+        let seat = &mut pass.seat;
+        let stock = &mut pass.stock;
+        match self.try_out::<TakingHeld, SwappingHeld>(seat, stock, entry, slot, node, word) {
             Ok(found) => {
                 let found = self.end_hold(&mut pass.seat, pass.number, pass.guarded, found);
                 pass.next_visit = self.first_visit(found);
@@ -149,41 +148,5 @@ impl LastingTable {
             return word;
         }
         word - 1
-    }
-
-    // Empties the slot while its word names the node, whose file the pass holds, in at most four
-    // steps. The hold ends then. Returns the word that it found. The slot names the node at the
-    // entry of the stock then, and the stock has the node that the slot named. A pass without a
-    // stock leaves the name at the slot.
-    #[inline(always)]
-    fn try_out_held(
-        &self,
-        seat: &mut Seat<Option<OpenFile>, View>,
-        stock: &mut Vec<u32>,
-        entry: u32,
-        slot: u32,
-        node: u32,
-        word: u64,
-    ) -> Result<u64, Miss>
-        requires table { seat.old.table_id ≡ self.now.table.shared.table_id }
-        requires at { (number : ℕ) × IsAtWork self.now.table.shared.key number seat.old.me }
-        requires held { (f : File) × HoldsAlone seat.old.me.0.work f node }
-        requires stock { stock.old.items ≡ (pass_in seat.old.me).stock }
-        requires slot { slot < self.now.size }
-        requires off { IsOffCount self.now.table.shared.key slot seat.old.me.0.change }
-        requires named { full_name_in word ≡ node + 1 }
-        ensures table { seat.new.table_id ≡ seat.old.table_id }
-        ensures places { seat.new.me.1 ≡ seat.old.me.1 }
-        ensures tried { TriedOutHeld self.now.table.shared.key slot node stock.new.items
-            seat.old.me result seat.new.me }
-    {
-        let at = entry as usize;
-        if stock.len() <= at {
-            return self.try_exchange::<TakingHeld>(seat, slot, node, word, None);
-        }
-        let own = Some(empty_word(stock[at]));
-        let found = self.try_exchange::<SwappingHeld>(seat, slot, node, word, own)?;
-        stock[at] = node;
-        Ok(found)
     }
 }

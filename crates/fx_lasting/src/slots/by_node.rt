@@ -12,12 +12,10 @@ ghost use Rattle.fx_table.specs.Opening.{size_of};
 ghost use Rattle.fx_table.specs.Pass.{IsIdle};
 ghost use Rattle.fx_words.specs.Words.{entry_in};
 ghost use Rattle.fx_lasting.specs.AtWork.{IsAtWork};
-ghost use Rattle.fx_lasting.specs.slots.ByNode.{HasPutIf, HasTakenIf, SawIf, SaysIf, TriedOut};
+ghost use Rattle.fx_lasting.specs.slots.ByNode.{HasPutIf, HasTakenIf, SawIf, SaysIf};
 ghost use Rattle.fx_lasting.specs.slots.ByNode.{TriedReplace, TriesPut, TriesTake};
-ghost use Rattle.fx_lasting.specs.slots.ByNode.{MayExchange, SeesIfLost, TriedExchange, word_put};
-ghost use Rattle.fx_lasting.specs.Laws.{IsOffCount};
+ghost use Rattle.fx_lasting.specs.slots.ByNode.{MayEmpty, MayExchange, TriedEmptying, SeesIfLost, TriedExchange, word_put};
 ghost use Rattle.fx_lasting.specs.Fields.{count_in, full_name_in};
-ghost use Rattle.fx_lasting.specs.Passes.{HasNoFile};
 ghost use Rattle.fx_lasting.specs.Effects.{pass_in};
 ghost use Rattle.fx_lasting.specs.Tables.{view_of, steps_taken, opening_of_table, IsPassOfTable};
 ghost use Rattle.fx_lasting.specs.range.Tries.{IsPlacing};
@@ -58,7 +56,9 @@ impl LastingTable {
         let inside = self.is_in_range(slot);
         self.lower(&mut pass.seat, slot, inside);
         let entry = pass.next_entry;
-        match self.try_out(&mut pass.seat, &mut pass.stock, entry, slot, node, word) {
+        let seat = &mut pass.seat;
+        let stock = &mut pass.stock;
+        match self.try_out::<TakingIf, SwappingIf>(seat, stock, entry, slot, node, word) {
             Ok(found) => {
                 pass.next_visit = self.first_visit(found);
                 pass.idle = false;
@@ -132,10 +132,11 @@ impl LastingTable {
     }
 
     // Empties the slot while its word names the node, in at most four steps. Returns the word that
-    // it found. The slot names the node at the entry of the stock then, and the stock has the node
-    // that the slot named. A pass without a stock leaves the name at the slot.
+    // it found. By steps of the kind `S` the slot names the node at the entry of the stock then,
+    // and the stock has the node that the slot named. A pass without a stock leaves the name at the
+    // slot, by steps of the kind `L`.
     #[inline(always)]
-    fn try_out(
+    pub(crate) fn try_out<L: Play<Option<OpenFile>, View>, S: Play<Option<OpenFile>, View>>(
         &self,
         seat: &mut Seat<Option<OpenFile>, View>,
         stock: &mut Vec<u32>,
@@ -146,22 +147,21 @@ impl LastingTable {
     ) -> Result<u64, Miss>
         requires table { seat.old.table_id ≡ self.now.table.shared.table_id }
         requires at { (number : ℕ) × IsAtWork self.now.table.shared.key number seat.old.me }
-        requires idle { HasNoFile seat.old.me.0.work }
         requires stock { stock.old.items ≡ (pass_in seat.old.me).stock }
         requires slot { slot < self.now.size }
-        requires off { IsOffCount self.now.table.shared.key slot seat.old.me.0.change }
         requires named { full_name_in word ≡ node + 1 }
+        requires may { MayEmpty L.then S.then self.now.table.shared.key slot node seat.old.me }
+        requires loses { SeesIfLost L.then × SeesIfLost S.then }
         ensures table { seat.new.table_id ≡ seat.old.table_id }
-        ensures places { seat.new.me.1 ≡ seat.old.me.1 }
-        ensures tried { TriedOut self.now.table.shared.key slot node stock.new.items seat.old.me
-            result seat.new.me }
+        ensures tried { TriedEmptying L.then S.then self.now.table.shared.key slot node
+            stock.old.items stock.new.items seat.old.me result seat.new.me }
     {
         let at = entry as usize;
         if stock.len() <= at {
-            return self.try_exchange::<TakingIf>(seat, slot, node, word, None);
+            return self.try_exchange::<L>(seat, slot, node, word, None);
         }
         let own = Some(empty_word(stock[at]));
-        let found = self.try_exchange::<SwappingIf>(seat, slot, node, word, own)?;
+        let found = self.try_exchange::<S>(seat, slot, node, word, own)?;
         stock[at] = node;
         Ok(found)
     }

@@ -1,9 +1,9 @@
 use Rattle.fx_lasting.proofs.Words.{IsOnList, TableId, Start, LastingPass, IsPassOf, ◌≡◌, ℕ, ◌<◌, refl, ap, ◌∙◌, subst, arith, sym, true, false}
-use Rattle.fx_lasting.proofs.Words.{IsHot, Look, ◌▷◌, [], None, Hot, Cold, slot_of, opening_of, view_of, pass_of, Adds, LookedAfter, LookedUp, no_use}
+use Rattle.fx_lasting.proofs.Words.{IsHot, Look, ◌▷◌, [], None, Hot, Cold, opening_of, view_of, pass_of, Adds, LookedAfter, LookedUp, no_use}
 use Rattle.fx_lasting.proofs.Words.{one_look, PassView, DoesNothing}
 use Rattle.fx_lasting.proofs.Calling.{slot_inside, slot_low}
 use Rattle.fx_lasting.proofs.hold_lemmas.Looking.{glances_keep}
-use Rattle.fx_lasting.proofs.Places.{slot_back}
+use Rattle.fx_lasting.proofs.Places.{slot_said}
 use Rattle.fx_lasting.proofs.Running.{runs_goes, no_name, its_name}
 use Rattle.fx_lasting.proofs.Passing.{adds_so, at_ease, still_pass, still_seat, after_then, up_then, its_idle, its_flag}
 use Rattle.fx_lasting.proofs.node_lemmas.Settled.{still_idle}
@@ -27,7 +27,7 @@ returns-in_default c =
     let s = c.settle.ensures.fits.seated in
     let goes = c.load-word.ensures.2.empty (no_name c.load-word.result c.in_default.ensures) in
     let run = at_ease s (runs_goes goes) in
-    let here : slot_of c.slot_place.result ≡ c.args.slot = ap slot_of c.slot_place.ensures ∙ slot_back c.args.slot in
+    let here = slot_said c.slot_place.ensures in
     record {
       fits = still_pass s _ run (refl, refl) c.load-word.ensures.0 (goes.carried ∙ s.places) (refl, s.next)
           (its_flag c.settle.ensures.fits (still_idle c.settle.ensures.same c.requires.idle), c.settle.ensures.unkept);
@@ -47,13 +47,12 @@ look_first-requires c =
     let s = c.settle.ensures.fits.seated in
     let cold : IsHot c.load-word.result × IsOnList c.settle.new.pass.seat.me → ⊥ = λ h. let bad : true ≡ false = sym h.1 ∙ (sym s.listed ∙ c.if-not-pass.true) in cc bad in
     let goes = c.load-word.ensures.2.cold c.in-Some.node (its_name c.load-word.result c.in-Some.node c.in-Some.ensures) cold in
-    let here : slot_of c.slot_place.result ≡ c.args.slot = ap slot_of c.slot_place.ensures ∙ slot_back c.args.slot in
     record {
       seated = still_seat s _ (at_ease s (runs_goes goes)) (refl, refl) c.load-word.ensures.0 (goes.carried ∙ s.places) (refl, s.next);
       idle = goes.stepped.work;
       unkept = c.settle.ensures.unkept;
       unlisted = c.if-not-pass.true;
-      cold = goes.stepped.glance ∙ ap (λ (z : ℕ). Cold z) here;
+      cold = goes.stepped.glance ∙ ap (λ (z : ℕ). Cold z) (slot_said c.slot_place.ensures);
       slot = omega (arith, c.requires.slot, c.args.self.now.same_size);
     }
 
@@ -80,13 +79,12 @@ look_hot-requires c =
     let s = c.settle.ensures.fits.seated in
     let goes = (c.load-word.ensures.2.hot c.in-Some.node (its_name c.load-word.result c.in-Some.node c.in-Some.ensures)
     (c.is_hot.ensures.0 c.if-is_hot.true) (listed_so c.settle.ensures.fits c.if-not-pass.false)).0 in
-    let here : slot_of c.slot_place.result ≡ c.args.slot = ap slot_of c.slot_place.ensures ∙ slot_back c.args.slot in
     record {
       seated = still_seat s _ (at_ease s (runs_goes goes)) (refl, refl) c.load-word.ensures.0 (goes.carried ∙ s.places) (refl, s.next);
       idle = goes.stepped.work;
       unkept = c.settle.ensures.unkept;
       listed = goes.stepped.listed ∙ listed_so c.settle.ensures.fits c.if-not-pass.false;
-      hot = goes.stepped.glance ∙ ap (λ (z : ℕ). Hot z c.in-Some.node) here;
+      hot = goes.stepped.glance ∙ ap (λ (z : ℕ). Hot z c.in-Some.node) (slot_said c.slot_place.ensures);
       slot = omega (arith, c.requires.slot, c.args.self.now.same_size);
     }
 
@@ -113,13 +111,12 @@ look_cold-found-requires c =
     let s = c.settle.ensures.fits.seated in
     let cold : IsHot c.load-word.result × IsOnList c.settle.new.pass.seat.me → ⊥ = λ h. let bad : true ≡ false = sym (c.is_hot.ensures.1 h.0) ∙ c.if-is_hot.false in cc bad in
     let goes = c.load-word.ensures.2.cold c.in-Some.node (its_name c.load-word.result c.in-Some.node c.in-Some.ensures) cold in
-    let here : slot_of c.slot_place.result ≡ c.args.slot = ap slot_of c.slot_place.ensures ∙ slot_back c.args.slot in
     record {
       seated = still_seat s _ (at_ease s (runs_goes goes)) (refl, refl) c.load-word.ensures.0 (goes.carried ∙ s.places) (refl, s.next);
       idle = goes.stepped.work;
       unkept = c.settle.ensures.unkept;
       listed = goes.stepped.listed ∙ listed_so c.settle.ensures.fits c.if-not-pass.false;
-      cold = goes.stepped.glance ∙ ap (λ (z : ℕ). Cold z) here;
+      cold = goes.stepped.glance ∙ ap (λ (z : ℕ). Cold z) (slot_said c.slot_place.ensures);
       slot = omega (arith, c.requires.slot, c.args.self.now.same_size);
     }
 

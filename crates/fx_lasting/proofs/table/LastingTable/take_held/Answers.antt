@@ -3,14 +3,21 @@ use Rattle.fx_lasting.proofs.Words.{Release, Take, Some, Bool, true, uncounted, 
 use Rattle.fx_lasting.proofs.Words.{count_in, retired_at, opening_of, view_of, pass_of, Adds, no_use, Retired, File, Names, node_of_number, not, ◌≡◌}
 use Rattle.fx_table.specs.declared.values.Doing.TheVariants.{Retiring as Retires}
 use Rattle.fx_lasting.proofs.slot_lemmas.ByNode.{stands_then, missed_so, tried_none, tried_so, value_so, removal_so}
-use Rattle.fx_lasting.proofs.slot_lemmas.HeldTries.{adds_held, held_flags}
+use Rattle.fx_lasting.proofs.slot_lemmas.HeldTries.{adds_held, emptied_held, held_flags, may_empty_held}
 use Rattle.fx_lasting.proofs.slot_lemmas.SwapsHeld.{held_alone}
 use Rattle.fx_lasting.proofs.Passing.{at_rest, still_pass, holds_alone, knows_removed, first_by}
 use Rattle.fx_lasting.proofs.slot_lemmas.Removals.{at_stocked, adds_stocked, stocked_pass, stocked_then}
 use Rattle.fx_lasting.proofs.Running.{still_at_work, does_then, turns_then, number_is}
 use Rattle.fx_lasting.specs.slots.Alone.{TriedOutHeld}
 use Rattle.fx_lasting.proofs.Words.{HasItsHold, HoldsAlone, IsAtWork, Ok, Sat, Work, held_in, is_guarding, leaving_work}
+use Rattle.fx_lasting.proofs.Words.{◌<◌, Change, Glance, Holding, Hold, IsPassOf, LastingPass, Runs, TableId}
+use Rattle.fx_lasting.proofs.Calling.{slot_low}
 use Rattle.fx_lasting.proofs.table.LastingTable.take_held.Goals as goal
+
+-- a pass that holds a file holds it by itself after some steps
+alone_after : {id : TableId} {k : Start} {p : LastingPass} {f : File} {hold : Hold} {m' : Sat} {g : Glance} {c : Change} {n : ℕ} → IsPassOf id k p
+    → Runs p.seat.me [] p.seat.me.0.work g c n m' → (view_of p).doing ≡ Holding f hold → HoldsAlone m'.0.work f hold.node
+alone_after {f = f} {hold = hold} fits run holds = subst (λ (w : Work). HoldsAlone w f hold.node) (sym run.work) (holds_alone fits holds)
 
 pub see-requires-clause-slot : goal.see-requires-clause-slot
 see-requires-clause-slot c = omega (arith, c.requires.slot, c.args.self.now.same_size)
@@ -35,21 +42,26 @@ lower-requires-clause-at c = (c.args.pass.now.number, still_at_work c.requires.f
 pub lower-requires-clause-change : goal.lower-requires-clause-change
 lower-requires-clause-change c = c.in-Ok.ensures.saw.2.change ∙ c.requires.fits.seated.change
 
-pub try_out_held-requires : goal.try_out_held-requires
-try_out_held-requires c =
+pub try_out-requires : goal.try_out-requires
+try_out-requires c =
     let t = c.args.self.now in
     let f = c.requires.fits in
     let h = c.requires.held in
     let saw = c.in-Ok.ensures.saw in
     let began = c.lower.ensures in
+    let inside : c.args.slot < t.size = omega (arith, c.requires.slot, t.same_size) in
+    let at = still_at_work (still_at_work f.seated.at saw.2) began.runs in
+    let first = turns_then saw.2 began.runs in
+    let stock = f.seated.stock ∙ sym first.stock in
     record {
       table = began.table ∙ (c.see.ensures.table ∙ f.seated.table);
-      at = (c.args.pass.now.number, still_at_work (still_at_work f.seated.at saw.2) began.runs);
-      held = (h.0, subst (λ (w : Work). HoldsAlone w h.0 c.args.hold.now.node) (sym (began.runs.work ∙ saw.2.work)) (holds_alone f h.1));
-      slot = omega (arith, c.requires.slot, t.same_size);
-      stock = f.seated.stock ∙ sym (turns_then saw.2 began.runs).stock;
-      off = began.runs.change ∙ ap (λ (b : Bool). uncounted b true (group_of (range_at_start t.table.shared.key) c.args.slot)) c.is_in_range-inside.ensures;
+      at = (c.args.pass.now.number, at);
+      stock = stock;
+      slot = inside;
       named = saw.0;
+      may = may_empty_held at c.args.pass.now.stock.items stock c.args.slot c.args.hold.now.node h.0 (alone_after f first h.1) (slot_low t inside)
+          (began.runs.change ∙ ap (λ (b : Bool). uncounted b true (group_of (range_at_start t.table.shared.key) c.args.slot)) c.is_in_range-inside.ensures);
+      loses = (λ st m found m' did. did.loses, λ st m found m' did. did.loses);
     }
 
 -- the seat after the exchange
@@ -64,21 +76,22 @@ end_hold-found-requires c =
     let h = c.requires.held in
     let saw = c.in-Ok.ensures.saw in
     let began = c.lower.ensures in
-    let took = c.in-Ok-try_out_held.ensures.tried in
-    let word = c.in-Ok-try_out_held.found in
+    let word = c.in-Ok-try_out.found in
     let first = turns_then saw.2 began.runs in
+    let took = (emptied_held (still_at_work fits.seated.at first) c.args.pass.now.stock.items (fits.seated.stock ∙ sym first.stock) c.args.slot c.args.hold.now.node
+    h.0 (alone_after fits first h.1) (Ok word) c.try_out.new.stock.items c.try_out.new.seat.me c.in-Ok-try_out.ensures.tried).0 in
     let flags = held_flags k.passes c.args.pass.now (holds_alone fits h.1) fits.knows in
     let guards = ap is_guarding first.work ∙ flags.2 in
     record {
-      table = c.try_out_held.ensures.table ∙ (began.table ∙ (c.see.ensures.table ∙ fits.seated.table));
-      at = at_removed k c.args.pass.now.number c.args.slot c.args.hold.now.node word c.lower.new.seat.me c.try_out_held.new.seat.me c.try_out_held.new.stock.items
+      table = c.try_out.ensures.table ∙ (began.table ∙ (c.see.ensures.table ∙ fits.seated.table));
+      at = at_removed k c.args.pass.now.number c.args.slot c.args.hold.now.node word c.lower.new.seat.me c.try_out.new.seat.me c.try_out.new.stock.items
           (still_at_work fits.seated.at first) took;
       left = (took.0, took.6.work ∙ ap (λ (b : Bool). leaving_work k b word took.0) guards);
       hold = subst (λ (b : Bool). HasItsHold b word) guards took.4;
     }
 
-pub returns-in-Ok-try_out_held : goal.returns-in-Ok-try_out_held
-returns-in-Ok-try_out_held c =
+pub returns-in-Ok-try_out : goal.returns-in-Ok-try_out
+returns-in-Ok-try_out c =
     let t = c.args.self.now in
     let k : Start = t.table.shared.key in
     let fits = c.requires.fits in
@@ -86,18 +99,20 @@ returns-in-Ok-try_out_held c =
     let h = c.requires.held in
     let saw = c.in-Ok.ensures.saw in
     let began = c.lower.ensures in
-    let took = c.in-Ok-try_out_held.ensures.tried in
-    let word = c.in-Ok-try_out_held.found in
+    let word = c.in-Ok-try_out.found in
     let ends = c.end_hold-found.ensures in
     let found = c.end_hold-found.result in
     let f = h.0 in
     let x = c.removed_by.result in
     let its = c.removed_by.ensures in
-    let stock = c.try_out_held.new.stock.items in
+    let stock = c.try_out.new.stock.items in
     let m = c.args.pass.now.seat.me in
     let m₂ = c.lower.new.seat.me in
     let m₄ = c.end_hold-found.new.seat.me in
     let first = turns_then saw.2 began.runs in
+    let tried = emptied_held (still_at_work s.at first) c.args.pass.now.stock.items (s.stock ∙ sym first.stock) c.args.slot c.args.hold.now.node
+    h.0 (alone_after fits first h.1) (Ok word) stock c.try_out.new.seat.me c.in-Ok-try_out.ensures.tried in
+    let took = tried.0 in
     let alone = holds_alone fits h.1 in
     let flags = held_flags k.passes c.args.pass.now alone fits.knows in
     let guards = ap is_guarding first.work ∙ flags.2 in
@@ -113,8 +128,8 @@ returns-in-Ok-try_out_held c =
     let v = view_of c.args.pass.now in
     let w = pass_of m₄.0 in
     record {
-      fits = stocked_pass s stock its_stock _ run (refl, refl) (ends.table ∙ (c.try_out_held.ensures.table ∙ (began.table ∙ c.see.ensures.table)))
-          (ends.places ∙ (c.try_out_held.ensures.places ∙ (began.places ∙ (c.see.ensures.places ∙ s.places)))) (refl, s.next)
+      fits = stocked_pass s stock its_stock _ run (refl, refl) (ends.table ∙ (c.try_out.ensures.table ∙ (began.table ∙ c.see.ensures.table)))
+          (ends.places ∙ (tried.1 ∙ (began.places ∙ (c.see.ensures.places ∙ s.places)))) (refl, s.next)
           (knows_removed k found (Some f) (Some (retired_at f (full_name_in found - 1) (count_in found))) _ c.args.pass.now.guarded _ _ c.args.pass.now.next_entry stock flags.1 refl
           (ap not (sym flags.0)) (c.first_visit-pass.ensures ∙ first_by t found));
       taken = (
@@ -133,46 +148,46 @@ raise-requires c =
     let f = c.requires.fits in
     let saw = c.in-Ok.ensures.saw in
     let began = c.lower.ensures in
-    let tried = stands_then (turns_then saw.2 began.runs) c.in-Err-try_out_held.ensures.tried.1 in
+    let tried = stands_then (turns_then saw.2 began.runs) c.in-Err-try_out.ensures.tried.1 in
     record {
-      table = c.try_out_held.ensures.table ∙ (began.table ∙ (c.see.ensures.table ∙ f.seated.table));
+      table = c.try_out.ensures.table ∙ (began.table ∙ (c.see.ensures.table ∙ f.seated.table));
       at = (c.args.pass.now.number, still_at_work f.seated.at tried);
       inside = c.is_in_range-inside.ensures;
       change = tried.change;
     }
 
-pub returns-in-Err-try_out_held : goal.returns-in-Err-try_out_held
-returns-in-Err-try_out_held c =
+pub returns-in-Err-try_out : goal.returns-in-Err-try_out
+returns-in-Err-try_out c =
     let k : Start = c.args.self.now.table.shared.key in
     let fits = c.requires.fits in
     let s = fits.seated in
     let h = c.requires.held in
     let saw = c.in-Ok.ensures.saw in
     let began = c.lower.ensures in
-    let failed = c.in-Err-try_out_held.ensures.tried in
+    let failed = c.in-Err-try_out.ensures.tried in
     let end = c.raise.ensures in
     let p = c.args.pass.now in
     let m = p.seat.me in
     let m₁ = c.see.new.seat.me in
     let m₂ = c.lower.new.seat.me in
-    let m₃ = c.try_out_held.new.seat.me in
+    let m₃ = c.try_out.new.seat.me in
     let m₄ = c.raise.new.seat.me in
     let first = turns_then saw.2 began.runs in
     let run = turns_then (stands_then first failed.1) end.runs in
-    let same_stock = failed.2 ∙ (first.stock ∙ sym s.stock) in
+    let same_stock = failed.2 in
     record {
       fits = still_pass s _ (subst (λ (g : Glance). Runs m [] m.0.work g Outside 9 m₄) fits.calm run) (refl, refl)
-          (end.table ∙ (c.try_out_held.ensures.table ∙ (began.table ∙ c.see.ensures.table)))
-          (end.places ∙ (c.try_out_held.ensures.places ∙ (began.places ∙ (c.see.ensures.places ∙ s.places)))) (same_stock, s.next)
+          (end.table ∙ (c.try_out.ensures.table ∙ (began.table ∙ c.see.ensures.table)))
+          (end.places ∙ (failed.3 ∙ (began.places ∙ (c.see.ensures.places ∙ s.places)))) (same_stock, s.next)
           (subst (λ (l : List ℕ). IsBetweenCalls k.passes p.idle p.guarded p.keeps p.next_visit l p.next_entry m.0.work) (sym same_stock) fits.knows);
       taken = (
         h.0,
         h.1,
-        missed_so k c.args.slot c.args.hold.now.node m m₁ m₂ m₃ m₄ c.in-Err-try_out_held.miss saw.1 failed.0 first.seen
+        missed_so k c.args.slot c.args.hold.now.node m m₁ m₂ m₃ m₄ c.in-Err-try_out.miss saw.1 failed.0 first.seen
             (turns_then (stands_then began.runs failed.1) end.runs).seen end.runs.seen,
         adds_held fits h.1 run,
       );
-      tries = tried_so k c.args.slot c.args.hold.now.node p (record p { seat = c.raise.new.seat; stock = c.try_out_held.new.stock }) m₂ m₃
-          first.number (first.start ∙ s.at.pass.0) first.seen first.met end.runs.seen end.runs.met c.in-Err-try_out_held.miss failed.0;
+      tries = tried_so k c.args.slot c.args.hold.now.node p (record p { seat = c.raise.new.seat; stock = c.try_out.new.stock }) m₂ m₃
+          first.number (first.start ∙ s.at.pass.0) first.seen first.met end.runs.seen end.runs.met c.in-Err-try_out.miss failed.0;
       steps = let few = run.steps in omega arith;
     }

@@ -2,7 +2,9 @@ use Rattle.fx_lasting.proofs.Words.{ℕ, List, sym, IsStockOf, IsBetweenCalls, a
 use Rattle.fx_lasting.proofs.Words.{Take, Some, Bool, true, false, uncounted, group_of, range_at_start, Start, Glance, Outside, Runs, full_name_in}
 use Rattle.fx_lasting.proofs.Words.{IsSeenBy, pass_in, count_in, retired_at, opening_of, view_of, pass_of, Adds, no_use, PassView, Retired, HasTakenIf}
 use Rattle.fx_table.specs.declared.values.Doing.TheVariants.{Retiring as Retires}
-use Rattle.fx_lasting.proofs.slot_lemmas.ByNode.{stands_then, missed_so, tried_none, tried_so, value_so, removal_so, is_on, adds_none}
+use Rattle.fx_lasting.proofs.slot_lemmas.ByNode.{emptied_so, may_empty, stands_then, missed_so, tried_none, tried_so, value_so, removal_so, is_on, adds_none}
+use Rattle.fx_lasting.proofs.Calling.{slot_low}
+use Rattle.fx_lasting.proofs.Words.{◌<◌, Ok}
 use Rattle.fx_lasting.proofs.Passing.{at_rest, still_pass, its_idle, knows_removed, first_by}
 use Rattle.fx_lasting.proofs.slot_lemmas.Removals.{adds_stocked, stocked_pass, stocked_then}
 use Rattle.fx_lasting.proofs.Running.{still_at_work, turns_then, number_is}
@@ -39,14 +41,18 @@ try_out-requires c =
     let f = c.settle.ensures.fits in
     let saw = c.in-Ok.ensures.saw in
     let began = c.lower.ensures in
+    let inside : c.args.slot < t.size = omega (arith, c.requires.slot, t.same_size) in
+    let at = still_at_work (still_at_work f.seated.at saw.2) began.runs in
     record {
       table = began.table ∙ (c.see.ensures.table ∙ f.seated.table);
-      at = (c.settle.new.pass.number, still_at_work (still_at_work f.seated.at saw.2) began.runs);
-      idle = rw (began.runs.work ∙ saw.2.work) (its_idle f (still_idle c.settle.ensures.same c.requires.idle) c.settle.ensures.unkept);
-      slot = omega (arith, c.requires.slot, t.same_size);
+      at = (c.settle.new.pass.number, at);
       stock = f.seated.stock ∙ sym (turns_then saw.2 began.runs).stock;
-      off = began.runs.change ∙ ap (λ (b : Bool). uncounted b true (group_of (range_at_start t.table.shared.key) c.args.slot)) c.is_in_range-inside.ensures;
+      slot = inside;
       named = saw.0;
+      may = may_empty at (rw (began.runs.work ∙ saw.2.work) (its_idle f (still_idle c.settle.ensures.same c.requires.idle) c.settle.ensures.unkept))
+          c.args.slot c.args.node (slot_low t inside)
+          (began.runs.change ∙ ap (λ (b : Bool). uncounted b true (group_of (range_at_start t.table.shared.key) c.args.slot)) c.is_in_range-inside.ensures);
+      loses = (λ st m found m' did. did.loses, λ st m found m' did. did.loses);
     }
 
 pub returns-in-Ok-try_out : goal.returns-in-Ok-try_out
@@ -57,9 +63,7 @@ returns-in-Ok-try_out c =
     let s = fits.seated in
     let saw = c.in-Ok.ensures.saw in
     let began = c.lower.ensures in
-    let took = c.in-Ok-try_out.ensures.tried in
     let found = c.in-Ok-try_out.found in
-    let f = took.0 in
     let x = c.removed_by.result in
     let its = c.removed_by.ensures in
     let stock = c.try_out.new.stock.items in
@@ -67,6 +71,10 @@ returns-in-Ok-try_out c =
     let m₂ = c.lower.new.seat.me in
     let m₃ = c.try_out.new.seat.me in
     let first = turns_then saw.2 began.runs in
+    let tried = emptied_so (still_at_work s.at first) c.settle.new.pass.stock.items (s.stock ∙ sym first.stock) c.args.slot c.args.node (Ok found) stock m₃
+    c.in-Ok-try_out.ensures.tried in
+    let took = tried.0 in
+    let f = took.0 in
     let its_stock = subst (λ (n : ℕ). IsStockOf k n stock) (number_is (still_at_work s.at first)) took.3 in
     let run = subst (λ (g : Glance). Runs (as_stocked stock m) ([] ▷ Take c.args.slot (Some f)) (retiring_work k found (Some f)) g Outside 8 m₃) fits.calm
     (stocked_then stock first (subst (λ (g : Glance). Runs (as_stocked stock m₂) ([] ▷ Take c.args.slot (Some f)) (retiring_work k found (Some f)) g Outside 4 m₃)
@@ -75,7 +83,7 @@ returns-in-Ok-try_out c =
     let w = pass_of c.try_out.new.seat.me.0 in
     record {
       fits = stocked_pass s stock its_stock _ run (refl, refl) (c.try_out.ensures.table ∙ (began.table ∙ c.see.ensures.table))
-          (c.try_out.ensures.places ∙ (began.places ∙ (c.see.ensures.places ∙ s.places))) (refl, s.next)
+          (tried.1 ∙ (began.places ∙ (c.see.ensures.places ∙ s.places))) (refl, s.next)
           (knows_removed k found (Some f) (Some (retired_at f (full_name_in found - 1) (count_in found))) _ false _ _ c.settle.new.pass.next_entry stock c.settle.ensures.unkept refl refl
           (c.first_visit-pass.ensures ∙ first_by t found));
       taken = subst (λ (z : PassView). HasTakenIf c.args.self.now.table.shared.key z c.args.slot c.args.node (Removed c.removed_by.result) (pass_of c.try_out.new.seat.me.0)) c.settle.ensures.same (
@@ -121,11 +129,11 @@ returns-in-Err-try_out c =
     let first = turns_then saw.2 began.runs in
     let run = turns_then (stands_then first failed.1) end.runs in
     let p = c.settle.new.pass in
-    let same_stock = failed.2 ∙ (first.stock ∙ sym s.stock) in
+    let same_stock = failed.2 in
     record {
       fits = still_pass s _ (subst (λ (g : Glance). Runs m [] m.0.work g Outside 9 m₄) fits.calm run) (refl, refl)
           (end.table ∙ (c.try_out.ensures.table ∙ (began.table ∙ c.see.ensures.table)))
-          (end.places ∙ (c.try_out.ensures.places ∙ (began.places ∙ (c.see.ensures.places ∙ s.places)))) (same_stock, s.next)
+          (end.places ∙ (failed.3 ∙ (began.places ∙ (c.see.ensures.places ∙ s.places)))) (same_stock, s.next)
           (subst (λ (l : List ℕ). IsBetweenCalls k.passes p.idle p.guarded p.keeps p.next_visit l p.next_entry m.0.work) (sym same_stock) fits.knows);
       taken = subst (λ (z : PassView). HasTakenIf c.args.self.now.table.shared.key z c.args.slot c.args.node (Missed c.in-Err-try_out.miss) (pass_of c.raise.new.seat.me.0)) c.settle.ensures.same
           (record {

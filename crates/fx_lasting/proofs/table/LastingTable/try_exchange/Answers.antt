@@ -1,4 +1,4 @@
-use Rattle.fx_lasting.proofs.Words.{◌≤◌, ◌+◌, ℕ, refl, ap, ◌∙◌, arith, slot_of, full_name_in, subst, sym, Option, step, Closed, none, At, Sees, ◌≢◌}
+use Rattle.fx_lasting.proofs.Words.{◌≤◌, ◌+◌, ℕ, refl, ap, ◌∙◌, arith, slot_of, full_name_in, subst, sym, step, none, At, Sees, ◌≢◌}
 use Rattle.fx_lasting.proofs.Calling.{slot_inside}
 use Rattle.fx_lasting.proofs.slot_lemmas.ByNode.{lost_run, lost_so, stands_then}
 use Rattle.fx_lasting.proofs.slot_lemmas.Overtaking.{Tried, tried_nothing, tried_more}
