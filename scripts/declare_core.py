@@ -5,7 +5,7 @@ each of these files that differs, and ends with status 1 if one does."""
 import re
 
 from scripts.checks import arguments
-from tests.page_numbers import constant
+from tests.number_sources import constant
 from scripts.repository import ROOT, read, write
 
 WIDTH = 100

@@ -4,13 +4,14 @@ preconditions; that its reading list has the files and lines that the headline's
 the examples in README.md and docs/inside/LIBRARY.md; that each refusal in crates/WRONG_BODIES.md exists; the types and functions that any
 page names; the atomic steps of calls in docs/inside/PROOFS.md; the options of each command; and each number of the pages, by the
 rows of tests/numbers.txt (page_numbers.py). So it finds a page that is older than the code. Each kind of claims has some, and a wrong
-page of each is refused. `check-claims --draft REASON` writes rows for numbers that have none; `check-claims --spoil N` changes a digit
-of each of N numbers, at random, and prints the changes that are not noticed.
+page of each is refused. It prints a row for each number that has none. `check-claims --spoil N` changes a digit of each of N numbers, at
+random, and prints the changes that are not noticed.
 
 A claim is written '`f`, `g`: `x`, `y`; `h`: `z`': f and g both have the clauses x and y, and h has z. Without clauses it refers to
 the whole contract. A word with a capital letter is a definition that the contract cites."""
 import collections
 import contextlib
+import copy
 import glob
 import io
 import os
@@ -29,9 +30,9 @@ PROOFS, BODIES = "docs/inside/PROOFS.md", "crates/WRONG_BODIES.md"
 CALLER = "Preconditions of the public calls"
 # the least number of claims of each kind
 LEAST = {"tables": 600, "conditions": 85, "reading list": 4, "promises": 6, "wrong bodies": 480, "quotes": 170,
-         "atomic steps": 14, "options": 20, "wrong claims": 3, "pages": 450, "numbers": 530, "wrong numbers": 66}
-# the least number of rows of tests/numbers.txt that are computed, in a file, or run by a check
-LEAST_HELD = 740
+         "atomic steps": 14, "options": 20, "wrong claims": 3, "pages": 450, "numbers": 1350, "wrong numbers": 66}
+# the least number of numbers that are computed, in a file, or run by a check
+LEAST_HELD = 1300
 # where the reading list of docs/inside/PROOFS.md begins
 HEADLINE = "crates/fx_ring/specs/Submission.antt"
 
@@ -227,20 +228,23 @@ WRONG_ROWS = (
 def numbers_of_pages(claims, spoiled):
     """Each number of a page is in a row of tests/numbers.txt, and each row is right. Wrong rows, and numbers with another digit,
     are noticed."""
-    claims.kind, those = "numbers", page_numbers.read_rows()
-    for path in sorted({*page_numbers.pages(), *those}):
-        found = list(page_numbers.complaints(path, read(path), those.get(path, [])))
-        for it in found:
+    claims.kind, those, kinds = "numbers", page_numbers.read_rows(), collections.Counter()
+    every, pages = page_numbers.of_every_page(those), {it: page_numbers.Page(it, read(it)) for it in page_numbers.pages()}
+    for (row, reason), part in zip(those.pop(page_numbers.EVERY), every, strict=True):
+        is_held = any(part in it.text for it in pages.values()) and not page_numbers.lacks_source("", row, reason)
+        claims.want(is_held, f"no page has, or nothing holds, this row of every page: {row}")
+    claims.want(those.keys() <= pages.keys(), f"{page_numbers.ROWS} has rows of no page: {those.keys() - pages.keys()}")
+    for path, page in pages.items():
+        for it in page_numbers.complaints(page, those.get(path, []), every, kinds):
             claims.want(False, it)
-        for _ in those.get(path, [])[len(found) :]:
-            claims.want(True, path)
-    kinds = collections.Counter(page_numbers.kind_of(*row) for rows in those.values() for row in rows)
+    for _ in range(kinds.total()):
+        claims.want(True, "")
     print("# numbers: " + ", ".join(f"{count} {kind}" for kind, count in kinds.most_common()))
     held = kinds.total() - kinds["explained"]
-    claims.want(held >= LEAST_HELD, f"{held} rows of numbers are computed, in a file or run by a check, and not {LEAST_HELD}")
+    claims.want(held >= LEAST_HELD, f"{held} numbers are computed, in a file or run by a check, and not {LEAST_HELD}")
     claims.kind = "wrong numbers"
     for row in (RIGHT_ROW, *WRONG_ROWS):
-        is_refused = any(page_numbers.complaints("README.md", PAGE_OF_ROWS, [row]))
+        is_refused = any(page_numbers.complaints(page_numbers.Page("README.md", PAGE_OF_ROWS), [row]))
         claims.want(is_refused == (row != RIGHT_ROW), f"{'nothing' if row != RIGHT_ROW else 'something'} is said of the row {row} of {PAGE_OF_ROWS!r}")
     for what, is_noticed in page_numbers.spoiled(random.Random(spoiled), spoiled):
         claims.want(is_noticed, f"a wrong number isn't noticed: {what}")
@@ -359,19 +363,15 @@ def quotes(claims):
 def wrong_pages(claims):
     """Claims that are wrong, each of which is refused."""
     for names, clauses in ((["no_such_function"], []), (["PlainTable::release"], ["no_such_clause"]), (["fx_order::no_such_law"], [])):
+        tried = copy.copy(claims)
+        tried.kinds = collections.Counter()
         with contextlib.redirect_stdout(io.StringIO()):
-            before, seen, kinds = claims.wrong, claims.seen, claims.kinds.copy()
-            claims.claim("a wrong page", names, clauses, list(claims.found))
-            is_refused = claims.wrong == before + 1
-        claims.wrong, claims.seen, claims.kinds = before, seen, kinds
-        claims.want(is_refused, f"the wrong claim {names} {clauses} is taken for a right one")
+            tried.claim("a wrong page", names, clauses, list(claims.found))
+        claims.want(tried.wrong == claims.wrong + 1, f"the wrong claim {names} {clauses} is taken for a right one")
 
 
 def command():
-    given = arguments("check-claims [--draft REASON] [--spoil N]", options={"spoil": 60}, words=("draft",))
-    if given.draft:
-        page_numbers.draft(given.draft)
-        return 0
+    given = arguments("check-claims [--spoil N]", options={"spoil": 60})
     claims = Claims()
     headings, told = tables_of_proofs(claims)
     for claims.kind, what in (("conditions", lambda: claims.conditions(told)), ("reading list", lambda: reading_list(claims)),
