@@ -1,8 +1,10 @@
 """declare-core [--check]: writes the declarations of the core's exports for C and Rust, from the sources of fx_server_c and fx_server:
 bindings/c/core.h and bindings/rust/src/access/exports.rs; the functions and the limits of yachtbanyan(3) and yachtdirect(3), from the
-headers; and the numbers of the table of docs/use/LIMITS.md, from the constants that its rows name. With --check it writes nothing, prints
-each of these files that differs, and ends with status 1 if one does."""
+headers; the numbers of the table of docs/use/LIMITS.md, from the constants that its rows name; and the version, from VERSION, in each file
+that has it. With --check it writes nothing, prints each of these files that differs, and ends with status 1 if one does."""
+import contextlib
 import re
+import textwrap
 
 from scripts.checks import arguments
 from tests.number_sources import constant
@@ -40,33 +42,26 @@ class Export:
     def for_c(self):
         """Returns its declaration in lines of at most 100 columns."""
         head = f"{'int64_t' if self.result else 'void'} {self.name}("
-        lines, line = [], head
-        for at, (name, kind, _) in enumerate(self.parameters):
-            word = f"{kind}{name}" + (");" if at == len(self.parameters) - 1 else ",")
-            space = "" if line.endswith("(") or not line.strip() else " "
-            if len(line + space + word) > WIDTH:
-                lines.append(line)
-                line, space = " " * len(head), ""
-            line += space + word
-        return "\n".join([*lines, line])
+        given = ", ".join(f"{kind}{name}".replace(" ", "\0") for name, kind, _ in self.parameters)
+        return folded(f"{given});", head, " " * len(head)).replace("\0", " ")
 
     def for_rust(self):
         """Returns its declaration as rustfmt lays it out."""
         given = [f"{name}: {kind}" for name, _, kind in self.parameters]
-        result = " -> i64" if self.result else ""
-        line = f"    pub(crate) fn {self.name}({', '.join(given)}){result};"
-        if len(line) <= WIDTH:
-            return line
-        return "\n".join([f"    pub(crate) fn {self.name}(", *(f"        {it}," for it in given), f"    ){result};"])
+        broken = "".join(f"\n        {it}," for it in given)
+        head, end = f"    pub(crate) fn {self.name}(", f"){' -> i64' if self.result else ''};"
+        return fitting(f"{head}{', '.join(given)}{end}", f"{head}{broken}\n    {end}")
 
     def same_type(self):
         """Returns a line that the compiler refuses unless the stand-in has the same function."""
-        result = " -> i64" if self.result else ""
         kinds = ", ".join(kind for *_, kind in self.parameters)
-        line = f"    let _: unsafe fn({kinds}){result} = stand_in::{self.name};"
-        if len(line) <= WIDTH:
-            return line
-        return f"    let _: unsafe fn({kinds}){result} =\n        stand_in::{self.name};"
+        line = f"    let _: unsafe fn({kinds}){' -> i64' if self.result else ''} = stand_in::{self.name};"
+        return fitting(line, line.replace(" = ", " =\n        "))
+
+
+def fitting(line, broken):
+    """Returns a line, or its other layout if it is too long."""
+    return line if len(line) <= WIDTH else broken
 
 
 def exports():
@@ -89,15 +84,9 @@ def fields():
     return documented(f"{struct}\n", r"pub (\w+): u64,")
 
 
-def folded(words, first, rest, width=WIDTH):
+def folded(words, first, rest):
     """Returns a text in lines of at most 100 columns."""
-    lines, line = [], first
-    for word in words.split():
-        if len(line) + len(word) + (not line.endswith(" ")) > width:
-            lines.append(line.rstrip())
-            line = rest
-        line += word if line.endswith(" ") else f" {word}"
-    return "\n".join([*lines, line])
+    return textwrap.fill(words, WIDTH, initial_indent=first, subsequent_indent=rest, break_long_words=False, break_on_hyphens=False)
 
 
 def for_c():
@@ -198,25 +187,57 @@ def for_limits():
     return re.sub(r"^    (2\^\d+ - 1|[\d,]+) (.* {2,})(\w+): ([A-Z_]+)$", row, read(LIMITS), flags=re.M)
 
 
+def with_version(path, count):
+    """Returns a function that returns a file with the version where it has it, which is at that number of places."""
+    def made():
+        version = read("VERSION").strip()
+        parts = dict(zip(("MAJOR", "MINOR", "PATCH"), version.split(".")))
+        text, found = VERSION.subn(lambda it: it[1] + (version if it[1].endswith('"') else parts[it[2] or "MAJOR"]), read(path))
+        if found != count:
+            raise ValueError(f"{path} has {found} versions, and not {count}")
+        return text
+
+    return made
+
+
+# what the version follows, and each part of it; the library's name of a function has the major one
+VERSION = re.compile(
+    r'^((?:__version__ =|version =|const VERSION: &str =|#define YACHT\w*VERSION) "|#define YACHT\w*VERSION_(MAJOR|MINOR|PATCH) |#define (yacht_\w+) \3_)[\d.]+', re.M)
+# the files with the version, and how often each has it or a part of it
+VERSIONED = {
+    "bindings/python/yachtjudge.py": 1, "bindings/rust/Cargo.toml": 1, "bindings/rust_judge/Cargo.toml": 1, "crates/fx_arguments/src/fixcheck.rt": 1,
+    "include/yachtbanyan.h": 5, "include/yachtdirect.h": 4, "include/yachtjudge.h": 4,
+}
 FILES = {
     "man/yachtbanyan.3": for_manual("yachtbanyan"),
     "man/yachtdirect.3": for_manual("yachtdirect"),
     LIMITS: for_limits,
     "bindings/c/core.h": for_c,
     "bindings/rust/src/access/exports.rs": for_rust,
+    **{path: with_version(path, count) for path, count in VERSIONED.items()},
 }
+# what is written by each source, and what it is written from
+WRITTEN = (
+    (SOURCE, r"(?<=fn )yacht_core_\w+"), (CODES, r"(?<=: i64 = )[-\d]+"), ("man/yachtbanyan.3", r'(?<=^\.Fn )\w+(?= "yacht_)|(?<=^\()[\d,]+(?=\))'),
+    ("man/yachtdirect.3", r'(?<=^\.Fn )\w+(?= "yacht_)'), (LIMITS, r"(?<=^    )[\d,]+(?= .*: [A-Z_]+$)"), *((path, VERSION.pattern) for path in VERSIONED),
+)
 
 
 def stale():
-    """Returns the files that aren't as they would be written."""
-    return [path for path, made in FILES.items() if read(path) != made()]
+    """Yields the files that aren't as they would be written."""
+    for path, made in FILES.items():
+        with contextlib.suppress(ValueError):
+            if read(path) == made():
+                continue
+        yield path
 
 
 def command():
     if arguments("declare-core [--check]", flags="check").check:
-        for path in stale():
+        those = list(stale())
+        for path in those:
             print(f"{path} isn't what scripts/declare-core writes")
-        return 1 if stale() else 0
+        return 1 if those else 0
     for path, made in FILES.items():
         write(f"{ROOT}/{path}", made())
     return 0

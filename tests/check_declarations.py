@@ -1,8 +1,8 @@
 """check-declarations [--spoil]: compares the declarations of the exported functions in Rattle, C, Rust and Python: their names, the number
 and width of each argument and of the result, the fields of the structs, and the values of the constants. What scripts/declare-core
-writes is as it writes it, in manual pages and docs/use/LIMITS.md too. The manual pages yachtbanyan(3) and yachtdirect(3) have the numbers
-of their headers, and each file with a version has the one in VERSION. With --spoil it changes each declaration in turn, in memory, and
-expects a complaint about each change."""
+writes is as it writes it, in manual pages, docs/use/LIMITS.md and files with a version too. The manual pages yachtbanyan(3) and
+yachtdirect(3) have the numbers of their headers. With --spoil it changes each declaration in turn, in memory, and expects a complaint
+about each change."""
 import ast
 import re
 
@@ -29,17 +29,6 @@ FILES = {
     },
     # the others are written by scripts/declare-core
     "server": {"C": ["bindings/c/core.h", "include/yachtbanyan.h"]},
-}
-# the files that have the version, and a pattern that finds it in each
-VERSIONS = {
-    "CHANGELOG.md": r"^## \[([\d.]+)\]",
-    "bindings/python/yachtjudge.py": r'^__version__ = "([\d.]+)"$',
-    "bindings/rust/Cargo.toml": r'^version = "([\d.]+)"$',
-    "bindings/rust_judge/Cargo.toml": r'^version = "([\d.]+)"$',
-    "crates/fx_arguments/src/fixcheck.rt": r'^const VERSION: &str = "([\d.]+)";$',
-    "include/yachtbanyan.h": r'^#define YACHT_VERSION "([\d.]+)"$',
-    "include/yachtdirect.h": r'^#define YACHT_DIRECT_VERSION "([\d.]+)"$',
-    "include/yachtjudge.h": r'^#define YACHT_JUDGE_VERSION "([\d.]+)"$',
 }
 # the widths of numbers in each language; any other type is a struct, or a handle
 WIDTHS = {
@@ -145,42 +134,26 @@ def changes(language, text, exported):
     """Yields what is changed in a text of a language, where, and what replaces it: the name of each function of Rattle, each number in its
     declaration and in that of a struct, and each constant."""
     _, function, struct, _, constant = FORMS[language]
-    for it in (it for it in re.finditer(function, text, re.S) if it["name"] in exported):
-        yield it["name"], it.span("name"), "yacht_core_other"
-    those = [it for form in (function, struct) for it in re.finditer(form, text, re.S)]
-    spans = [it.span() for it in those if it["name"] in exported or f"struct {it['name'].title()}" in exported]
-    for at in (at for span in spans for at in NUMBERS.finditer(text, *span)):
-        number = {"C": "uint{}_t", "Python": "c_uint{}"}.get(language, "u{}")
-        yield at[0], at.span(), number.format(64 if WIDTHS[at[0]] == "u32" else 32)
-    for it in re.finditer(constant, text) if constant else ():
-        if f"const {it['name']}" in exported:
-            yield it["name"], it.span("value"), str(int(it["value"]) - 100)
+    for form, kind in ((function, ""), (struct, "struct "), (constant, "const ")):
+        for it in re.finditer(form, text, re.S) if form else ():
+            if kind + (it["name"].title() if form == struct else it["name"]) not in exported:
+                continue
+            for at in () if form == constant else NUMBERS.finditer(text, *it.span()):
+                yield at[0], at.span(), "u64" if WIDTHS[at[0]] == "u32" else "u32"
+            if form != struct:
+                group, new = ("name", "yacht_core_other") if form == function else ("value", "-100")
+                yield it["name"], it.span(group), new
 
 
 def spoiled(texts):
     """Yields each change of one declaration: what is changed, and the texts with it."""
     exported = declared("Rattle", "\n".join(texts["Rattle"].values()))
-    for language, those in texts.items():
-        for path, text in those.items():
-            for what, (begin, end), new in changes(language, text, exported):
-                other = text[:begin] + new + text[end:]
-                yield f"{what} in line {text.count(chr(10), 0, begin) + 1} of {path}", {**texts, language: {**those, path: other}}
-            if language == "Rust" and 'extern "C"' in text:
-                other = plain(language, text.replace('extern "C"', 'extern "Rust"'))
-                yield f'extern "C" in {path}', {**texts, language: {**those, path: other}}
-
-
-def version_differs(version, texts):
-    """Returns a line for each file whose first version is another one, and for each header whose numbers are others."""
-    found = {path: re.search(pattern, texts[path], re.M) for path, pattern in VERSIONS.items()}
-    lines = [f"{path} has the version {it and it[1]}, and VERSION {version}" for path, it in found.items() if not it or it[1] != version]
-    for path, text in texts.items():
-        numbers = re.findall(r"^#define YACHT_(?:DIRECT_|JUDGE_)?VERSION_(?:MAJOR|MINOR|PATCH) (\d+)$", text, re.M)
-        if path.endswith(".h") and ".".join(numbers) != version:
-            lines.append(f"{path} has the numbers {numbers}, and VERSION {version}")
-        named = re.findall(r"^#define yacht_(\w+) yacht_\1_(\d+)$", text, re.M)
-        lines += [f"{path} has yacht_{name} of {major}, and VERSION {version}" for name, major in named if major != version.partition(".")[0]]
-    return lines
+    for language, path, text in ((language, *it) for language, those in texts.items() for it in those.items()):
+        others = [(f"{what} in line {text.count(chr(10), 0, begin) + 1}", text[:begin] + new + text[end:]) for what, (begin, end), new in changes(language, text, exported)]
+        if language == "Rust" and 'extern "C"' in text:
+            others.append(('extern "C"', plain(language, text.replace('extern "C"', 'extern "Rust"'))))
+        for what, other in others:
+            yield f"{what} of {path}", {**texts, language: {**texts[language], path: other}}
 
 
 def lacking(header, page):
@@ -197,41 +170,17 @@ def manuals(counted, is_spoiled):
             counted.want(lacking(header, re.sub(rf"(Dv {number})\b", r"\1_OTHER", page)), f"{number} may be missing in {name}(3)")
 
 
-def versions(counted, is_spoiled):
-    """Compares the versions of files; if `is_spoiled`, expects a complaint about each change."""
-    version, texts = read("VERSION").strip(), {it: read(it) for it in VERSIONS}
-    if not is_spoiled:
-        counted.seen += len(VERSIONS)
-        for line in version_differs(version, texts):
-            counted.want(False, line)
-        return
-    for path, pattern in VERSIONS.items():
-        found = re.search(pattern, texts[path], re.M)
-        other = texts[path][: found.start(1)] + "0.9.0" + texts[path][found.end(1) :]
-        counted.want(version_differs(version, {**texts, path: other}), f"another version in {path} isn't noticed")
-    header_of_4 = texts["include/yachtbanyan.h"].replace("yacht_open_5", "yacht_open_4")
-    counted.want(version_differs(version, {**texts, "include/yachtbanyan.h": header_of_4}), "yacht_open of another version isn't noticed")
-    for path in (it for it in VERSIONS if it.endswith(".h")):
-        for word in ("MAJOR", "MINOR", "PATCH"):
-            other = re.sub(rf"(VERSION_{word}) \d+", r"\1 9", texts[path])
-            counted.want(version_differs(version, {**texts, path: other}), f"another {word} in {path} isn't noticed")
-
-
 def written(counted, is_spoiled):
-    """Checks that the files of scripts/declare-core are what it writes; if `is_spoiled`, expects a complaint about each export that has
-    another name, and each number that is another."""
-    counted.seen += 0 if is_spoiled else len(declare_core.FILES)
-    for path in () if is_spoiled else declare_core.stale():
-        counted.want(False, f"{path} isn't what scripts/declare-core writes")
-    for path, pattern, new in (
-        (declare_core.SOURCE, r"(?<=fn )yacht_core_\w+", "yacht_core_other"), (declare_core.CODES, r"(?<=: i64 = )[-\d]+", "99"),
-        ("man/yachtbanyan.3", r"(?<=^\.Fn )\w+(?= \"yacht_)", "other"), ("man/yachtdirect.3", r"(?<=^\.Fn )\w+(?= \"yacht_)", "other"),
-        ("man/yachtbanyan.3", r"(?<=^\()[\d,]+(?=\))", "99"), (declare_core.LIMITS, r"(?<=^    )[\d,]+(?= .*: [A-Z_]+$)", "99"),
-    ) if is_spoiled else ():
+    """Checks that the files of scripts/declare-core are what it writes; if `is_spoiled`, expects a complaint about each change of what it
+    writes, or of what this is written from."""
+    stale = [] if is_spoiled else list(declare_core.stale())
+    for path in () if is_spoiled else declare_core.FILES:
+        counted.want(path not in stale, f"{path} isn't what scripts/declare-core writes")
+    for path, pattern in declare_core.WRITTEN if is_spoiled else ():
         for at in re.finditer(pattern, read(path), re.M):
-            other = at.string[: at.start()] + new + at.string[at.end() :]
+            other = at.string[: at.end() - 1] + ("8" if at[0][-1] == "9" else "9") + at.string[at.end() :]
             declare_core.read = lambda it, path=path, other=other: other if it == path else read(it)
-            counted.want(declare_core.stale(), f"the change of {at[0]} in {path} isn't noticed")
+            counted.want(any(declare_core.stale()), f"the change of {at[0]} in {path} isn't noticed")
 
 
 def command():
@@ -248,5 +197,4 @@ def command():
             counted.want(differences(changed), f"{library}: the change of {what} isn't noticed")
     written(counted, given.spoil)
     manuals(counted, given.spoil)
-    versions(counted, given.spoil)
     return counted.end()
