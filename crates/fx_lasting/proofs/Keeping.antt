@@ -9,7 +9,7 @@ use Rattle.fx_lasting.proofs.Words.{LogAgrees, ViewAgrees, lengths, Agrees, Rang
 use Rattle.fx_lasting.proofs.Words.{count_in, word_of, hold_word_of, Shared, slots_of, nodes_of, range_at_start, state_after_all}
 use Rattle.fx_lasting.proofs.Words.{IsHistory, held_in, held_of, taken_of, logs_of, owed, Stepped, IsInside, pass_event, Phase, free}
 use Rattle.fx_lasting.proofs.Words.{removed_in, Change, Glance, Log, View, Work, IsInStock, name_in}
-use Rattle.fx_lasting.proofs.Words.{first_log, Whereabouts, in_stock, NamesItsNode, StockAgrees, as_stocked, ◌⊎◌, list_place, IsListedIn, Deed, untouched}
+use Rattle.fx_lasting.proofs.Words.{first_log, Whereabouts, in_stock, NamesItsNode, StockAgrees, ◌⊎◌, list_place, IsListedIn, Deed, untouched}
 use Rattle.fx_lasting.proofs.Words.{Watch, WatchAgrees, Survey, as_asked, Labels, written_in, of_replaced, MOST_SLOTS}
 use Rattle.fx_lasting.proofs.range_lemmas.Groups.{AskAlike, CountAlike, counts_same}
 use Rattle.fx_lasting.proofs.Histories.{Grows, grows_none, legal_before}
@@ -359,13 +359,6 @@ module _ (turn : Turn) where
       → Stepped (as_asked a.asked (v, carried)) [] a.work a.glance a.change (w a, carried)
   tells_asked a same carried =
       tells_as a (first_log v.logs).listed a.asked (first_log v.logs).stock (rw one (λ i. ((same i).0, a.asked, (same i).1))) carried carried []
-
-  -- it has another stock
-  pub tells_stocked : (a : After) → ◌≡◌ {A = Bool × Survey} (a.listed, a.asked) (x.listed, x.asked) → (carried homes : List (ℕ × Option Closed)) (actions : List Action)
-      → Grows x.number r.history a.front → IsHistory v.start a.front
-      → part_of_pass x.number a.front ≡ map (pass_event x) actions ++ part_of_pass x.number r.history → IsInside v.start a.work
-      → Stepped (as_stocked a.stock (v, carried)) actions a.work a.glance a.change (w a, homes)
-  tells_stocked a same = tells_as a (first_log v.logs).listed (first_log v.logs).asked a.stock (rw one (λ i. ((same i).0, (same i).1, a.stock)))
 
   -- the pass has asked what it had asked
   pub asks_alike : (a : After) → a.asked ≡ x.asked → AskAlike (w a) v

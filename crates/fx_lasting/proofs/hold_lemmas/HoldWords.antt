@@ -22,6 +22,12 @@ module _ (turn : Turn) (carried : List (ℕ × Option Closed)) where
   pass_calm d none_busy = inr none_busy
 
   -- a step that adds nothing to the history
+  goes_quiet : (new : ℕ) (d : Work) → IsInside v.start d → Goes (v, carried) [] d v.glance (w turn (own_after turn new d r.history), carried)
+  goes_quiet new d inside = record {
+    stepped = tells turn (own_after turn new d r.history) refl carried carried [] (grows_none x.number r.history) r.life.legal refl inside;
+    carried = refl;
+  }
+
   module _ (new : ℕ) (d : Work) (calm : (alone_in d ≡ alone_in v.work) ⊎ (busy v.work ≡ 0)) (untaken : (n : ℕ) → taking n d ≡ taking n v.work) (holds : held_in d ≡ held_in v.work) where
     quiet : HoldAgrees new (r.debt x.number) d → GuardAgrees (slot_word (own_words turn new d)) r.phase x.number (r.debt x.number) d
         → WorkAgrees v.start r.phase id d → IsAllowed x.stock x.listed d → Own turn new d r.history
@@ -35,12 +41,6 @@ module _ (turn : Turn) (carried : List (ℕ × Option Closed)) where
       guarded = guard;
       work = work;
       holds = λ n. let a = ap (if_file n) holds in omega arith;
-    }
-
-    goes_quiet : IsInside v.start d → Goes (v, carried) [] d v.glance (w turn (own_after turn new d r.history), carried)
-    goes_quiet inside = record {
-      stepped = tells turn (own_after turn new d r.history) refl carried carried [] (grows_none x.number r.history) r.life.legal refl inside;
-      carried = refl;
     }
 
   -- its hold word names the node of a hot slot
@@ -61,10 +61,7 @@ module _ (turn : Turn) (carried : List (ℕ × Option Closed)) where
       record {
         goes = λ i k saw'. let at : n ≡ k = cc (sym saw ∙ saw') in
             subst (λ (z : Work). Goes (v, carried) [] z v.glance (w turn (own_after turn (announced n) d r.history), carried))
-            (sym is ∙ ap (λ (j : ℕ). announcing j v.work) at) record {
-              stepped = tells turn (own_after turn (announced n) d r.history) refl carried carried [] (grows_none x.number r.history) r.life.legal refl knows;
-              carried = refl;
-            };
+            (sym is ∙ ap (λ (j : ℕ). announcing j v.work) at) (goes_quiet (announced n) d knows);
       },
     )
 
@@ -92,7 +89,7 @@ module _ (turn : Turn) (carried : List (ℕ × Option Closed)) where
         tt,
         own_kept turn 0 Idle (quiet 0 Idle (calm Idle) taken holds (refl, none_owed) tt tt tt),
         record {
-          clean = λ k is' _. goes_quiet 0 Idle (calm Idle) taken holds tt;
+          clean = λ k is' _. goes_quiet 0 Idle tt;
           marked = λ k is' not_so. absurd (not_so (clean ∙ (let at : n ≡ k = cc (sym is ∙ is') in ap announced at)));
         },
       ))
@@ -105,7 +102,7 @@ module _ (turn : Turn) (carried : List (ℕ × Option Closed)) where
         own_kept turn 0 (Owing n) (quiet 0 (Owing n) (calm (Owing n)) taken holds (refl, owes) tt inside tt),
         record {
           clean = λ k is' clean. absurd (not_so (clean ∙ sym (let at : n ≡ k = cc (sym is ∙ is') in ap announced at)));
-          marked = λ k is' _. let at : n ≡ k = cc (sym is ∙ is') in rw (← at) (goes_quiet 0 (Owing n) (calm (Owing n)) taken holds inside);
+          marked = λ k is' _. let at : n ≡ k = cc (sym is ∙ is') in rw (← at) (goes_quiet 0 (Owing n) inside);
         },
       ))
 
@@ -161,7 +158,7 @@ module _ (turn : Turn) (carried : List (ℕ × Option Closed)) where
           record {
             clean = λ h k is' clean. absurd (not_so (clean ∙ sym (let at : n ≡ k = cc (sym is ∙ is') in ap announced at)));
             marked = λ h k is' _. let same : f ≡ h = cc (sym is ∙ is') in let at : n ≡ k = cc (sym is ∙ is') in
-                rw (← same, ← at) (goes_quiet 0 (Yielding f n) (calm (Yielding f n)) taken holds its.0);
+                rw (← same, ← at) (goes_quiet 0 (Yielding f n) its.0);
           },
         ))
 

@@ -1,6 +1,6 @@
 -- A removal by a pass that holds the slot's file keeps the rule: the hold ends with the step, and
 -- the removal counts the takes without the pass's own.
-use Rattle.fx_lasting.proofs.Words.{◌≡◌, ◌≢◌, ℕ, ◌+◌, ◌-◌, ◌<◌, List, [], sym, refl, ap, ◌∙◌, subst, arith, Option, Some, None, none, some}
+use Rattle.fx_lasting.proofs.Words.{◌≡◌, ℕ, ◌+◌, ◌-◌, ◌<◌, List, [], sym, refl, ap, ◌∙◌, subst, arith, Option, Some, None, none, some}
 use Rattle.fx_lasting.proofs.Words.{keeps, get_elem?, eqb, either, Closed, File, Event, Action, Release, Take, ◌▷◌}
 use Rattle.fx_lasting.proofs.Words.{WorkAgrees, HoldsAt, node_of_number, state_after_all, slots_of, slot_place}
 use Rattle.fx_lasting.proofs.Words.{full_name_in, name_in, Names, taking, held_in, bit_here}
@@ -118,19 +118,6 @@ module _ (turn : Turn) (s : ℕ) (inside : s < slots_of turn.v.start) (f : File)
       },
     )
 
--- a pass that finds another word sees it
-module _ (turn : Turn) (s : ℕ) (inside : s < slots_of turn.v.start) (carried : List (ℕ × Option Closed)) (slots old_word new : ℕ)
-    (other : slot_word turn.st.words s ≢ old_word) where
-  open turn use {st, v, r, id, x, here, one}
-
-  pub swaps_not : Made turn carried (slot_place s) (λ _. slot_word st.words s) (SwapsHeld (step slots (slot_place s) old_word new none) (v, carried))
-  swaps_not = seen_instead turn s inside carried SwapsHeld slots old_word new
-      (λ sees. record { wins = λ g node k e works at makes is. absurd (other is); loses = λ _. sees })
-
-  pub takes_not : Made turn carried (slot_place s) (λ _. slot_word st.words s) (TakesHeld (step slots (slot_place s) old_word new none) (v, carried))
-  takes_not = seen_instead turn s inside carried TakesHeld slots old_word new
-      (λ sees. record { wins = λ g node works is. absurd (other is); loses = λ _. sees })
-
 -- a pass that holds a file alone may remove it so
 module _ (turn : Turn) (s : ℕ) (inside : s < slots_of turn.v.start) (f : File) (n : ℕ) (holds : HoldsAlone turn.v.work f n)
     (names_it : full_name_in (found turn s inside) ≡ n + 1) where
@@ -174,7 +161,8 @@ swaps_held_keep k slots id i s n old new node f m x has works named inside off s
     (λ same. let name = ap full_name_in same ∙ named in let h = held_so turn s is.0 f node works name in
     swaps_held turn s is.0 f node (its_file turn s is.0 f node works name) (held_alone works) name (its_calm turn s is.0 f node works name) is.1 h.0 h.1 h.2 h.3
     slots m.1 n stocked old same)
-    (swaps_not turn s is.0 m.1 slots old (empty_word_of n))))
+    (λ other. seen_instead turn s is.0 m.1 SwapsHeld slots old (empty_word_of n)
+    (λ sees. record { wins = λ g node k e works at makes is. absurd (other is); loses = λ _. sees }))))
 
 pub takes_held_keep : TakesHeldKeep TakesHeld
 takes_held_keep k slots id i s old new node f m x has works named inside off place made = rw made (by_turn slots
@@ -186,4 +174,5 @@ takes_held_keep k slots id i s old new node f m x has works named inside off pla
     (λ same. let name = ap full_name_in same ∙ named in let h = held_so turn s is.0 f node works name in
     takes_held turn s is.0 f node (its_file turn s is.0 f node works name) (held_alone works) name (its_calm turn s is.0 f node works name) is.1 h.0 h.1 h.2 h.3
     slots m.1 old same)
-    (takes_not turn s is.0 m.1 slots old (without_file old))))
+    (λ other. seen_instead turn s is.0 m.1 TakesHeld slots old (without_file old)
+    (λ sees. record { wins = λ g node works is. absurd (other is); loses = λ _. sees }))))
