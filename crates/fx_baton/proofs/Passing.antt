@@ -3,7 +3,7 @@ use Rattle.fx_baton.proofs.Words.{◌≡◌, ℕ, ◌+◌, ◌-◌, ◌*◌, ◌
 use Rattle.fx_baton.proofs.Words.{TableId, Seat, State, Contents, state_of, IsLegal, IsSeenBy, part_of_pass, close_of, ◌▷◌, ◌▷▷◌, closed_by_release}
 use Rattle.fx_baton.proofs.Words.{closed_by_retirement, File, Event, Release, number_following, state_at, PassView, IsFront, next_of, HasDrawnInTurn}
 use Rattle.fx_baton.proofs.Words.{Task, Holding, Retiring, seen_again, seen_further, part_mine, Log, View, Start, Call, BatonPass, Seated, opening_of}
-use Rattle.fx_baton.proofs.Words.{begin_of, Takes, lent_view, log_after, view_after, first_front, first_own, view_of, IsPassOf, HasTable}
+use Rattle.fx_baton.proofs.Words.{begin_of, Takes, lent_view, log_after, view_after, front_in, first_own, seats, view_of, IsPassOf, HasTable}
 use Rattle.fx_baton.proofs.Words.{HasSeenMore, UsesNext, HasCalled, HasGivenBack, pass_after, activity_of, by, actions_of, doing_of, use_of}
 use Rattle.fx_baton.proofs.Words.{events_of, table_of_seats, table_of_loan}
 use Rattle.fx_table.specs.Calls.{Adds}
@@ -30,7 +30,7 @@ module _ {id : TableId} {k : Start} {p : BatonPass} (fits : IsPassOf id k p) (se
 
   more : HasSeenMore (view_of p) (view_of (took me))
   more = record {
-    seen = subst (λ (h : List Event). IsSeenBy h taken.history) (sym (ap first_front fits.seated.one)) taken.knows.seen;
+    seen = subst (λ (h : List Event). IsSeenBy h taken.history) (sym (ap (front_in seats) fits.seated.one)) taken.knows.seen;
     same = λ i. record (view_of (took me)) { own = sym (ap first_own fits.seated.one) i };
   }
 
@@ -140,7 +140,7 @@ module _ {id : TableId} {k : Start} {call : Call} {idle : Bool} {p : BatonPass} 
       (use_of call) (view_of (gave seated))
   adds_here = let numbers = t.numbers in let looks = t.looks in
       let seen : IsSeenBy (view_of p).front (es ++ before.front) =
-      (es, ap (λ (h : List Event). es ++ h) (sym (ap first_front t.has.seated.one))) in
+      (es, ap (λ (h : List Event). es ++ h) (sym (ap (front_in seats) t.has.seated.one))) in
       let own = ap (λ (l : List Event). es ++ l) (sym (ap first_own t.has.seated.one)) in
       let numbers_left : p.numbers_left - (use_of call).numbers + (use_of call).numbers ≡ p.numbers_left = omega arith in
       let looks_left : p.looks_left - (use_of call).looks + (use_of call).looks ≡ p.looks_left = omega arith in

@@ -1,28 +1,24 @@
 -- A pass shows what it has seen, and another pass learns it: the rule holds afterwards. Neither is
 -- an atomic step.
-use Rattle.fx_baton.proofs.Words.{◌≡◌, ℕ, List, [], ◌∷◌, ◌++◌, length, sym, refl, ap, ◌∙◌, subst, inl, inr, ⊎_elim, some, get_elem?, set}
-use Rattle.fx_baton.proofs.Words.{set_again, set_else, at_set, Contents, state_of, IsSeenBy, Event, seen_again, contains_none, contains_only}
-use Rattle.fx_baton.proofs.Words.{Log, View, Start, Shared, logs_of, IsLog, IsView, IsHome, IsAway, IsKept}
-use Rattle.fx_baton.proofs.Words.{Splits, ◌≢◌, None, none-some, BatonPass, TableId, Seat, IsPassOf, IsFront, PassView, HasDrawnInTurn, opening_of}
-use Rattle.fx_baton.proofs.Words.{first_front, first_own, view_of, Seated, IsLegal, begin_of, part_of_pass, some-injective}
-use Rattle.fx_baton.specs.Showing.{front_in, shown_view, HasLearned}
-use Rattle.fx_table.proofs.Seats.{appended}
-use Rattle.fx_baton.proofs.SeatsKeepRule.{IsIdle, logs, start, reseated}
-use Rattle.fx_baton.proofs.StepsKeepRule.{IsKnown, Turns, keeps_rule}
-use Rattle.fx_seen.proofs.Views.{of_appended}
+use Rattle.fx_baton.proofs.Words.{◌≡◌, ℕ, List, [], ◌∷◌, sym, refl, ap, ◌∙◌, subst, inl, inr, ⊎_elim, some, get_elem?, set, set_else, at_set}
+use Rattle.fx_baton.proofs.Words.{Contents, state_of, IsSeenBy, Event, seen_again, contains_none, contains_only, Log, View, Start, Shared, IsLog}
+use Rattle.fx_baton.proofs.Words.{IsView, IsHome, IsAway, IsKept, Splits, ◌≢◌, None, none-some, BatonPass, TableId, Seat, IsPassOf, IsFront, PassView}
+use Rattle.fx_baton.proofs.Words.{HasDrawnInTurn, opening_of, first_own, view_of, Seated, IsLegal, begin_of, part_of_pass, some-injective}
+use Rattle.fx_baton.proofs.Words.{HasSeen, its_pass, started, seats, front_in, shown_view}
+use Rattle.fx_baton.specs.Showing.{HasLearned}
+use Rattle.fx_baton.proofs.SeatsKeepRule.{is_rule, laws}
+use Rattle.fx_baton.proofs.StepsKeepRule.{Turns, keeps_rule}
+use Rattle.fx_baton.proofs.TurnsKeepRule.{legal_end}
 use Rattle.fx_table.proofs.SumLemmas.{contains_alone}
-use Rattle.fx_baton.proofs.TurnsKeepRule.{not_empty, started}
 use Rattle.fx_baton.proofs.Passing.{ends_there}
 use Rattle.fx_table.specs.Showing.{Learns}
+use Rattle.table_seats.proofs.Moving.{may_show as seats_show}
+use Rattle.table_seats.proofs.Together.{known}
 use Rattle.fx_seen.specs.Kept.{MayLearn}
 
 -- a seat with one pass may show what the pass has seen
-pub may_show : (k : Start) (id : ℕ) (v : View) {x : Log} → v.logs ≡ x ∷ [] → Splits (IsKept k) id v v (shown_view v)
-may_show k id v {x} one s r at =
-    let seen : IsSeenBy (front_in v.logs) r.history = subst (λ (l : List Log). IsSeenBy (front_in l) r.history) (sym one) ((r.views id v at).logs x (contains_alone one)).seen in
-    subst (λ (l : List View). IsKept k record { words = s.words; homes = s.homes; views = l ++ shown_view v ∷ [] }) (sym (set_again s.views id v at))
-    (reseated k s r _ (appended logs start k IsIdle s.views (shown_view v) (refl, refl) refl)
-    (of_appended (IsKnown r.history) s.views r.known (shown_view v) seen))
+pub may_show : (k : Start) (id : ℕ) (v : View) {x : Log} → v.logs ≡ x ∷ [] → Splits (IsKept k) id v v (shown_view seats v)
+may_show k id v one = seats_show is_rule laws k id v one
 
 -- a seat with one pass that doesn't have the table may learn the whole history
 module _ (k : Start) (id : ℕ) (v w : View) (x : Log) (one : v.logs ≡ x ∷ []) (free : v.loan ≡ None) (s : Shared) (r : IsKept k s)
@@ -33,6 +29,9 @@ module _ (k : Start) (id : ℕ) (v w : View) (x : Log) (one : v.logs ≡ x ∷ [
   its_log : IsLog k r.history r.contents v.doing x
   its_log = mine.logs x (contains_alone one)
 
+  passed : HasSeen seats r.history x
+  passed = its_pass r.life id at one
+
   abbrev log : Log
   log = record x { front = r.history }
 
@@ -42,9 +41,15 @@ module _ (k : Start) (id : ℕ) (v w : View) (x : Log) (one : v.logs ≡ x ∷ [
   turns : Turns k s r id v at learned r.contents [] s.words s.homes
   turns = record {
     log = x;
-    log_in = contains_alone one;
+    one = one;
+    now = log;
+    one_now = refl;
+    number = refl;
+    start = refl;
+    known = refl;
+    seen = record { seen = seen_again r.history; own = passed.own };
     authors = λ e h. absurd (contains_none e h);
-    legal = r.legal;
+    legal = legal_end r;
     sound = r.sound;
     place = ⊎_elim
         (λ (home : IsHome r.contents s). inl (
@@ -71,14 +76,9 @@ module _ (k : Start) (id : ℕ) (v w : View) (x : Log) (one : v.logs ≡ x ∷ [
         r.place;
     mine = record {
       logs = λ y h. subst (λ (z : Log). IsLog k r.history r.contents v.doing z) (sym (contains_only log y h))
-          record { seen = seen_again r.history; own = its_log.own; held = its_log.held; fresh = its_log.fresh };
+          record { held = its_log.held; fresh = its_log.fresh };
       file = mine.file;
-      empty = λ e. absurd (not_empty refl e);
-      start = inr (started one mine);
     };
-    known = refl;
-    numbers = λ p. ap (logs_of p) (sym one);
-    count = ap (length {A = Log}) (sym one);
     held = λ n. refl;
     leaves = λ n. refl;
     files = λ f i _. i;
@@ -91,11 +91,11 @@ module _ (k : Start) (id : ℕ) (v w : View) (x : Log) (one : v.logs ≡ x ∷ [
     one = one;
     history = r.history;
     view = refl;
-    own = its_log.seen;
-    shown = r.known other w there;
-    part = its_log.own;
+    own = passed.seen;
+    shown = known r.life other w there;
+    part = passed.own;
     end = state_of r.contents;
-    legal = subst (λ (z : Start). IsLegal (begin_of z) r.history (state_of r.contents)) (sym (started one mine)) r.legal;
+    legal = subst (λ (z : Start). IsLegal (begin_of z) r.history (state_of r.contents)) (sym (started one (r.life.seats id v at))) (legal_end r);
   }
 
   may : (z : View) × IsKept k record { words = s.words; homes = s.homes; views = set s.views id z } × HasLearned v w z
@@ -126,7 +126,7 @@ module _ {id : TableId} {k : Start} {p : BatonPass} (fits : IsPassOf id k p) (w 
   same_log = let both : fits.seated.log ∷ [] ≡ learns.log ∷ [] = sym fits.seated.one ∙ learns.one in cc both
 
   fronts : (view_of p).front ≡ learns.log.front
-  fronts = ap first_front learns.one
+  fronts = ap (front_in seats) learns.one
 
   owns : (view_of p).own ≡ learns.log.own
   owns = ap first_own learns.one

@@ -2,43 +2,39 @@
 -- may put it back.
 use Rattle.fx_baton.proofs.Words.{leaving_count, ◌≡◌, ℕ, ◌≤◌, ◌==◌, List, [], ◌∷◌, length, set, get_or, sym, refl, ap, ◌∙◌, subst, arith, inl, inr}
 use Rattle.fx_baton.proofs.Words.{⊎_elim, some, none, get_elem?, None, Contains, step, takes, keeps, set_else, set_again, Contents, state_of, IsLegal}
-use Rattle.fx_baton.proofs.Words.{Event, seen_again, contains_none, contains_head, contains_only, sum_at, sum_le_at, Log, View, Start, Shared, Seated}
-use Rattle.fx_baton.proofs.Words.{begin_of, logs_of, holds_by, removals_by, HasFreshNumbers, IsLog, IsView, IsHome, IsAway, IsKept, Knows, lent_view}
+use Rattle.fx_baton.proofs.Words.{Event, seen_again, contains_none, contains_only, sum_at, sum_le_at, Log, View, Start, Shared, Seated}
+use Rattle.fx_baton.proofs.Words.{begin_of, holds_by, removals_by, HasFreshNumbers, IsLog, IsView, IsHome, IsAway, IsKept, Knows, lent_view}
 use Rattle.fx_baton.proofs.Words.{Grabs, Allows, ◌≢◌, true, ◌++◌, map, dite, ℕ_discrete, some-injective, Some, gives, at_set, IsTable, IsSeenBy}
 use Rattle.fx_baton.proofs.Words.{held_by, ◌▷▷◌, Task, pass_of_number, log_after, view_after, PutsBack, IsTurn, part_mine, set_here, stands_at}
-use Rattle.fx_baton.proofs.Words.{none-some}
-use Rattle.std.proofs.lemmas.List.{set-get_or, length-map}
+use Rattle.fx_baton.proofs.Words.{none-some, Idle, HasSeen, its_pass, started, seats}
+use Rattle.std.proofs.lemmas.List.{set-get_or}
 use prog.Atomic.{either}
 use Rattle.fx_table.proofs.SumLemmas.{contains_alone}
-use Rattle.fx_baton.proofs.StepsKeepRule.{holds_small, Turns, keeps_rule, logs_after}
+use Rattle.fx_baton.proofs.StepsKeepRule.{holds_small, Turns, keeps_rule}
 
 -- a seat with one pass
 pub only_log : {xs : List Log} {x y : Log} → xs ≡ x ∷ [] → Contains xs y → y ≡ x
 only_log {x} {y} e h = contains_only x y (subst (λ (l : List Log). Contains l y) e h)
 
-pub not_empty : {xs : List Log} {x : Log} → xs ≡ x ∷ [] → xs ≡ [] → ⊥
-not_empty {x} e none_there = let c : x ∷ [] ≡ [] = sym e ∙ none_there in cc c
-
 -- a view holds no more files than it has passes
-holds_few : {k : Start} {h : List Event} {c : Contents} (n : ℕ) {v : View} (xs : List Log) → v.logs ≡ xs → IsView k h c v
-    → holds_by n v.doing ≤ length xs
-holds_few n [] e r = let a = ap (holds_by n) (r.empty e).0 in omega arith
-holds_few n {v} (x ∷ xs) e r = let a = holds_small n v.doing in omega arith
-
--- a seat with a pass began where the table did
-pub started : {k : Start} {h : List Event} {c : Contents} {v : View} {x : Log} → v.logs ≡ x ∷ [] → IsView k h c v → v.start ≡ k
-started {v} {x} one r = ⊎_elim (λ z. absurd (not_empty one z)) (λ is. is) r.start
+holds_few : (n : ℕ) (v : View) (xs : List Log) → v.logs ≡ xs → (v.logs ≡ [] → v.doing ≡ Idle) → holds_by n v.doing ≤ length xs
+holds_few n v [] e empty = omega (arith, ap (holds_by n) (empty e))
+holds_few n v (x ∷ xs) e empty = omega (arith, holds_small n v.doing)
 
 -- a step that changes nothing keeps the rule
-pub unmoved : {k : Start} (s : Shared) (id : ℕ) {v : View} {n : ℕ} → get_elem? s.views id ≡ some v → n ≡ get_or s.words 0 0 → IsKept k s
+unmoved : {k : Start} (s : Shared) (id : ℕ) {v : View} {n : ℕ} → get_elem? s.views id ≡ some v → n ≡ get_or s.words 0 0 → IsKept k s
     → IsKept k record { words = set s.words 0 n; homes = s.homes; views = set s.views id v }
 unmoved s id {v} at is r = rw (is, set-get_or s.words 0 0, set_again s.views id v at) r
+
+-- the history leads to the table
+pub legal_end : {k : Start} {s : Shared} (r : IsKept k s) → IsLegal (begin_of k) r.history (state_of r.contents)
+legal_end r = record { leads = (r.life.legal.leads.0, r.end); releases = r.life.legal.releases }
 
 module _ (k : Start) (id : ℕ) (v : View) (x : Log) (one : v.logs ≡ x ∷ []) where
   room : (s : Shared) (r : IsKept k s) (n : ℕ) → (state_of r.contents).holds n ≤ 16
   room s r n =
-      let a = sum_le_at (λ (z : View). holds_by n z.doing) (λ (z : View). length z.logs) s.views (λ i u e. holds_few n u.logs refl (r.views i u e)) in
-      let b = r.held n in let c = r.count in let d = r.few in omega arith
+      let a = sum_le_at (λ (z : View). holds_by n z.doing) (λ (z : View). length z.logs) s.views (λ i u e. holds_few n u u.logs refl (λ none. ((r.life.seats i u e).empty none).0)) in
+      let b = r.held n in let c = r.life.whole in let d = r.few in omega arith
 
   module _ (s : Shared) (r : IsKept k s) (at : get_elem? s.views id ≡ some v) where
     mine : IsView k r.history r.contents v
@@ -48,17 +44,20 @@ module _ (k : Start) (id : ℕ) (v : View) (x : Log) (one : v.logs ≡ x ∷ [])
     log_of = mine.logs x (contains_alone one)
 
     begun : v.start ≡ k
-    begun = started one mine
+    begun = started one (r.life.seats id v at)
+
+    passed : HasSeen seats r.history x
+    passed = its_pass r.life id at one
 
     knows : Knows v x r.contents r.history
     knows =
-        let legal = subst (λ (z : Start). IsLegal (begin_of z) r.history (state_of r.contents)) (sym begun) r.legal in
+        let legal = subst (λ (z : Start). IsLegal (begin_of z) r.history (state_of r.contents)) (sym begun) (legal_end r) in
         let fresh = subst (λ (z : Start). HasFreshNumbers z (state_of r.contents) x) (sym begun) log_of.fresh in
         let holds : (n : ℕ) → holds_by n v.doing ≤ (state_of r.contents).holds n =
         λ n. let a = sum_at (λ (z : View). holds_by n z.doing) s.views id v at in let b = r.held n in omega arith in
         let leaves : (n : ℕ) → removals_by n v.doing ≤ leaving_count r.contents n =
         λ n. let a = sum_at (λ (z : View). removals_by n z.doing) s.views id v at in let b = r.leaves n in omega arith in
-        assumption (legal, r.sound, log_of, fresh, mine.file, room s r, holds, leaves)
+        assumption (legal, r.sound, passed, log_of, fresh, mine.file, room s r, holds, leaves)
 
     abbrev lent : View
     lent = lent_view v x r.history r.contents
@@ -66,9 +65,15 @@ module _ (k : Start) (id : ℕ) (v : View) (x : Log) (one : v.logs ≡ x ∷ [])
     taken_turns : (home : IsHome r.contents s) → Turns k s r id v at lent r.contents [] (set s.words 0 0) (set s.homes 0 none)
     taken_turns home = record {
       log = x;
-      log_in = contains_alone one;
+      one = one;
+      now = record x { front = r.history };
+      one_now = refl;
+      number = refl;
+      start = refl;
+      known = refl;
+      seen = record { seen = seen_again r.history; own = passed.own };
       authors = λ e h. absurd (contains_none e h);
-      legal = r.legal;
+      legal = legal_end r;
       sound = r.sound;
       place = inr record {
         words = ap (λ (l : List ℕ). set l 0 0) home.0;
@@ -82,14 +87,9 @@ module _ (k : Start) (id : ℕ) (v : View) (x : Log) (one : v.logs ≡ x ∷ [])
       };
       mine = record {
         logs = λ y h. subst (λ (z : Log). IsLog k r.history r.contents v.doing z) (sym (contains_only _ y h))
-            record { seen = seen_again r.history; own = log_of.own; held = log_of.held; fresh = log_of.fresh };
+            record { held = log_of.held; fresh = log_of.fresh };
         file = mine.file;
-        empty = λ e. absurd (not_empty refl e);
-        start = inr begun;
       };
-      known = refl;
-      numbers = λ p. ap (logs_of p) (sym one);
-      count = ap (length {A = Log}) (sym one);
       held = λ n. refl;
       leaves = λ n. refl;
       files = λ f i _. i;
@@ -157,7 +157,7 @@ module _ (k : Start) (id : ℕ) (v : View) (x : Log) (one : v.logs ≡ x ∷ [])
     whole = holder.1 x (contains_alone one)
 
     same_start : v.start ≡ k
-    same_start = started one (r.views id v at)
+    same_start = started one (r.life.seats id v at)
 
     longer_is : x.front ▷▷ es ≡ r.history ▷▷ es
     longer_is = ap (λ (l : List Event). l ▷▷ es) whole
@@ -165,7 +165,16 @@ module _ (k : Start) (id : ℕ) (v : View) (x : Log) (one : v.logs ≡ x ∷ [])
     given_turns : Turns k s r id v at w d es (set s.words 0 1) (set s.homes 0 (some d))
     given_turns = let here : IsTurn v x r.contents d es doing = subst (λ (z : Contents). IsTurn v x z d es doing) same turn in record {
       log = x;
-      log_in = contains_alone one;
+      one = one;
+      now = log_after es x;
+      one_now = given_one;
+      number = refl;
+      start = refl;
+      known = refl;
+      seen = record {
+        seen = subst (λ (z : List Event). IsSeenBy (x.front ▷▷ es) z) longer_is (seen_again (x.front ▷▷ es));
+        own = part_mine x.number es r.history turn.authors ∙ ap (λ (l : List Event). es ++ l) (its_pass r.life id at one).own;
+      };
       authors = turn.authors;
       legal = subst (λ (z : Start × List Event). IsLegal (begin_of z.0) z.1 (state_of d)) (λ i. (same_start i, longer_is i)) turn.legal;
       sound = sound;
@@ -180,18 +189,11 @@ module _ (k : Start) (id : ℕ) (v : View) (x : Log) (one : v.logs ≡ x ∷ [])
       mine = record {
         logs = λ y h. let m = only_log given_one h in
             subst (λ (z : Log). IsLog k (r.history ▷▷ es) d doing z) (sym m) record {
-              seen = subst (λ (z : List Event). IsSeenBy (x.front ▷▷ es) z) longer_is (seen_again (x.front ▷▷ es));
-              own = part_mine x.number es r.history turn.authors ∙ ap (λ (l : List Event). es ++ l) ((r.views id v at).logs x (contains_alone one)).own;
               held = ap (λ (z : List Event). held_by z x.number) (sym longer_is) ∙ turn.now;
               fresh = subst (λ (z : Start). HasFreshNumbers z (state_of d) (log_after es x)) same_start turn.fresh;
             };
         file = turn.file;
-        empty = λ e. absurd (not_empty given_one e);
-        start = inr same_start;
       };
-      known = refl;
-      numbers = λ p. logs_after p es v.logs;
-      count = length-map v.logs (log_after es);
       held = here.held;
       leaves = here.leaves;
       files = here.files;

@@ -4,12 +4,12 @@ pub use Rattle.atomic_table.specs.Seated.{TableId}
 pub use Rattle.atomic_table.specs.Table.{Allows, Joins, Splits, gives, keeps, rest, step, takes}
 pub use Rattle.atomic_table.specs.declared.shared.Seat.{Seat}
 pub use Rattle.fx_base.specs.declared.open_file.Closed.{Closed}
-pub use Rattle.fx_baton.specs.Lives.{IsIdleSeatOf, IsNewPass, dealt, logs_in}
-pub use Rattle.fx_baton.specs.Passes.{HasCalled, HasGivenBack, HasSeenMore, HasTable, IsPassOf, UsesNext, first_front, first_own, is_idle, next_of}
+pub use Rattle.fx_baton.specs.Lives.{IsIdleSeatOf, IsNewPass, logs_in}
+pub use Rattle.fx_baton.specs.Passes.{HasCalled, HasGivenBack, HasSeenMore, HasTable, IsPassOf, UsesNext, first_own, is_idle, next_of}
 pub use Rattle.fx_baton.specs.Passes.{pass_after, view_of}
 pub use Rattle.fx_baton.specs.Rule.{PutsBack, Grabs, HasFreshNumbers, IsAway, IsHome, IsKept, IsLog, IsTurn, IsView, Knows, Seated, Shared, Takes}
-pub use Rattle.fx_baton.specs.Rule.{begin_of, empty_view, file_held, file_in_hand, first_view, holds_by, joined_view, leaving_count, lent_view}
-pub use Rattle.fx_baton.specs.Rule.{log_after, logs_of, new_log, opening_of, removals_by, view_after, view_of_first, view_without_first}
+pub use Rattle.fx_baton.specs.Rule.{begin_of, file_held, file_in_hand, holds_by, leaving_count, lent_view, seats}
+pub use Rattle.fx_baton.specs.Rule.{log_after, opening_of, removals_by, view_after}
 pub use Rattle.fx_baton.specs.Tables.{IsPassOfTable}
 pub use Rattle.fx_baton.specs.declared.pass.BatonPass.{BatonPass}
 pub use Rattle.fx_baton.specs.declared.view.Call.{Call}
@@ -53,5 +53,10 @@ pub use native.Mathlib.Decide.{ℕ_discrete}
 pub use Rattle.fx_table.specs.Tasks.{activity_of, retiring}
 pub use Rattle.fx_baton.specs.Turns.{holds_now, actions_of, doing_of, events_of, use_of, table_of_seats, by, table_of_loan}
 pub use Rattle.fx_plain.specs.declared.node.Node.TheVariants.{Leaving, Retired}
-pub use Rattle.fx_table.proofs.Seats.{logs_are, sum_gathered, each_seat, only_here, IsAnew, AreReseated, split, joined, gathered, last_of}
+pub use Rattle.fx_table.proofs.Growing.{Grows}
+pub use Rattle.fx_table.proofs.Seats.{IsAnew, gathered, last_of}
+pub use Rattle.table_seats.proofs.Gathered.{AreGathered}
+pub use Rattle.table_seats.proofs.Together.{HasLaws, Moves, its_pass, not_there, started}
+pub use Rattle.table_seats.specs.Together.{HasSeen, Together}
+pub use Rattle.table_seats.specs.Seats.{dealt, first_alone, first_view, front_in, shown_view, without_first}
 pub use Rattle.std.proofs.lemmas.Option.{none-some}

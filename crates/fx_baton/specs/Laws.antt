@@ -10,7 +10,8 @@ use Rattle.fx_table.specs.declared.values.Task.TheVariants.{Idle}
 use Rattle.fx_baton.specs.declared.view.Log.{Log}
 use Rattle.fx_baton.specs.declared.view.View.{View}
 use Rattle.fx_baton.specs.declared.view.Start.{Start}
-use Rattle.fx_baton.specs.Rule.{IsKept, view_without_first, view_of_first, joined_view, empty_view}
+use Rattle.table_seats.specs.Seats.{without_first, first_alone, joined, spent}
+use Rattle.fx_baton.specs.Rule.{IsKept, seats}
 use Rattle.fx_baton.specs.Rule.{Grabs, PutsBack, IsTurn}
 
 abbrev pub SplitsKeep : Type 0
@@ -18,7 +19,7 @@ SplitsKeep =
     (k : Start) (id : ℕ) (v : View)
     → v.doing ≡ Idle
     → v.loan ≡ None
-    → Splits (IsKept k) id v (view_without_first v) (view_of_first v)
+    → Splits (IsKept k) id v (without_first seats v) (first_alone seats v)
 
 abbrev pub JoinsKeep : Type 0
 JoinsKeep =
@@ -29,7 +30,7 @@ JoinsKeep =
     → (other : ℕ) (w : View)
     → w.doing ≡ Idle
     → w.loan ≡ None
-    → Joins (IsKept k) id v other w (joined_view v w) empty_view
+    → Joins (IsKept k) id v other w (joined seats v w) (spent seats)
 
 -- the word is 1 while the table is at home, and becomes 0
 abbrev pub GrabsKeep : Type 0

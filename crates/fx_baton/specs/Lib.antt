@@ -4,5 +4,4 @@ pub mod Turns
 pub mod Passes
 pub mod Lives
 pub mod Tables
-pub mod Settling
 pub mod Showing

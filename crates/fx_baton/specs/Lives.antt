@@ -1,5 +1,5 @@
 -- Passes as they are handed out and gathered.
-use Rattle.std.specs.Prelude.{◌≡◌, ℕ, ◌+◌, ◌-◌, true, false, List, [], ◌∷◌, flat_map, None}
+use Rattle.std.specs.Prelude.{◌≡◌, ℕ, true, false, List, [], ◌∷◌, flat_map, None}
 use Rattle.atomic_table.specs.declared.shared.Seat.{Seat}
 use lib.ListN.{get_elem?}
 use mathlib.Core.Option.{some}
@@ -12,7 +12,8 @@ use Rattle.fx_baton.specs.declared.view.View.{View}
 use Rattle.fx_baton.specs.declared.view.Start.{Start}
 use Rattle.fx_baton.specs.declared.pass.BatonPass.{BatonPass}
 use Rattle.fx_baton.specs.declared.table.BatonTable.{BatonTable}
-use Rattle.fx_baton.specs.Rule.{Shared, IsKept, IsHome, first_view, new_logs}
+use Rattle.table_seats.specs.Seats.{first_view}
+use Rattle.fx_baton.specs.Rule.{Shared, IsKept, IsHome, seats}
 
 -- the list has one table: the other one, prepared for numbers below `numbers`
 pub record HasPrepared (plain : Contents) (numbers : ℕ) (list : List Contents) : Type 0 where
@@ -20,10 +21,6 @@ pub record HasPrepared (plain : Contents) (numbers : ℕ) (list : List Contents)
   pub only : list ≡ table ∷ []
   pub state : state_of table ≡ opening (state_of plain) numbers
   pub sound : IsTable table
-
--- the view of a seat that has the new passes from p to the last
-abbrev pub dealt : Start → ℕ → View
-dealt k p = record (first_view k) { logs = new_logs p ((k.passes + 1) - p) }
 
 -- the passes of these seats, in their order
 abbrev pub logs_in : List BatonPass → List Log
@@ -44,7 +41,7 @@ pub record IsNewPass (seat : Seat Contents View) (number passes : ℕ) (p : Bato
 -- the seat of a table that was just opened
 pub record HasAllPasses (t : BatonTable) (seat : Seat Contents View) : Type 0 where
   pub table : seat.table_id ≡ t.table.shared.table_id
-  pub me : seat.me ≡ (first_view t.table.shared.key, [])
+  pub me : seat.me ≡ (first_view seats t.table.shared.key, [])
 
 -- a seat of the table whose passes are idle
 pub record IsIdleSeatOf (t : BatonTable) (seat : Seat Contents View) : Type 0 where

@@ -19,12 +19,9 @@ use Rattle.fx_baton.specs.declared.view.Start.{Start}
 use Rattle.fx_baton.specs.declared.view.Call.{Call}
 use Rattle.fx_baton.specs.declared.view.Call.TheVariants.{Put as PutCall, Allocate as AllocateCall}
 use Rattle.fx_baton.specs.declared.pass.BatonPass.{BatonPass}
-use Rattle.fx_baton.specs.Rule.{opening_of, Knows, IsTurn}
+use Rattle.table_seats.specs.Seats.{front_in}
+use Rattle.fx_baton.specs.Rule.{opening_of, seats, Knows, IsTurn}
 use Rattle.fx_baton.specs.Turns.{actions_of, doing_of, events_of, use_of, table_of_seats}
-
-abbrev pub first_front : List Log → List Event
-first_front [] = []
-first_front (x ∷ xs) = x.front
 
 abbrev pub first_own : List Log → List Event
 first_own [] = []
@@ -33,7 +30,7 @@ first_own (x ∷ xs) = x.own
 abbrev pub view_of : BatonPass → PassView
 view_of p = record {
   number = p.number;
-  front = first_front p.seat.me.0.logs;
+  front = front_in seats p.seat.me.0.logs;
   own = first_own p.seat.me.0.logs;
   chain = p.chain;
   drawn = chains_of_pass p.number p.passes p.count;

@@ -1,8 +1,6 @@
 -- The rule of the table guarded by one word.
 use Rattle.std.specs.Prelude.{◌≡◌, ◌≢◌, ℕ, ◌+◌, ◌<◌, ◌≤◌, ◌==◌, ◌⊎◌, true, if◌then◌else◌}
-use Rattle.std.specs.Prelude.{List, [], ◌∷◌, ◌++◌, map, length, take, drop, Option, Some}
-use Rattle.std.specs.Prelude.{None, Contains, count_by, sum_by}
-use Rattle.std.specs.List.{range_with_len}
+use Rattle.std.specs.Prelude.{List, [], ◌∷◌, map, Option, Some, None, Contains, sum_by}
 use mathlib.Core.Option.{some, none}
 use lib.ListN.{get_elem?}
 use Rattle.atomic_table.specs.Table.{State as TableState, Me, Step}
@@ -12,11 +10,13 @@ use Rattle.fx_plain.specs.History.{IsLegal, IsSeenBy, part_of_pass, held_by, ◌
 use Rattle.fx_plain.specs.declared.event.File.{File}
 use Rattle.fx_plain.specs.declared.event.Event.{Event}
 use Rattle.fx_table.specs.declared.limits.TheConstants.{FIRST_CHAIN_NUMBER, MAX_PASSES}
-use Rattle.fx_table.specs.Numbers.{numbers_for, number_following, once, pass_of_number}
+use Rattle.fx_table.specs.Numbers.{numbers_for, number_following, pass_of_number}
 use Rattle.fx_table.specs.Files.{HasFile}
-use Rattle.fx_table.specs.Opening.{Opening, opening_with, start_of}
+use Rattle.fx_table.specs.Opening.{Opening, opening_with, start_of, state_at}
 use Rattle.fx_table.specs.declared.values.Task.{Task}
 use Rattle.fx_table.specs.declared.values.Task.TheVariants.{Idle, Holding, Retiring}
+use Rattle.table_seats.specs.Seats.{Seats}
+use Rattle.table_seats.specs.Together.{Together}
 use Rattle.fx_baton.specs.declared.view.Log.{Log}
 use Rattle.fx_baton.specs.declared.view.View.{View}
 use Rattle.fx_baton.specs.declared.view.Start.{Start}
@@ -34,38 +34,6 @@ opening_of k = opening_with k.plain.value k.chains k.passes
 abbrev pub begin_of : Start → State
 begin_of k = start_of (opening_of k)
 
--- the number of logs of the pass
-abbrev pub logs_of : ℕ → List Log → ℕ
-logs_of p logs = count_by (λ x. x.number == p) logs
-
-abbrev pub new_log : ℕ → Log
-new_log p = record { number = p; front = []; own = [] }
-
--- `n` new passes, numbered from `p`
-abbrev pub new_logs : (p n : ℕ) → List Log
-new_logs p n = map new_log (range_with_len p n)
-
--- the view of the seat that opens the table
-abbrev pub first_view : Start → View
-first_view k = record {
-  start = k;
-  logs = new_logs 1 k.passes;
-  doing = Idle;
-  loan = None;
-  known = [];
-}
-
--- a view without the first of its passes, and with that one alone
-abbrev pub view_without_first : View → View
-view_without_first v = record v { logs = drop 1 v.logs }
-
-abbrev pub view_of_first : View → View
-view_of_first v = record v { logs = take 1 v.logs }
-
--- a view with the passes of another: each keeps its own front
-abbrev pub joined_view : View → View → View
-joined_view v w = record v { logs = v.logs ++ w.logs }
-
 abbrev pub empty_table : Contents
 empty_table = record { slots = []; range = (0, 0); nodes = []; holds = []; numbers = 0 }
 
@@ -76,13 +44,22 @@ no_start = record {
   passes = 0;
 }
 
--- the view of a seat whose passes went to another
-abbrev pub empty_view : View
-empty_view = record { start = no_start; logs = []; doing = Idle; loan = None; known = [] }
-
--- the view of a seat without passes that shows a history
-abbrev pub view_with : List Event → View
-view_with h = record empty_view { known = h }
+-- the views, by what all shared tables have
+abbrev pub seats : Seats View Log Start
+seats = record {
+  logs = λ v. v.logs;
+  start = λ v. v.start;
+  known = λ v. v.known;
+  IsIdle = λ v. (v.doing ≡ Idle) × (v.loan ≡ None);
+  number = λ x. x.number;
+  front = λ x. x.front;
+  own = λ x. x.own;
+  opening = opening_of;
+  new_log = λ k p. record { number = p; front = []; own = [] };
+  begun = λ k logs. record { start = k; logs = logs; doing = Idle; loan = None; known = [] };
+  with_logs = λ v logs. record v { logs = logs };
+  showing = λ h. record { start = no_start; logs = []; doing = Idle; loan = None; known = h };
+}
 
 -- the file that the pass holds
 abbrev pub file_held : Task → Option File
@@ -120,16 +97,12 @@ HasFreshNumbers k st x =
 -- the agreement of the history with one pass of a seat
 pub record IsLog (k : Start) (h : List Event) (c : Contents) (doing : Task) (x : Log)
     : Type 0 where
-  pub seen : IsSeenBy x.front h
-  pub own : part_of_pass x.number h ≡ x.own
   pub held : held_by h x.number ≡ file_held doing
   pub fresh : HasFreshNumbers k (state_of c) x
 
 pub record IsView (k : Start) (h : List Event) (c : Contents) (v : View) : Type 0 where
   pub logs : (x : Log) → Contains v.logs x → IsLog k h c v.doing x
   pub file : (f : File) → file_in_hand v.doing ≡ Some f → HasFile (state_of c) f
-  pub empty : v.logs ≡ [] → (v.doing ≡ Idle) × (v.loan ≡ None)
-  pub start : (v.logs ≡ []) ⊎ (v.start ≡ k)
 
 -- the table is at home
 abbrev pub IsHome : Contents → Shared → Type 0
@@ -152,17 +125,12 @@ pub record IsAway (c : Contents) (h : List Event) (s : Shared) : Type 0 where
 pub record IsKept (k : Start) (s : Shared) : Type 0 where
   pub history : List Event
   pub contents : Contents
-  pub legal : IsLegal (begin_of k) history (state_of contents)
+  pub life : Together seats k s.views history
+  pub end : state_of contents ≡ state_at (opening_of k) history
   pub sound : IsTable contents
   pub place : IsHome contents s ⊎ IsAway contents history s
   pub views : (i : ℕ) (v : View) → get_elem? s.views i ≡ some v → IsView k history contents v
-  -- each shown history stays an initial part of the history
-  pub known : (i : ℕ) (v : View) → get_elem? s.views i ≡ some v → IsSeenBy v.known history
-  -- each pass is in one view
-  pub numbers : (p : ℕ) → sum_by (λ v. logs_of p v.logs) s.views ≡ once k.passes p
-  pub count : sum_by (λ v. length v.logs) s.views ≡ k.passes
   pub few : k.passes ≤ MAX_PASSES
-  pub authors : (e : Event) → Contains history e → (1 ≤ e.pass) × (e.pass ≤ k.passes)
   -- a file's holds are the passes that hold it, and a file is leaving while one pass has yet to
   -- retire it
   pub held : (n : ℕ) → sum_by (λ v. holds_by n v.doing) s.views ≡ (state_of contents).holds n

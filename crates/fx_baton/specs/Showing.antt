@@ -7,16 +7,7 @@ use Rattle.fx_baton.specs.declared.view.Log.{Log}
 use Rattle.fx_baton.specs.declared.view.View.{View}
 use Rattle.fx_baton.specs.declared.shown.BatonSeen.{BatonSeen}
 use Rattle.fx_baton.specs.declared.table.BatonTable.{BatonTable}
-use Rattle.fx_baton.specs.Rule.{begin_of, view_with}
-
--- all that the first pass of a view has seen
-abbrev pub front_in : List Log → List Event
-front_in [] = []
-front_in (x ∷ xs) = x.front
-
--- the view of a seat without passes that shows all that the first pass of the view `v` has seen
-abbrev pub shown_view : View → View
-shown_view v = view_with (front_in v.logs)
+use Rattle.fx_baton.specs.Rule.{begin_of}
 
 -- the view `v` of a seat with one pass becomes `u`, by learning what the view `w` shows
 pub record HasLearned (v w u : View) : Type 0 where

@@ -2,41 +2,44 @@
 use crate::view::{Start, View};
 use atomic_table::{Join, Play, Split, TableRule};
 use fx_plain::PlainTable;
-use fx_seen::Learning;
 use std::marker::{Brand, PhantomData};
+use fx_seen::Learning;
 
 /// The rule of the shared table: the table and all passes agree with one legal history. The word is
 /// 1 while the table is at home, and 0 while one pass has it.
 pub struct OneHistory;
 
 impl TableRule<PlainTable, View, Start> for OneHistory {
-    ghost use Rattle.fx_baton.specs.Rule.{IsKept, first_view};
+    ghost use Rattle.table_seats.specs.Seats.{first_view};
+    ghost use Rattle.fx_baton.specs.Rule.{IsKept, seats};
 
     ghost holds = { IsKept };
 
-    ghost first = { first_view };
+    ghost first = { first_view seats };
 }
 
 /// The split of a seat: its first pass gets a seat of its own.
 pub struct Deal;
 
 impl Split<View> for Deal {
-    ghost use Rattle.fx_baton.specs.Rule.{view_without_first, view_of_first};
+    ghost use Rattle.table_seats.specs.Seats.{without_first, first_alone};
+    ghost use Rattle.fx_baton.specs.Rule.{seats};
 
-    ghost left = { view_without_first };
+    ghost left = { without_first seats };
 
-    ghost right = { view_of_first };
+    ghost right = { first_alone seats };
 }
 
 /// The join of two seats: one takes in the passes of the other.
 pub struct Gather;
 
 impl Join<View> for Gather {
-    ghost use Rattle.fx_baton.specs.Rule.{joined_view, empty_view};
+    ghost use Rattle.table_seats.specs.Seats.{joined, spent};
+    ghost use Rattle.fx_baton.specs.Rule.{seats};
 
-    ghost both = { joined_view };
+    ghost both = { joined seats };
 
-    ghost spent = { empty_view };
+    ghost spent = { spent seats };
 }
 
 /// The attempt to take the table: it succeeds if the table is at home.
@@ -85,20 +88,22 @@ impl<U: Turn> Play<PlainTable, View> for Give<U> {
 pub struct Observe;
 
 impl Play<PlainTable, View> for Observe {
-    ghost use Rattle.fx_baton.specs.Settling.{Observes};
+    ghost use Rattle.table_seats.specs.Settling.{Observes};
+    ghost use Rattle.fx_baton.specs.Rule.{IsKept};
 
-    ghost then = { Observes };
+    ghost then = { Observes IsKept (λ v. v.start) };
 }
 
 /// Show: a seat shows all that its pass has seen.
 pub struct Show;
 
 impl Split<View> for Show {
-    ghost use Rattle.fx_baton.specs.Showing.{shown_view};
+    ghost use Rattle.table_seats.specs.Seats.{shown_view};
+    ghost use Rattle.fx_baton.specs.Rule.{seats};
 
     ghost left = { λ v. v };
 
-    ghost right = { shown_view };
+    ghost right = { shown_view seats };
 }
 
 /// Learn: a pass has seen all that was shown, and all that it had seen before.

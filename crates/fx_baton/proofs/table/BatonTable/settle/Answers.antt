@@ -1,11 +1,12 @@
 use Rattle.fx_baton.proofs.Words.{subst, arith, Start, IsKept}
-use Rattle.fx_baton.proofs.Closing.{may_observe, settles}
+use Rattle.fx_baton.proofs.Closing.{settles}
+use Rattle.table_seats.proofs.Moving.{may_observe}
 use Rattle.fx_table.proofs.FileLemmas.{idle_task}
 use Rattle.fx_baton.proofs.table.BatonTable.settle.Goals as goal
 
 pub load-requires : goal.load-requires
 load-requires c =
-    let counts = c.args.self.now.counts in let fits = c.requires.fits in (fits.table, omega arith, may_observe _ _ fits.seated.start)
+    let counts = c.args.self.now.counts in let fits = c.requires.fits in (fits.table, omega arith, may_observe _ _ 0 fits.seated.start)
 
 pub returns-clause-settled : goal.returns-clause-settled
 returns-clause-settled c =

@@ -1,0 +1,4 @@
+pub mod Words
+pub mod Together
+pub mod Moving
+pub mod Gathered

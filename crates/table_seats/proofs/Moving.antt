@@ -1,0 +1,78 @@
+-- Seats are split, joined and shown under the rule of any table, and a seat observes it.
+use Rattle.table_seats.proofs.Words.{◌≡◌, ℕ, ◌+◌, ◌≤◌, List, [], ◌∷◌, ◌++◌, set, drop, take, sym, refl, ap, ◌∙◌, subst, set_again, set-get_or}
+use Rattle.table_seats.proofs.Words.{Event, IsSeenBy, seen_from_start, Splits, Joins, Allows, TableState, Me, keeps, step, appended, split, seats_joined}
+use Rattle.table_seats.proofs.Words.{first_left, last_left, Seats, dealt, without_first, first_alone, joined, spent, front_in, shown_view, Together}
+use Rattle.table_seats.proofs.Together.{HasLaws, Moves, Shows, known, its_pass}
+use Rattle.fx_seen.proofs.Views.{of_replaced, of_appended}
+use Rattle.table_seats.specs.Settling.{Observes}
+
+-- a table's rule has its seats together, and holds where passes move between idle seats
+pub record IsRule {S V L K : Type 0} (W : Seats V L K) (Holds : K → TableState S V → Type 0) : Type 0 where
+  pub history : (k : K) (s : TableState S V) → Holds k s → List Event
+  pub life : (k : K) (s : TableState S V) (r : Holds k s) → Together W k s.views (history k s r)
+  pub moves : (k : K) (s : TableState S V) (r : Holds k s) (views : List V) → Moves W k (history k s r) s.views views
+      → Holds k record { words = s.words; homes = s.homes; views = views }
+
+module _ {S V L K : Type 0} {W : Seats V L K} {Holds : K → TableState S V → Type 0} (rule : IsRule W Holds) (laws : HasLaws W)
+    (k : K) (id : ℕ) (v : V) where
+  -- a seat shows the same history with other passes
+  same_shown : {h : List Event} (l : List L) → Shows W h v → Shows W h (W.with_logs v l)
+  same_shown {h} l seen = subst (λ (f : List Event). IsSeenBy f h) (sym (laws.cut_known v l)) seen
+
+  pub may_split : W.IsIdle v → Splits (Holds k) id v (without_first W v) (first_alone W v)
+  may_split idle s r at = let t = rule.life k s r in let mine = t.seats id v at in let P = Shows W (rule.history k s r) in rule.moves k s r _ record {
+    seats = split W.logs W.start k W.IsIdle s.views id v at idle (W.with_logs v) (laws.cut_logs v) (λ l. laws.cut_idle v l idle) (laws.cut_start v) mine.start;
+    shown = of_appended P (set s.views id (without_first W v))
+        (of_replaced P s.views (known t) id (without_first W v) (same_shown (drop 1 (W.logs v)) mine.known))
+        (first_alone W v) (same_shown (take 1 (W.logs v)) mine.known);
+  }
+
+  pub may_join : W.IsIdle v → W.start v ≡ k → (other : ℕ) (w : V) → W.IsIdle w → Joins (Holds k) id v other w (joined W v w) (spent W)
+  may_join idle begun other w w_idle s r at apart there =
+      let t = rule.life k s r in let h = rule.history k s r in let both = joined W v w in let l = W.logs v ++ W.logs w in rule.moves k s r _ record {
+        seats = seats_joined W.logs W.start k W.IsIdle s.views id v at idle other w both (spent W) apart there w_idle (laws.cut_idle v l idle)
+            (laws.cut_logs v l) (laws.cut_start v l ∙ begun) (laws.shown_idle []) (laws.shown_logs []);
+        shown = of_replaced (Shows W h) (set s.views id both) (of_replaced (Shows W h) s.views (known t) id both (same_shown l (t.seats id v at).known))
+            other (spent W) (subst (λ (f : List Event). IsSeenBy f h) (sym (laws.shown_known [])) (seen_from_start h));
+      }
+
+  -- a seat with one pass may show what the pass has seen
+  pub may_show : {x : L} → W.logs v ≡ x ∷ [] → Splits (Holds k) id v v (shown_view W v)
+  may_show {x} one s r at =
+      let t = rule.life k s r in let h = rule.history k s r in let f = front_in W (W.logs v) in
+      let seen : IsSeenBy f h = subst (λ (l : List L). IsSeenBy (front_in W l) h) (sym one) (its_pass t id at one).seen in
+      subst (λ (l : List V). Holds k record { words = s.words; homes = s.homes; views = l ++ shown_view W v ∷ [] }) (sym (set_again s.views id v at))
+      (rule.moves k s r _ record {
+        seats = appended W.logs W.start k W.IsIdle s.views (shown_view W v) (laws.shown_idle f) (laws.shown_logs f);
+        shown = of_appended (Shows W h) s.views (known t) (shown_view W v) (subst (λ (g : List Event). IsSeenBy g h) (sym (laws.shown_known f)) seen);
+      })
+
+-- any seat may look, and nothing changes
+pub may_observe : {S V K : Type 0} {Holds : K → TableState S V → Type 0} {start : V → K} {k : K} (slots id i : ℕ) {me : Me S V} → start me.0 ≡ k
+    → Allows (Holds k) slots id me i (λ n. n) (Observes Holds start (step slots i 0 0 mathlib.Core.Option.none) me)
+may_observe {S} {V} {K} {Holds} slots id i {me} begun s r wide at small = (
+  me.0,
+  keeps,
+  tt,
+  rw (set-get_or s.words i 0, set_again s.views id me.0 at) r,
+  record { last = s; rule = subst (λ (z : K). Holds z s) (sym begun) r; seat = id; view = at; same = refl },
+)
+
+-- The passes that are dealt out.
+module _ {V L K : Type 0} (W : Seats V L K) (laws : HasLaws W) (k : K) where
+  abbrev its : ℕ → List L
+  its p = W.logs (dealt W k p)
+
+  -- the others, and the first alone
+  pub rest_is_dealt : {p : ℕ} → p ≤ (W.opening k).passes → without_first W (dealt W k p) ≡ dealt W k (p + 1)
+  rest_is_dealt {p} high = laws.begun_with k _ (drop 1 (its p))
+      ∙ ap (W.begun k) (ap (drop 1) (laws.begun_logs k _ ∙ first_left (W.new_log k) p (W.opening k).passes high))
+
+  pub alone_is_dealt : {p : ℕ} → p ≤ (W.opening k).passes → first_alone W (dealt W k p) ≡ W.begun k (W.new_log k p ∷ [])
+  alone_is_dealt {p} high = laws.begun_with k _ (take 1 (its p))
+      ∙ ap (W.begun k) (ap (take 1) (laws.begun_logs k _ ∙ first_left (W.new_log k) p (W.opening k).passes high))
+
+  -- the last pass alone
+  pub last_is_dealt : {p : ℕ} → p ≡ (W.opening k).passes → dealt W k p ≡ first_alone W (dealt W k p)
+  last_is_dealt {p} last = ap (W.begun k) (last_left (W.new_log k) p (W.opening k).passes last)
+      ∙ sym (laws.begun_with k _ (take 1 (its p)) ∙ ap (W.begun k) (ap (take 1) (laws.begun_logs k _)))

@@ -1,0 +1,33 @@
+//! The seats of a shared table: what the rules of all such tables say of them.
+//!
+//! A seat's view is what its thread knows of the table. Together the seats have each pass once, and
+//! one legal history has all that the passes have seen and made (`specs/Together.antt`). A table
+//! shows its views to these definitions as a `Seats` (`specs/Seats.antt`). The lemmas in `proofs/`
+//! are proved once for all tables: a seat makes a step, seats are split, joined and shown, a pass
+//! learns, and all passes are in one seat again. Begin reading at `specs/Seats.antt`.
+#![tactic(auto)]
+
+ghost use Rattle.std.specs.Prelude.{◌≡◌, ◌<◌, slice_set, None};
+ghost use Rattle.std.specs.Mem.Slots.{slots_items, slots_len, IsFull};
+ghost use mathlib.Core.Option.{some};
+ghost use lib.ListN.{get_elem?};
+
+use atomic_table::Closed;
+use fx_base::OpenFile;
+use std::alloc::Global;
+
+/// Takes the content of a place out of a table that was closed, and leaves the place empty.
+pub fn take_home(closed: &mut Closed<Option<OpenFile>, Global>, place: usize) -> Option<OpenFile>
+    requires inside { place < slots_len closed.old.slots }
+    requires full { IsFull closed.old.slots }
+    ensures value { get_elem? (slots_items closed.old.slots) place ≡ some result }
+    ensures items { slots_items closed.new.slots
+        ≡ slice_set (slots_items closed.old.slots) place None }
+    ensures count { slots_len closed.new.slots ≡ slots_len closed.old.slots }
+    ensures full { IsFull closed.new.slots }
+    ensures words { closed.new.words ≡ closed.old.words }
+{
+    let home = closed.take(place);
+    closed.slots.put(place, None);
+    home
+}
