@@ -6,6 +6,7 @@ use Rattle.fx_counted.proofs.Words.{IsNumber, state_after_all, end_in, next_in, 
 use Rattle.fx_counted.proofs.Words.{file_in, Stepped, View, Idle, Placing, Holding, Emptying, looks, mul-le-mul_left, BirthsKeep, RestsKeep, Births}
 use Rattle.fx_counted.proofs.Words.{Rests, inl, Between, Work, changed_here, changed_else, length-set, Agrees, Shared, ◌⊎◌}
 use Rattle.fx_counted.proofs.Steps.{grows_none, each_changed, busy, does_now, Turn, turn_of, word_at, its_log, its_work, by_turn, went, tells_none}
+use Rattle.fx_counted.proofs.Words.{Log, shown}
 use Rattle.fx_counted.proofs.Steps.{one_same, near, far, MayTurn, node_agrees, in_phase}
 use mathlib.Core.Option as maybe
 
@@ -49,7 +50,7 @@ module _ (turn : Turn) where
   home_step {q} its {ph'} word' lies d is no_file may free held holds node known next spares work =
       node_agrees turn q its word' (set st.homes (place_of v.start q) lies) r.history ph' d record {
         grows = grows_none x.number r.history;
-        legal = r.legal;
+        legal = r.life.legal;
         told = one_same v q r.history;
         homes = length-set st.homes (place_of v.start q) lies;
         home_else = λ m has other. set_else st.homes (place_of v.start q) (place_of v.start m) lies (else_place its has other);
@@ -91,7 +92,10 @@ module _ (turn : Turn) where
     birth_tells : (carried homes : List (ℕ × Option Closed))
         → Stepped (v, carried) [] no_use (Placing (next_number (opening_of v.start) (pass_of v))) v.change
         (went turn r.history (Placing b) v.change, homes)
-    birth_tells carried homes = grind (arith, its_b)
+    birth_tells carried homes =
+        let e = ap (λ (l : List Log). next_number (opening_of v.start) (shown (first_log l) v.work)) one in
+        subst (λ (n : ℕ). Stepped (v, carried) [] no_use (Placing n) v.change (went turn r.history (Placing b) v.change, homes)) (sym e)
+        (tells_none turn carried homes v.change its_b)
 
   -- a rest, of a number whose file is closed, or which was placed in vain
   rest_of : {q : ℕ} → (v.work ≡ Emptying q) ⊎ (v.work ≡ Placing q) → Agrees v.start (changed_to q 0 (some None) (Between Idle))

@@ -6,10 +6,10 @@ use Rattle.fx_counted.proofs.Words.{sum_le_at, OwnerAgrees, PlacesNext, WorkAgre
 use Rattle.fx_counted.proofs.Words.{opening_of, chain_in, shown, first_log, drawn_of, ended_of, once, placing, Phase, unborn, spare, owner, file_in}
 use Rattle.fx_counted.proofs.Words.{Log, View, Idle, mul-add, mul-le-mul_left, Draws, DrawsKeep, first_or, DrawsChain, next_in, end_in, chain_given}
 use Rattle.fx_counted.proofs.Words.{Between, one_if, times, bit_here, once_is, once_more, length-set, count_by-le-length, bit_else}
-use Rattle.fx_counted.proofs.Steps.{owner_same, grows_none, Turn, turn_of, word_at, now, its_log, step_kept, by_turn, Made, near, far, slot_same}
+use Rattle.fx_counted.proofs.Steps.{passed, owner_same, grows_none, Turn, turn_of, word_at, now, its_log, step_kept, by_turn, Made, near, far, slot_same}
 use Rattle.fx_counted.proofs.Steps.{control_same, NodeIn}
-use Rattle.fx_counted.proofs.Ending.{drawn, told}
-use Rattle.fx_counted.proofs.Frames.{of_one}
+use Rattle.table_seats.proofs.Gathered.{total_of_seat}
+use Rattle.fx_counted.proofs.Words.{of_one}
 
 -- the phases, where the numbers from lo to below hi are the pass's
 abbrev given_out : ℕ → ℕ → ℕ → (ℕ → Phase) → ℕ → Phase
@@ -58,8 +58,8 @@ module _ (turn : Turn) where
     alone : v.start.passes ≡ 1 → found ≡ chain_in x
     alone passes =
         let all : length v.logs ≡ v.start.passes = ap (length {A = Log}) one ∙ sym passes in
-        let drawn_here = sym (drawn_v d.given) ∙ drawn r id here all d.given in
-        let none_told = sym (told r id here all) ∙ (told_v ∙ ap one_if untold) in let counts = d.counts in let few = chain_few in
+        let drawn_here = sym (drawn_v d.given) ∙ (sym (total_of_seat r.life id here all (λ z. times d.given z.drawn)) ∙ d.each d.given) in
+        let none_told = total_of_seat r.life id here all (λ z. one_if z.no_chains_left) ∙ (told_v ∙ ap one_if untold) in let counts = d.counts in let few = chain_few in
         dite (dec_le d.given (chain_in x)) (λ le. omega (arith, le, few, counts, none_told))
         (λ gt. let none = (its_log turn).last d.given (omega (arith, gt)) in absurd (omega (arith, none, drawn_here, gt, once_is d.given d.given)))
 
@@ -97,7 +97,7 @@ module _ (turn : Turn) where
           homes = refl;
           number = refl;
           grows = grows_none x.number r.history;
-          legal = r.legal;
+          legal = r.life.legal;
           slots = λ s l. slot_same (read_else (slot_place s) (apart.slot_and_draw s)) refl (omega arith)
               (λ f there seat. (refl, either_phase phases (λ e. sym e) (λ new _. absurd (cc (sym seat ∙ new))))) (r.each_slot s l);
           nodes = λ n has. let Node = NodeIn v.start st.words st.homes r.history n in rw (read_else (word_of v.start n) (apart.node_and_draw n has))
@@ -111,6 +111,7 @@ module _ (turn : Turn) where
             spared = λ n q is other. either_phase phases (λ e. sym e ∙ is) (λ new _. absurd (cc (sym is ∙ new)));
           };
           keeps = λ j u f other there holds. either_phase phases (λ e. ap file_in (sym e)) (λ new its. ap file_in its ∙ sym (ap file_in new));
+          seen = let p = passed turn in record { seen = p.seen; own = p.own };
           log = let o = its_log turn in let p = ap placing idle in
               let its : (n : ℕ) → next_in v.start y + placing v.work ≤ n → n < end_in v.start y → phase' n ≡ spare x.number =
               λ n low high. spares n (omega arith) high in

@@ -1,5 +1,5 @@
 -- The control word: its count of full slots, and the steps that change no slot and no number.
-use Rattle.fx_counted.proofs.Words.{full_all, full_else, full_few, full_here, ◌≡◌, ◌≢◌, ℕ, zero, suc, ◌+◌, ◌<◌, ◌≤◌, List, set, sym, refl, ap, ◌⊎◌}
+use Rattle.fx_counted.proofs.Words.{seats, full_all, full_else, full_few, full_here, ◌≡◌, ◌≢◌, ℕ, zero, suc, ◌+◌, ◌<◌, ◌≤◌, List, set, sym, refl, ap, ◌⊎◌}
 use Rattle.fx_counted.proofs.Words.{inl, inr, arith, Option, IsSome, subst, dite, some, ℕ_discrete, get_elem?, changed_at, File, sum_set, in_change}
 use Rattle.fx_counted.proofs.Words.{added, removed_by, changes_of, added_of, removed_of, if_full, full_in, ControlCounts, turned, Change, Outside}
 use Rattle.fx_counted.proofs.Words.{Same, View, length, ◌∙◌, held_by, State, Event, range_of, Agrees, looks, all_looks, word_of, control_place}
@@ -8,7 +8,7 @@ use Rattle.fx_counted.proofs.Words.{◌∷◌, get_or-set_other, get_or-set_same
 use Rattle.fx_counted.proofs.Words.{Full, no_use, event_of, sum_at, sum_le_at, one_change, full_word_of, WorkAgrees, lengths, shown, IsInside}
 use Rattle.fx_counted.proofs.Words.{Stepped, GoesOn, SaysFull, Idle, Phase, Shared, BeginsKeep, EndsKeep, AnswersKeep, Between, length-set, Bool}
 use Rattle.fx_counted.proofs.Words.{true, false, end_amount_of, InRange, HasToReport, HasPass, MayChange, Sat, ℤ, begun, difference, Allows}
-use Rattle.fx_counted.proofs.Steps.{stays_same, owner_same, Grows, grows_none, IsHistory, Turn, word_at, now, logged, its_log, its_work, step_kept}
+use Rattle.fx_counted.proofs.Steps.{sees_now, stays_same, owner_same, Grows, grows_none, IsHistory, Turn, word_at, now, logged, its_log, its_work, step_kept}
 use Rattle.fx_counted.proofs.Steps.{log_now, slot_same, draws_same, grows_one, legal_more, held_mine, same_shape, turn_of, by_turn, went, tells_none}
 use Rattle.fx_counted.proofs.Steps.{tells_one, near, far}
 use Rattle.fx_counted.proofs.LettingGo.{sub_wraps}
@@ -83,6 +83,7 @@ module _ (turn : Turn) (h' : List Event) where
         no_other = λ n absent. ap (λ (z : State). z.removed n) p.quiet.state ∙ r.no_other n absent;
         stays = stays_same id x.number r.phase;
         keeps = λ j u f other there holds. refl;
+        seen = sees_now turn h' x.numbers_left x.looks_left;
         log = log_now turn (omega arith) (p.quiet.held ∙ o.held) o.next o.spares;
         work = its_work turn;
         holds = λ n. let e = ap (λ (z : State). z.holds n) p.quiet.state in omega arith;
@@ -95,7 +96,7 @@ module _ (turn : Turn) where
   open turn use {st, v, r, id, x, here, one}
 
   pub no_event : Quiet turn r.history
-  no_event = record { grows = grows_none x.number r.history; legal = r.legal; state = refl; looked = refl; all = refl; held = refl }
+  no_event = record { grows = grows_none x.number r.history; legal = r.life.legal; state = refl; looked = refl; all = refl; held = refl }
 
 -- the part of one of them in the gap between two totals
 pub total_gap : {X : Type 0} {f g : X → ℕ} (xs : List X) (i : ℕ) {v : X} → get_elem? xs i ≡ some v
@@ -118,11 +119,11 @@ is_inside k phase seat _ o = o.0
 
 module _ (k : Start) (s : Shared) (r : Agrees k s) where
   -- a seat without a pass is in no change
-  pub few_changes : (j : ℕ) (u : View) → get_elem? s.views j ≡ some u → changes_of u ≤ lengths u
+  pub few_changes : (j : ℕ) (u : View) → get_elem? s.views j ≡ some u → changes_of u ≤ lengths seats u
   few_changes j u there = go u.logs refl
     where
       go : (l : List Log) → u.logs ≡ l → in_change u.change ≤ length u.logs
-      go [] is = let a = ap in_change ((r.each_view j u there).empty is).1 in omega arith
+      go [] is = let a = ap in_change ((r.life.seats j u there).empty is).1 in omega arith
       go (z ∷ l) is = let a = at_most_one u.change in let b = ap (length {A = Log}) is in omega arith
 
   pub few_full : full_in (state_after_all k r.history).at (range_of (opening_of k)).0 (range_of (opening_of k)).1 ≤ 256
@@ -151,7 +152,7 @@ module _ (turn : Turn) where
 
   -- fewer than 16 are in a change beside this pass
   pub few_others : sum_by changes_of st.views + 1 ≤ 16 + in_change v.change
-  few_others = omega (arith, total_gap st.views id here (few_changes v.start st r), r.whole, r.shape.passes, ap (length {A = Log}) one)
+  few_others = omega (arith, total_gap st.views id here (few_changes v.start st r), r.life.whole, r.shape.passes, ap (length {A = Log}) one)
 
   wide : control_place < length st.words
   wide = let a = r.shape.words in let b = (near turn).control in omega arith
@@ -182,7 +183,7 @@ module _ (turn : Turn) where
   -- with the event that every slot of the range is full
   told_full : ((slot : ℕ) → range.0 ≤ slot → slot < range.0 + range.1 → IsSome (at_now slot)) → Quiet turn (e ∷ r.history)
   told_full each = let all : all_looks (e ∷ r.history) ≡ all_looks r.history = omega arith in
-      let legal : IsHistory v.start (e ∷ r.history) = legal_more v.start r.legal
+      let legal : IsHistory v.start (e ∷ r.history) = legal_more v.start r.life.legal
       (λ slot small in_range. let z = (same_shape v.start r.history).1 in let a = ap (λ (p : ℕ × ℕ). p.0) z in
       let b = ap (λ (p : ℕ × ℕ). p.1) z in each slot (omega (arith, a, b, in_range.0)) (omega (arith, a, b, in_range.1))) tt in
       assumption (grows_one x.number r.history e refl, legal, all, held_mine e r.history refl)

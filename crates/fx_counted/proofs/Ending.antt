@@ -69,19 +69,5 @@ module _ {k : Start} {s : Shared} (r : Agrees k s) (all_idle : (i : ℕ) (u : Vi
   one_slot {slot} {other} {f} {g} l m there here same = grind arith
 
   pub none_outside_end : {slot : ℕ} → slots_of k ≤ slot → end.at slot ≡ None
-  none_outside_end {slot} past = inside_behind (start_of (opening_of k)) (map action_of r.history) r.legal.leads.0
+  none_outside_end {slot} past = inside_behind (start_of (opening_of k)) (map action_of r.history) r.life.legal.leads.0
       (opens_inside k.plain.value (numbers_for k.chains)) slot (let size = (same_shape k r.history).0 in omega arith)
-
--- a seat that has all passes
-module _ {k : Start} {s : Shared} (r : Agrees k s) (seat : ℕ) {v : View} (at : get_elem? s.views seat ≡ some v) (all : length v.logs ≡ k.passes) where
-  pub whole_here : length v.logs ≡ sum_by lengths s.views
-  whole_here = all ∙ sym r.whole
-
-  pub sum_here : (f : Log → ℕ) → sum_by f v.logs ≡ sum_by (λ (u : View). sum_by f u.logs) s.views
-  sum_here f = sym (only_here (λ (u : View). u.logs) s.views seat v at whole_here (λ u. sum_by f u.logs) (λ u none. ap (sum_by f) none))
-
-  pub drawn : (c : ℕ) → sum_by (λ (x : Log). times c x.drawn) v.logs ≡ once r.draws.given c
-  drawn c = sum_here (λ x. times c x.drawn) ∙ r.draws.each c
-
-  pub told : sum_by (λ (x : Log). one_if x.no_chains_left) v.logs ≡ sum_by ended_of s.views
-  told = sum_here (λ x. one_if x.no_chains_left)

@@ -3,10 +3,11 @@ use Rattle.fx_counted.proofs.Words.{◌≡◌, ◌≢◌, ℕ, ◌+◌, ◌≤�
 use Rattle.fx_counted.proofs.Words.{Action, Look, start_of, range_of, looks, all_looks, opening_of, slots_of, state_after_all, Start, ReleasesItsOwn}
 use Rattle.fx_counted.proofs.Words.{IsLegal, looks_after, look_in, map, action_of, next_in, end_in, placing, ◌<◌, Contains, sum_of, sum_by, set}
 use Rattle.fx_counted.proofs.Words.{subst, eqb, some, some-injective, get_elem?, set_here, set_else, File, numbered, sum_two, sum_set, Does}
-use Rattle.fx_counted.proofs.Words.{OwnerAgrees, WorkAgrees, ViewAgrees, Agrees, Shared, logs_of, Phase, spare, placed, leaving, emptied, owner}
+use Rattle.fx_counted.proofs.Words.{OwnerAgrees, WorkAgrees, ViewAgrees, Agrees, Shared, Phase, spare, placed, leaving, emptied, owner}
 use Rattle.fx_counted.proofs.Words.{file_in, Log, View, Work, Idle, Placing, Holding, Retiring, Emptying, Between, stands_at, one_if, bit_here}
 use Rattle.fx_counted.proofs.Words.{once_is, Option, Closed, State, SlotAgrees, Home, NodeAgrees, full_in, ControlCounts, DrawsCount, ended_of, unborn}
 use Rattle.fx_counted.proofs.Words.{seated, retired, closed, IsGone, times, Grows}
+use Rattle.fx_counted.proofs.Words.{seats, total_same}
 use Rattle.fx_plain.specs.Step.{Allows}
 use Rattle.fx_plain.proofs.Leading.{same_shape as shape_of_state}
 
@@ -65,30 +66,9 @@ module _ (id p j : ℕ) (other : j ≢ id) (phase phase' : ℕ → Phase) (stays
     logs = λ y e. let o = ok.logs y e in let n : p ≢ y.number = λ same. not_its y e (sym same) in
         let spares : (m : ℕ) → next_in k y + placing u.work ≤ m → m < end_in k y → phase' m ≡ spare y.number =
         λ m a b. stays.spared m y.number (o.spares m a b) (λ same. n (sym same)) in
-        assumption (o, g.seen y.front o.seen, g.parts y.number n ∙ o.own, g.helds y.number n ∙ o.held, spares);
+        assumption (o, g.helds y.number n ∙ o.held, spares);
     work = work_stays k u.work keeps ok.work;
-    empty = ok.empty;
-    start = ok.start;
   }
-
--- the one pass of a seat makes up what the seat counts for
-pub of_one : (f : Log → ℕ) {l : List Log} {x : Log} → l ≡ x ∷ [] → sum_by f l ≡ f x
-of_one f {l} {x} one = let e : sum_by f l ≡ 0 + f x = ap (sum_by f) one in omega arith
-
--- a total over all passes, where the one pass of a seat counts for as much as before
-pub total_same : (f : Log → ℕ) (views : List View) (id : ℕ) {v : View} (w : View) {x y : Log} → get_elem? views id ≡ some v → v.logs ≡ x ∷ []
-    → w.logs ≡ y ∷ [] → f y ≡ f x → sum_by (λ (u : View). sum_by f u.logs) (set views id w) ≡ sum_by (λ (u : View). sum_by f u.logs) views
-total_same f views id {v} w here one one' same = grind (arith, sum_set)
-
--- a pass that one view has is in no other one
-pub not_there : {k : Start} {st : Shared} → Agrees k st → {id j : ℕ} {v u : View} {x : Log}
-    → get_elem? st.views id ≡ some v → v.logs ≡ x ∷ [] → j ≢ id → get_elem? st.views j ≡ some u
-    → (y : Log) → Contains u.logs y → y.number ≢ x.number
-not_there {k} {st} r {id} {j} {v} {u} {x} here one other there y at same =
-    let t = sum_two (logs_of x.number) st.views j id u v other there here in let a = r.passes x.number in
-    let c = of_one (λ z. one_if (eqb z.number x.number)) one in let d = bit_here x.number x.number refl in
-    let e = sum_of (λ z. one_if (eqb z.number x.number)) u.logs y at in let f = bit_here x.number y.number same in
-    omega (arith, once_is k.passes x.number)
 
 pub does_now : (views : List View) (id : ℕ) (v w : View) (d : Work) → get_elem? views id ≡ some v → w.work ≡ d → Does (set views id w) id d
 does_now views id v w d here is = (w, set_here views id w (stands_at views id v here).0, is)
@@ -160,11 +140,11 @@ module _ (views : List View) (id : ℕ) (v w : View) (here : get_elem? views id 
       → DrawsCount chains numbers phase' (set views id w) word'
   draws_same one one' drawn told same keeps ok =
       let t : sum_by ended_of (set views id w) ≡ sum_by ended_of views =
-      total_same (λ z. one_if z.no_chains_left) views id w here one one' (ap one_if told) in
+      total_same seats.logs (λ z. one_if z.no_chains_left) views id w here one one' (ap one_if told) in
       record {
         given = ok.given;
         few = ok.few;
-        each = λ c. total_same (λ z. times c z.drawn) views id w here one one' (ap (times c) drawn) ∙ ok.each c;
+        each = λ c. total_same seats.logs (λ z. times c z.drawn) views id w here one one' (ap (times c) drawn) ∙ ok.each c;
         counts = let c = ok.counts in omega arith;
         all = λ some. ok.all (omega arith);
         unused = λ n low high. keeps n (ok.unused n low high);

@@ -2,23 +2,20 @@
 use Rattle.fx_counted.proofs.Words.{Contains, contains_head, contains_only, ◌≡◌, ℕ, ◌+◌, ◌<◌, ◌≤◌, List, [], ◌∷◌, ◌++◌, map, set, length, sym, refl}
 use Rattle.fx_counted.proofs.Words.{ap, ◌∙◌, subst, arith, get_or, Option, None, Some, File, inr, eq-eqb, eqb, some, get_elem?, Closed, part_of_pass}
 use Rattle.fx_counted.proofs.Words.{Event, Action, Use, range_of, event_of, sum_set, sum_at, SlotAgrees, NodeAgrees, OwnerAgrees, WorkAgrees}
-use Rattle.fx_counted.proofs.Words.{LogAgrees, ViewAgrees, lengths, Agrees, ControlCounts, looks, all_looks, DrawsCount, control_place, draw_place}
-use Rattle.fx_counted.proofs.Words.{slot_place, node_place, home_place, Shared, opening_of, slots_of, IsNumber, state_after_all, Sat, shown, logs_of}
+use Rattle.fx_counted.proofs.Words.{LogAgrees, ViewAgrees, Agrees, ControlCounts, looks, all_looks, DrawsCount, control_place, draw_place}
+use Rattle.fx_counted.proofs.Words.{slot_place, node_place, home_place, Shared, opening_of, slots_of, IsNumber, state_after_all, Sat, shown}
 use Rattle.fx_counted.proofs.Words.{looks_of, held_of, Phase, IsInside, Stepped, Change, Log, View, Work, stepped, Act, Valid, carried_after, HasPass}
 use Rattle.fx_counted.proofs.Words.{held_by, held_in, PlacesNext, placing, next_in, end_in, spare, HasShape, Start, no_use, ◌▷◌, one_if, Allows}
 use Rattle.fx_counted.proofs.Words.{IsSeated, ◌≢◌, Between, Holding, file_in, at_set, ⊎_elim, get_or-set_other, get_or-set_same, Bool, changed_at}
 use Rattle.fx_counted.proofs.Words.{full_in, PlacesAreInside, PlacesAreApart, chain_numbers, owner, retired, ◌⊎◌, length-set, unborn, Grows}
 use Rattle.fx_counted.proofs.Words.{grows_none, grows_one, part_mine, each_changed}
-use Rattle.fx_counted.proofs.Frames.{IsHistory, Stays, view_stays, not_there, of_one, total_same, busy, owner_stays, slot_same, node_same}
+use Rattle.fx_counted.proofs.Frames.{IsHistory, Stays, view_stays, busy, owner_stays, slot_same, node_same}
 use Rattle.fx_counted.proofs.Frames.{control_same, draws_same, SameFile}
 use Rattle.fx_counted.proofs.Places.{inside, apart}
 use mathlib.Core.Option as maybe
-use Rattle.fx_plain.specs.History.{IsSeenBy}
-use Rattle.fx_seen.proofs.Views.{of_replaced}
-
--- the history that the seat shows begins this one
-abbrev pub IsKnown : List Event → View → Type 0
-IsKnown h u = IsSeenBy u.known h
+use Rattle.fx_counted.proofs.Words.{HasSeen, its_pass, not_there, of_one, seats}
+use Rattle.fx_table.proofs.Calls.{seen_again}
+use Rattle.table_seats.proofs.Together.{stepped as seats_step}
 
 abbrev pub Homes : Type 0
 Homes = List (maybe.Option (Option Closed))
@@ -89,6 +86,10 @@ module _ (turn : Turn) where
   pub its_log : LogAgrees v.start r.history r.phase v.work x
   its_log = (r.each_view id v here).logs x (subst (λ (l : List Log). Contains l x) (sym one) (contains_head x []))
 
+  -- what it has seen
+  pub passed : HasSeen seats r.history x
+  passed = its_pass r.life id here one
+
   pub its_work : WorkAgrees v.start r.phase id v.work
   its_work = (r.each_view id v here).work
 
@@ -97,6 +98,9 @@ module _ (turn : Turn) where
   went h' d c = now v (logged x h' x.numbers_left x.looks_left) d c
 
   -- the pass has seen the whole history
+  pub sees_now : (h' : List Event) (left looks_left : ℕ) → HasSeen seats h' (logged x h' left looks_left)
+  sees_now h' left looks_left = record { seen = seen_again h'; own = refl }
+
   pub log_now : {h' : List Event} {phase' : ℕ → Phase} {left looks_left : ℕ} {d : Work} → left ≤ x.numbers_left → held_by h' x.number ≡ held_in d
       → PlacesNext v.start (logged x h' left looks_left) d
       → ((n : ℕ) → next_in v.start (logged x h' left looks_left) + placing d ≤ n → n < end_in v.start x → phase' n ≡ spare x.number)
@@ -122,6 +126,7 @@ module _ (turn : Turn) where
       -- the files that other seats hold stay the same
       pub keeps : (j : ℕ) (u : View) (f : File) → j ≢ id → get_elem? st.views j ≡ some u → u.work ≡ Between (Holding f)
           → file_in (phase' f.number) ≡ file_in (r.phase f.number)
+      pub seen : HasSeen seats h' y
       pub log : LogAgrees v.start h' phase' d y
       pub work : WorkAgrees v.start phase' id d
       pub holds : (n : ℕ) → (state_after_all v.start h').holds n + held_of n v ≡ (state_after_all v.start r.history).holds n + held_of n (now v y d c)
@@ -134,7 +139,7 @@ module _ (turn : Turn) where
       shape = shape_kept s.words s.homes r.shape;
       history = h';
       phase = phase';
-      legal = s.legal;
+      life = seats_step r.life id here one refl s.number refl refl s.grows s.legal s.seen;
       each_slot = s.slots;
       each_node = s.nodes;
       each_owner = s.owners;
@@ -143,22 +148,12 @@ module _ (turn : Turn) where
           subst (λ (z : ℕ × View). ViewAgrees v.start h' phase' z.0 z.1) (λ i. (sym t.0 i, t.1 i)) record {
             logs = λ z h. subst (LogAgrees v.start h' phase' d) (sym (contains_only y z h)) s.log;
             work = s.work;
-            empty = λ none. absurd (omega (arith, ap (length {A = Log}) none));
-            start = inr refl;
           }) (λ (t : (j ≢ id) × (get_elem? st.views j ≡ some u)).
-          view_stays id x.number j t.0 r.phase phase' s.stays s.grows (not_there r here one t.0 t.1) (λ f is. s.keeps j u f t.0 t.1 is)
+          view_stays id x.number j t.0 r.phase phase' s.stays s.grows (not_there r.life here one t.0 t.1) (λ f is. s.keeps j u f t.0 t.1 is)
           (r.each_view j u t.1)) (at_set st.views id j (now v y d c) u e);
-      known = of_replaced (IsKnown h') st.views (λ j u e. s.grows.seen u.known (r.known j u e)) id (now v y d c) (s.grows.seen v.known (r.known id v here));
       holds = λ n. let t = sum_set (held_of n) st.views id v (now v y d c) here in let a = r.holds n in let b = s.holds n in omega arith;
       look_ups = let t = sum_set looks_of st.views id v (now v y d c) here in let a = r.look_ups in
           let b = s.look_ups in let e = of_one (λ z. z.looks_left) one in omega arith;
-      passes = λ p. total_same (λ z. one_if (eqb z.number p)) st.views id (now v y d c) here one refl (ap (λ (q : ℕ). one_if (eqb q p)) s.number)
-          ∙ r.passes p;
-      whole = let t = sum_set lengths st.views id v (now v y d c) here in let e = ap (length {A = Log}) one in let a = r.whole in omega arith;
-      authors = λ p none. let t = r.passes p in let u = sum_at (logs_of p) st.views id v here in
-          let its_one : x.number ≡ p → logs_of p v ≡ 1 =
-          λ same. of_one (λ z. one_if (eqb z.number p)) one ∙ rw (eq-eqb x.number p same) refl in
-          s.grows.parts p (λ same. let a = its_one same in omega arith) ∙ r.authors p none;
       control = s.control;
       draws = s.draws;
     }
@@ -175,7 +170,7 @@ module _ (turn : Turn) where
   pub tells_none : (carried homes : List (ℕ × Option Closed)) {d : Work} (c : Change) → IsInside v.start d
       → Stepped (v, carried) [] no_use d c (went r.history d c, homes)
   tells_none carried homes {d} c = tells carried homes r.history x.numbers_left x.looks_left d c [] no_use
-      (grows_none x.number r.history) r.legal refl (omega arith) (omega arith)
+      (grows_none x.number r.history) r.life.legal refl (omega arith) (omega arith)
 
   pub tells_one : {a : Action} → IsHistory v.start (event_of (shown x v.work) a ∷ r.history) → (carried homes : List (ℕ × Option Closed)) {d : Work}
       (c : Change) → IsInside v.start d → Stepped (v, carried) ([] ▷ a) no_use d c (went (event_of (shown x v.work) a ∷ r.history) d c, homes)
@@ -290,6 +285,7 @@ module _ (turn : Turn) where
         };
         keeps = λ j u f other there is. each_changed (λ m z. file_in z ≡ file_in (r.phase m)) r.phase
             (λ same. s.keeps j u f other there is same ∙ ap (λ (m : ℕ). file_in (r.phase m)) (sym same)) (λ _. refl);
+        seen = sees_now turn h' x.numbers_left x.looks_left;
         log = log_now turn (omega arith) s.held s.next s.spares;
         work = s.work;
         holds = s.holds;

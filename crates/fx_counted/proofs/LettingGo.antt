@@ -208,7 +208,7 @@ module _ (turn : Turn) (f : File) (works : turn.v.work ≡ Between (Holding f)) 
   release_lets_go : IsLetGo turn f holds_it.0 h₁ ([] ▷ Release f)
   release_lets_go = record {
     grows = grows_one x.number r.history _ refl;
-    legal = legal_more v.start r.legal held_now ((its_log turn).held ∙ ap held_in works);
+    legal = legal_more v.start r.life.legal held_now ((its_log turn).held ∙ ap held_in works);
     own = part_mine r.history refl;
     told = let holds : (n : ℕ) → n ≢ f.number → new.holds n ≡ old.holds n = changed_else old.holds f.number _ in
         record { at = refl; size = refl; fresh = refl; looked = refl; all = omega arith; removed = λ m other. refl; holds = holds };

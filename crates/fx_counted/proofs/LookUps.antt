@@ -4,7 +4,7 @@ use Rattle.fx_counted.proofs.Words.{keeps, step, Closed, ◌▷◌, State, File,
 use Rattle.fx_counted.proofs.Words.{SlotAgrees, PlacesNext, WorkAgrees, looks, full_in, slot_place, opening_of, slots_of, IsNumber, state_after_all}
 use Rattle.fx_counted.proofs.Words.{shown, held_in, placing, held_of, holding, Phase, seated, file_in, IsInside, Log, View, Idle, one_look, name_more}
 use Rattle.fx_counted.proofs.Words.{entry_more, takes_more, LooksKeep, Looks, holds_now, Between, one_more_at, length-set, IsSeated}
-use Rattle.fx_counted.proofs.Steps.{busy, stays_same, owner_stays, IsHistory, grows_one, legal_more, held_mine, part_mine, same_shape, step_kept}
+use Rattle.fx_counted.proofs.Steps.{sees_now, busy, stays_same, owner_stays, IsHistory, grows_one, legal_more, held_mine, part_mine, same_shape, step_kept}
 use Rattle.fx_counted.proofs.Steps.{Turn, turn_of, word_at, now, logged, its_log, tells, by_turn, Made, log_now, far, control_same, NodeIn, seat_in}
 use Rattle.fx_counted.proofs.Steps.{slots_now, node_now, control_now, draws_now, words_now}
 
@@ -76,7 +76,7 @@ module _ (turn : Turn) (idle : turn.v.work ≡ Between Idle) (some_left : 0 < tu
     new = state_after_all v.start (h' file)
 
     legal : IsHistory v.start (h' file)
-    legal = legal_more v.start r.legal (let z = (same_shape v.start r.history).0 in omega arith, sym is) tt
+    legal = legal_more v.start r.life.legal (let z = (same_shape v.start r.history).0 in omega arith, sym is) tt
 
     node_after : {n : ℕ} → IsNumber v.start n → (ph : Phase) → r.phase n ≡ ph → NodeIn v.start st.words st.homes (h' file) n ph
     node_after {n} has (seated i g) at = grind arith
@@ -113,6 +113,7 @@ module _ (turn : Turn) (idle : turn.v.work ≡ Between Idle) (some_left : 0 < tu
             no_other = λ n absent. ap (λ (z : State). z.removed n) (state_is file) ∙ r.no_other n absent;
             stays = stays_same id x.number r.phase;
             keeps = λ j u f other there is_held. refl;
+            seen = sees_now turn (h' file) x.numbers_left (x.looks_left - 1);
             log = log_now turn (omega arith) (held_mine (event_of (shown x v.work) (Look s file)) r.history refl ∙ sym now.0) (now.2 y)
                 (λ n low high. let q = now.1 in o.spares n (omega arith) high);
             work = now.3;

@@ -7,7 +7,7 @@ use Rattle.fx_counted.proofs.Words.{control_word_of, [], ◌∷◌, dite, some, 
 use Rattle.fx_counted.proofs.Words.{MAX_CHAINS, chain_numbers, AreFirstWords, AreFirstHomes, home_place, homes_for, home_for, OpensWith, MAX_PASSES}
 use Rattle.fx_counted.proofs.Words.{first_file, node_place, Bool, nat_lt, cond, map, eqb, lt-ltb, le-ltb, inr, ⊎_elim, count_by, sum_by-cons}
 use Rattle.fx_counted.proofs.Words.{some-injective, some-ne-none, numbered, numbers_for, range_of, born, SlotAgrees, NodeAgrees, OwnerAgrees}
-use Rattle.fx_counted.proofs.Words.{LogAgrees, ViewAgrees, new_logs, word_of, place_of, opening_of, slots_of, IsNumber, state_after_all, new_log}
+use Rattle.fx_counted.proofs.Words.{HasLaws, LogAgrees, ViewAgrees, new_logs, word_of, place_of, opening_of, slots_of, IsNumber, state_after_all, new_log}
 use Rattle.fx_counted.proofs.Words.{Phase, unborn, seated, closed, Log, View, Idle, ◌&&◌, length-map, at_map, first_view, contains_map, sum_zero}
 use Rattle.fx_counted.proofs.Words.{one_if, once_is, counted_once, range_with_len, full_few, not, numbered_anew}
 use Rattle.fx_counted.specs.Bounds.{AreBounded, slot_word_in, node_word_in}
@@ -18,12 +18,20 @@ use Rattle.fx_counted.proofs.Calling.{node_is}
 use Rattle.fx_counted.proofs.Places.{high_node, low_home, high_home}
 use Rattle.fx_table.proofs.Shells.{in_place, none_outside}
 use Rattle.atomic_table.specs.Table.{opening as table_opening}
-use Rattle.fx_seen.proofs.Views.{of_one}
-use Rattle.fx_counted.proofs.Keeping.{IsKnown}
+use Rattle.fx_counted.proofs.Words.{seats}
+use Rattle.table_seats.proofs.Together.{opens as seats_open}
+
+pub laws : HasLaws seats
+laws = grind arith
+
+-- the only view
+only_view : {v : View} (j : ℕ) {u : View} → get_elem? (v ∷ []) j ≡ some u → ◌≡◌ {A = ℕ × View} (0, v) (j, u)
+only_view {v} zero {u} e = ap (λ (z : View). (0, z)) (some-injective v u e)
+only_view (suc j) {u} e = absurd (some-ne-none u (sym e))
 
 module _ (k : Start) (s : Shared) (r : Agrees k s) where
-  few_passes : sum_by lengths s.views ≤ 16
-  few_passes = let a = r.whole in let b = r.shape.passes in omega arith
+  few_passes : sum_by (lengths seats) s.views ≤ 16
+  few_passes = let a = r.life.whole in let b = r.shape.passes in omega arith
 
   -- all looks that were made
   few_looks : all_looks r.history + sum_by looks_of s.views ≤ 16777216
@@ -43,7 +51,7 @@ module _ (k : Start) (s : Shared) (r : Agrees k s) where
       subst (λ (n : ℕ). 4294967296 ≤ node_word_in k s n + 16777216) same (few_releases f.number _ _ a.counts)
 
   changes_most : sum_by changes_of s.views ≤ 16
-  changes_most = let a = sum_le_at changes_of lengths s.views (few_changes k s r) in let b = few_passes in omega arith
+  changes_most = let a = sum_le_at changes_of (lengths seats) s.views (few_changes k s r) in let b = few_passes in omega arith
 
   pub words_are_bounded : AreBounded k s
   words_are_bounded = record {
@@ -52,7 +60,7 @@ module _ (k : Start) (s : Shared) (r : Agrees k s) where
     leaving = λ seat takes v f there is.
         let work : WorkAgrees k r.phase seat (Between (Retiring f takes)) = subst (WorkAgrees k r.phase seat) is (r.each_view seat v there).work in
         let a = in_phase k s r work.0 work.1 in few_releases f.number _ _ a.counts;
-    draws = let a = sum_le_at ended_of lengths s.views (λ j u e. count_by-le-length (λ y. y.no_chains_left) u.logs) in let b = few_passes in
+    draws = let a = sum_le_at ended_of (lengths seats) s.views (λ j u e. count_by-le-length (λ y. y.no_chains_left) u.logs) in let b = few_passes in
         let c = r.draws.counts in let d = r.draws.few in omega arith;
     changes = let a = r.control.upper in let b = changes_most in omega arith;
     least = let a = r.control.lower in let b = few_added k s r in let c = changes_most in omega arith;
@@ -96,12 +104,13 @@ module _ (k : Start) (words : List ℕ) (homes : List (Option Closed)) where
       assumption (w, h, entries, files, fresh, empty)
 
 -- A table that is opened keeps the rule.
-looks_new : (p n : ℕ) → sum_by (λ (y : Log). y.looks_left) (new_logs p n) ≡ 1048576 * n
-looks_new p zero = refl
-looks_new p (suc n) = let a = looks_new (p + 1) n in let b = sum_by-cons (λ (y : Log). y.looks_left) (new_log p) (new_logs (p + 1) n) in omega arith
+looks_new : (k : Start) (p n : ℕ) → sum_by (λ (y : Log). y.looks_left) (new_logs seats k p n) ≡ 1048576 * n
+looks_new k p zero = refl
+looks_new k p (suc n) =
+    let a = looks_new k (p + 1) n in let b = sum_by-cons (λ (y : Log). y.looks_left) (new_log p) (new_logs seats k (p + 1) n) in omega arith
 
-none_new : (f : Log → ℕ) → ((p : ℕ) → f (new_log p) ≡ 0) → (n : ℕ) → sum_by f (new_logs 1 n) ≡ 0
-none_new f none n = sum_zero f (new_logs 1 n) (λ x h. let p = contains_map new_log (range_with_len 1 n) x h in ap f p.2 ∙ none p.0)
+none_new : (k : Start) (f : Log → ℕ) → ((p : ℕ) → f (new_log p) ≡ 0) → (n : ℕ) → sum_by f (new_logs seats k 1 n) ≡ 0
+none_new k f none n = sum_zero f (new_logs seats k 1 n) (λ x h. let p = contains_map new_log (range_with_len 1 n) x h in ap f p.2 ∙ none p.0)
 
 -- the phase of a slot's number
 abbrev phase_for : ℕ → Option File → Phase
@@ -157,14 +166,12 @@ module _ (k : Start) (words : List ℕ) (homes : List (Option Closed)) (o : Open
         not_removed = refl;
       }
 
-  owner_opens : (n : ℕ) → OwnerAgrees (first_view k ∷ []) n (first_phase k n)
+  owner_opens : (n : ℕ) → OwnerAgrees (first_view seats k ∷ []) n (first_phase k n)
   owner_opens n = grind arith
 
-  view_opens : (j : ℕ) (v : View) → get_elem? (first_view k ∷ []) j ≡ some v → ViewAgrees k [] (first_phase k) j v
-  view_opens zero v e = subst (ViewAgrees k [] (first_phase k) 0) (some-injective (first_view k) v e) record {
+  view_opens : ViewAgrees k [] (first_phase k) 0 (first_view seats k)
+  view_opens = record {
     logs = λ x h. subst (LogAgrees k [] (first_phase k) (Between Idle)) (sym (contains_map new_log (range_with_len 1 k.passes) x h).2) record {
-      seen = ([], refl);
-      own = refl;
       held = refl;
       chain = omega arith;
       last = λ c behind. refl;
@@ -174,36 +181,29 @@ module _ (k : Start) (words : List ℕ) (homes : List (Option Closed)) (o : Open
       spares = λ n low high. absurd (omega arith);
     };
     work = tt;
-    empty = λ _. (refl, refl);
-    start = inr refl;
   }
-  view_opens (suc j) v e = absurd (some-ne-none v (sym e))
 
-  pub opening_keeps : Agrees k (table_opening words homes (first_view k))
+  pub opening_keeps : Agrees k (table_opening words homes (first_view seats k))
   opening_keeps = record {
     shape = assumption (o, length-map homes some ∙ o.homes_length);
     history = [];
     phase = first_phase k;
-    legal = record { leads = (tt, refl); releases = tt };
+    life = seats_open seats laws k;
     each_slot = slot_opens;
     each_node = node_opens;
     each_owner = λ n has. owner_opens n;
     no_other = λ n absent. refl;
-    each_view = view_opens;
-    known = of_one (IsKnown []) (first_view k) ([], refl);
+    each_view = λ j v e. subst (λ (z : ℕ × View). ViewAgrees k [] (first_phase k) z.0 z.1) (only_view j e) view_opens;
     holds = λ n. refl;
-    look_ups = let a = looks_new 1 k.passes in omega arith;
-    passes = λ p. let a = counted_once (λ (y : Log). y.number) new_log (λ n. refl) p k.passes in omega arith;
-    whole = let a = length-map-range_with_len new_log 1 k.passes in omega arith;
-    authors = λ p none. refl;
+    look_ups = let a = looks_new k 1 k.passes in omega arith;
     control = let a = o.control in let b = full_few (first_file k) (range_of (opening_of k)).0
         (range_of (opening_of k)).1 in let c = o.range in let d = o.slots in record { upper = omega arith; lower = omega arith };
     draws = record {
       given = 0;
       few = omega arith;
-      each = λ c. let a = none_new (λ y. count_by (λ d. eqb d c) y.drawn) (λ p. refl) k.passes in omega (arith, once_is 0 c);
-      counts = let a = none_new (λ y. one_if y.no_chains_left) (λ p. refl) k.passes in let b = o.draw in omega arith;
-      all = λ some_told. let a = none_new (λ y. one_if y.no_chains_left) (λ p. refl) k.passes in absurd (omega arith);
+      each = λ c. let a = none_new k (λ y. count_by (λ d. eqb d c) y.drawn) (λ p. refl) k.passes in omega (arith, once_is 0 c);
+      counts = let a = none_new k (λ y. one_if y.no_chains_left) (λ p. refl) k.passes in let b = o.draw in omega arith;
+      all = λ some_told. let a = none_new k (λ y. one_if y.no_chains_left) (λ p. refl) k.passes in absurd (omega arith);
       unused = λ n low high. high_phase (let a = o.slots in omega arith);
     };
   }

@@ -2,67 +2,51 @@
 -- again.
 use Rattle.fx_counted.proofs.Words.{◌≡◌, ℕ, List, length, sym, refl, ap, ◌∙◌, subst, arith, ⊎_elim, length-append, sum_by, sum_by-append, eqb}
 use Rattle.fx_counted.proofs.Words.{WorkAgrees, LogAgrees, Agrees, in_change, added, removed_by, Shared, holding, Outside, Log, Start, View, Work}
-use Rattle.fx_counted.proofs.Words.{Idle, Change, SplitsKeep, JoinsKeep, Between, together, spent, one_if, times, ◌*◌, ◌+◌, ◌≤◌, [], ◌∷◌, Option}
+use Rattle.fx_counted.proofs.Words.{Idle, Change, SplitsKeep, JoinsKeep, Between, one_if, times, ◌*◌, ◌+◌, ◌≤◌, [], ◌∷◌, Option}
 use Rattle.fx_counted.proofs.Words.{TableId, Seat, Closed, without_first, first_alone, IsIdle, dealt, Sat, new_log, pass_of, view_of, IsPassOf}
-use Rattle.fx_counted.proofs.Words.{is_idle, CountedPass, new_pass, IsNewPass, take, drop, ◌≢◌, some, get_elem?, Contains, Contents, state_of}
+use Rattle.fx_counted.proofs.Words.{is_idle, CountedPass, new_pass, IsNewPass, ◌≢◌, some, get_elem?, Contains, Contents, state_of}
 use Rattle.fx_counted.proofs.Words.{IsSettled, ClosesTable, times_drawn, HasSameFiles, PassView, contains_none, contains_head, contains_map}
 use Rattle.fx_counted.proofs.Words.{contains_mapped, contains_reverse, contains_reversed, sum_map, sum_of, found_by, found_sum, logs_in, opening_of}
 use Rattle.fx_counted.proofs.Words.{state_after_all, first_log, Event, length-reverse, length-map, once, ◌<◌, map, reverse, once_is, ◌++◌, step}
-use Rattle.fx_counted.proofs.Words.{keeps, contains_only, held_in, set-get_or, Allows, set_again, append-nil, IsSettledSoFar, AreReseated, split}
-use Rattle.fx_counted.proofs.Words.{joined, logs_are as each_log, sum_gathered, each_seat, first_left, last_left, in_part, some_there, some_times}
-use Rattle.fx_seen.proofs.Views.{OfEach, of_replaced, of_appended}
-use Rattle.fx_table.proofs.Calls.{seen_from_start}
-use Rattle.std.proofs.Common.{set}
+use Rattle.fx_counted.proofs.Words.{keeps, contains_only, held_in, set-get_or, Allows, set_again, append-nil, IsSettledSoFar}
+use Rattle.fx_counted.proofs.Words.{some_there, some_times}
+use Rattle.fx_counted.proofs.Openings.{laws}
+use Rattle.fx_counted.proofs.Words.{AreGathered, Moves, seats}
+use Rattle.table_seats.proofs.Gathered.{each_rests, its_log as gathered_log, total, whole as gathered_whole}
+use Rattle.table_seats.proofs.Moving.{IsRule, alone_is_dealt, may_join, may_split}
+use Rattle.table_seats.proofs.Together.{reseated as seats_reseated}
 use Rattle.fx_counted.proofs.Frames.{busy, owner_map}
-use Rattle.fx_counted.proofs.Keeping.{IsKnown, shape_kept}
+use Rattle.fx_counted.proofs.Keeping.{shape_kept}
 use Rattle.fx_table.proofs.Histories.{IsWhole, closes_table, settles as settles_whole}
-use Rattle.fx_counted.proofs.Ending.{settled_end, whole_here, sum_here, drawn, told}
-use Rattle.fx_counted.specs.Settling.{Observes}
+use Rattle.fx_counted.proofs.Ending.{settled_end}
 use Rattle.fx_counted.proofs.Calling.{its_idle}
 
--- a seat that does nothing, in no change
-abbrev pub DoesNothing : View → Type 0
-DoesNothing v = (v.work ≡ Between Idle) × (v.change ≡ Outside)
-
-abbrev pub logs : View → List Log
-logs v = v.logs
-
-abbrev pub start : View → Start
-start v = v.start
-
 -- the rule holds where passes are in other seats that do nothing
-module _ (k : Start) (s : Shared) (r : Agrees k s) (views : List View) (a : AreReseated logs start k DoesNothing s.views views)
-    (known : OfEach (IsKnown r.history) views) where
+module _ (k : Start) (s : Shared) (r : Agrees k s) (views : List View) (m : Moves seats k r.history s.views views) where
   by_log : (f : Log → ℕ) → sum_by (λ (u : View). sum_by f u.logs) views ≡ sum_by (λ (u : View). sum_by f u.logs) s.views
-  by_log f = a.by_logs (sum_by f) refl (λ xs ys. sum_by-append f xs ys)
+  by_log f = m.seats.by_logs (sum_by f) refl (λ xs ys. sum_by-append f xs ys)
 
   by_change : (f : Change → ℕ) → f Outside ≡ 0 → sum_by (λ (u : View). f u.change) views ≡ sum_by (λ (u : View). f u.change) s.views
-  by_change f none = a.by_work (λ u. f u.change) (λ u idle. ap f idle.1 ∙ none)
+  by_change f none = m.seats.by_work (λ u. f u.change) (λ u idle. ap f idle.1 ∙ none)
 
-  pub reseated : Agrees k record { words = s.words; homes = s.homes; views = views }
+  reseated : Agrees k record { words = s.words; homes = s.homes; views = views }
   reseated = record {
     shape = shape_kept refl refl r.shape;
     history = r.history;
     phase = r.phase;
-    legal = r.legal;
+    life = seats_reseated r.life m;
     each_slot = r.each_slot;
     each_node = r.each_node;
     each_owner = λ n has. owner_map s.views views n (λ j d is o.
-        (o.0, a.others j o.0 o.1 (λ idle. let e : busy d ≡ 0 = ap busy (sym o.2 ∙ idle.0) in omega arith), o.2)) (r.phase n) (r.each_owner n has);
+        (o.0, m.seats.others j o.0 o.1 (λ idle. let e : busy d ≡ 0 = ap busy (sym o.2 ∙ idle.0) in omega arith), o.2)) (r.phase n) (r.each_owner n has);
     no_other = r.no_other;
     each_view = λ j u e. ⊎_elim (λ new. record {
       logs = λ x h. let w = new.its x h in
           subst (λ (d : Work). LogAgrees k r.history r.phase d x) (w.3.0 ∙ sym new.idle.0) ((r.each_view w.0 w.1 w.2).logs x w.4);
       work = subst (WorkAgrees k r.phase j) (sym new.idle.0) tt;
-      empty = λ _. new.idle;
-      start = new.begun;
-    }) (λ old. r.each_view j u old) (a.each j u e);
-    known = known;
-    holds = λ n. r.holds n ∙ sym (a.by_work (λ u. holding n u.work) (λ u idle. ap (holding n) idle.0));
+    }) (λ old. r.each_view j u old) (m.seats.each j u e);
+    holds = λ n. r.holds n ∙ sym (m.seats.by_work (λ u. holding n u.work) (λ u idle. ap (holding n) idle.0));
     look_ups = let b = by_log (λ y. y.looks_left) in let c = r.look_ups in omega arith;
-    passes = λ p. by_log (λ y. one_if (eqb y.number p)) ∙ r.passes p;
-    whole = a.by_logs (length {A = Log}) refl (λ xs ys. length-append xs ys) ∙ r.whole;
-    authors = r.authors;
     control = let u = r.control.upper in let l = r.control.lower in let b = by_change in_change refl in let c = by_change added refl in
         let d = by_change removed_by refl in record { upper = omega arith; lower = omega arith };
     draws = let d = r.draws in let t = by_log (λ y. one_if y.no_chains_left) in record {
@@ -75,33 +59,22 @@ module _ (k : Start) (s : Shared) (r : Agrees k s) (views : List View) (a : AreR
     };
   }
 
+pub is_rule : IsRule seats Agrees
+is_rule = record { history = λ k s r. r.history; life = λ k s r. r.life; moves = reseated }
+
 pub splits_keep : SplitsKeep
-splits_keep k id v idle out s r at = reseated k s r _ (split logs start k DoesNothing s.views id v at (idle, out)
-    (λ l. record v { logs = l }) (λ l. refl) (λ l. (idle, out)) (λ l. refl) (r.each_view id v at).start)
-    (let mine = r.known id v at in of_appended (IsKnown r.history) (set s.views id (without_first v)) (of_replaced (IsKnown r.history) s.views r.known id (without_first v) mine) (first_alone v) mine)
+splits_keep k id v idle out = may_split is_rule laws k id v (idle, out)
 
 pub joins_keep : JoinsKeep
-joins_keep k id v begun idle out other w w_idle w_out s r at apart there = reseated k s r _ (joined logs start k DoesNothing s.views id v at (idle, out)
-    other w (together v w) spent apart there (w_idle, w_out) (idle, out) refl begun (refl, refl) refl)
-    (of_replaced (IsKnown r.history) (set s.views id (together v w)) (of_replaced (IsKnown r.history) s.views r.known id (together v w) (r.known id v at)) other spent (seen_from_start r.history))
+joins_keep k id v begun idle out other w w_idle w_out = may_join is_rule laws k id v (idle, out) begun other w (w_idle, w_out)
 
 -- Passes as they are dealt out, and all of them in one seat again: what the one history says of
--- each. The passes that are dealt out.
-pub rest_is_dealt : {k : Start} {p : ℕ} → p ≤ k.passes → without_first (dealt k p) ≡ dealt k (p + 1)
-rest_is_dealt {k} {p} l = ap (λ (z : List Log). record (dealt k p) { logs = drop 1 z }) (first_left new_log p k.passes l)
-
--- the last pass alone
-pub last_is_dealt : {k : Start} {p : ℕ} → p ≡ k.passes → dealt k p ≡ first_alone (dealt k p)
-last_is_dealt {k} {p} e = ap (λ (z : List Log). record (dealt k p) { logs = z }) (last_left new_log p k.passes e)
-
+-- each.
 -- the pass of a seat that has the first of them
 module _ {id : TableId} (k : Start) {p : ℕ} (low : 1 ≤ p) (high : p ≤ k.passes) {seat : Seat (Option Closed) View} {x : CountedPass}
-    (new : IsNewPass seat x) (table : seat.table_id ≡ id) (is : seat.me ≡ (first_alone (dealt k p), [])) where
-  alone : first_alone (dealt k p) ≡ record (dealt k p) { logs = new_log p ∷ [] }
-  alone = ap (λ (z : List Log). record (dealt k p) { logs = take 1 z }) (first_left new_log p k.passes high)
-
-  me : x.seat.me ≡ (record (dealt k p) { logs = new_log p ∷ [] }, [])
-  me = ap (λ (z : Seat (Option Closed) View). z.me) new.its_seat ∙ (is ∙ ap (λ (v : View). (v, [])) alone)
+    (new : IsNewPass seat x) (table : seat.table_id ≡ id) (is : seat.me ≡ (first_alone seats (dealt seats k p), [])) where
+  me : x.seat.me ≡ (seats.begun k (new_log p ∷ []), [])
+  me = ap (λ (z : Seat (Option Closed) View). z.me) new.its_seat ∙ (is ∙ ap (λ (v : View). (v, [])) (alone_is_dealt seats laws k high))
 
   pub is_new_pass : IsPassOf id k x × (view_of x ≡ new_pass p)
   is_new_pass = (
@@ -124,55 +97,42 @@ module _ (id : TableId) (k : Start) where
   abbrev pub Is : CountedPass → Type 0
   Is p = IsPassOf id k p
 
+  abbrev pub logs_at : CountedPass → List Log
+  logs_at p = p.seat.me.0.logs
+
   -- the one log of a pass
   abbrev pub log_of : CountedPass → Log
   log_of p = first_log p.seat.me.0.logs
 
-  its_log : (p : CountedPass) → Is p → p.seat.me.0.logs ≡ log_of p ∷ []
+  pub its_log : (p : CountedPass) → Is p → p.seat.me.0.logs ≡ log_of p ∷ []
   its_log p fits = fits.seated.one ∙ ap (λ (x : Log). x ∷ []) (sym (ap first_log fits.seated.one))
 
   module _ (ps : List CountedPass) (each : (p : CountedPass) → Contains ps p → Is p) (count : length ps ≡ k.passes)
       {s : Shared} (r : Agrees k s) (seat : ℕ) {v : View} (at : get_elem? s.views seat ≡ some v) (logs_are : v.logs ≡ logs_in (reverse ps))
       (idle : v.work ≡ Between Idle) where
-    these_logs : v.logs ≡ map log_of (reverse ps)
-    these_logs = logs_are ∙ each_log (λ p. p.seat.me.0.logs) log_of (reverse ps) (λ p h. its_log p (each p (contains_reverse ps p h)))
-
-    all_logs : length v.logs ≡ k.passes
-    all_logs = ap (length {A = Log}) these_logs ∙ (length-map (reverse ps) log_of ∙ (length-reverse ps ∙ count))
+    abbrev pub all : AreGathered seats k s.views logs_at log_of ps
+    all = record { one = λ p h. its_log p (each p h); count = count; seat = seat; view = v; at = at; are = logs_are }
 
     pub all_idle : (i : ℕ) (u : View) → get_elem? s.views i ≡ some u → u.work ≡ Between Idle
-    all_idle = each_seat (λ (u : View). u.logs) s.views seat v at (whole_here r seat at all_logs) (λ u. u.work ≡ Between Idle) idle
-        (λ i u e none. ((r.each_view i u e).empty none).0)
+    all_idle = each_rests r.life all (λ u. u.work ≡ Between Idle) idle (λ u rests. rests.0)
 
     pub known : (p : CountedPass) → Contains ps p → LogAgrees k r.history r.phase v.work (log_of p)
-    known p h = (r.each_view seat v at).logs (log_of p) (rw these_logs (contains_mapped log_of (reverse ps) p (contains_reversed ps p h)))
-
-    sum_of_all : (f : Log → ℕ) → sum_by f v.logs ≡ sum_by (λ p. f (log_of p)) ps
-    sum_of_all f = sum_gathered (λ (p : CountedPass). p.seat.me.0.logs) log_of f ps v.logs these_logs
+    known p h = (r.each_view seat v at).logs (log_of p) (gathered_log r.life all p h)
 
     drawn_by : (c : ℕ) → sum_by (λ p. times c (log_of p).drawn) ps ≡ once r.draws.given c
-    drawn_by c = sym (sum_of_all (λ x. times c x.drawn)) ∙ drawn r seat at all_logs c
+    drawn_by c = sym (total r.life all (λ x. times c x.drawn)) ∙ r.draws.each c
 
     pub whole : 0 < k.passes → IsWhole (opening_of k) r.history (map view_of ps)
-    whole some_passes = record {
-      legal = r.legal;
-      settled = settled_end r all_idle;
-      seen = λ w h. let p = contains_map view_of ps w h in rw p.2 (known p.0 p.1).seen;
-      own = λ w h. let p = contains_map view_of ps w h in rw p.2 (known p.0 p.1).own;
-      authors = λ e h. let known : once k.passes e.pass ≢ 0 =
-          λ none. contains_none e (subst (λ (l : List Event). Contains l e) (r.authors e.pass none) (in_part e.pass r.history e h refl)) in
-          let a = sum_of_all (λ x. one_if (eqb x.number e.pass)) in let b = sum_here r seat at all_logs (λ x. one_if (eqb x.number e.pass)) in
-          let c = r.passes e.pass in let p = found_by (λ (q : CountedPass). (log_of q).number) e.pass ps (omega (arith, known)) in
-          (view_of p.0, contains_mapped view_of ps p.0 p.1, sym p.2);
-      chains_inside = λ w h c d. let p = contains_map view_of ps w h in
+    whole some_passes = gathered_whole r.life all view_of (λ p. (refl, refl, refl)) (settled_end r all_idle) record {
+      inside = λ w h c d. let p = contains_map view_of ps w h in
           let a = sum_of (λ (q : CountedPass). times c (log_of q).drawn) ps p.0 p.1 in
           let b = some_times c (log_of p.0).drawn (subst (λ (z : PassView). Contains z.drawn c) p.2 d) in
           let e = drawn_by c in let o = once_is r.draws.given c in (omega (arith, o), omega (arith, o, r.draws.few));
-      drawn_once = λ c. let m = sum_map (times_drawn c) view_of ps in omega (arith, m, drawn_by c, once_is r.draws.given c);
-      all_drawn = λ ended c low high. let first = some_pass ps (omega arith) in
+      once = λ c. let m = sum_map (times_drawn c) view_of ps in omega (arith, m, drawn_by c, once_is r.draws.given c);
+      all = λ ended c low high. let first = some_pass ps (omega arith) in
           let a = sum_of (λ (q : CountedPass). one_if (log_of q).no_chains_left) ps first.0 first.1 in
           let b = ap one_if (ended (view_of first.0) (contains_mapped view_of ps first.0 first.1)) in
-          let t = told r seat at all_logs in let u = sum_of_all (λ x. one_if x.no_chains_left) in let given = r.draws.all (omega arith) in
+          let t = total r.life all (λ x. one_if x.no_chains_left) in let given = r.draws.all (omega arith) in
           let p = found_sum (λ (q : CountedPass). times c (log_of q).drawn) ps (omega (arith, drawn_by c, once_is r.draws.given c)) in
           (view_of p.0, contains_mapped view_of ps p.0 p.1, some_there c (log_of p.0).drawn p.2);
     }
@@ -180,17 +140,6 @@ module _ (id : TableId) (k : Start) where
     pub closes : 0 < k.passes → (left : Contents) → HasSameFiles (state_after_all k r.history) (state_of left) → IsSettled (state_of left)
         → ClosesTable (opening_of k) (map view_of ps) left
     closes some_passes left = closes_table (opening_of k) r.history (map view_of ps) left (whole some_passes)
-
--- any seat may look, and nothing changes
-pub may_observe : {k : Start} (slots id i : ℕ) {me : Sat} → me.0.start ≡ k
-    → Allows (Agrees k) slots id me i (λ n. n) (Observes (step slots i 0 0 mathlib.Core.Option.none) me)
-may_observe slots id i {me} start s r wide at small = (
-  me.0,
-  keeps,
-  tt,
-  rw (set-get_or s.words i 0, set_again s.views id me.0 at) r,
-  record { last = s; rule = rw start r; seat = id; view = at; same = refl },
-)
 
 -- the history of a table with one pass, which is idle, without closing the table
 module _ (id : TableId) (k : Start) (p : CountedPass) (fits : IsPassOf id k p) (idle : IsIdle (view_of p)) (alone : k.passes ≡ 1)

@@ -10,37 +10,38 @@ use Rattle.atomic_table.specs.Table.{Splits}
 use Rattle.fx_table.proofs.SumLemmas.{sum_set, contains_alone}
 use Rattle.fx_table.specs.Calls.{Adds, no_use}
 use Rattle.fx_table.specs.Showing.{Learns}
-use Rattle.fx_counted.specs.Agrees.{ViewAgrees, PlacesNext, lengths}
+use Rattle.fx_counted.specs.Agrees.{ViewAgrees, PlacesNext}
 use Rattle.fx_counted.specs.declared.view.Work.{Work}
 use Rattle.fx_counted.specs.declared.view.Work.TheVariants.{Placing, Emptying}
 use Rattle.fx_counted.specs.declared.view.Change.{Change}
 use Rattle.fx_counted.specs.declared.view.Change.TheVariants.{Outside}
 use Rattle.fx_counted.specs.Goes.{Goes}
 use Rattle.fx_counted.specs.Passes.{held_of, shown, doing_in}
-use Rattle.fx_counted.specs.Showing.{shown_view, HasLearned}
+use Rattle.fx_counted.specs.Showing.{HasLearned}
 use Rattle.fx_counted.specs.Effects.{IsInside}
-use Rattle.fx_table.proofs.Seats.{appended}
-use Rattle.fx_counted.proofs.Seats.{DoesNothing, logs, start, reseated}
-use Rattle.fx_counted.proofs.Frames.{owner_same, control_same, draws_same, total_same}
-use Rattle.fx_counted.proofs.Keeping.{IsKnown, shape_kept}
-use Rattle.fx_seen.proofs.Views.{of_appended, of_replaced}
+use Rattle.fx_counted.proofs.Words.{HasSeen, its_pass, seats, shown_view, total_same}
+use Rattle.fx_counted.proofs.Openings.{laws}
+use Rattle.fx_counted.proofs.Seats.{is_rule}
+use Rattle.fx_counted.proofs.Frames.{owner_same, control_same, draws_same}
+use Rattle.fx_counted.proofs.Keeping.{shape_kept}
+use Rattle.table_seats.proofs.Moving.{may_show as seats_show}
+use Rattle.table_seats.proofs.Together.{known, learned as seats_learn}
 use Rattle.fx_table.proofs.Calls.{learned_so}
 use Rattle.fx_counted.proofs.Calling.{adds_so, still_pass}
 use Rattle.fx_seen.specs.Kept.{MayLearn}
 
 -- a seat with one pass may show what the pass has seen
-pub may_show : (k : Start) (id : ℕ) (v : View) {x : Log} → v.logs ≡ x ∷ [] → Splits (Agrees k) id v v (shown_view v)
-may_show k id v {x} one s r at =
-    let seen : IsSeenBy (first_log v.logs).front r.history = subst (λ (l : List Log). IsSeenBy (first_log l).front r.history) (sym one) ((r.each_view id v at).logs x (contains_alone one)).seen in
-    subst (λ (l : List View). Agrees k record { words = s.words; homes = s.homes; views = l ++ shown_view v ∷ [] }) (sym (set_again s.views id v at))
-    (reseated k s r _ (appended logs start k DoesNothing s.views (shown_view v) (refl, refl) refl)
-    (of_appended (IsKnown r.history) s.views r.known (shown_view v) seen))
+pub may_show : (k : Start) (id : ℕ) (v : View) {x : Log} → v.logs ≡ x ∷ [] → Splits (Agrees k) id v v (shown_view seats v)
+may_show k id v one = seats_show is_rule laws k id v one
 
 -- a seat with one pass may learn the whole history
 module _ (k : Start) (id : ℕ) (v w : View) (x : Log) (one : v.logs ≡ x ∷ []) (begun : v.start ≡ k) (within : IsInside v.start v.work) (s : Shared) (r : Agrees k s)
     (at : get_elem? s.views id ≡ some v) (other : ℕ) (there : get_elem? s.views other ≡ some w) where
   its_log : LogAgrees k r.history r.phase v.work x
   its_log = (r.each_view id v at).logs x (contains_alone one)
+
+  passed : HasSeen seats r.history x
+  passed = its_pass r.life id at one
 
   abbrev log : Log
   log = record x { front = r.history }
@@ -50,8 +51,6 @@ module _ (k : Start) (id : ℕ) (v w : View) (x : Log) (one : v.logs ≡ x ∷ [
 
   now_log : LogAgrees k r.history r.phase v.work log
   now_log = let o = its_log in record {
-    seen = ([], refl);
-    own = refl;
     held = o.held;
     chain = o.chain;
     last = o.last;
@@ -71,7 +70,7 @@ module _ (k : Start) (id : ℕ) (v w : View) (x : Log) (one : v.logs ≡ x ∷ [
     shape = shape_kept refl refl r.shape;
     history = r.history;
     phase = r.phase;
-    legal = r.legal;
+    life = seats_learn r.life id at one refl refl refl refl record { seen = ([], refl); own = refl };
     each_slot = r.each_slot;
     each_node = r.each_node;
     each_owner = λ n has. owner_same s.views id v learned at refl n (r.phase n) (r.each_owner n has);
@@ -80,24 +79,18 @@ module _ (k : Start) (id : ℕ) (v w : View) (x : Log) (one : v.logs ≡ x ∷ [
         subst (λ (z : ℕ × View). ViewAgrees k r.history r.phase z.0 z.1) (λ i. (sym t.0 i, t.1 i)) record {
           logs = λ y h. subst (LogAgrees k r.history r.phase v.work) (sym (contains_only log y h)) now_log;
           work = (r.each_view id v at).work;
-          empty = λ none. absurd (omega (arith, ap (length {A = Log}) none));
-          start = inr begun;
         }) (λ t. r.each_view j u t.1) (at_set s.views id j learned u e);
-    known = of_replaced (IsKnown r.history) s.views r.known id learned (r.known id v at);
     holds = λ n. let t = sum_set (held_of n) s.views id v learned at in let h = r.holds n in omega arith;
-    look_ups = let t = total_same (λ z. z.looks_left) s.views id learned at one refl refl in let h = r.look_ups in omega arith;
-    passes = λ p. total_same (λ z. one_if (eqb z.number p)) s.views id learned at one refl refl ∙ r.passes p;
-    whole = let t = sum_set lengths s.views id v learned at in let e = ap (length {A = Log}) one in let h = r.whole in omega arith;
-    authors = r.authors;
+    look_ups = let t = total_same seats.logs (λ z. z.looks_left) s.views id learned at one refl refl in let h = r.look_ups in omega arith;
     control = control_same s.views id v learned at refl refl refl r.control;
     draws = draws_same s.views id v learned at one refl refl refl refl (λ n is. is) r.draws;
   }
 
   adds_here : Adds (opening_of k) (shown x v.work) [] (doing_in v.work) no_use (shown log v.work)
   adds_here = record {
-    seen = its_log.seen;
-    front = record { legal = r.legal; mine = refl };
-    own = its_log.own;
+    seen = passed.seen;
+    front = record { legal = r.life.legal; mine = refl };
+    own = passed.own;
     now = refl;
     number = refl;
     chain = refl;
@@ -118,7 +111,7 @@ module _ (k : Start) (id : ℕ) (v w : View) (x : Log) (one : v.logs ≡ x ∷ [
       start = refl;
       steps = subst (λ (z : Log). x.steps ≤ z.steps + 0) (sym first) (omega arith);
     };
-    shown = r.known other w there;
+    shown = known r.life other w there;
   }
 
   may : (z : View) × Agrees k record { words = s.words; homes = s.homes; views = set s.views id z } × HasLearned v w z

@@ -26,16 +26,16 @@ module _ (turn : Turn) (s : ℕ) (inside : s < slots_of turn.v.start) where
   Facts = Effect turn s inside old refl
 
   pub cleared : Facts (Clear s old) None (state_after_all v.start r.history).fresh
-  cleared = let legal = legal_more v.start r.legal (in_size turn s inside, refl) tt in
+  cleared = let legal = legal_more v.start r.life.legal (in_size turn s inside, refl) tt in
       record { legal = legal; state = refl; looked = refl; all = omega arith; held = refl }
 
   pub taken : Facts (Take s old) None (state_after_all v.start r.history).fresh
-  taken = record { legal = legal_more v.start r.legal (in_size turn s inside, refl) tt; state = refl; looked = refl; all = omega arith; held = refl }
+  taken = record { legal = legal_more v.start r.life.legal (in_size turn s inside, refl) tt; state = refl; looked = refl; all = omega arith; held = refl }
 
   put : (n : ℕ) (file : Closed) → v.work ≡ Placing n → Facts (Put s (numbered n file) old) (Some (numbered n file))
       (changed_at (state_after_all v.start r.history).fresh n false)
   put n file works = let its = subst (WorkAgrees v.start r.phase id) works (its_work turn) in
-      let legal = legal_more v.start r.legal (in_size turn s inside, (in_phase v.start st r its.0 its.1).fresh, refl) tt in
+      let legal = legal_more v.start r.life.legal (in_size turn s inside, (in_phase v.start st r its.0 its.1).fresh, refl) tt in
       record { legal = legal; state = refl; looked = refl; all = omega arith; held = refl }
 
 -- the action does to a slot what a removal does

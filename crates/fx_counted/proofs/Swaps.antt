@@ -7,7 +7,7 @@ use Rattle.fx_counted.proofs.Words.{WorkAgrees, PlacesNext, Agrees, ControlCount
 use Rattle.fx_counted.proofs.Words.{slot_place, opening_of, slots_of, IsNumber, state_after_all, shown, end_in, next_in, held_in, placing, holding}
 use Rattle.fx_counted.proofs.Words.{Phase, spare, placed, seated, leaving, owner, file_in, IsInside, Stepped, retiring, turned, Change, Log, View}
 use Rattle.fx_counted.proofs.Words.{Work, Idle, Placing, Retiring, Between, keeps, stepped, changed_here, changed_else, length-set, IsSeated}
-use Rattle.fx_counted.proofs.Steps.{in_phase, seat_in, busy, owner_stays, does_now, IsHistory, grows_one, part_mine, held_mine, each_changed}
+use Rattle.fx_counted.proofs.Steps.{sees_now, in_phase, seat_in, busy, owner_stays, does_now, IsHistory, grows_one, part_mine, held_mine, each_changed}
 use Rattle.fx_counted.proofs.Steps.{same_shape, Turn, Homes, word_at, now, logged, its_log, its_work, log_now, tells, went, tells_one, node_same}
 use Rattle.fx_counted.proofs.Steps.{NodeIn, step_kept, slots_now, node_now, control_now, draws_now, words_now}
 use Rattle.fx_counted.proofs.Births.{else_place, unheld}
@@ -174,6 +174,7 @@ module _ (turn : Turn) (s : ℕ) (inside : s < slots_of turn.v.start) where
                 (λ g is same. ap (λ (m : ℕ). file_in (phase' m)) same ∙ (ap file_in (out_here is)
                 ∙ (sym (ap file_in (seat_in v.start st r inside (was ∙ is)).2) ∙ ap (λ (m : ℕ). file_in (r.phase m)) (sym same))))
                 (λ apart. ap file_in (same_phase refl apart (λ bad. unheld turn f.number (ap file_in bad) j u f there holds refl)));
+            seen = sees_now turn h' left x.looks_left;
             log = log_now turn p.fewer
                 (held_mine (event_of (shown x v.work) a) r.history refl ∙ (p.does.held ∙ (o.held ∙ (p.none_held.0
                 ∙ by_retiring old (takes_in found) (λ w. None ≡ held_in w) refl (λ f is. refl)))))

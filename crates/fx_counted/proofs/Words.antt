@@ -5,11 +5,11 @@ pub use Rattle.atomic_table.specs.Table.{Act, Allows, Final, Seen, Valid, carrie
 pub use Rattle.atomic_table.specs.declared.shared.Seat.{Seat}
 pub use Rattle.fx_base.specs.declared.open_file.Closed.{Closed}
 pub use Rattle.fx_counted.specs.Agrees.{Agrees, Does, HasShape, Home, IsGone, IsSeated, LogAgrees, Names, NodeAgrees, OwnerAgrees, PlacesNext}
-pub use Rattle.fx_counted.specs.Agrees.{SlotAgrees, ViewAgrees, WorkAgrees, lengths}
+pub use Rattle.fx_counted.specs.Agrees.{SlotAgrees, ViewAgrees, WorkAgrees}
 pub use Rattle.fx_counted.specs.Changing.{HasToReport, InRange, IsAtWork, begun, difference}
 pub use Rattle.fx_counted.specs.Control.{ControlCounts, added, added_of, changes_of, in_change, removed_by, removed_of}
 pub use Rattle.fx_counted.specs.Counts.{all_looks, look_in, looks, looks_after}
-pub use Rattle.fx_counted.specs.Cuts.{first_alone, first_view, new_logs, spent, together, without_first}
+pub use Rattle.fx_counted.specs.Cuts.{seats}
 pub use Rattle.fx_counted.specs.Draws.{DrawsCount}
 pub use Rattle.fx_counted.specs.Firsts.{AreFirstWords}
 pub use Rattle.fx_counted.specs.Goes.{Goes}
@@ -18,11 +18,11 @@ pub use Rattle.fx_counted.specs.Laws.{IsInRange, JoinsKeep, LoadsKeep, LooksKeep
 pub use Rattle.fx_counted.specs.Laws.{TakesKeep, place_of, word_of}
 pub use Rattle.fx_counted.specs.Layout.{HasNode, PlacesAreApart, PlacesAreInside, control_place, draw_place, home_place, homes_for, node_place}
 pub use Rattle.fx_counted.specs.Layout.{slot_of, slot_place, words_for}
-pub use Rattle.fx_counted.specs.Lives.{AllAreIdle, IsIdleSeatOf, IsNewPass, Leaves, dealt, logs_in}
+pub use Rattle.fx_counted.specs.Lives.{AllAreIdle, IsIdleSeatOf, IsNewPass, Leaves, logs_in}
 pub use Rattle.fx_counted.specs.Moves.{HasPlace}
 pub use Rattle.fx_counted.specs.Opens.{OpensWith, first_file, home_for, node_for, word_for}
 pub use Rattle.fx_counted.specs.Passes.{IsNumber, Sat, Shared, chain_in, chain_numbers, doing_in, drawn_of, end_in, first_log, first_or, held_in}
-pub use Rattle.fx_counted.specs.Passes.{held_of, holding, logs_of, looks_of, new_log, next_in, opening_of, pass_of, placing, shown, slots_of}
+pub use Rattle.fx_counted.specs.Passes.{held_of, holding, looks_of, new_log, next_in, opening_of, pass_of, placing, shown, slots_of}
 pub use Rattle.fx_counted.specs.Passes.{state_after_all, steps_of, ended_of}
 pub use Rattle.fx_counted.specs.Phases.{Phase, closed, emptied, file_in, leaving, owner, placed, retired, seated, spare, unborn}
 pub use Rattle.fx_counted.specs.Searching.{HasAllocated, HasFoundAllFull, IsPlacing, Proceeds, StillPlaces, Tries}
@@ -87,6 +87,10 @@ pub use native.Mathlib.Decide.{dec_le, ℕ_discrete}
 pub use Rattle.fx_table.proofs.Calls.{adds_then, cleared_so, placed_so, new_here, taken_so}
 pub use Rattle.fx_table.specs.declared.values.Hold.{Hold}
 pub use Rattle.fx_plain.proofs.Prepared.{inside_behind, opens_inside, numbered_anew}
-pub use Rattle.fx_table.proofs.Seats.{only_here, AreReseated, split, joined, logs_are, sum_gathered, each_seat, gathered, last_of}
+pub use Rattle.fx_table.proofs.Seats.{only_here, gathered, last_of}
+pub use Rattle.table_seats.proofs.Gathered.{AreGathered}
+pub use Rattle.table_seats.proofs.Together.{HasLaws, Moves, its_pass, not_there, of_one, total_same}
+pub use Rattle.table_seats.specs.Seats.{dealt, first_alone, first_view, front_in, new_logs, shown_view, without_first}
+pub use Rattle.table_seats.specs.Together.{HasSeen, Together, lengths}
 pub use Rattle.fx_table.proofs.Growing.{Grows, grows_none, grows_one, part_mine, each_changed}
 pub use Rattle.fx_table.proofs.Chains.{first_left, last_left, in_part, some_there, some_times, IsReady, fits, one_dealt, all_dealt, AreDealt}

@@ -1,12 +1,12 @@
 -- The rule of the lock-free table: words, places and views agree with the state that one legal
 -- history leads to.
-use Rattle.std.specs.Prelude.{◌≡◌, ℕ, ◌+◌, ◌*◌, ◌<◌, ◌≤◌, ◌⊎◌, true, List, [], length, slice_index}
+use Rattle.std.specs.Prelude.{◌≡◌, ℕ, ◌+◌, ◌*◌, ◌<◌, ◌≤◌, true, List, length, slice_index}
 use Rattle.std.specs.Prelude.{Option, Some, None, ◌==◌, Contains, count_by, sum_by}
 use mathlib.Core.Option.{some, none}
 use mathlib.Core.Option as maybe
 use lib.ListN.{get_elem?}
 use Rattle.fx_base.specs.Identity.{Identity}
-use Rattle.fx_plain.specs.History.{IsLegal, IsSeenBy, part_of_pass, held_by}
+use Rattle.fx_plain.specs.History.{held_by}
 use Rattle.fx_plain.specs.State.{State}
 use Rattle.fx_plain.specs.Table.{numbered}
 use Rattle.fx_plain.specs.declared.event.File.{File}
@@ -14,20 +14,20 @@ use Rattle.fx_plain.specs.declared.event.Event.{Event}
 use Rattle.fx_plain.specs.declared.table.TheConstants.{MOST_SLOTS}
 use Rattle.fx_table.specs.declared.limits.TheConstants.{CHAIN_NUMBERS, MAX_CHAINS, MAX_PASSES}
 use Rattle.fx_table.specs.declared.limits.TheConstants.{PASS_LOOKS}
-use Rattle.fx_table.specs.Numbers.{once}
-use Rattle.fx_table.specs.Opening.{start_of, range_of}
+use Rattle.fx_table.specs.Opening.{range_of}
+use Rattle.table_seats.specs.Together.{Together}
 use Rattle.fx_words.specs.Words.{name_in, entry_in, takes_in, born}
 use Rattle.fx_counted.specs.Control.{ControlCounts}
 use Rattle.fx_counted.specs.Counts.{looks, all_looks}
+use Rattle.fx_counted.specs.Cuts.{seats}
 use Rattle.fx_counted.specs.Draws.{DrawsCount}
 use Rattle.fx_counted.specs.Layout.{control_place, draw_place, slot_place, node_place, words_for}
 use Rattle.fx_counted.specs.Layout.{home_place, homes_for}
 use Rattle.fx_counted.specs.Passes.{Shared, opening_of, slots_of, chain_numbers, IsNumber}
 use Rattle.fx_counted.specs.Passes.{state_after_all, chain_in}
-use Rattle.fx_counted.specs.Passes.{end_in, next_in, held_in, placing, logs_of, looks_of, held_of}
+use Rattle.fx_counted.specs.Passes.{end_in, next_in, held_in, placing, looks_of, held_of}
 use Rattle.fx_counted.specs.Phases.{Phase, unborn, spare, placed, seated, leaving, retired, emptied}
 use Rattle.fx_counted.specs.Phases.{closed, file_in}
-use Rattle.fx_counted.specs.declared.view.Change.TheVariants.{Outside}
 use Rattle.fx_counted.specs.declared.view.Log.{Log}
 use Rattle.fx_counted.specs.declared.view.Start.{Start}
 use Rattle.fx_counted.specs.declared.view.View.{View}
@@ -141,9 +141,6 @@ PlacesNext k x _ = Unit {0}
 -- one pass of a seat with this work
 pub record LogAgrees (k : Start) (h : List Event) (phase : ℕ → Phase)
     (work : Work) (x : Log) : Type 0 where
-  -- it has seen an initial part of the history, with all its own events
-  pub seen : IsSeenBy x.front h
-  pub own : part_of_pass x.number h ≡ part_of_pass x.number x.front
   pub held : held_by h x.number ≡ held_in work
   pub chain : chain_in x ≤ k.chains
   -- it drew no chain after its last one
@@ -159,8 +156,6 @@ pub record ViewAgrees (k : Start) (h : List Event) (phase : ℕ → Phase)
     (seat : ℕ) (v : View) : Type 0 where
   pub logs : (x : Log) → Contains v.logs x → LogAgrees k h phase v.work x
   pub work : WorkAgrees k phase seat v.work
-  pub empty : v.logs ≡ [] → (v.work ≡ Between Idle) × (v.change ≡ Outside)
-  pub start : (v.logs ≡ []) ⊎ (v.start ≡ k)
 
 -- the counts of words, places and chains
 pub record HasShape (k : Start) (s : Shared) : Type 0 where
@@ -172,16 +167,12 @@ pub record HasShape (k : Start) (s : Shared) : Type 0 where
   pub words : length s.words ≡ words_for (slots_of k) (chain_numbers k)
   pub homes : length s.homes ≡ homes_for (slots_of k) (chain_numbers k)
 
--- the number of passes of a seat
-abbrev pub lengths : View → ℕ
-lengths v = length v.logs
-
 -- the rule, which holds between any two steps
 pub record Agrees (k : Start) (s : Shared) : Type 0 where
   pub shape : HasShape k s
   pub history : List Event
   pub phase : ℕ → Phase
-  pub legal : IsLegal (start_of (opening_of k)) history (state_after_all k history)
+  pub life : Together seats k s.views history
   pub each_slot : (slot : ℕ) → slot < slots_of k
       → SlotAgrees k history phase slot (slice_index s.words (slot_place slot))
   pub each_node : (n : ℕ) → IsNumber k n
@@ -192,16 +183,10 @@ pub record Agrees (k : Start) (s : Shared) : Type 0 where
   pub no_other : (n : ℕ) → (IsNumber k n → ⊥) → (state_after_all k history).removed n ≡ None
   pub each_view : (seat : ℕ) (v : View) → get_elem? s.views seat ≡ some v
       → ViewAgrees k history phase seat v
-  -- each shown history stays an initial part of the history
-  pub known : (seat : ℕ) (v : View) → get_elem? s.views seat ≡ some v → IsSeenBy v.known history
   -- a file's holds are the passes that hold it
   pub holds : (n : ℕ) → (state_after_all k history).holds n ≡ sum_by (held_of n) s.views
   -- each pass began with `PASS_LOOKS` look-ups
   pub look_ups : all_looks history + sum_by looks_of s.views ≡ PASS_LOOKS * k.passes
-  -- each pass is in one view, and no event has another author
-  pub passes : (p : ℕ) → sum_by (logs_of p) s.views ≡ once k.passes p
-  pub whole : sum_by lengths s.views ≡ k.passes
-  pub authors : (p : ℕ) → once k.passes p ≡ 0 → part_of_pass p history ≡ []
   pub control : ControlCounts (state_after_all k history).at (range_of (opening_of k)) s.views
       (slice_index s.words control_place)
   pub draws : DrawsCount k.chains k.numbers phase s.views (slice_index s.words draw_place)

@@ -1,9 +1,9 @@
--- Splitting a view in two, and joining two.
-use Rattle.std.specs.Prelude.{ℕ, List, [], ◌++◌, map, take, drop}
-use Rattle.std.specs.List.{range_with_len}
+-- The views of seats, by what all shared tables have.
+use Rattle.std.specs.Prelude.{◌≡◌, []}
 use Rattle.fx_plain.specs.Contents.{Contents}
-use Rattle.fx_plain.specs.declared.event.Event.{Event}
-use Rattle.fx_counted.specs.Passes.{new_log}
+use Rattle.fx_plain.specs.History.{part_of_pass}
+use Rattle.table_seats.specs.Seats.{Seats}
+use Rattle.fx_counted.specs.Passes.{new_log, opening_of}
 use Rattle.fx_counted.specs.declared.view.Change.TheVariants.{Outside}
 use Rattle.fx_counted.specs.declared.view.Log.{Log}
 use Rattle.fx_counted.specs.declared.view.Start.{Start}
@@ -11,51 +11,33 @@ use Rattle.fx_counted.specs.declared.view.View.{View}
 use Rattle.fx_counted.specs.declared.view.Work.TheVariants.{Between}
 use Rattle.fx_table.specs.declared.values.Task.TheVariants.{Idle}
 
--- `n` new passes, numbered from `p`
-abbrev pub new_logs : (p n : ℕ) → List Log
-new_logs p n = map new_log (range_with_len p n)
-
--- the view of the seat that opens the table
-abbrev pub first_view : Start → View
-first_view k = record {
-  start = k;
-  logs = new_logs 1 k.passes;
-  work = Between Idle;
-  change = Outside;
-  known = [];
-}
-
--- a view without the first of its passes
-abbrev pub without_first : View → View
-without_first v = record v { logs = drop 1 v.logs }
-
--- a view with only the first of its passes
-abbrev pub first_alone : View → View
-first_alone v = record v { logs = take 1 v.logs }
-
--- a view with the passes of another: each keeps its own front
-abbrev pub together : View → View → View
-together v w = record v { logs = v.logs ++ w.logs }
-
 -- a table without slots
 abbrev pub empty_table : Contents
 empty_table = record { slots = []; range = (0, 0); nodes = []; holds = []; numbers = 0 }
 
--- the view of a seat whose passes went to another
-abbrev pub spent : View
-spent = record {
-  start = record {
-    plain = record { marker = record {}; value = empty_table };
-    chains = 0;
-    passes = 0;
-    numbers = 0;
-  };
-  logs = [];
-  work = Between Idle;
-  change = Outside;
-  known = [];
+-- the start of a seat whose passes went to another
+abbrev pub no_start : Start
+no_start = record {
+  plain = record { marker = record {}; value = empty_table };
+  chains = 0;
+  passes = 0;
+  numbers = 0;
 }
 
--- the view of a seat without passes that shows a history
-abbrev pub view_with : List Event → View
-view_with h = record spent { known = h }
+abbrev pub seats : Seats View Log Start
+seats = record {
+  logs = λ v. v.logs;
+  start = λ v. v.start;
+  known = λ v. v.known;
+  IsIdle = λ v. (v.work ≡ Between Idle) × (v.change ≡ Outside);
+  number = λ x. x.number;
+  front = λ x. x.front;
+  own = λ x. part_of_pass x.number x.front;
+  opening = opening_of;
+  new_log = λ k p. new_log p;
+  begun = λ k logs.
+      record { start = k; logs = logs; work = Between Idle; change = Outside; known = [] };
+  with_logs = λ v logs. record v { logs = logs };
+  showing = λ h.
+      record { start = no_start; logs = []; work = Between Idle; change = Outside; known = h };
+}

@@ -12,7 +12,8 @@ use Rattle.fx_table.specs.Opening.{range_of}
 use Rattle.fx_words.specs.Words.{name_in, born, one_change, slot_word_of, retire_amount_of}
 use Rattle.fx_counted.specs.Agrees.{Agrees}
 use Rattle.fx_counted.specs.Control.{in_change, added, removed_by}
-use Rattle.fx_counted.specs.Cuts.{without_first, first_alone, together, spent}
+use Rattle.table_seats.specs.Seats.{without_first, first_alone, joined, spent}
+use Rattle.fx_counted.specs.Cuts.{seats}
 use Rattle.fx_counted.specs.Layout.{control_place, draw_place, slot_place, node_place, home_place}
 use Rattle.fx_counted.specs.Passes.{Sat, opening_of, slots_of, next_in}
 use Rattle.fx_counted.specs.Effects.{Births, Looks, Installs, Removes, Retires, Releases, Rests}
@@ -55,14 +56,14 @@ MayChange k slot change =
 -- the first pass of an idle seat goes to a seat of its own
 abbrev pub SplitsKeep : Type 0
 SplitsKeep = (k : Start) (id : ℕ) (v : View) → v.work ≡ Between Idle → v.change ≡ Outside
-    → Splits (Agrees k) id v (without_first v) (first_alone v)
+    → Splits (Agrees k) id v (without_first seats v) (first_alone seats v)
 
 -- an idle seat takes in the passes of another
 abbrev pub JoinsKeep : Type 0
 JoinsKeep = (k : Start) (id : ℕ) (v : View)
     → v.start ≡ k → v.work ≡ Between Idle → v.change ≡ Outside
     → (other : ℕ) (w : View) → w.work ≡ Between Idle → w.change ≡ Outside
-    → Joins (Agrees k) id v other w (together v w) spent
+    → Joins (Agrees k) id v other w (joined seats v w) (spent seats)
 
 -- an idle pass stores 2^32 in the word of its next number
 abbrev pub BirthsKeep : Type 0

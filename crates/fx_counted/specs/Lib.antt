@@ -17,5 +17,4 @@ pub mod Searching
 pub mod Tables
 pub mod Firsts
 pub mod Lives
-pub mod Settling
 pub mod Showing

@@ -1,5 +1,5 @@
 -- Passes as they are handed out and gathered.
-use Rattle.std.specs.Prelude.{◌≡◌, ℕ, ◌+◌, ◌-◌, true, false, List, [], flat_map, Option}
+use Rattle.std.specs.Prelude.{◌≡◌, ℕ, true, false, List, [], flat_map, Option}
 use Rattle.atomic_table.specs.declared.shared.Seat.{Seat}
 use mathlib.Core.Option.{some}
 use lib.ListN.{get_elem?}
@@ -9,7 +9,8 @@ use Rattle.fx_plain.specs.State.{IsSettled}
 use Rattle.fx_table.specs.Opening.{HasSameFiles}
 use Rattle.fx_table.specs.declared.limits.TheConstants.{PASS_LOOKS}
 use Rattle.fx_counted.specs.Agrees.{Agrees}
-use Rattle.fx_counted.specs.Cuts.{new_logs, first_view}
+use Rattle.table_seats.specs.Seats.{first_view}
+use Rattle.fx_counted.specs.Cuts.{seats}
 use Rattle.fx_counted.specs.Passes.{Shared, state_after_all}
 use Rattle.fx_counted.specs.declared.pass.CountedPass.{CountedPass}
 use Rattle.fx_counted.specs.declared.table.CountedTable.{CountedTable}
@@ -19,10 +20,6 @@ use Rattle.fx_counted.specs.declared.view.Start.{Start}
 use Rattle.fx_counted.specs.declared.view.View.{View}
 use Rattle.fx_counted.specs.declared.view.Work.TheVariants.{Between}
 use Rattle.fx_table.specs.declared.values.Task.TheVariants.{Idle}
-
--- the view of a seat that has the new passes from p to the last
-abbrev pub dealt : Start → ℕ → View
-dealt k p = record (first_view k) { logs = new_logs p ((k.passes + 1) - p) }
 
 -- the passes of these seats, in their order
 abbrev pub logs_in : List CountedPass → List Log
@@ -40,7 +37,7 @@ pub record IsNewPass (seat : Seat (Option Identity) View) (p : CountedPass) : Ty
 -- the seat of a table that was just opened
 pub record HasAllPasses (t : CountedTable) (seat : Seat (Option Identity) View) : Type 0 where
   pub table : seat.table_id ≡ t.table.shared.table_id
-  pub me : seat.me ≡ (first_view t.table.shared.key, [])
+  pub me : seat.me ≡ (first_view seats t.table.shared.key, [])
 
 -- a seat of the table whose passes are idle
 pub record IsIdleSeatOf (t : CountedTable) (seat : Seat (Option Identity) View) : Type 0 where

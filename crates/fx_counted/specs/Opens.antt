@@ -13,7 +13,8 @@ use Rattle.fx_table.specs.Opening.{range_of}
 use Rattle.fx_words.specs.Words.{born, slot_word_of, control_word_of}
 use Rattle.fx_counted.specs.Agrees.{Agrees}
 use Rattle.fx_table.specs.FullSlots.{full_in}
-use Rattle.fx_counted.specs.Cuts.{first_view}
+use Rattle.table_seats.specs.Seats.{first_view}
+use Rattle.fx_counted.specs.Cuts.{seats}
 use Rattle.fx_counted.specs.Layout.{control_place, draw_place, slot_place, node_place, words_for}
 use Rattle.fx_counted.specs.Layout.{home_place, homes_for}
 use Rattle.fx_counted.specs.Passes.{opening_of, slots_of, chain_numbers, state_after_all}
@@ -66,4 +67,4 @@ pub record OpensWith (k : Start) (words : List ℕ) (homes : List (Option Identi
 -- a table with these words and places keeps the rule, with one seat that has all passes
 abbrev pub OpeningKeeps : Type 0
 OpeningKeeps = (k : Start) (words : List ℕ) (homes : List (Option Identity))
-    → OpensWith k words homes → Agrees k (opening words homes (first_view k))
+    → OpensWith k words homes → Agrees k (opening words homes (first_view seats k))

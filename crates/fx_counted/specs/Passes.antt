@@ -132,10 +132,6 @@ abbrev pub holding : ℕ → Work → ℕ
 holding n (Between (Holding f)) = if f.number == n then 1 else 0
 holding n _ = 0
 
--- the number of a view's passes with this number
-abbrev pub logs_of : ℕ → View → ℕ
-logs_of p v = count_by (λ x. x.number == p) v.logs
-
 -- the number of times that they drew the chain
 abbrev pub drawn_of : ℕ → View → ℕ
 drawn_of c v = sum_by (λ x. count_by (λ d. d == c) x.drawn) v.logs

@@ -2,17 +2,12 @@
 use Rattle.std.specs.Prelude.{◌≡◌, ℕ, List, []}
 use Rattle.fx_plain.specs.History.{IsSeenBy}
 use Rattle.fx_plain.specs.declared.event.Event.{Event}
-use Rattle.fx_counted.specs.Cuts.{view_with}
 use Rattle.fx_counted.specs.Passes.{first_log}
 use Rattle.fx_table.specs.Calls.{no_use}
 use Rattle.fx_counted.specs.Goes.{Goes}
 use Rattle.fx_counted.specs.declared.view.View.{View}
 use Rattle.fx_counted.specs.declared.shown.CountedSeen.{CountedSeen}
 use Rattle.fx_counted.specs.declared.table.CountedTable.{CountedTable}
-
--- the view of a seat without passes that shows all that the first pass of the view `v` has seen
-abbrev pub shown_view : View → View
-shown_view v = view_with (first_log v.logs).front
 
 -- the view `v` of a seat with one pass becomes `u`, by learning what the view `w` shows
 pub record HasLearned (v w u : View) : Type 0 where

@@ -1,8 +1,5 @@
 //! Closing a table.
-ghost use Rattle.std.specs.Prelude.{◌≡◌, ◌<◌, ◌++◌, length, map, reverse, slice_set, All, None};
-ghost use Rattle.std.specs.Mem.Slots.{slots_items, slots_len, IsFull};
-ghost use mathlib.Core.Option.{some};
-ghost use lib.ListN.{get_elem?};
+ghost use Rattle.std.specs.Prelude.{◌≡◌, ◌++◌, length, map, reverse, All};
 ghost use Rattle.fx_table.specs.Closing.{ClosesTable};
 ghost use Rattle.fx_table.specs.Pass.{IsIdle};
 ghost use Rattle.fx_table.specs.Settling.{IsSettledSoFar};
@@ -14,11 +11,11 @@ use crate::layout::{CONTROL, home_place, homes_for, slot_place};
 use crate::pass::CountedPass;
 use crate::table::CountedTable;
 use crate::view::View;
-use atomic_table::{Closed, Seat};
+use atomic_table::Seat;
 use fx_base::OpenFile;
 use fx_plain::PlainTable;
 use fx_words::node_of;
-use std::alloc::Global;
+use table_seats::take_home;
 
 impl CountedTable {
     /// Turns the table back into a table of one thread, after all its passes have come back, idle
@@ -100,20 +97,4 @@ impl CountedTable {
         closed.free();
         shell
     }
-}
-
-// Takes the content of a place, and leaves the place empty.
-fn take_home(closed: &mut Closed<Option<OpenFile>, Global>, place: usize) -> Option<OpenFile>
-    requires inside { place < slots_len closed.old.slots }
-    requires full { IsFull closed.old.slots }
-    ensures value { get_elem? (slots_items closed.old.slots) place ≡ some result }
-    ensures items { slots_items closed.new.slots
-        ≡ slice_set (slots_items closed.old.slots) place None }
-    ensures count { slots_len closed.new.slots ≡ slots_len closed.old.slots }
-    ensures full { IsFull closed.new.slots }
-    ensures words { closed.new.words ≡ closed.old.words }
-{
-    let home = closed.take(place);
-    closed.slots.put(place, None);
-    home
 }

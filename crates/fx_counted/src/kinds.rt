@@ -1,11 +1,13 @@
 //! The rule of the lock-free table, and its fourteen kinds of step.
 ghost use Rattle.fx_counted.specs.Agrees.{Agrees};
-ghost use Rattle.fx_counted.specs.Cuts.{first_view, without_first, first_alone, together, spent};
+ghost use Rattle.table_seats.specs.Seats.{first_view, without_first, first_alone, joined, spent};
+ghost use Rattle.table_seats.specs.Seats.{shown_view};
+ghost use Rattle.table_seats.specs.Settling.{Observes};
+ghost use Rattle.fx_counted.specs.Cuts.{seats};
 ghost use Rattle.fx_counted.specs.Effects.{Births, Looks, Installs, Retires, Releases, Rests};
 ghost use Rattle.fx_counted.specs.Effects.{SaysFull, Exchanges, DrawsChain, GoesOn};
 ghost use Rattle.fx_counted.specs.declared.view.Change.TheVariants.{Same, Outside};
-ghost use Rattle.fx_counted.specs.Settling.{Observes};
-ghost use Rattle.fx_counted.specs.Showing.{shown_view, HasLearned};
+ghost use Rattle.fx_counted.specs.Showing.{HasLearned};
 
 use crate::view::{Start, View};
 use atomic_table::{Join, Play, Split, TableRule};
@@ -19,25 +21,25 @@ pub struct OneHistory;
 impl TableRule<Option<OpenFile>, View, Start> for OneHistory {
     ghost holds = { Agrees };
 
-    ghost first = { first_view };
+    ghost first = { first_view seats };
 }
 
 /// The split of a seat: its first pass gets a seat of its own.
 pub struct Deal;
 
 impl Split<View> for Deal {
-    ghost left = { without_first };
+    ghost left = { without_first seats };
 
-    ghost right = { first_alone };
+    ghost right = { first_alone seats };
 }
 
 /// The join of two seats: one takes in the passes of the other.
 pub struct Gather;
 
 impl Join<View> for Gather {
-    ghost both = { together };
+    ghost both = { joined seats };
 
-    ghost spent = { spent };
+    ghost spent = { spent seats };
 }
 
 /// The birth of a file's number: the pass takes the place of its next number, whose word then says
@@ -152,7 +154,7 @@ impl Play<Option<OpenFile>, View> for Load {
 pub struct Observe;
 
 impl Play<Option<OpenFile>, View> for Observe {
-    ghost then = { Observes };
+    ghost then = { Observes Agrees (λ v. v.start) };
 }
 
 /// Show: a seat shows all that its pass has seen.
@@ -161,7 +163,7 @@ pub struct Show;
 impl Split<View> for Show {
     ghost left = { λ v. v };
 
-    ghost right = { shown_view };
+    ghost right = { shown_view seats };
 }
 
 /// Learn: a pass has seen all that was shown, and all that it had seen before.

@@ -9,7 +9,8 @@ ghost use Rattle.fx_table.specs.Pass.{IsIdle, new_passes};
 ghost use Rattle.fx_table.specs.Shells.{IsShellOf};
 ghost use Rattle.fx_words.specs.Words.{slot_word_of, born};
 ghost use Rattle.fx_counted.specs.Firsts.{AreFirstWords};
-ghost use Rattle.fx_counted.specs.Cuts.{first_view};
+ghost use Rattle.table_seats.specs.Seats.{first_view};
+ghost use Rattle.fx_counted.specs.Cuts.{seats};
 ghost use Rattle.fx_counted.specs.Layout.{slot_place, words_for, homes_for};
 ghost use Rattle.fx_counted.specs.Lives.{HasAllPasses};
 ghost use Rattle.fx_counted.specs.Tables.{view_of, opening_of_table, IsPassOfTable};
@@ -176,7 +177,7 @@ fn share(
     ensures homes { IfOk result (λ (t, _, _). t.shared.table_id.slots
         ≡ homes_for (state_of plain).size (key.now.numbers * key.now.chains)) }
     ensures seat { IfOk result (λ (t, seat, _). (seat.table_id ≡ t.shared.table_id)
-        × (seat.me ≡ (first_view key.now, []))) }
+        × (seat.me ≡ (first_view seats key.now, []))) }
     ensures shell { IfOk result (λ (_, _, shell). IsShellOf (state_of plain) (state_of shell)
         × IsPrepared shell) }
     ensures refused { IfErr result (λ (back, _). IsGivenBack plain back) }

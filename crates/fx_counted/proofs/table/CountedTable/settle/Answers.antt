@@ -1,5 +1,6 @@
 use Rattle.fx_counted.proofs.Words.{arith}
-use Rattle.fx_counted.proofs.Seats.{may_observe, settles}
+use Rattle.fx_counted.proofs.Seats.{settles}
+use Rattle.table_seats.proofs.Moving.{may_observe}
 use Rattle.fx_counted.proofs.table.CountedTable.settle.Goals as goal
 
 pub load-requires : goal.load-requires
