@@ -1,20 +1,22 @@
 -- A step of a seat with one pass keeps the rule, if it keeps what the step changes.
-pub use Rattle.fx_lasting.proofs.Turns.{IsKnown, Homes, word_at, LabelSame, labels_same, slot_word, now, logged, met_same, Turn, turn_of, Made}
-pub use Rattle.fx_lasting.proofs.Turns.{by_turn, of_one, total_same, not_there, its_range, few_in_range, find_pass}
+pub use Rattle.fx_lasting.proofs.Turns.{Homes, word_at, LabelSame, labels_same, slot_word, now, logged, met_same, Turn, turn_of, Made, by_turn}
+pub use Rattle.fx_lasting.proofs.Turns.{few_in_range}
 use Rattle.fx_lasting.proofs.Words.{Contains, contains_head, contains_only, ◌≡◌, ◌≢◌, ℕ, ◌+◌, ◌<◌, ◌≤◌, List, [], ◌∷◌, ◌++◌, map, set, length, sym}
 use Rattle.fx_lasting.proofs.Words.{refl, ap, ◌∙◌, subst, arith, Option, inl, inr, eq-eqb, eqb, some, get_elem?, Closed, part_of_pass, Event}
 use Rattle.fx_lasting.proofs.Words.{Action, sum_by, sum_set, sum_at, Bool, true, ⊎_elim, one_if, held_by}
 use Rattle.fx_lasting.proofs.Words.{IsSeenBy, at_set, SlotAgrees, NodeAgrees, OwnerAgrees, WorkAgrees}
-use Rattle.fx_lasting.proofs.Words.{LogAgrees, ViewAgrees, lengths, Agrees, RangeCounts, HoldAgrees, GuardAgrees, GlanceAgrees, Heats, IsAllowed}
+use Rattle.fx_lasting.proofs.Words.{LogAgrees, ViewAgrees, Agrees, RangeCounts, HoldAgrees, GuardAgrees, GlanceAgrees, Heats, IsAllowed}
 use Rattle.fx_lasting.proofs.Words.{count_in, word_of, hold_word_of, Shared, slots_of, nodes_of, range_at_start, state_after_all}
-use Rattle.fx_lasting.proofs.Words.{IsHistory, held_in, held_of, taken_of, logs_of, owed, Stepped, IsInside, pass_event, Phase, free}
+use Rattle.fx_lasting.proofs.Words.{IsHistory, held_in, held_of, taken_of, owed, Stepped, IsInside, pass_event, Phase, free}
 use Rattle.fx_lasting.proofs.Words.{removed_in, Change, Glance, Log, View, Work, IsInStock, name_in}
 use Rattle.fx_lasting.proofs.Words.{first_log, Whereabouts, in_stock, NamesItsNode, StockAgrees, ◌⊎◌, list_place, IsListedIn, Deed, untouched}
-use Rattle.fx_lasting.proofs.Words.{Watch, WatchAgrees, Survey, as_asked, Labels, written_in, of_replaced, MOST_SLOTS}
+use Rattle.fx_lasting.proofs.Words.{Watch, WatchAgrees, Survey, as_asked, Labels, written_in, MOST_SLOTS}
 use Rattle.fx_lasting.proofs.range_lemmas.Groups.{AskAlike, CountAlike, counts_same}
 use Rattle.fx_lasting.proofs.Histories.{Grows, grows_none, legal_before}
 use Rattle.fx_lasting.proofs.hold_lemmas.Lists.{ListGoesOn, stays_listed, was_listed}
 use Rattle.fx_lasting.proofs.slot_lemmas.Watching.{MovesOn, watch_on}
+use Rattle.fx_lasting.proofs.Words.{HasSeen, its_pass, its_range, not_there, seats}
+use Rattle.table_seats.proofs.Together.{stepped as seats_step}
 
 module _ (turn : Turn) where
   open turn use {st, v, r, id, x, here, one}
@@ -25,11 +27,15 @@ module _ (turn : Turn) where
   pub its_log : LogAgrees v.start r.history st.words r.phase r.debt r.deed v.work v.glance x
   its_log = (r.holds.views id v here).logs x has_x
 
+  -- what it has seen
+  pub passed : HasSeen seats r.history x
+  passed = its_pass r.life id here one
+
   pub its_work : WorkAgrees v.start r.phase id v.work
   its_work = (r.holds.views id v here).work
 
   pub in_range : (0 < x.number) × (x.number ≤ v.start.passes)
-  in_range = its_range r id here has_x
+  in_range = its_range r.life id here has_x
 
   -- the history goes on, and no slot and no removed file changes
   pub record LeavesFiles (h' : List Event) : Type 0 where
@@ -177,24 +183,22 @@ module _ (turn : Turn) where
     module _ (s : Step) where
       other_log : (j : ℕ) (u : View) (z : Log) → j ≢ id → get_elem? st.views j ≡ some u → Contains u.logs z
           → LogAgrees v.start a.h a.words a.phase a.debt a.deed u.work u.glance z
-      other_log j u z other there at = let o = (r.holds.views j u there).logs z at in let n = not_there r here one other there z at in
-          let k = s.holds.others j u z other there at n (its_range r j there at) o (r.holds.views j u there).work in
-          let few : z.number ≤ 1024 = omega (arith, (its_range r j there at).1, r.shape.passes) in
+      other_log j u z other there at = let o = (r.holds.views j u there).logs z at in let n = not_there r.life here one other there z at in
+          let k = s.holds.others j u z other there at n (its_range r.life j there at) o (r.holds.views j u there).work in
+          let few : z.number ≤ 1024 = omega (arith, (its_range r.life j there at).1, r.shape.passes) in
           record {
-            seen = s.life.grows.seen z.front o.seen;
-            own = s.life.grows.parts z.number (λ same. n (sym same)) ∙ o.own;
             held = s.life.grows.helds z.number (λ same. n (sym same)) ∙ o.held;
             allowed = o.allowed;
             list = λ l. stays_listed x.number a.listed z.number (s.list.words z.number few) (o.list l);
             unlisted = λ is. ⊎_elim (λ before. o.unlisted before) (λ same. absurd (n same))
-                (was_listed x.number a.listed z.number in_range.0 (its_range r j there at).0 (s.list.words z.number few) is);
+                (was_listed x.number a.listed z.number in_range.0 (its_range r.life j there at).0 (s.list.words z.number few) is);
             hold = k.hold;
             guarded = k.guarded;
             sees = k.sees;
             heats = k.heats;
             takes_listed = λ i l is. ⊎_elim (λ before. o.takes_listed i l before)
                 (λ (own : (z.number ≡ x.number) × (a.listed ≡ true)). absurd (n own.0)) (s.list.takers i z.number l is);
-            watch = let range = its_range r j there at in let mine = in_range in
+            watch = let range = its_range r.life j there at in let mine = in_range in
                 watch_on v.start x.number z.number (λ same. n (sym same)) (omega (arith, n, range.0, range.1, mine.0, mine.1)) st.words a.words s.life.grows.seen s.slots.moves z.watch o.watch;
           }
 
@@ -203,15 +207,13 @@ module _ (turn : Turn) where
       other_work j u other there = go u.logs refl
         where
           go : (l : List Log) → u.logs ≡ l → WorkAgrees v.start a.phase j u.work
-          go [] none = subst (WorkAgrees v.start a.phase j) (sym ((r.holds.views j u there).empty none).0) tt
+          go [] none = subst (WorkAgrees v.start a.phase j) (sym ((r.life.seats j u there).empty none).0) tt
           go (z ∷ l) is = let at = subst (λ (l : List Log). Contains l z) (sym is) (contains_head z l) in
-              (s.holds.others j u z other there at (not_there r here one other there z at) (its_range r j there at)
+              (s.holds.others j u z other there at (not_there r.life here one other there z at) (its_range r.life j there at)
               ((r.holds.views j u there).logs z at) (r.holds.views j u there).work).work
 
       its_own : LogAgrees v.start a.h a.words a.phase a.debt a.deed a.work a.glance (logged x a.listed a.asked a.stock a.watch a.front)
       its_own = let few : x.number ≤ 1024 = omega (arith, in_range.1, r.shape.passes) in record {
-        seen = s.life.seen;
-        own = s.life.own;
         held = s.holds.held;
         allowed = s.holds.allowed;
         list = λ l. ⊎_elim (λ was. stays_listed x.number a.listed x.number (s.list.words x.number few) (its_log.list was)) (λ set. set) (s.list.its_bit l);
@@ -251,7 +253,7 @@ module _ (turn : Turn) where
               subst (λ (y : Log). StockAgrees v.start a.where_is y.number y.stock) (sym (contains_only (logged x a.listed a.asked a.stock a.watch a.front) z has')) s.stocks.stock)
               (λ (t : (j ≢ id) × (get_elem? st.views j ≡ some u)). let o = r.nodes.stocks j u z t.1 has in record {
                 its = o.its;
-                here = λ entry n is. s.stocks.others n z.number entry (not_there r here one t.0 t.1 z has) (o.here entry n is);
+                here = λ entry n is. s.stocks.others n z.number entry (not_there r.life here one t.0 t.1 z has) (o.here entry n is);
               }) (at_set st.views id j w u e);
         };
         slots = s.slots.each;
@@ -261,29 +263,16 @@ module _ (turn : Turn) where
                 logs = λ z h. subst (LogAgrees v.start a.h a.words a.phase a.debt a.deed a.work a.glance)
                     (sym (contains_only (logged x a.listed a.asked a.stock a.watch a.front) z h)) its_own;
                 work = s.holds.its.work;
-                empty = λ none. absurd (omega (arith, ap (length {A = Log}) none));
-                start = inr refl;
               }) (λ (t : (j ≢ id) × (get_elem? st.views j ≡ some u)). record {
                 logs = λ z h. other_log j u z t.0 t.1 h;
                 work = other_work j u t.0 t.1;
-                empty = (r.holds.views j u t.1).empty;
-                start = (r.holds.views j u t.1).start;
               }) (at_set st.views id j w u e);
           files = λ n. let t = sum_set (held_of n) st.views id v w here in let a = r.holds.files n in let b = s.holds.files n in omega arith;
           listed = λ p low high is. ⊎_elim (λ before. r.holds.listed p low high before) (λ same. let z = in_range.1 in omega (arith, same, z))
               (was_listed x.number a.listed p in_range.0 low (s.list.words p high) is);
         };
         range = s.range;
-        life = record {
-          legal = s.life.legal;
-          known = of_replaced (IsKnown a.h) st.views (λ j u e. s.life.grows.seen u.known (r.life.known j u e)) id w (s.life.grows.seen v.known (r.life.known id v here));
-          passes = λ p. total_same (λ z. one_if (eqb z.number p)) st.views id w here one refl refl ∙ r.life.passes p;
-          whole = let t = sum_set lengths st.views id v w here in let e = ap (length {A = Log}) one in let b = r.life.whole in omega arith;
-          authors = λ p none. let t = r.life.passes p in let u = sum_at (logs_of p) st.views id v here in
-              let its_one : x.number ≡ p → logs_of p v ≡ 1 =
-              λ same. of_one (λ z. one_if (eqb z.number p)) one ∙ rw (eq-eqb x.number p same) refl in
-              s.life.grows.parts p (λ same. let a = its_one same in omega arith) ∙ r.life.authors p none;
-        };
+        life = seats_step r.life id here one refl refl refl refl s.life.grows s.life.legal record { seen = s.life.seen; own = s.life.own };
       }
 
   -- the nodes of the pass's stock
@@ -341,8 +330,8 @@ module _ (turn : Turn) where
   pub tells : (a : After) → ◌≡◌ {A = Bool × Survey × List ℕ} (a.listed, a.asked, a.stock) (x.listed, x.asked, x.stock) → (carried homes : List (ℕ × Option Closed)) (actions : List Action) → Grows x.number r.history a.front
       → IsHistory v.start a.front → part_of_pass x.number a.front ≡ map (pass_event x) actions ++ part_of_pass x.number r.history
       → IsInside v.start a.work → Stepped (v, carried) actions a.work a.glance a.change (w a, homes)
-  tells a same carried homes actions grows legal own = moved_same a same carried homes actions (grows.seen x.front its_log.seen) legal
-      (own ∙ ap (λ (l : List Event). map (pass_event x) actions ++ l) its_log.own)
+  tells a same carried homes actions grows legal own = moved_same a same carried homes actions (grows.seen x.front passed.seen) legal
+      (own ∙ ap (λ (l : List Event). map (pass_event x) actions ++ l) passed.own)
 
   -- and it was listed, had asked and had in stock this
   pub tells_as : (a : After) (l : Bool) (q : Survey) (s : List ℕ) → ◌≡◌ {A = Bool × Survey × List ℕ} (a.listed, a.asked, a.stock) (l, q, s)
@@ -350,8 +339,8 @@ module _ (turn : Turn) where
       → part_of_pass x.number a.front ≡ map (pass_event x) actions ++ part_of_pass x.number r.history → IsInside v.start a.work
       → Stepped (record v { logs = record (first_log v.logs) { listed = l; asked = q; stock = s } ∷ [] }, carried) actions a.work a.glance a.change
       (w a, homes)
-  tells_as a l q s same carried homes actions grows legal own = moved_on a l q s same carried homes actions (grows.seen x.front its_log.seen) legal
-      (own ∙ ap (λ (l : List Event). map (pass_event x) actions ++ l) its_log.own)
+  tells_as a l q s same carried homes actions grows legal own = moved_on a l q s same carried homes actions (grows.seen x.front passed.seen) legal
+      (own ∙ ap (λ (l : List Event). map (pass_event x) actions ++ l) passed.own)
 
   -- it has asked otherwise
   pub tells_asked : (a : After) → ◌≡◌ {A = Bool × List ℕ} (a.listed, a.stock) (x.listed, x.stock) → (carried : List (ℕ × Option Closed)) → Grows x.number r.history a.front
@@ -377,4 +366,4 @@ module _ (turn : Turn) where
   pub tells_less : (a : After) → ◌≡◌ {A = Bool × Survey × List ℕ} (a.listed, a.asked, a.stock) (x.listed, x.asked, x.stock) → (carried homes : List (ℕ × Option Closed)) → a.front ≡ x.front → IsInside v.start a.work
       → Stepped (v, carried) [] a.work a.glance a.change (w a, homes)
   tells_less a same_pass carried homes same = moved_same a same_pass carried homes [] ([], same)
-      (rw same (legal_before v.start x.front its_log.seen.0 (subst (IsHistory v.start) its_log.seen.1 r.life.legal))) (ap (part_of_pass x.number) same)
+      (rw same (legal_before v.start x.front passed.seen.0 (subst (IsHistory v.start) passed.seen.1 r.life.legal))) (ap (part_of_pass x.number) same)

@@ -1,9 +1,9 @@
 -- One history has what all passes did, and each removed file that is open has a user.
-use Rattle.fx_lasting.proofs.Words.{Renewing, Nearing, Relieving, StillNames}
+use Rattle.fx_lasting.proofs.Words.{its_pass, Renewing, Nearing, Relieving, StillNames}
 use Rattle.fx_lasting.proofs.Frames.{alone_cases}
-use Rattle.fx_lasting.proofs.Words.{contents_of, Contains, contains_head, ◌≡◌, ℕ, suc, ◌+◌, ◌<◌, ◌≤◌, List, [], ◌∷◌, length, sym, refl, ap, ◌∙◌}
+use Rattle.fx_lasting.proofs.Words.{contents_of, ◌≡◌, ℕ, suc, ◌+◌, ◌<◌, ◌≤◌, List, [], ◌∷◌, length, sym, refl, ap, ◌∙◌}
 use Rattle.fx_lasting.proofs.Words.{subst, arith, Some, None, some, get_elem?, ⊎_elim, dite, dec_le, eqb, Bool, true, false, cond, at_index}
-use Rattle.fx_lasting.proofs.Words.{found_sum, File, Agrees, NodeAgrees, WorkAgrees, HoldAgrees, HoldsAt, OwnerAgrees, Shared, Start, View, Work, Log}
+use Rattle.fx_lasting.proofs.Words.{found_sum, File, Agrees, NodeAgrees, WorkAgrees, HoldAgrees, HoldsAt, OwnerAgrees, Shared, Start, View, Work}
 use Rattle.fx_lasting.proofs.Words.{Phase, Idle, Announced, Counted, Guarded, Owing, Yielding, Searching, Placing, Retiring, Emptying, Keeping}
 use Rattle.fx_lasting.proofs.Words.{seated, leaving, retired, file_in, removed_in, file_if_numbered, eq-eqb, taken_of, taking}
 use Rattle.fx_lasting.proofs.Words.{owed, count_in, sum_by, bit_else, slots_of, nodes_of, word_of, state_after_all, state_at_start, node_of_number}
@@ -14,7 +14,8 @@ use Rattle.fx_plain.specs.Laws.{IsStart, closes_of}
 use Rattle.fx_lasting.proofs.Counts.{owed_found}
 use Rattle.fx_lasting.proofs.Histories.{same_shape}
 use Rattle.fx_lasting.proofs.hold_lemmas.Holds.{holds_at}
-use Rattle.fx_lasting.proofs.Keeping.{word_at, slot_word, find_pass}
+use Rattle.fx_lasting.proofs.Keeping.{word_at, slot_word}
+use Rattle.fx_lasting.proofs.Words.{find_pass}
 use Rattle.fx_lasting.specs.WholeHistory.{IsPassAt, IsPartOf, IsOfAllPasses, Uses, HasUser}
 
 -- the passes begin in a state from which the laws of histories speak
@@ -39,7 +40,7 @@ module _ (k : Start) (s : Shared) (r : Agrees k s) where
       (word_at s.words (word_of k n)) (sum_by (taken_of n) s.views) (owed r.debt k.passes n) (get_elem? s.homes n)
 
   parts : (seat : ℕ) (pass : PassView) → IsPassAt s seat pass → IsPartOf pass r.history
-  parts seat pass at = let o = (r.holds.views seat at.view at.there).logs at.log (subst (λ (l : List Log). Contains l at.log) (sym at.one) (contains_head at.log [])) in
+  parts seat pass at = let o = its_pass r.life seat at.there at.one in
       subst (λ (w : PassView). IsPartOf w r.history) at.shown (rw at.one record { seen = o.seen; own = o.own })
 
   once : (number : ℕ) → length (closes_of number r.history) ≤ 1
@@ -134,7 +135,7 @@ module _ (k : Start) (s : Shared) (r : Agrees k s) where
 
     somebody : 0 < sum_by (taken_of n) s.views + owed r.debt k.passes n → HasOne
     somebody more = dite (ℕ_discrete (sum_by (taken_of n) s.views) 0)
-        (λ none. let z = owed_found r.debt k.passes n (omega (arith, more, none)) in let y = find_pass r z.1 z.2 in
+        (λ none. let z = owed_found r.debt k.passes n (omega (arith, more, none)) in let y = find_pass r.life z.1 z.2 in
         let o = (r.holds.views y.0 y.1 y.3).logs y.2 y.4 in
         (y.0, y.1, y.3, owes y.0 y.1.work _ _ (ap r.debt y.5 ∙ z.3) o.hold (r.holds.views y.0 y.1 y.3).work))
         (λ taken. let z = found_sum (taken_of n) s.views (omega (arith, taken)) in

@@ -13,7 +13,11 @@ pub use Rattle.fx_lasting.specs.AtWork.{IsAtWork, IsReleasing, HasPlace, MayPlac
 pub use Rattle.fx_lasting.specs.range.Groups.{owing, owing_of, is_in, uncounted, account, GroupCounts, AreFull, HasQuestionOf, HasVisitedFull, RangeCounts}
 pub use Rattle.fx_lasting.specs.Counts.{tally, owed}
 pub use Rattle.fx_lasting.specs.Ends.{LetsMarkGo, LetsFileGo, LooksByTake, Parked, TakenOut}
-pub use Rattle.fx_lasting.specs.life.Cuts.{new_logs, first_view, together, spent, without_first, first_alone, view_with}
+pub use Rattle.fx_lasting.specs.life.Cuts.{seats}
+pub use Rattle.table_seats.proofs.Gathered.{AreGathered}
+pub use Rattle.table_seats.proofs.Together.{HasLaws, Moves, find_pass, its_pass, its_range, not_there, of_one, total_same}
+pub use Rattle.table_seats.specs.Seats.{dealt, first_alone, first_view, joined, new_logs, shown_view, spent, without_first}
+pub use Rattle.table_seats.specs.Together.{HasSeen, Together}
 pub use Rattle.fx_lasting.specs.Laws.{AimsKeep, TakesBesideKeep, ReplacesHeldKeep, HasToLetGo, IsOffCount, ClearsKeep, TakesOutKeep, ExchangesKeep, HasPass, GlancesKeep, AnnouncesKeep}
 pub use Rattle.fx_lasting.specs.Laws.{ConfirmsKeep, WithdrawsKeep, TakesOnceKeep, HeatsKeep, SplitsKeep, JoinsKeep, LowersKeep, RaisesKeep, AsksKeep}
 pub use Rattle.fx_lasting.specs.Laws.{ChecksKeep, BreaksKeep, BeginsKeep, CountsKeep, DecidesKeep, IsGroup, PeeksKeep, InstallsKeep, StepsDownKeep}
@@ -33,7 +37,7 @@ pub use Rattle.fx_lasting.specs.Fields.{heat_unit, count_in, heat_in, IsHot, col
 pub use Rattle.fx_lasting.specs.Fields.{IsListedIn, full_name_in, file_node_in, file_word_of, empty_word_of, without_file, name_mask, most_carried}
 pub use Rattle.fx_lasting.specs.Fields.{MayCarry}
 pub use Rattle.fx_lasting.specs.Passes.{alone_in, node_of_number, HasNoFile, Shared, Sat, state_at_start, slots_of, range_at_start, nodes_of, first_stock}
-pub use Rattle.fx_lasting.specs.Passes.{word_of, hold_word_of, logs_of, lengths, state_after_all, IsHistory, new_log, first_log, held_in, if_file}
+pub use Rattle.fx_lasting.specs.Passes.{word_of, hold_word_of, lengths, state_after_all, IsHistory, new_log, first_log, held_in, if_file}
 pub use Rattle.fx_lasting.specs.Passes.{held_of, taking, taken_of, tag_word_of, number_word_of, HoldsOn, contents_of, empty_slots}
 pub use Rattle.fx_lasting.specs.Passes.{HoldsAlone, HoldsBesides, IsRenewing, is_guarding}
 pub use Rattle.fx_lasting.specs.nodes.Stocks.{Whereabouts, at_slot, in_stock, IsInStock, NamesItsNode, IsStockOf, StockAgrees}
@@ -104,7 +108,7 @@ pub use Rattle.fx_lasting.specs.life.Firsts.{AreFirstWords, AreNamed, AreLabelle
 pub use Rattle.fx_table.proofs.FullSlots.{full_all, full_else, full_few, full_here}
 pub use Rattle.fx_table.specs.FullSlots.{first_at, full_in, if_full}
 pub use Rattle.fx_table.specs.Shells.{AreFirstHomes, IsShell, file_in_place}
-pub use Rattle.fx_lasting.specs.life.Lives.{dealt, logs_in, IsNewPass, IsIdleSeatOf, AllAreIdle, Leaves}
+pub use Rattle.fx_lasting.specs.life.Lives.{logs_in, IsNewPass, IsIdleSeatOf, AllAreIdle, Leaves}
 pub use Rattle.std.specs.Mem.Slots.{slots_items, slots_len, IsFull, slots_filled}
 pub use lib.ListN.{get_elem?}
 pub use mathlib.Core.Logic.{dite}
@@ -138,13 +142,12 @@ pub use Rattle.fx_lasting.specs.holds.FinishSteps.{Finishes}
 pub use mathlib.Core.List.{map-append}
 pub use Rattle.atomic_table.specs.declared.shared.Seat.{Seat}
 pub use Rattle.fx_table.specs.Closing.{ClosesTable, times_drawn}
-pub use Rattle.fx_table.proofs.Chains.{in_part, first_left, last_left, IsReady, fits, one_dealt, all_dealt, AreDealt}
-pub use Rattle.fx_table.proofs.Seats.{logs_are as each_log, sum_gathered, each_seat, only_here, AreReseated, split, joined, gathered, last_of}
+pub use Rattle.fx_table.proofs.Chains.{IsReady, fits, one_dealt, all_dealt, AreDealt}
+pub use Rattle.fx_table.proofs.Seats.{gathered, last_of}
 pub use Rattle.fx_lasting.specs.Bounds.{slot_word_in, node_word_in, AreBounded}
 pub use Rattle.fx_lasting.specs.life.Closing.{files_at_slots, with_slot}
 pub use Rattle.fx_table.proofs.Shells.{AreAtHome, AreStored, at_home, file_at, files_are, AreComing, none_came, none_named, some_came, none_there}
 pub use Rattle.fx_table.proofs.Shells.{file_put, Becomes, in_place, none_outside, none_left}
-pub use Rattle.fx_seen.proofs.Views.{of_replaced, of_one, OfEach, of_appended}
 pub use Rattle.std.proofs.Math.ListN.{get_or-eq_default, replicate}
 pub use Rattle.std.proofs.lemmas.Nat.Bits.{bit_at_or, bit_at-lt, bit_at-pow_same, bit_at-pow_other, and_pow, bit_at-zero, bit_at-trailing_zeros}
 pub use Rattle.std.proofs.lemmas.Nat.Bits.{bit_at_above}

@@ -2,7 +2,7 @@
 use Rattle.std.specs.Prelude.{◌≡◌, ℕ, ◌%◌, ◌⊎◌, ◌==◌, not, nat_lt, List}
 use Rattle.std.specs.Prelude.{[], ◌∷◌, map, Option, option_map, unwrap_or, replicate}
 use Rattle.std.specs.Prelude.{Some, None}
-use Rattle.std.specs.Prelude.{length, count_by, if◌then◌else◌, Bool, true, false}
+use Rattle.std.specs.Prelude.{length, if◌then◌else◌, Bool, true, false}
 use Rattle.atomic_table.specs.Table.{State as TableState, Me}
 use Rattle.fx_base.specs.Identity.{Identity}
 use Rattle.fx_plain.specs.Contents.{Contents, state_of}
@@ -180,10 +180,6 @@ taking node _ = 0
 
 abbrev pub taken_of : ℕ → View → ℕ
 taken_of node v = taking node v.work
-
--- how many of a view's passes have the number
-abbrev pub logs_of : ℕ → View → ℕ
-logs_of p v = count_by (λ x. x.number == p) v.logs
 
 -- how many passes a seat has
 abbrev pub lengths : View → ℕ

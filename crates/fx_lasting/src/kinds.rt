@@ -1,7 +1,8 @@
 //! The rule of a lasting table, and its kinds of step.
 ghost use Rattle.fx_lasting.specs.Agrees.{Agrees};
-ghost use Rattle.fx_lasting.specs.life.Cuts.{first_view, without_first, first_alone, together};
-ghost use Rattle.fx_lasting.specs.life.Cuts.{spent};
+ghost use Rattle.table_seats.specs.Seats.{first_view, without_first, first_alone, joined, spent};
+ghost use Rattle.table_seats.specs.Seats.{shown_view};
+ghost use Rattle.fx_lasting.specs.life.Cuts.{seats};
 ghost use Rattle.fx_lasting.specs.Effects.{Glances, Lists, Announces, Confirms, Withdraws, Takes};
 ghost use Rattle.fx_lasting.specs.Effects.{HeatsSlot, StepsDown, LettingGo, Seeks, Births, Rests};
 ghost use Rattle.fx_lasting.specs.Effects.{EndsItsHold, Skims, Visits, Marks, Retires, Installs};
@@ -13,7 +14,7 @@ ghost use Rattle.fx_lasting.specs.nodes.KeepSteps.{Parks, Resumes, SettlesNode};
 ghost use Rattle.fx_lasting.specs.holds.FinishSteps.{Finishes};
 ghost use Rattle.fx_lasting.specs.slots.SwapSteps.{SwapsIf, SwapsHeld, SwapsOut, TakesHeld};
 ghost use Rattle.fx_lasting.specs.slots.PutSteps.{Aims, TakesBeside, ReplacesHeld};
-ghost use Rattle.fx_lasting.specs.life.Showing.{shown_view, HasLearned};
+ghost use Rattle.fx_lasting.specs.life.Showing.{HasLearned};
 
 use crate::view::{Start, View};
 use atomic_table::{Join, Play, Split, TableRule};
@@ -27,25 +28,25 @@ pub struct OneHistory;
 impl TableRule<Option<OpenFile>, View, Start> for OneHistory {
     ghost holds = { Agrees };
 
-    ghost first = { first_view };
+    ghost first = { first_view seats };
 }
 
 /// Split: the first pass of a seat goes to a seat of its own.
 pub struct Deal;
 
 impl Split<View> for Deal {
-    ghost left = { without_first };
+    ghost left = { without_first seats };
 
-    ghost right = { first_alone };
+    ghost right = { first_alone seats };
 }
 
 /// Join: a seat takes in the passes of another.
 pub struct Gather;
 
 impl Join<View> for Gather {
-    ghost both = { together };
+    ghost both = { joined seats };
 
-    ghost spent = { spent };
+    ghost spent = { spent seats };
 }
 
 /// Glance: a pass loads a slot's word, to look it up.
@@ -444,7 +445,7 @@ pub struct Show;
 impl Split<View> for Show {
     ghost left = { λ v. v };
 
-    ghost right = { shown_view };
+    ghost right = { shown_view seats };
 }
 
 /// Learn: a pass has seen all that was shown, and all that it had seen before.

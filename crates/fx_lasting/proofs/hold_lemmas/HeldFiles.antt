@@ -4,7 +4,7 @@ use Rattle.fx_lasting.proofs.Words.{Work, Agrees, WorkAgrees, HoldsAt, Counted, 
 use Rattle.fx_lasting.proofs.Words.{state_after_all, slots_of, node_of_number, file_in, once_is, IsSeated, eq-eqb, ne_eqb, dite, ℕ_discrete}
 use Rattle.fx_lasting.proofs.Words.{IsOneOnItsNode}
 use Rattle.fx_lasting.proofs.hold_lemmas.Holds.{on_node}
-use Rattle.fx_lasting.proofs.Keeping.{find_pass}
+use Rattle.fx_lasting.proofs.Words.{find_pass}
 
 -- what a pass holds is said by its own part of the history
 pub held_in_part : (h : List Event) (p : ℕ) → held_by h p ≡ held_by (part_of_pass p h) p
@@ -26,7 +26,7 @@ module _ (k : Start) (s : Shared) (r : Agrees k s) where
   -- who holds a file is a pass of the table
   open_one : (p : ℕ) (f : File) → held_by r.history p ≡ Some f → (n : ℕ) × HoldsAt k r.phase f n
   open_one p f held = ⊎_elim
-      (λ its. let z = find_pass r its.0 its.1 in let o = (r.holds.views z.0 z.1 z.3).logs z.2 z.4 in
+      (λ its. let z = find_pass r.life its.0 its.1 in let o = (r.holds.views z.0 z.1 z.3).logs z.2 z.4 in
       is_open z.0 z.1.work (sym o.held ∙ (ap (held_by r.history) z.5 ∙ held)) (r.holds.views z.0 z.1 z.3).work)
       (λ out. let none : held_by r.history p ≡ None = held_in_part r.history p ∙ ap (λ (l : List Event). held_by l p) (r.life.authors p out.1) in
       let bad : None ≡ Some f = sym none ∙ held in absurd (cc bad))

@@ -6,7 +6,8 @@ use Rattle.fx_lasting.proofs.Words.{Work, Idle, Announced, Counted, Guarded, Owi
 use Rattle.fx_lasting.proofs.Words.{dite, dec_le, ⊎_elim, set-get_or, Round, round_from, IsToVisit, IsPassed, IsListedIn, list_place, Skims}
 use Rattle.fx_lasting.proofs.Words.{SkimsKeep, Goes, changed_at, true, Bool, IsAllowed}
 use Rattle.fx_lasting.proofs.Histories.{each_changed}
-use Rattle.fx_lasting.proofs.Keeping.{Turn, turn_of, its_log, word_at, slot_word, Made, by_turn, w, find_pass}
+use Rattle.fx_lasting.proofs.Keeping.{Turn, turn_of, its_log, word_at, slot_word, Made, by_turn, w}
+use Rattle.fx_lasting.proofs.Words.{find_pass}
 use Rattle.fx_lasting.proofs.hold_lemmas.RoundSteps.{its, node, retiring_same, round_after, RoundStep, round_kept, goes, reads}
 
 -- a pass whose hold word isn't 0 is listed
@@ -43,7 +44,7 @@ module _ (turn : Turn) (f : File) (n t : ℕ) (nx : Round) (m : ℕ) (works : tu
 
   -- the list has its bit
   its_bit : (p : ℕ) → 0 < p → p ≤ v.start.passes → word_at st.words (hold_word_of v.start p) ≢ 0 → IsListedIn (word_at st.words (list_place p)) p
-  its_bit p more high some = let a = find_pass r more high in let o = (r.holds.views a.0 a.1 a.3).logs a.2 a.4 in
+  its_bit p more high some = let a = find_pass r.life more high in let o = (r.holds.views a.0 a.1 a.3).logs a.2 a.4 in
       let said : word_at st.words (hold_word_of v.start a.2.number) ≢ 0 = λ none. some (ap (λ (q : ℕ). word_at st.words (hold_word_of v.start q)) (sym a.5) ∙ none) in
       subst (λ (q : ℕ). IsListedIn (word_at st.words (list_place q)) q) a.5 (o.list (speaks a.2.stock a.2.listed (r.debt a.2.number) a.1.work said o.hold o.allowed))
 

@@ -5,7 +5,8 @@ use Rattle.fx_lasting.proofs.Words.{HoldAgrees, GuardAgrees, MayBeUnmarked, Hold
 use Rattle.fx_lasting.proofs.Words.{held_in, held_of, taken_of, taking, if_file, owed, count_in, Phase, seated, leaving, retired, file_in, Log, View}
 use Rattle.fx_lasting.proofs.Words.{Work, Counted, Guarded, Yielding}
 use Rattle.fx_lasting.proofs.Counts.{owed_at}
-use Rattle.fx_lasting.proofs.Keeping.{Turn, word_at, slot_word, not_there, its_range}
+use Rattle.fx_lasting.proofs.Keeping.{Turn, word_at, slot_word}
+use Rattle.fx_lasting.proofs.Words.{not_there, its_range}
 
 module _ (turn : Turn) where
   open turn use {st, v, r, id, x, here, one}
@@ -38,7 +39,7 @@ module _ (turn : Turn) where
     module _ (j : ℕ) (u : View) (other : j ≢ id) (there : get_elem? st.views j ≡ some u) where
       -- a pass of the seat has no debt to the node
       owes_not : (z : Log) → Contains u.logs z → r.debt z.number ≡ n + 1 → ⊥
-      owes_not z at is = let ne = not_there r here one other there z at in let range = its_range r j there at in
+      owes_not z at is = let ne = not_there r.life here one other there z at in let range = its_range r.life j there at in
           let a = owed_at debt' v.start.passes z.number n range.0 range.1 (debts z.number ne ∙ is) in omega arith
 
       -- nor a hold of its file
@@ -58,14 +59,14 @@ module _ (turn : Turn) where
       by_log (Guarded g m) z at is w h gd = dite (ℕ_discrete g.number f.number)
           (λ same. let e = one_node its w same in absurd (⊎_elim
           (λ (clean : (word_at st.words (hold_word_of v.start z.number) ≡ m + 1) × (r.debt z.number ≡ 0)).
-          marked z.number (not_there r here one other there z at) (its_range r j there at) (rw e at (gd clean.1)))
+          marked z.number (not_there r.life here one other there z at) (its_range r.life j there at) (rw e at (gd clean.1)))
           (λ (full : (word_at st.words (hold_word_of v.start z.number) ≡ m + 1 + 4294967296) × (r.debt z.number ≡ m + 1)).
           owes_not z at (full.1 ∙ ap (λ (i : ℕ). i + 1) e)) h))
           (λ ne. rw (ne_eqb g.number f.number ne) refl)
       by_log (Relieving g m own l) z at is w h gd = dite (ℕ_discrete g.number f.number)
           (λ same. let e = one_node its w.0 same in absurd (⊎_elim
           (λ (clean : (word_at st.words (hold_word_of v.start z.number) ≡ m + 1) × (r.debt z.number ≡ 0)).
-          marked z.number (not_there r here one other there z at) (its_range r j there at) (rw e at (gd clean.1)))
+          marked z.number (not_there r.life here one other there z at) (its_range r.life j there at) (rw e at (gd clean.1)))
           (λ (full : (word_at st.words (hold_word_of v.start z.number) ≡ m + 1 + 4294967296) × (r.debt z.number ≡ m + 1)).
           owes_not z at (full.1 ∙ ap (λ (i : ℕ). i + 1) e)) h))
           (λ ne. rw (ne_eqb g.number f.number ne) refl)
@@ -78,7 +79,7 @@ module _ (turn : Turn) where
       held_not = go u.logs refl
         where
           go : (l : List Log) → u.logs ≡ l → held_of f.number u ≡ 0
-          go [] none = ap (λ (d : Work). if_file f.number (held_in d)) ((r.holds.views j u there).empty none).0
+          go [] none = ap (λ (d : Work). if_file f.number (held_in d)) ((r.life.seats j u there).empty none).0
           go (z ∷ l) is = let at = subst (λ (l : List Log). Contains l z) (sym is) (contains_head z l) in
               let o = (r.holds.views j u there).logs z at in
               by_log u.work z at refl (r.holds.views j u there).work o.hold o.guarded

@@ -10,7 +10,8 @@ use Rattle.fx_lasting.proofs.Words.{Agrees, either}
 use Rattle.fx_lasting.proofs.Counts.{owed_changed}
 use Rattle.fx_lasting.proofs.Histories.{each_changed}
 use Rattle.fx_lasting.proofs.Frames.{covers_same}
-use Rattle.fx_lasting.proofs.Keeping.{Turn, turn_of, word_at, slot_word, Made, by_turn, its_log, w, find_pass}
+use Rattle.fx_lasting.proofs.Keeping.{Turn, turn_of, word_at, slot_word, Made, by_turn, its_log, w}
+use Rattle.fx_lasting.proofs.Words.{find_pass}
 use Rattle.fx_lasting.proofs.node_lemmas.NodeSteps.{guards_else}
 use Rattle.fx_lasting.proofs.Places.{hold_words, hold_here, hold_node, hold_slot, hold_else, hold_label, pass_back}
 use Rattle.fx_lasting.proofs.Places.{hold_leaves}
@@ -124,7 +125,7 @@ module _ (turn : Turn) (f : File) (n t : ℕ) (nx : Round) (m : ℕ) (works : tu
       words₁ = hold_words turn pass more high (announced n + mark)
 
       no_debt : r.debt pass ≡ 0
-      no_debt = let a = find_pass r more high in
+      no_debt = let a = find_pass r.life more high in
           let o = subst (λ (q : ℕ). HoldAgrees (word_at st.words (hold_word_of v.start q)) (r.debt q) a.1.work) a.5 ((r.holds.views a.0 a.1 a.3).logs a.2 a.4).hold in
           clean_debt a.1.work o is
 

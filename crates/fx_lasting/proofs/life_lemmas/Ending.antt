@@ -9,7 +9,8 @@ use Rattle.fx_lasting.proofs.node_lemmas.Choosing.{no_file, no_take, not_busy, h
 use Rattle.fx_lasting.proofs.Frames.{busy, busy_alone}
 use Rattle.fx_lasting.proofs.Counts.{owed_found}
 use Rattle.fx_lasting.proofs.Histories.{same_shape}
-use Rattle.fx_lasting.proofs.Keeping.{word_at, slot_word, find_pass}
+use Rattle.fx_lasting.proofs.Keeping.{word_at, slot_word}
+use Rattle.fx_lasting.proofs.Words.{find_pass}
 
 -- no pass does anything
 module _ {k : Start} {s : Shared} (r : Agrees k s) (all_idle : (i : ℕ) (u : View) → get_elem? s.views i ≡ some u → HasNoFile u.work) where
@@ -28,7 +29,7 @@ module _ {k : Start} {s : Shared} (r : Agrees k s) (all_idle : (i : ℕ) (u : Vi
 
   unowed : (n : ℕ) → owed r.debt k.passes n ≡ 0
   unowed n = dite (ℕ_discrete (owed r.debt k.passes n) 0) (λ none. none) (λ some_owed. absurd (
-      let z = owed_found r.debt k.passes n (omega (arith, some_owed)) in let y = find_pass r z.1 z.2 in
+      let z = owed_found r.debt k.passes n (omega (arith, some_owed)) in let y = find_pass r.life z.1 z.2 in
       let h = ((r.holds.views y.0 y.1 y.3).logs y.2 y.4).hold in
       let i = holds_none (all_idle y.0 y.1 y.3) h in
       let e = ap r.debt y.5 in omega (arith, z.3, i.1, e)))

@@ -1,17 +1,19 @@
 -- Passes as they are dealt out, and all of them in one seat again: what the one history says of
 -- each.
-use Rattle.fx_lasting.proofs.Words.{pass_in, ◌≡◌, ◌≢◌, ℕ, ◌+◌, ◌≤◌, List, [], ◌∷◌, sym, refl, ap, ◌∙◌, subst, arith, Option, All, TableId, take, drop}
+use Rattle.fx_lasting.proofs.Words.{pass_in, ◌≡◌, ℕ, ◌≤◌, List, [], ◌∷◌, sym, refl, ap, ◌∙◌, subst, arith, Option, All, TableId}
 use Rattle.fx_lasting.proofs.Words.{map, length, reverse, Closed, Sat, new_log, pass_of, view_of, IsPassOf, IsSeatOf, Knows, LastingPass, Log, Start}
 use Rattle.fx_lasting.proofs.Words.{View, IsNewPass, dealt, numbers_of_pass, first_stock, some, get_elem?, Contains, sum_by, Contents, state_of}
-use Rattle.fx_lasting.proofs.Words.{IsSettled, contains_head, contains_map, Agrees, LogAgrees, logs_in, Shared, opening_of, state_after_all}
-use Rattle.fx_lasting.proofs.Words.{first_log, Event, HasNoFile, inl, IsAtWork, IsHistory, lengths, one_if, eqb, true, false, Seat, without_first}
-use Rattle.fx_lasting.proofs.Words.{first_alone, first_passes, as_first, length-reverse, length-map, ClosesTable, times_drawn, HasSameFiles, PassView}
-use Rattle.fx_lasting.proofs.Words.{new_pass, new_passes, in_part, first_left, last_left, IsReady, fits, each_log, sum_gathered, each_seat, only_here}
-use Rattle.fx_lasting.proofs.Words.{contains_tail, contains_none, contains_mapped, contains_reverse, contains_reversed, found_by, sum_zero, sum_map}
-use Rattle.fx_table.specs.Numbers.{once}
+use Rattle.fx_lasting.proofs.Words.{IsSettled, contains_head, contains_map, Agrees, logs_in, Shared, opening_of, state_after_all}
+use Rattle.fx_lasting.proofs.Words.{first_log, HasNoFile, inl, IsAtWork, IsHistory, true, false, Seat}
+use Rattle.fx_lasting.proofs.Words.{first_alone, first_passes, as_first, ClosesTable, times_drawn, HasSameFiles, PassView}
+use Rattle.fx_lasting.proofs.Words.{new_pass, new_passes, IsReady, fits}
+use Rattle.fx_lasting.proofs.Words.{contains_tail, contains_none, sum_zero, sum_map}
+use Rattle.fx_lasting.proofs.Words.{AreGathered, seats}
+use Rattle.table_seats.proofs.Gathered.{each_rests, whole as gathered_whole}
+use Rattle.table_seats.proofs.Moving.{alone_is_dealt}
 use Rattle.fx_table.proofs.Histories.{IsWhole, closes_table}
 use Rattle.fx_lasting.proofs.life_lemmas.Ending.{settled_end}
-use Rattle.fx_lasting.proofs.life_lemmas.Openings.{first_stock_is}
+use Rattle.fx_lasting.proofs.life_lemmas.Openings.{first_stock_is, laws}
 
 -- a pass as other tables' passes are shown when they are new
 abbrev pub shown : LastingPass → PassView
@@ -32,22 +34,12 @@ pub shown_so : (id : TableId) (k : Start) (ps : List LastingPass) → All (IsRea
 shown_so id k ps ready n is = shown_all ps (fits (IsPassOf id k) shown ps ready) ∙ ap (map (as_first k.installing)) is
 
 -- The passes that are dealt out
-pub rest_is_dealt : {k : Start} {p : ℕ} → p ≤ k.passes → without_first (dealt k p) ≡ dealt k (p + 1)
-rest_is_dealt {k} {p} l = ap (λ (z : List Log). record (dealt k p) { logs = drop 1 z }) (first_left (new_log k) p k.passes l)
-
--- the last pass alone
-pub last_is_dealt : {k : Start} {p : ℕ} → p ≡ k.passes → dealt k p ≡ first_alone (dealt k p)
-last_is_dealt {k} {p} e = ap (λ (z : List Log). record (dealt k p) { logs = z }) (last_left (new_log k) p k.passes e)
-
 -- the pass of a seat that has the first of them
 module _ {id : TableId} (k : Start) {p : ℕ} (low : 1 ≤ p) (high : p ≤ k.passes) {stock : List ℕ} (first : stock ≡ first_stock k p)
     {seat : Seat (Option Closed) View} {x : LastingPass} (new : IsNewPass seat p stock x) (table : seat.table_id ≡ id)
-    (is : seat.me ≡ (first_alone (dealt k p), [])) where
-  alone : first_alone (dealt k p) ≡ record (dealt k p) { logs = new_log k p ∷ [] }
-  alone = ap (λ (z : List Log). record (dealt k p) { logs = take 1 z }) (first_left (new_log k) p k.passes high)
-
-  me : x.seat.me ≡ (record (dealt k p) { logs = new_log k p ∷ [] }, [])
-  me = ap (λ (z : Seat (Option Closed) View). z.me) new.its_seat ∙ (is ∙ ap (λ (v : View). (v, [])) alone)
+    (is : seat.me ≡ (first_alone seats (dealt seats k p), [])) where
+  me : x.seat.me ≡ (seats.begun k (new_log k p ∷ []), [])
+  me = ap (λ (z : Seat (Option Closed) View). z.me) new.its_seat ∙ (is ∙ ap (λ (v : View). (v, [])) (alone_is_dealt seats laws k high))
 
   legal : IsHistory k []
   legal = record { leads = (tt, refl); releases = tt }
@@ -92,57 +84,35 @@ module _ (id : TableId) (k : Start) where
   abbrev pub Is : LastingPass → Type 0
   Is p = IsPassOf id k p
 
+  abbrev pub logs_at : LastingPass → List Log
+  logs_at p = p.seat.me.0.logs
+
   -- the one log of a pass
   abbrev pub log_of : LastingPass → Log
   log_of p = first_log p.seat.me.0.logs
 
-  its_log : (p : LastingPass) → Is p → p.seat.me.0.logs ≡ log_of p ∷ []
+  pub its_log : (p : LastingPass) → Is p → p.seat.me.0.logs ≡ log_of p ∷ []
   its_log p fits = let one = fits.seated.at.pass.1 in one ∙ ap (λ (x : Log). x ∷ []) (sym (ap first_log one))
 
   module _ (ps : List LastingPass) (each : (p : LastingPass) → Contains ps p → Is p) (count : length ps ≡ k.passes)
       {s : Shared} (r : Agrees k s) (seat : ℕ) {v : View} (at : get_elem? s.views seat ≡ some v) (logs_are : v.logs ≡ logs_in (reverse ps))
       (idle : HasNoFile v.work) where
-    these_logs : v.logs ≡ map log_of (reverse ps)
-    these_logs = logs_are ∙ each_log (λ p. p.seat.me.0.logs) log_of (reverse ps) (λ p h. its_log p (each p (contains_reverse ps p h)))
-
-    all_logs : length v.logs ≡ k.passes
-    all_logs = ap (length {A = Log}) these_logs ∙ (length-map (reverse ps) log_of ∙ (length-reverse ps ∙ count))
-
-    whole_here : length v.logs ≡ sum_by lengths s.views
-    whole_here = all_logs ∙ sym r.life.whole
+    abbrev all : AreGathered seats k s.views logs_at log_of ps
+    all = record { one = λ p h. its_log p (each p h); count = count; seat = seat; view = v; at = at; are = logs_are }
 
     pub all_idle : (i : ℕ) (u : View) → get_elem? s.views i ≡ some u → HasNoFile u.work
-    all_idle = each_seat (λ (u : View). u.logs) s.views seat v at whole_here (λ u. HasNoFile u.work) idle
-        (λ i u e none. inl ((r.holds.views i u e).empty none).0)
-
-    pub known : (p : LastingPass) → Contains ps p → LogAgrees k r.history s.words r.phase r.debt r.deed v.work v.glance (log_of p)
-    known p h = (r.holds.views seat v at).logs (log_of p) (rw these_logs (contains_mapped log_of (reverse ps) p (contains_reversed ps p h)))
-
-    sum_of_all : (f : Log → ℕ) → sum_by f v.logs ≡ sum_by (λ p. f (log_of p)) ps
-    sum_of_all f = sum_gathered (λ (p : LastingPass). p.seat.me.0.logs) log_of f ps v.logs these_logs
-
-    sum_here : (f : Log → ℕ) → sum_by f v.logs ≡ sum_by (λ (u : View). sum_by f u.logs) s.views
-    sum_here f = sym (only_here (λ (u : View). u.logs) s.views seat v at whole_here (λ u. sum_by f u.logs) (λ u none. ap (sum_by f) none))
+    all_idle = each_rests r.life all (λ u. HasNoFile u.work) idle (λ u rests. inl rests.0)
 
     -- a lasting table has no chains
     none_drawn : (c : ℕ) → sum_by (times_drawn c) (map view_of ps) ≡ 0
     none_drawn c = sum_map (times_drawn c) view_of ps ∙ sum_zero (λ (p : LastingPass). times_drawn c (view_of p)) ps (λ p h. refl)
 
     pub whole : IsWhole (opening_of k) r.history (map view_of ps)
-    whole = record {
-      legal = r.life.legal;
-      settled = settled_end r all_idle;
-      seen = λ w h. let p = contains_map view_of ps w h in rw p.2 (known p.0 p.1).seen;
-      own = λ w h. let p = contains_map view_of ps w h in rw p.2 (known p.0 p.1).own;
-      authors = λ e h. let known : once k.passes e.pass ≢ 0 =
-          λ none. contains_none e (subst (λ (l : List Event). Contains l e) (r.life.authors e.pass none) (in_part e.pass r.history e h refl)) in
-          let a = sum_of_all (λ x. one_if (eqb x.number e.pass)) in let b = sum_here (λ x. one_if (eqb x.number e.pass)) in
-          let c = r.life.passes e.pass in let p = found_by (λ (q : LastingPass). (log_of q).number) e.pass ps (omega (arith, known)) in
-          (view_of p.0, contains_mapped view_of ps p.0 p.1, sym p.2);
-      chains_inside = λ w h c d. let p = contains_map view_of ps w h in
+    whole = gathered_whole r.life all view_of (λ p. (refl, refl, refl)) (settled_end r all_idle) record {
+      inside = λ w h c d. let p = contains_map view_of ps w h in
           absurd (contains_none c (subst (λ (z : PassView). Contains z.drawn c) p.2 d));
-      drawn_once = λ c. omega (arith, none_drawn c);
-      all_drawn = λ ended c low high. absurd (omega arith);
+      once = λ c. omega (arith, none_drawn c);
+      all = λ ended c low high. absurd (omega arith);
     }
 
     pub closes : (left : Contents) → HasSameFiles (state_after_all k r.history) (state_of left) → IsSettled (state_of left)

@@ -1,19 +1,23 @@
 -- A table that is opened keeps the rule.
 use Rattle.fx_lasting.proofs.Words.{contents_of, ◌≡◌, ℕ, zero, suc, ◌+◌, ◌<◌, ◌≤◌, Bool, nat_lt, cond, List, [], ◌∷◌, map, sym, refl, ap, ◌∙◌, subst}
-use Rattle.fx_lasting.proofs.Words.{arith, lt-ltb, le-ltb, inr, Option, Some, None, slice_index, dite, some, some-injective, some-ne-none, dec_le}
+use Rattle.fx_lasting.proofs.Words.{arith, lt-ltb, le-ltb, Option, Some, None, slice_index, dite, some, some-injective, some-ne-none, dec_le}
 use Rattle.fx_lasting.proofs.Words.{get_elem?, Closed, state_of, State, File, birth_word, full_name_made, file_entry_made, file_takes_made}
 use Rattle.fx_lasting.proofs.Words.{SlotAgrees, NodeAgrees, OwnerAgrees, LogAgrees, ViewAgrees, Agrees, new_logs, word_of, slot_place, count_in}
 use Rattle.fx_lasting.proofs.Words.{slots_of, nodes_of, state_after_all, new_log, Phase, free, seated, Log, Start, View, Idle}
 use Rattle.fx_lasting.proofs.Words.{Nothing, length-map, at_map, first_view, contains_map, once_is, counted_once, range_with_len, one_if, removed_in}
-use Rattle.fx_lasting.proofs.Words.{length-map-range_with_len, owed, ne_eqb, false, Contains, eqb, sum_of, word_for, node_for, home_for, OpensWith}
+use Rattle.fx_lasting.proofs.Words.{owed, ne_eqb, false, Contains, eqb, sum_of, word_for, node_for, home_for, OpensWith}
 use Rattle.fx_lasting.proofs.Words.{first_file, bit_here, node_of_number, bit_of, IsListedIn, Labels, written_in, bit_at-zero, not, mod-eq_of_lt}
-use Rattle.fx_lasting.proofs.Words.{opening, untouched, list_place, numbered_anew, of_one, ◌-◌, ◌*◌}
+use Rattle.fx_lasting.proofs.Words.{opening, untouched, list_place, numbered_anew, ◌-◌, ◌*◌}
 use Rattle.fx_lasting.proofs.Words.{◌/◌, ◌%◌, Whereabouts, at_slot, in_stock, NamesItsNode, IsStockOf, StockAgrees, name_in, name_made}
 use Rattle.fx_lasting.proofs.Words.{empty_name_made, empty_file_made, empty_takes_made, file_heat_made, stock_start, stock_for, first_stock}
 use Rattle.fx_lasting.proofs.Words.{mul-le-mul_right, length-range_with_len, div-mul-add, mod-mul-add, suc-mul}
 use Rattle.fx_lasting.proofs.Counts.{tally_none, tally_same}
 use Rattle.fx_lasting.proofs.range_lemmas.Groups.{counts_alone}
-use Rattle.fx_lasting.proofs.Keeping.{IsKnown}
+use Rattle.fx_lasting.proofs.Words.{HasLaws, seats}
+use Rattle.table_seats.proofs.Together.{opens as seats_open}
+
+pub laws : HasLaws seats
+laws = grind arith
 
 -- the phase of a slot's first node
 abbrev phase_for : ℕ → Option File → Phase
@@ -139,11 +143,11 @@ module _ (k : Start) (words : List ℕ) (homes : List (Option Closed)) (o : Open
             there = is;
           }
 
-  owner_opens : (n : ℕ) → OwnerAgrees (first_view k ∷ []) n (first_phase k n)
-  owner_opens n = dite (dec_le (suc n) (slots_of k)) (λ l. subst (OwnerAgrees (first_view k ∷ []) n) (sym (low_phase l)) (low (first_file k n)))
-      (λ g. subst (OwnerAgrees (first_view k ∷ []) n) (sym (high_phase (omega (arith, g)))) tt)
+  owner_opens : (n : ℕ) → OwnerAgrees (first_view seats k ∷ []) n (first_phase k n)
+  owner_opens n = dite (dec_le (suc n) (slots_of k)) (λ l. subst (OwnerAgrees (first_view seats k ∷ []) n) (sym (low_phase l)) (low (first_file k n)))
+      (λ g. subst (OwnerAgrees (first_view seats k ∷ []) n) (sym (high_phase (omega (arith, g)))) tt)
     where
-      low : (found : Option File) → OwnerAgrees (first_view k ∷ []) n (phase_for n found)
+      low : (found : Option File) → OwnerAgrees (first_view seats k ∷ []) n (phase_for n found)
       low None = tt
       low (Some f) = tt
 
@@ -171,8 +175,6 @@ module _ (k : Start) (words : List ℕ) (homes : List (Option Closed)) (o : Open
   -- the view of the seat that opens the table
   log_opens : (p : ℕ) → 0 < p → p ≤ k.passes → LogAgrees k [] words (first_phase k) (λ q. 0) (λ i q. untouched) Idle Nothing (new_log k p)
   log_opens p low high = record {
-    seen = ([], refl);
-    own = refl;
     held = refl;
     allowed = tt;
     list = λ is. absurd (cc is);
@@ -186,21 +188,19 @@ module _ (k : Start) (words : List ℕ) (homes : List (Option Closed)) (o : Open
   }
 
   -- the numbers of new passes
-  in_order : (x : Log) → Contains (new_logs k 1 k.passes) x → (p : ℕ) × (0 < p) × (p ≤ k.passes) × (x ≡ new_log k p)
+  in_order : (x : Log) → Contains (new_logs seats k 1 k.passes) x → (p : ℕ) × (0 < p) × (p ≤ k.passes) × (x ≡ new_log k p)
   in_order x h = let z = contains_map (new_log k) (range_with_len 1 k.passes) x h in
       let a = counted_once (λ (y : Log). y.number) (new_log k) (λ n. refl) z.0 k.passes in
-      let b = sum_of (λ (y : Log). one_if (eqb y.number z.0)) (new_logs k 1 k.passes) x h in
+      let b = sum_of (λ (y : Log). one_if (eqb y.number z.0)) (new_logs seats k 1 k.passes) x h in
       let c : one_if (eqb x.number z.0) ≡ 1 = bit_here z.0 x.number (ap (λ (y : Log). y.number) z.2) in
       (z.0, omega (arith, a, b, c, once_is k.passes z.0), omega (arith, a, b, c, once_is k.passes z.0), z.2)
 
-  view_opens : (j : ℕ) (v : View) → get_elem? (first_view k ∷ []) j ≡ some v
+  view_opens : (j : ℕ) (v : View) → get_elem? (first_view seats k ∷ []) j ≡ some v
       → ViewAgrees k [] words (first_phase k) (λ q. 0) (λ i q. untouched) j v
-  view_opens zero v e = subst (ViewAgrees k [] words (first_phase k) (λ q. 0) (λ i q. untouched) 0) (some-injective (first_view k) v e) record {
+  view_opens zero v e = subst (ViewAgrees k [] words (first_phase k) (λ q. 0) (λ i q. untouched) 0) (some-injective (first_view seats k) v e) record {
     logs = λ x h. let z = in_order x h in
         subst (LogAgrees k [] words (first_phase k) (λ q. 0) (λ i q. untouched) Idle Nothing) (sym z.3) (log_opens z.0 z.1 z.2);
     work = tt;
-    empty = λ _. (refl, refl, refl);
-    start = inr refl;
   }
   view_opens (suc j) v e = absurd (some-ne-none v (sym e))
 
@@ -216,12 +216,12 @@ module _ (k : Start) (words : List ℕ) (homes : List (Option Closed)) (o : Open
       its_name None is = empty_name_made slot
       its_name (Some f) is = name_made f.number f.identity.entry (o.entries slot f is) ∙ ap (λ (n : ℕ). n + 1) (its_number slot f is)
 
-  stocks_open : (j : ℕ) (v : View) (x : Log) → get_elem? (first_view k ∷ []) j ≡ some v → Contains v.logs x → StockAgrees k (first_where k) x.number x.stock
-  stocks_open zero v x e has = let z = in_order x (subst (λ (y : View). Contains y.logs x) (sym (some-injective (first_view k) v e)) has) in
+  stocks_open : (j : ℕ) (v : View) (x : Log) → get_elem? (first_view seats k ∷ []) j ≡ some v → Contains v.logs x → StockAgrees k (first_where k) x.number x.stock
+  stocks_open zero v x e has = let z = in_order x (subst (λ (y : View). Contains y.logs x) (sym (some-injective (first_view seats k) v e)) has) in
       subst (λ (y : Log). StockAgrees k (first_where k) y.number y.stock) (sym z.3) (first_stock_agrees k z.1 z.2)
   stocks_open (suc j) v x e has = absurd (some-ne-none v (sym e))
 
-  pub opening_keeps : Agrees k (opening words homes (first_view k))
+  pub opening_keeps : Agrees k (opening words homes (first_view seats k))
   opening_keeps = record {
     shape = let a = length-map homes some in assumption (o, a ∙ o.homes_length);
     history = [];
@@ -248,12 +248,6 @@ module _ (k : Start) (words : List ℕ) (homes : List (Option Closed)) (o : Open
       files = λ n. refl;
       listed = λ p low high is. absurd (no_bits p high is);
     };
-    range = counts_alone (first_view k) refl o.groups o.question;
-    life = record {
-      legal = record { leads = (tt, refl); releases = tt };
-      known = of_one (IsKnown []) (first_view k) ([], refl);
-      passes = λ p. let a = counted_once (λ (y : Log). y.number) (new_log k) (λ n. refl) p k.passes in omega arith;
-      whole = let a = length-map-range_with_len (new_log k) 1 k.passes in omega arith;
-      authors = λ p none. refl;
-    };
+    range = counts_alone (first_view seats k) refl o.groups o.question;
+    life = seats_open seats laws k;
   }

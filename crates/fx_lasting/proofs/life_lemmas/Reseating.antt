@@ -1,9 +1,9 @@
 -- The views of a table change, and nothing else does: words, places and the history are as they
 -- were.
-use Rattle.fx_lasting.proofs.Words.{◌≡◌, ℕ, List, sym, ◌∙◌, subst, some, get_elem?, sum_by, Contains, OfEach, NodeAgrees, OwnerAgrees, ViewAgrees}
+use Rattle.fx_lasting.proofs.Words.{◌≡◌, ℕ, List, sym, ◌∙◌, subst, some, get_elem?, sum_by, Contains, NodeAgrees, OwnerAgrees, ViewAgrees}
 use Rattle.fx_lasting.proofs.Words.{StockAgrees, RangeCounts, Agrees, Phase, Shared, Start, View, Log, count_in, state_after_all, range_at_start}
-use Rattle.fx_lasting.proofs.Words.{slots_of, word_of, owed, taken_of, held_of, logs_of, lengths}
-use Rattle.fx_lasting.proofs.Keeping.{IsKnown, word_at, slot_word}
+use Rattle.fx_lasting.proofs.Words.{slots_of, word_of, owed, taken_of, held_of, seats, Together}
+use Rattle.fx_lasting.proofs.Keeping.{word_at, slot_word}
 
 module _ (k : Start) (s : Shared) (r : Agrees k s) (views : List View) where
   -- what the views have to keep
@@ -13,9 +13,7 @@ module _ (k : Start) (s : Shared) (r : Agrees k s) (views : List View) where
     pub stocks : (j : ℕ) (v : View) (x : Log) → get_elem? views j ≡ some v → Contains v.logs x → StockAgrees k r.nodes.where_is x.number x.stock
     pub each_view : (j : ℕ) (v : View) → get_elem? views j ≡ some v → ViewAgrees k r.history s.words r.phase r.debt r.deed j v
     pub holds : (number : ℕ) → sum_by (held_of number) views ≡ sum_by (held_of number) s.views
-    pub known : OfEach (IsKnown r.history) views
-    pub passes : (p : ℕ) → sum_by (logs_of p) views ≡ sum_by (logs_of p) s.views
-    pub whole : sum_by lengths views ≡ sum_by lengths s.views
+    pub life : Together seats k views r.history
     pub counts : RangeCounts (state_after_all k r.history).at (range_at_start k) views s.words
 
   abbrev pub reseat : Reseated → Agrees k record { words = s.words; homes = s.homes; views = views }
@@ -48,11 +46,5 @@ module _ (k : Start) (s : Shared) (r : Agrees k s) (views : List View) where
       listed = r.holds.listed;
     };
     range = a.counts;
-    life = record {
-      legal = r.life.legal;
-      known = a.known;
-      passes = λ p. a.passes p ∙ r.life.passes p;
-      whole = a.whole ∙ r.life.whole;
-      authors = r.life.authors;
-    };
+    life = a.life;
   }

@@ -1,68 +1,54 @@
 -- A seat is split off, and one is joined back.
-use Rattle.fx_lasting.proofs.Words.{◌≡◌, ℕ, List, length, sym, refl, ap, ◌∙◌, subst, arith, ⊎_elim, length-append, sum_by, sum_by-append, eqb}
+use Rattle.fx_lasting.proofs.Words.{◌≡◌, ℕ, List, sym, refl, ap, ◌∙◌, subst, arith, ⊎_elim, sum_by}
 use Rattle.fx_lasting.proofs.Words.{WorkAgrees, LogAgrees, Agrees, Shared, Outside, Inside, Log, Start}
-use Rattle.fx_lasting.proofs.Words.{View, Work, Idle, Nothing, Glance, Change, SplitsKeep, JoinsKeep, together, spent, one_if}
+use Rattle.fx_lasting.proofs.Words.{View, Work, Idle, Glance, Change, SplitsKeep, JoinsKeep, spent}
 use Rattle.fx_lasting.proofs.Words.{held_in, if_file, taking, get_elem?, some, set, set_here, set_else}
-use Rattle.fx_lasting.proofs.Words.{at_set, stands_at, sum_set, Contains, HasNoFile, ViewAgrees, taken_of, held_of, logs_of, lengths, zero, suc, []}
-use Rattle.fx_lasting.proofs.Words.{◌∷◌, ◌≢◌, set-set, OfEach, of_replaced, of_appended, seen_from_start, without_first, first_alone, AreReseated}
-use Rattle.fx_lasting.proofs.Words.{split, joined}
+use Rattle.fx_lasting.proofs.Words.{at_set, stands_at, sum_set, Contains, HasNoFile, ViewAgrees, taken_of, held_of, zero, suc, []}
+use Rattle.fx_lasting.proofs.Words.{◌∷◌, ◌≢◌, set-set, without_first}
+use Rattle.fx_lasting.proofs.Words.{seats, joined, first_alone, Moves}
 use Rattle.fx_lasting.proofs.node_lemmas.Choosing.{no_file, no_take, not_busy, holds_none}
 use Rattle.fx_lasting.proofs.Frames.{busy_alone, busy, owner_map, owner_stays}
 use Rattle.fx_lasting.proofs.range_lemmas.Groups.{counts_same}
-use Rattle.fx_lasting.proofs.Keeping.{IsKnown, few_in_range}
+use Rattle.fx_lasting.proofs.Keeping.{few_in_range}
 use Rattle.fx_lasting.proofs.range_lemmas.Groups.{counts_reseated}
+use Rattle.fx_lasting.proofs.life_lemmas.Openings.{laws}
 use Rattle.fx_lasting.proofs.life_lemmas.Reseating.{reseat}
-
--- a seat that does nothing, and on whose account no slot is uncounted
-abbrev IsIdle : View → Type 0
-IsIdle v = (v.work ≡ Idle) × (v.glance ≡ Nothing) × (v.change ≡ Outside)
-
-abbrev logs : View → List Log
-logs v = v.logs
-
-abbrev start : View → Start
-start v = v.start
+use Rattle.table_seats.proofs.Moving.{IsRule, may_join, may_split}
+use Rattle.table_seats.proofs.Together.{renewed, reseated as seats_reseated}
 
 -- the rule holds where passes are in other seats that do nothing
-module _ (k : Start) (s : Shared) (r : Agrees k s) (views : List View) (a : AreReseated logs start k IsIdle s.views views)
-    (known : OfEach (IsKnown r.history) views) where
-  by_log : (f : Log → ℕ) → sum_by (λ (u : View). sum_by f u.logs) views ≡ sum_by (λ (u : View). sum_by f u.logs) s.views
-  by_log f = a.by_logs (sum_by f) refl (λ xs ys. sum_by-append f xs ys)
-
+module _ (k : Start) (s : Shared) (r : Agrees k s) (views : List View) (m : Moves seats k r.history s.views views) where
   by_change : (f : Change → ℕ) → f Outside ≡ 0 → sum_by (λ (u : View). f u.change) views ≡ sum_by (λ (u : View). f u.change) s.views
-  by_change f still = a.by_work (λ u. f u.change) (λ u idle. ap f idle.2 ∙ still)
+  by_change f still = m.seats.by_work (λ u. f u.change) (λ u idle. ap f idle.2 ∙ still)
 
   by_work : (f : Work → ℕ) → f Idle ≡ 0 → sum_by (λ (u : View). f u.work) views ≡ sum_by (λ (u : View). f u.work) s.views
-  by_work f still = a.by_work (λ u. f u.work) (λ u idle. ap f idle.0 ∙ still)
+  by_work f still = m.seats.by_work (λ u. f u.work) (λ u idle. ap f idle.0 ∙ still)
 
   pub reseated : Agrees k record { words = s.words; homes = s.homes; views = views }
   reseated = reseat k s r views record {
     taken = λ n. by_work (taking n) refl;
     owners = λ n ph. owner_map s.views views n (λ j d is o.
-        (o.0, a.others j o.0 o.1 (λ idle. let e : busy d ≡ 0 = ap busy (sym o.2) ∙ (sym (busy_alone o.0.work) ∙ ap busy idle.0) in omega arith), o.2)) ph;
-    stocks = λ j u x e has. ⊎_elim (λ new. let w = new.its x has in r.nodes.stocks w.0 w.1 x w.2 w.4) (λ old. r.nodes.stocks j u x old has) (a.each j u e);
+        (o.0, m.seats.others j o.0 o.1 (λ idle. let e : busy d ≡ 0 = ap busy (sym o.2) ∙ (sym (busy_alone o.0.work) ∙ ap busy idle.0) in omega arith), o.2)) ph;
+    stocks = λ j u x e has. ⊎_elim (λ new. let w = new.its x has in r.nodes.stocks w.0 w.1 x w.2 w.4) (λ old. r.nodes.stocks j u x old has) (m.seats.each j u e);
     each_view = λ j u e. ⊎_elim (λ new. record {
       logs = λ x h. let w = new.its x h in
           subst (λ (d : Work × Glance). LogAgrees k r.history s.words r.phase r.debt r.deed d.0 d.1 x)
           (λ i. ((w.3.0 ∙ sym new.idle.0) i, (w.3.1 ∙ sym new.idle.1) i)) ((r.holds.views w.0 w.1 w.2).logs x w.4);
       work = subst (WorkAgrees k r.phase j) (sym new.idle.0) tt;
-      empty = λ _. new.idle;
-      start = new.begun;
-    }) (λ old. r.holds.views j u old) (a.each j u e);
+    }) (λ old. r.holds.views j u old) (m.seats.each j u e);
     holds = λ n. by_work (λ d. if_file n (held_in d)) refl;
-    known = known;
-    passes = λ p. by_log (λ y. one_if (eqb y.number p));
-    whole = a.by_logs (length {A = Log}) refl (λ xs ys. length-append xs ys);
+    life = seats_reseated r.life m;
     counts = counts_reseated r.range views
-        (λ j u g e is. ⊎_elim (λ new. let bad : Inside g ≡ Outside = sym is ∙ new.idle.2 in absurd (cc bad)) (λ old. old) (a.each j u e))
-        (λ j u y e has. ⊎_elim (λ new. let w = new.its y has in (w.0, w.1, w.2, w.4)) (λ old. (j, u, old, has)) (a.each j u e))
+        (λ j u g e is. ⊎_elim (λ new. let bad : Inside g ≡ Outside = sym is ∙ new.idle.2 in absurd (cc bad)) (λ old. old) (m.seats.each j u e))
+        (λ j u y e has. ⊎_elim (λ new. let w = new.its y has in (w.0, w.1, w.2, w.4)) (λ old. (j, u, old, has)) (m.seats.each j u e))
         by_change;
   }
 
-pub splits_keep : SplitsKeep without_first first_alone
-splits_keep k id v idle still out s r at = reseated k s r _ (split logs start k IsIdle s.views id v at (idle, still, out)
-    (λ l. record v { logs = l }) (λ l. refl) (λ l. (idle, still, out)) (λ l. refl) (r.holds.views id v at).start)
-    (let mine = r.life.known id v at in of_appended (IsKnown r.history) (set s.views id (without_first v)) (of_replaced (IsKnown r.history) s.views r.life.known id (without_first v) mine) (first_alone v) mine)
+pub is_rule : IsRule seats Agrees
+is_rule = record { history = λ k s r. r.history; life = λ k s r. r.life; moves = reseated }
+
+pub splits_keep : SplitsKeep (without_first seats) (first_alone seats)
+splits_keep k id v idle still out = may_split is_rule laws k id v (idle, still, out)
 
 -- a pass that has chosen a node may forget it
 module _ (k : Start) (s : Shared) (r : Agrees k s) (id : ℕ) (v : View) (here : get_elem? s.views id ≡ some v) (free_of : HasNoFile v.work) where
@@ -75,8 +61,6 @@ module _ (k : Start) (s : Shared) (r : Agrees k s) (id : ℕ) (v : View) (here :
   its_log : (x : Log) → LogAgrees k r.history s.words r.phase r.debt r.deed v.work v.glance x
       → LogAgrees k r.history s.words r.phase r.debt r.deed Idle v.glance x
   its_log x o = record {
-    seen = o.seen;
-    own = o.own;
     held = o.held ∙ no_file free_of;
     allowed = tt;
     list = o.list;
@@ -99,13 +83,9 @@ module _ (k : Start) (s : Shared) (r : Agrees k s) (id : ℕ) (v : View) (here :
         subst (λ (z : ℕ × View). ViewAgrees k r.history s.words r.phase r.debt r.deed z.0 z.1) (λ i. (sym t.0 i, t.1 i)) record {
           logs = λ x h. its_log x ((r.holds.views id v here).logs x h);
           work = tt;
-          empty = λ none. let e = (r.holds.views id v here).empty none in (refl, e.1, e.2);
-          start = (r.holds.views id v here).start;
         }) (λ t. r.holds.views j u t.1) (at_set s.views id j forgot u e);
     holds = λ n. let t = sum_set (held_of n) s.views id v forgot here in let e = ap (if_file n) (no_file free_of) in omega arith;
-    known = of_replaced (IsKnown r.history) s.views r.life.known id forgot (r.life.known id v here);
-    passes = λ p. let t = sum_set (logs_of p) s.views id v forgot here in omega arith;
-    whole = let t = sum_set lengths s.views id v forgot here in omega arith;
+    life = renewed r.life id here refl refl refl (λ none. let e = (r.life.seats id v here).empty none in (refl, e.1, e.2));
     counts = counts_same id forgot here r.range (few_in_range r) refl (refl, λ g l. refl) refl (λ y has. (y, has, refl, refl));
   }
 
@@ -118,10 +98,10 @@ module _ {A : Type 0} where
   set_apart (x ∷ l) (suc i) zero a b other = refl
   set_apart (x ∷ l) (suc i) (suc j) a b other = ap (λ (m : List A). x ∷ m) (set_apart l i j a b (λ e. other (ap suc e)))
 
-pub joins_keep : JoinsKeep together spent
+pub joins_keep : JoinsKeep (joined seats) (spent seats)
 unfolding forgotten
 joins_keep k id v begun free_of still out other w w_free w_still w_out s r at apart there =
-    let both = together v w in
+    let both = joined seats v w in let spent = spent seats in
     let w_at : get_elem? s.views other ≡ some w = sym (set_else s.views id other both apart) ∙ there in
     let v₁ = forgot k s r id v at free_of in
     let views₁ = set s.views id v₁ in
@@ -137,7 +117,5 @@ joins_keep k id v begun free_of still out other w w_free w_still w_out s r at ap
     let same : set (set views₂ id both) other spent ≡ set (set s.views id both) other spent =
     ap (λ (l : List View). set l other spent) (set_apart views₁ other id w₁ both apart)
     ∙ (set-set (set views₁ id both) other w₁ spent ∙ ap (λ (l : List View). set l other spent) (set-set s.views id v₁ both)) in
-    subst (λ (l : List View). Agrees k record { words = s.words; homes = s.homes; views = l }) same (reseated k _ r₂ _
-    (joined logs start k IsIdle views₂ id v₁ at₂ (refl, still, out) other w₁ both spent apart there₂ (refl, w_still, w_out) (refl, still, out) refl
-    begun (refl, refl, refl) refl)
-    (of_replaced (IsKnown r.history) (set views₂ id both) (of_replaced (IsKnown r.history) views₂ r₂.life.known id both (r.life.known id v at)) other spent (seen_from_start r.history)))
+    subst (λ (l : List View). Agrees k record { words = s.words; homes = s.homes; views = l }) same
+    (may_join is_rule laws k id v₁ (refl, still, out) begun other w₁ (refl, w_still, w_out) _ r₂ at₂ apart there₂)

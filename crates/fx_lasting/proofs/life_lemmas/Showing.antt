@@ -1,66 +1,37 @@
 -- A pass shows what it has seen, and another pass learns it: the rule holds afterwards. Neither is
 -- an atomic step.
-use Rattle.fx_lasting.proofs.Words.{◌≡◌, ℕ, ◌+◌, ◌≤◌, List, [], ◌∷◌, ◌++◌, set, length, sym, refl, ap, ◌∙◌, subst, arith, inl, inr, eqb, some}
-use Rattle.fx_lasting.proofs.Words.{get_elem?, ⊎_elim, at_set, sum_set, sum_by-append, one_if, contains_only, Contains, IsSeenBy, part_of_pass, Event}
-use Rattle.fx_lasting.proofs.Words.{LogAgrees, ViewAgrees, Agrees, Outside, Inside, Shared, Log, Start, View}
-use Rattle.fx_lasting.proofs.Words.{IsInside, Runs, IsHistory, taken_of, held_of, logs_of, lengths}
+use Rattle.fx_lasting.proofs.Words.{◌≡◌, ℕ, ◌+◌, ◌≤◌, [], ◌∷◌, set, sym, refl, ap, ◌∙◌, subst, arith, some}
+use Rattle.fx_lasting.proofs.Words.{get_elem?, ⊎_elim, at_set, sum_set, contains_only, Contains, IsSeenBy, part_of_pass}
+use Rattle.fx_lasting.proofs.Words.{LogAgrees, ViewAgrees, Agrees, Shared, Log, Start, View}
+use Rattle.fx_lasting.proofs.Words.{IsInside, Runs, IsHistory, taken_of, held_of}
 use Rattle.fx_lasting.proofs.Words.{first_log, view_of, StockAgrees, TableId, LastingPass, IsPassOf, opening_of, doing_in}
-use Rattle.fx_lasting.proofs.Words.{contains_none, contains_alone, learned_so, of_appended, of_replaced, at_snoc, at_longer, set_again, Splits, Seat}
-use Rattle.fx_lasting.proofs.Words.{Closed, Option, view_with, Adds, no_use, Learns}
-use Rattle.fx_lasting.specs.life.Showing.{shown_view, HasLearned}
-use Rattle.fx_lasting.proofs.Frames.{owner_map, owner_same}
-use Rattle.fx_lasting.proofs.range_lemmas.Groups.{counts_same, counts_reseated}
-use Rattle.fx_lasting.proofs.Keeping.{IsKnown, total_same, few_in_range}
+use Rattle.fx_lasting.proofs.Words.{contains_alone, learned_so, Splits, Seat}
+use Rattle.fx_lasting.proofs.Words.{Closed, Option, Adds, no_use, Learns}
+use Rattle.fx_lasting.specs.life.Showing.{HasLearned}
+use Rattle.fx_lasting.proofs.Frames.{owner_same}
+use Rattle.fx_lasting.proofs.range_lemmas.Groups.{counts_same}
+use Rattle.fx_lasting.proofs.Keeping.{few_in_range}
+use Rattle.fx_lasting.proofs.Words.{HasSeen, its_pass, seats, shown_view}
+use Rattle.fx_lasting.proofs.life_lemmas.Openings.{laws}
+use Rattle.fx_lasting.proofs.life_lemmas.Seats.{is_rule}
+use Rattle.table_seats.proofs.Moving.{may_show as seats_show}
+use Rattle.table_seats.proofs.Together.{known, learned as seats_learn}
 use Rattle.fx_lasting.proofs.life_lemmas.Reseating.{reseat}
 use Rattle.fx_lasting.proofs.Passing.{adds_so, still_pass, at_rest}
 use Rattle.fx_seen.specs.Kept.{MayLearn}
 
--- a seat without passes that shows a history joins the others
-module _ (k : Start) (s : Shared) (r : Agrees k s) (h : List Event) (seen : IsSeenBy h r.history) where
-  abbrev u : View
-  u = view_with h
-
-  abbrev views' : List View
-  views' = s.views ++ u ∷ []
-
-  beside : Agrees k record { words = s.words; homes = s.homes; views = views' }
-  beside = reseat k s r views' record {
-    taken = λ n. let t = sum_by-append (taken_of n) s.views (u ∷ []) in omega arith;
-    owners = λ n. owner_map s.views views' n (λ j d is o. (o.0, at_longer s.views (u ∷ []) j o.0 o.1, o.2));
-    stocks = λ j x y e has. ⊎_elim (λ old. r.nodes.stocks j x y old has) (λ new. absurd (no_pass new has)) (at_snoc s.views u x j e);
-    each_view = λ j x e. ⊎_elim (λ old. r.holds.views j x old)
-        (λ (new : u ≡ x). subst (ViewAgrees k r.history s.words r.phase r.debt r.deed j) new record {
-          logs = λ y c. absurd (contains_none y c);
-          work = tt;
-          empty = λ _. (refl, refl, refl);
-          start = inl refl;
-        }) (at_snoc s.views u x j e);
-    holds = λ n. let t = sum_by-append (held_of n) s.views (u ∷ []) in omega arith;
-    known = of_appended (IsKnown r.history) s.views r.life.known u seen;
-    passes = λ p. let t = sum_by-append (logs_of p) s.views (u ∷ []) in omega arith;
-    whole = let t = sum_by-append lengths s.views (u ∷ []) in omega arith;
-    counts = counts_reseated r.range views'
-        (λ j x g e is. ⊎_elim (λ old. old)
-        (λ (new : u ≡ x). let bad : Outside ≡ Inside g = ap (λ (z : View). z.change) new ∙ is in absurd (cc bad)) (at_snoc s.views u x j e))
-        (λ j x y e has. ⊎_elim (λ old. (j, x, old, has)) (λ new. absurd (no_pass new has)) (at_snoc s.views u x j e))
-        (λ f none. let t = sum_by-append (λ (x : View). f x.change) s.views (u ∷ []) in omega (arith, t, none));
-  }
-    where
-      no_pass : {x : View} {y : Log} → u ≡ x → Contains x.logs y → ⊥
-      no_pass {x} {y} new has = contains_none y (subst (λ (z : View). Contains z.logs y) (sym new) has)
-
 -- a seat with one pass may show what the pass has seen
-pub may_show : (k : Start) (id : ℕ) (v : View) {x : Log} → v.logs ≡ x ∷ [] → Splits (Agrees k) id v v (shown_view v)
-may_show k id v {x} one s r at =
-    let seen : IsSeenBy (first_log v.logs).front r.history = subst (λ (l : List Log). IsSeenBy (first_log l).front r.history) (sym one) ((r.holds.views id v at).logs x (contains_alone one)).seen in
-    subst (λ (l : List View). Agrees k record { words = s.words; homes = s.homes; views = l ++ shown_view v ∷ [] }) (sym (set_again s.views id v at))
-    (beside k s r (first_log v.logs).front seen)
+pub may_show : (k : Start) (id : ℕ) (v : View) {x : Log} → v.logs ≡ x ∷ [] → Splits (Agrees k) id v v (shown_view seats v)
+may_show k id v one = seats_show is_rule laws k id v one
 
 -- a seat with one pass may learn the whole history
 module _ (k : Start) (id : ℕ) (v w : View) (x : Log) (one : v.logs ≡ x ∷ []) (begun : v.start ≡ k) (within : IsInside v.start v.work) (s : Shared) (r : Agrees k s)
     (at : get_elem? s.views id ≡ some v) (other : ℕ) (there : get_elem? s.views other ≡ some w) where
   its_log : LogAgrees k r.history s.words r.phase r.debt r.deed v.work v.glance x
   its_log = (r.holds.views id v at).logs x (contains_alone one)
+
+  passed : HasSeen seats r.history x
+  passed = its_pass r.life id at one
 
   abbrev log : Log
   log = record x { front = r.history }
@@ -70,8 +41,6 @@ module _ (k : Start) (id : ℕ) (v w : View) (x : Log) (one : v.logs ≡ x ∷ [
 
   now_log : LogAgrees k r.history s.words r.phase r.debt r.deed v.work v.glance log
   now_log = let o = its_log in record {
-    seen = ([], refl);
-    own = refl;
     held = o.held;
     allowed = o.allowed;
     list = o.list;
@@ -95,26 +64,22 @@ module _ (k : Start) (id : ℕ) (v w : View) (x : Log) (one : v.logs ≡ x ∷ [
         subst (λ (z : ℕ × View). ViewAgrees k r.history s.words r.phase r.debt r.deed z.0 z.1) (λ i. (sym t.0 i, t.1 i)) record {
           logs = λ y h. subst (LogAgrees k r.history s.words r.phase r.debt r.deed v.work v.glance) (sym (contains_only log y h)) now_log;
           work = (r.holds.views id v at).work;
-          empty = λ none. absurd (omega (arith, ap (length {A = Log}) none));
-          start = inr begun;
         }) (λ t. r.holds.views j u t.1) (at_set s.views id j learned u e);
     holds = λ n. let t = sum_set (held_of n) s.views id v learned at in omega arith;
-    known = of_replaced (IsKnown r.history) s.views r.life.known id learned (r.life.known id v at);
-    passes = λ p. total_same (λ z. one_if (eqb z.number p)) s.views id learned at one refl refl;
-    whole = let t = sum_set lengths s.views id v learned at in let e = ap (length {A = Log}) one in omega arith;
+    life = seats_learn r.life id at one refl refl refl refl record { seen = ([], refl); own = refl };
     counts = counts_same id learned at r.range (few_in_range r) refl (refl, λ g l. refl) refl
         (λ y has. subst (λ (y : Log). (z : Log) × Contains v.logs z × (z.number ≡ y.number) × (z.asked ≡ y.asked)) (sym (contains_only log y has))
         (x, contains_alone one, refl, refl));
   }
 
   learns_so : HasLearned v w learned
-  learns_so = let o = its_log in let first : first_log v.logs ≡ x = ap first_log one in record {
+  learns_so = let first : first_log v.logs ≡ x = ap first_log one in record {
     runs = record {
       one = (log, refl);
       number = ap (λ (z : Log). z.number) (sym first);
-      seen = subst (λ (z : Log). IsSeenBy z.front r.history) (sym first) o.seen;
+      seen = subst (λ (z : Log). IsSeenBy z.front r.history) (sym first) passed.seen;
       legal = subst (λ (z : Start). IsHistory z r.history) (sym begun) r.life.legal;
-      own = subst (λ (z : Log). part_of_pass z.number r.history ≡ part_of_pass z.number z.front) (sym first) o.own;
+      own = subst (λ (z : Log). part_of_pass z.number r.history ≡ part_of_pass z.number z.front) (sym first) passed.own;
       steps = subst (λ (z : Log). x.steps ≤ z.steps + 0) (sym first) (omega arith);
       begun = subst (λ (z : Log). z.steps ≤ x.steps) (sym first) (omega arith);
       listed = ap (λ (z : Log). z.listed) (sym first);
@@ -127,7 +92,7 @@ module _ (k : Start) (id : ℕ) (v w : View) (x : Log) (one : v.logs ≡ x ∷ [
       change = refl;
       start = refl;
     };
-    shown = r.life.known other w there;
+    shown = known r.life other w there;
   }
 
   may : (z : View) × Agrees k record { words = s.words; homes = s.homes; views = set s.views id z } × HasLearned v w z

@@ -8,7 +8,7 @@ use Rattle.fx_lasting.proofs.Words.{Agrees, first_log, HasNoFile, HoldAgrees, Is
 use Rattle.fx_lasting.proofs.Words.{Counted, Guarded, Announced, Nearing, Relieving, HoldsBesides, cond, le-ltb, get_or, HasItsPlace, Placement, as_written, Unlabelled}
 use Rattle.fx_lasting.proofs.Histories.{grows_none}
 use Rattle.fx_lasting.proofs.Frames.{HasBesides, alone_cases, busy, covers_same, does_now}
-use Rattle.fx_lasting.proofs.Keeping.{Turn, turn_of, After, Homes, word_at, slot_word, Made, by_turn, its_log, its_work, its_stock, in_its_stock, tells, tells_less, w, end}
+use Rattle.fx_lasting.proofs.Keeping.{passed, Turn, turn_of, After, Homes, word_at, slot_word, Made, by_turn, its_log, its_work, its_stock, in_its_stock, tells, tells_less, w, end}
 use Rattle.fx_lasting.proofs.Places.{node_words, node_here, node_hold, node_slot}
 use Rattle.fx_lasting.proofs.Calm.{read_before, read_before_kept, Reads}
 use Rattle.fx_lasting.proofs.node_lemmas.Choosing.{no_file, no_take, not_busy, holds_none}
@@ -113,7 +113,7 @@ module _ (turn : Turn) where
         w turn (read_before turn (Searching e.0) v.glance r.history x.front),
         keeps,
         tt,
-        read_before_kept turn (Searching e.0) v.glance x.front (word_of v.start n) (its_log turn).seen (its_log turn).own
+        read_before_kept turn (Searching e.0) v.glance x.front (word_of v.start n) (passed turn).seen (passed turn).own
             (searching e.0 e.1.0 e.1.1 e.1.2),
         record {
           node = e.0;

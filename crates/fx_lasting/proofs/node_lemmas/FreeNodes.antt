@@ -9,7 +9,8 @@ use Rattle.fx_lasting.proofs.Words.{Announced, Counted, Guarded, Owing, Yielding
 use Rattle.fx_lasting.proofs.Words.{Shared, Start, ◌≢◌, get_or, set, at_set, sum_set, Contains, contains_head, at_slot, in_stock, StockAgrees}
 use Rattle.fx_lasting.proofs.Words.{name_of_file}
 use Rattle.fx_lasting.proofs.Counts.{owed_found}
-use Rattle.fx_lasting.proofs.Keeping.{word_at, slot_word, find_pass, not_there}
+use Rattle.fx_lasting.proofs.Keeping.{word_at, slot_word}
+use Rattle.fx_lasting.proofs.Words.{find_pass, not_there}
 use Rattle.fx_lasting.proofs.Frames.{HasBesides, alone_cases}
 
 -- a sum over the numbers below n
@@ -156,7 +157,7 @@ module _ {k : Start} {st : Shared} (r : Agrees k st) where
       let same : z.node ≡ n = omega arith in absurd (away s (subst (λ (m : ℕ). r.nodes.where_is m ≡ at_slot s) same z.here))
   used n l away placed_use (leaving j t nx m f) is not_free o own = let a = does_use n j own (λ m l bad. cc bad) refl in omega arith
   used n l away placed_use (retired f) is not_free o own = dite (ℕ_discrete (sum_by (taken_of n) st.views) 0)
-      (λ none. let z = owed_found r.debt k.passes n (let a = o.somebody in omega arith) in let y = find_pass r z.1 z.2 in
+      (λ none. let z = owed_found r.debt k.passes n (let a = o.somebody in omega arith) in let y = find_pass r.life z.1 z.2 in
       let h = ((r.holds.views y.0 y.1 y.3).logs y.2 y.4).hold in
       let h' = subst (λ (p : ℕ). HoldAgrees (word_at st.words (hold_word_of k p)) (r.debt p) y.1.work) y.5 h in
       let a = used_by n y.0 y.1 y.3 (owes_use n _ y.1.work (rw z.3 at h')) in omega arith)
@@ -194,7 +195,7 @@ module _ {k : Start} {st : Shared} (r : Agrees k st) where
     one_each j u there = go u.logs refl
       where
         go : (l : List Log) → u.logs ≡ l → own_use u ≤ length u.logs
-        go [] none = let e = none_if u (ap named_by ((r.holds.views j u there).empty none).0) in omega arith
+        go [] none = let e = none_if u (ap named_by ((r.life.seats j u there).empty none).0) in omega arith
         go (z ∷ l) is = let a = at_most_one u in let b = ap (length {A = Log}) is in omega arith
 
     -- all passes but this one
@@ -219,13 +220,13 @@ module _ {k : Start} {st : Shared} (r : Agrees k st) where
           let both : in_stock y.number its.0 ≡ in_stock x.number m = sym named ∙ (ap r.nodes.where_is same ∙ (own_here m low).1) in
           let number : y.number ≡ x.number = cc both in dite (ℕ_discrete j id)
           (λ (is : j ≡ id). names_other u.work works (sym (ap (λ (w : View). named_by w.work) (some-injective v u (sym here ∙ (ap (get_elem? st.views) (sym is) ∙ there)))) ∙ still))
-          (λ (ne : j ≢ id). not_there r here one ne there y has number)
+          (λ (ne : j ≢ id). not_there r.life here one ne there y has number)
 
       stray : ⊥
       stray = go u.logs refl
         where
           go : (l : List Log) → u.logs ≡ l → ⊥
-          go [] none = names_other u.work works (ap named_by ((r.holds.views j u there).empty none).0)
+          go [] none = names_other u.work works (ap named_by ((r.life.seats j u there).empty none).0)
           go (y ∷ ys) is = by_log y (subst (λ (l : List Log). Contains l y) (sym is) (contains_head y ys))
 
     -- so who places a node of this stock uses it alone

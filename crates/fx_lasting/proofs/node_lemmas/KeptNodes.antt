@@ -6,7 +6,7 @@ use Rattle.fx_lasting.proofs.Words.{Parks, Resumes, SettlesNode, ParksKeep, Resu
 use Rattle.fx_lasting.proofs.Words.{dite, sum_set, length-set, Agrees, Unlabelled, IsInStock, Placement, as_written, MayCarry, most_carried, ◌-◌, ◌+◌}
 use Rattle.fx_lasting.proofs.Histories.{grows_none}
 use Rattle.fx_lasting.proofs.Frames.{busy, does_now}
-use Rattle.fx_lasting.proofs.Keeping.{Turn, turn_of, After, Homes, word_at, Made, by_turn, its_log, its_work, tells, tells_less, w, end}
+use Rattle.fx_lasting.proofs.Keeping.{passed, Turn, turn_of, After, Homes, word_at, Made, by_turn, its_log, its_work, tells, tells_less, w, end}
 use Rattle.fx_lasting.proofs.node_lemmas.NodeSteps.{own_after, own_node_kept}
 use Rattle.fx_lasting.proofs.Places.{node_words, node_here, node_hold, node_leaves}
 use Rattle.fx_lasting.proofs.Calm.{read_after, read_kept}
@@ -191,7 +191,7 @@ module _ (turn : Turn) (n : ℕ) where
           hold = rw works at o.hold;
           guarded = tt;
           work = tt;
-        } o.seen o.own
+        } (passed turn).seen (passed turn).own
 
     pub settles : (slots : ℕ) (carried : List (ℕ × Option Closed))
         → Made turn carried (word_of v.start n) (λ _. 0) (λ _. SettlesNode (step slots (word_of v.start n) 0 0 none) (v, carried) 0)

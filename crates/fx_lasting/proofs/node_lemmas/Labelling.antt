@@ -10,7 +10,7 @@ use Rattle.fx_lasting.proofs.Histories.{grows_none}
 use Rattle.fx_lasting.proofs.Frames.{busy, does_now, written_of}
 use Rattle.fx_lasting.proofs.hold_lemmas.Holds.{on_node}
 use Rattle.fx_lasting.proofs.range_lemmas.GroupSteps.{its_inside}
-use Rattle.fx_lasting.proofs.Keeping.{Turn, turn_of, After, word_at, slot_word, LabelSame, Made, by_turn, its_log, its_work, tells, tells_less, w, end}
+use Rattle.fx_lasting.proofs.Keeping.{passed, Turn, turn_of, After, word_at, slot_word, LabelSame, Made, by_turn, its_log, its_work, tells, tells_less, w, end}
 use Rattle.fx_lasting.proofs.Calm.{read_before, read_before_kept}
 use Rattle.fx_lasting.proofs.Peeking.{still}
 use Rattle.fx_lasting.proofs.hold_lemmas.Unheld.{in_phase}
@@ -193,7 +193,7 @@ module _ (turn : Turn) where
       homes = st.homes;
       views = set st.views id (w turn (read_before turn v.work v.glance r.history x.front));
     }
-    loads i = read_before_kept turn v.work v.glance x.front i (its_log turn).seen (its_log turn).own (still turn)
+    loads i = read_before_kept turn v.work v.glance x.front i (passed turn).seen (passed turn).own (still turn)
 
     sees : (carried : List (ℕ × Option Closed)) → Goes (v, carried) [] v.work v.glance (w turn (read_before turn v.work v.glance r.history x.front), carried)
     sees carried = record {

@@ -9,7 +9,7 @@ use Rattle.fx_lasting.proofs.Words.{word_of, hold_word_of, slots_of, list_place,
 use Rattle.fx_lasting.proofs.Words.{Start, View, Work, Shared, IsInside, Goes, Stepped, Lowers, Raises, Counts, as_asked, LowersKeep, RaisesKeep}
 use Rattle.fx_lasting.proofs.Words.{CountsKeep, IsGroup, length-set, inl, held_by, Idle, Announced, Owing, Survey}
 use Rattle.fx_lasting.proofs.Words.{Covered, Contains, State, Phase, contains_only, part_of_pass}
-use Rattle.fx_lasting.proofs.Words.{full_few, full_all, Watch, WatchAgrees, HasGap, spent, at_set, ⊎_elim, inr, ◌⊎◌, true, Bool, first_log}
+use Rattle.fx_lasting.proofs.Words.{full_few, full_all, Watch, WatchAgrees, HasGap, seats, spent, at_set, ⊎_elim, inr, ◌⊎◌, true, Bool, first_log}
 use Rattle.fx_lasting.proofs.Histories.{Grows, grows_none, grows_one, legal_more, held_mine, same_shape}
 use Rattle.fx_lasting.proofs.Counts.{bit_few}
 use Rattle.fx_lasting.proofs.Frames.{sees_same, guards_same, covers_same}
@@ -41,18 +41,18 @@ module _ (k : Start) (s : Shared) (r : Agrees k s) where
   few_owing g j u there = go u.logs refl
     where
       go : (l : List Log) → u.logs ≡ l → owing g u.change ≤ length u.logs
-      go [] is = let a = ap (owing g) ((r.holds.views j u there).empty is).2 in omega arith
+      go [] is = let a = ap (owing g) ((r.life.seats j u there).empty is).2 in omega arith
       go (z ∷ l) is = let a = one_at_most g u.change in let b = ap (length {A = Log}) is in omega arith
 
   -- if a seat with one pass isn't the only one to owe, another seat has a pass
   pub others_owe : (g id : ℕ) (v : View) → get_elem? s.views id ≡ some v → lengths v ≡ 1 → sum_by (owing_of g) s.views ≢ owing_of g v → 1 < k.passes
-  others_owe g id v here alone other = let a = sum_set (owing_of g) s.views id v spent here in let b = sum_set lengths s.views id v spent here in
-      let c = sum_le_at (owing_of g) lengths (set s.views id spent) each in let d = sum_at (owing_of g) s.views id v here in let e = r.life.whole in
+  others_owe g id v here alone other = let a = sum_set (owing_of g) s.views id v (spent seats) here in let b = sum_set lengths s.views id v (spent seats) here in
+      let c = sum_le_at (owing_of g) lengths (set s.views id (spent seats)) each in let d = sum_at (owing_of g) s.views id v here in let e = r.life.whole in
       omega (arith, a, b, c, d, e, alone, other)
     where
-      each : (j : ℕ) (u : View) → get_elem? (set s.views id spent) j ≡ some u → owing_of g u ≤ lengths u
-      each j u there = ⊎_elim (λ (t : (j ≡ id) × (spent ≡ u)). subst (λ (z : View). owing_of g z ≤ lengths z) t.1 (omega arith))
-          (λ t. few_owing g j u t.1) (at_set s.views id j spent u there)
+      each : (j : ℕ) (u : View) → get_elem? (set s.views id (spent seats)) j ≡ some u → owing_of g u ≤ lengths u
+      each j u there = ⊎_elim (λ (t : (j ≡ id) × (spent seats ≡ u)). subst (λ (z : View). owing_of g z ≤ lengths z) t.1 (omega arith))
+          (λ t. few_owing g j u t.1) (at_set s.views id j (spent seats) u there)
 
   pub owing_most : (g : ℕ) → sum_by (owing_of g) s.views ≤ 1024
   owing_most g = let a = sum_le_at (owing_of g) lengths s.views (few_owing g) in let b = r.life.whole in let c = r.shape.passes in omega arith

@@ -9,7 +9,8 @@ use Rattle.fx_lasting.proofs.Histories.{part_mine}
 use Rattle.fx_lasting.proofs.range_lemmas.Groups.{is_group, counts_after, full_same, group_same}
 use Rattle.fx_lasting.proofs.hold_lemmas.Lists.{bit_added, was_listed, now_listed}
 use Rattle.fx_lasting.proofs.slot_lemmas.Watching.{watch_asks}
-use Rattle.fx_lasting.proofs.Keeping.{Turn, turn_of, word_at, Made, by_turn, in_range, its_range, not_there, tells, has_x, its_log, met_same}
+use Rattle.fx_lasting.proofs.Keeping.{Turn, turn_of, word_at, Made, by_turn, in_range, tells, has_x, its_log, met_same}
+use Rattle.fx_lasting.proofs.Words.{its_range, not_there}
 use Rattle.fx_lasting.proofs.range_lemmas.GroupSteps.{no_event, told_full, read_here, read_else, wrote, stepped_so, goes_asked, read_counts}
 use Rattle.fx_lasting.proofs.range_lemmas.GroupSteps.{read_same, own_question, h₁, w', turn_after, Kept, its_inside}
 
@@ -195,8 +196,8 @@ module _ (turn : Turn) where
         (λ n l. group_same id bit_after here r.range refl refl l
         (read_else turn question_place low_q unlisted_q o_bit same_met with_bit v.change (Covered 0) r.history (group_place n) (λ bad. omega (arith, bad))))
         (λ p n low asked. full_same id bit_after here refl refl)
-        (λ j u z other there has low asked. let its = its_range r j there has in
-        ⊎_elim (λ before. before) (λ same. absurd (not_there r here one other there z has same))
+        (λ j u z other there has low asked. let its = its_range r.life j there has in
+        ⊎_elim (λ before. before) (λ same. absurd (not_there r.life here one other there z has same))
         (was_listed x.number true z.number (in_range turn).0 its.0
         (inr (omega (arith, few, low, its.0, (in_range turn).0), is_set, refl))
         (subst (λ (q : ℕ). HasQuestionOf q z.number) (read_here turn question_place low_q unlisted_q o_bit same_met with_bit v.change (Covered 0) r.history) asked)))

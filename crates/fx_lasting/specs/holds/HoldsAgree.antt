@@ -1,11 +1,11 @@
 -- The rule of passes: what each works with, which files it holds, and how.
 use Rattle.std.specs.Prelude.{◌≡◌, ◌≢◌, ℕ, ◌+◌, ◌-◌, ◌/◌, ◌<◌, ◌≤◌, ◌⊎◌, Bool, true, false, List}
-use Rattle.std.specs.Prelude.{[], Some}
+use Rattle.std.specs.Prelude.{Some}
 use Rattle.std.specs.Prelude.{Contains, sum_by, slice_index}
 use Rattle.std.specs.Int.{bit_at}
 use mathlib.Core.Option.{some}
 use lib.ListN.{get_elem?}
-use Rattle.fx_plain.specs.History.{IsSeenBy, part_of_pass, held_by}
+use Rattle.fx_plain.specs.History.{held_by}
 use Rattle.fx_plain.specs.declared.event.Event.{Event}
 use Rattle.fx_plain.specs.declared.event.File.{File}
 use Rattle.fx_lasting.specs.slots.Deeds.{Deed, untouched, over, heated}
@@ -17,7 +17,6 @@ use Rattle.fx_lasting.specs.nodes.Phases.{Phase, free, placed, seated, leaving, 
 use Rattle.fx_lasting.specs.nodes.Phases.{file_in}
 use Rattle.fx_lasting.specs.nodes.Stocks.{IsInStock}
 use Rattle.fx_lasting.specs.slots.Watches.{WatchAgrees}
-use Rattle.fx_lasting.specs.declared.view.Change.TheVariants.{Outside}
 use Rattle.fx_lasting.specs.declared.view.Glance.{Glance}
 use Rattle.fx_lasting.specs.declared.view.Glance.TheVariants.{None as Nothing, Hot, Cold, Heating}
 use Rattle.fx_lasting.specs.declared.view.Log.{Log}
@@ -132,9 +131,6 @@ Heats k deed glance = (slot : ℕ) → slot < slots_of k → deed slot ≡ over 
 -- one pass of a seat that does this work
 pub record LogAgrees (k : Start) (h : List Event) (words : List ℕ) (phase : ℕ → Phase)
     (debt : ℕ → ℕ) (deed : ℕ → ℕ → Deed) (work : Work) (glance : Glance) (x : Log) : Type 0 where
-  -- it has seen a beginning of the history, and all that it did itself
-  pub seen : IsSeenBy x.front h
-  pub own : part_of_pass x.number h ≡ part_of_pass x.number x.front
   pub held : held_by h x.number ≡ held_in work
   pub allowed : IsAllowed x.stock x.listed work
   -- the list has its bit if it is listed, and only then
@@ -155,8 +151,6 @@ pub record ViewAgrees (k : Start) (h : List Event) (words : List ℕ) (phase : �
     (debt : ℕ → ℕ) (deed : ℕ → ℕ → Deed) (seat : ℕ) (v : View) : Type 0 where
   pub logs : (x : Log) → Contains v.logs x → LogAgrees k h words phase debt deed v.work v.glance x
   pub work : WorkAgrees k phase seat v.work
-  pub empty : v.logs ≡ [] → (v.work ≡ Idle) × (v.glance ≡ Nothing) × (v.change ≡ Outside)
-  pub start : (v.logs ≡ []) ⊎ (v.start ≡ k)
 
 -- the holds: what each pass works with and holds, and the list
 pub record HoldsAgree (k : Start) (s : Shared) (h : List Event) (phase : ℕ → Phase)

@@ -1,8 +1,9 @@
--- Views cut in two, and two views made one.
-use Rattle.std.specs.Prelude.{ℕ, List, [], ◌++◌, map, take, drop, None}
-use Rattle.std.specs.List.{range_with_len}
-use Rattle.fx_plain.specs.declared.event.Event.{Event}
-use Rattle.fx_lasting.specs.Passes.{new_log}
+-- The views of seats, by what all shared tables have.
+use Rattle.std.specs.Prelude.{◌≡◌, List, [], None}
+use Rattle.fx_plain.specs.History.{part_of_pass}
+use Rattle.table_seats.specs.Seats.{Seats}
+use Rattle.fx_table.specs.Opening.{lasting_opening}
+use Rattle.fx_lasting.specs.Passes.{contents_of, new_log}
 use Rattle.fx_lasting.specs.declared.view.Change.TheVariants.{Outside}
 use Rattle.fx_lasting.specs.declared.view.Glance.TheVariants.{None as Nothing}
 use Rattle.fx_lasting.specs.declared.view.Log.{Log}
@@ -10,51 +11,41 @@ use Rattle.fx_lasting.specs.declared.view.Start.{Start}
 use Rattle.fx_lasting.specs.declared.view.View.{View}
 use Rattle.fx_lasting.specs.declared.view.Work.TheVariants.{Idle}
 
--- n new passes, from p on
-abbrev pub new_logs : Start → ℕ → ℕ → List Log
-new_logs k p n = map (new_log k) (range_with_len p n)
+-- the start of a seat whose passes went to another
+abbrev pub no_start : Start
+no_start = record {
+  plain = None;
+  size = 0;
+  range_start = 0;
+  range_len = 0;
+  passes = 0;
+  installing = 0;
+}
 
--- the view of the seat that opens the table
-abbrev pub first_view : Start → View
-first_view k = record {
+-- an idle view with these passes
+abbrev pub begun : Start → List Log → View
+begun k logs = record {
   start = k;
-  logs = new_logs k 1 k.passes;
+  logs = logs;
   work = Idle;
   glance = Nothing;
   change = Outside;
   known = [];
 }
 
--- a view without the first of its passes
-abbrev pub without_first : View → View
-without_first v = record v { logs = drop 1 v.logs }
-
--- a view with the first of them alone
-abbrev pub first_alone : View → View
-first_alone v = record v { logs = take 1 v.logs }
-
--- a view with the passes of another: each keeps its own front, and none has found a node
-abbrev pub together : View → View → View
-together v w = record v { logs = v.logs ++ w.logs; work = Idle }
-
--- the view of a seat that was taken in
-abbrev pub spent : View
-spent = record {
-  start = record {
-    plain = None;
-    size = 0;
-    range_start = 0;
-    range_len = 0;
-    passes = 0;
-    installing = 0;
-  };
-  logs = [];
-  work = Idle;
-  glance = Nothing;
-  change = Outside;
-  known = [];
+-- a view with other passes has found no node
+abbrev pub seats : Seats View Log Start
+seats = record {
+  logs = λ v. v.logs;
+  start = λ v. v.start;
+  known = λ v. v.known;
+  IsIdle = λ v. (v.work ≡ Idle) × (v.glance ≡ Nothing) × (v.change ≡ Outside);
+  number = λ x. x.number;
+  front = λ x. x.front;
+  own = λ x. part_of_pass x.number x.front;
+  opening = λ k. lasting_opening (contents_of k) k.passes;
+  new_log = new_log;
+  begun = begun;
+  with_logs = λ v logs. record v { logs = logs; work = Idle };
+  showing = λ h. record (begun no_start []) { known = h };
 }
-
--- the view of a seat without passes that shows a history
-abbrev pub view_with : List Event → View
-view_with h = record spent { known = h }

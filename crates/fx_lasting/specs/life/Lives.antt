@@ -1,5 +1,5 @@
 -- Passes as they are handed out and gathered.
-use Rattle.std.specs.Prelude.{◌≡◌, ◌≤◌, ℕ, ◌+◌, ◌-◌, true, false, List, [], flat_map, Option}
+use Rattle.std.specs.Prelude.{◌≡◌, ◌≤◌, ℕ, true, false, List, [], flat_map, Option}
 use Rattle.atomic_table.specs.declared.shared.Seat.{Seat}
 use mathlib.Core.Option.{some}
 use lib.ListN.{get_elem?}
@@ -9,7 +9,8 @@ use Rattle.fx_plain.specs.State.{IsSettled}
 use Rattle.fx_table.specs.Opening.{HasSameFiles}
 use Rattle.fx_lasting.specs.Agrees.{Agrees}
 use Rattle.fx_lasting.specs.life.Closing.{files_with_slots}
-use Rattle.fx_lasting.specs.life.Cuts.{new_logs, first_view}
+use Rattle.table_seats.specs.Seats.{first_view}
+use Rattle.fx_lasting.specs.life.Cuts.{seats}
 use Rattle.fx_lasting.specs.Passes.{Shared, HasNoFile, state_after_all}
 use Rattle.fx_lasting.specs.declared.life.layout.TheConstants.{MOST_PASSES, MOST_INSTALLING}
 use Rattle.fx_lasting.specs.declared.pass.LastingPass.{LastingPass}
@@ -24,10 +25,6 @@ use Rattle.fx_lasting.specs.declared.view.View.{View}
 abbrev pub ArePasses : (installing passes : ℕ) → Type 0
 ArePasses installing passes = (1 ≤ passes) × (passes ≤ MOST_PASSES) × (1 ≤ installing)
     × (installing ≤ MOST_INSTALLING) × (installing ≤ passes)
-
--- the view of a seat that has the new passes from p to the last
-abbrev pub dealt : Start → ℕ → View
-dealt k p = record (first_view k) { logs = new_logs k p ((k.passes + 1) - p) }
 
 -- the passes of these seats, in their order
 abbrev pub logs_in : List LastingPass → List Log
@@ -48,7 +45,7 @@ pub record IsNewPass (seat : Seat (Option Identity) View) (number : ℕ) (stock 
 -- the seat of a table that was just opened
 pub record HasAllPasses (t : LastingTable) (seat : Seat (Option Identity) View) : Type 0 where
   pub table : seat.table_id ≡ t.table.shared.table_id
-  pub me : seat.me ≡ (first_view t.table.shared.key, [])
+  pub me : seat.me ≡ (first_view seats t.table.shared.key, [])
 
 -- a seat of the table whose passes are idle
 pub record IsIdleSeatOf (t : LastingTable) (seat : Seat (Option Identity) View) : Type 0 where

@@ -2,16 +2,11 @@
 use Rattle.std.specs.Prelude.{◌≡◌, List, []}
 use Rattle.fx_plain.specs.History.{IsSeenBy}
 use Rattle.fx_plain.specs.declared.event.Event.{Event}
-use Rattle.fx_lasting.specs.life.Cuts.{view_with}
 use Rattle.fx_lasting.specs.Passes.{first_log}
 use Rattle.fx_lasting.specs.Runs.{Runs}
 use Rattle.fx_lasting.specs.declared.view.View.{View}
 use Rattle.fx_lasting.specs.declared.life.shown.LastingSeen.{LastingSeen}
 use Rattle.fx_lasting.specs.declared.table.LastingTable.{LastingTable}
-
--- the view of a seat without passes that shows all that the first pass of the view `v` has seen
-abbrev pub shown_view : View → View
-shown_view v = view_with (first_log v.logs).front
 
 -- the view `v` of a seat with one pass becomes `u`, by learning what the view `w` shows
 pub record HasLearned (v w u : View) : Type 0 where

@@ -1,9 +1,6 @@
 //! Closing a table, or letting it go.
-ghost use Rattle.std.specs.Prelude.{◌≡◌, ◌<◌, ◌≤◌, ◌++◌, false, [], length, map, reverse};
-ghost use Rattle.std.specs.Prelude.{slice_set, vec_len, vec_capacity, All, None};
-ghost use Rattle.std.specs.Mem.Slots.{slots_items, slots_len, IsFull};
-ghost use mathlib.Core.Option.{some};
-ghost use lib.ListN.{get_elem?};
+ghost use Rattle.std.specs.Prelude.{◌≡◌, ◌≤◌, ◌++◌, false, [], length, map, reverse};
+ghost use Rattle.std.specs.Prelude.{vec_len, vec_capacity, All};
 ghost use Rattle.fx_table.specs.Opening.{size_of};
 ghost use Rattle.fx_table.specs.Pass.{IsIdle};
 ghost use Rattle.fx_lasting.specs.life.Closing.{ClosesInto};
@@ -16,9 +13,9 @@ use crate::life::layout::slot_place;
 use crate::pass::LastingPass;
 use crate::table::LastingTable;
 use crate::view::View;
-use atomic_table::{Closed, Seat};
+use atomic_table::Seat;
 use fx_base::OpenFile;
-use std::alloc::Global;
+use table_seats::take_home;
 
 impl LastingTable {
     /// Closes the table, after all its passes have come back, idle (`is_idle`), and returns its
@@ -141,20 +138,4 @@ impl LastingTable {
         }
         closed.free();
     }
-}
-
-// Takes the content of a place, and leaves the place empty.
-fn take_home(closed: &mut Closed<Option<OpenFile>, Global>, place: usize) -> Option<OpenFile>
-    requires inside { place < slots_len closed.old.slots }
-    requires full { IsFull closed.old.slots }
-    ensures value { get_elem? (slots_items closed.old.slots) place ≡ some result }
-    ensures items { slots_items closed.new.slots
-        ≡ slice_set (slots_items closed.old.slots) place None }
-    ensures count { slots_len closed.new.slots ≡ slots_len closed.old.slots }
-    ensures full { IsFull closed.new.slots }
-    ensures words { closed.new.words ≡ closed.old.words }
-{
-    let home = closed.take(place);
-    closed.slots.put(place, None);
-    home
 }

@@ -1,7 +1,9 @@
 use Rattle.fx_lasting.proofs.Words.{◌≡◌, ◌≤◌, ◌+◌, ◌-◌, suc, [], ◌∙◌, ℕ, List, length, length-map, ap, arith, Sat, View, stocks_back, without_first}
-use Rattle.fx_lasting.proofs.Words.{first_alone, one_dealt, all_dealt}
+use Rattle.fx_lasting.proofs.Words.{first_alone, one_dealt, all_dealt, seats}
 use Rattle.fx_lasting.proofs.node_lemmas.FirstStocks.{stock_taken, its_first, length_back}
-use Rattle.fx_lasting.proofs.life_lemmas.Gathered.{rest_is_dealt, last_is_dealt, is_new_pass, shown_so}
+use Rattle.fx_lasting.proofs.life_lemmas.Gathered.{is_new_pass, shown_so}
+use Rattle.fx_lasting.proofs.life_lemmas.Openings.{laws}
+use Rattle.table_seats.proofs.Moving.{last_is_dealt, rest_is_dealt}
 use Rattle.fx_lasting.proofs.life_lemmas.Seats.{splits_keep}
 use Rattle.fx_lasting.proofs.table.LastingTable.deal.Goals as goal
 
@@ -24,11 +26,11 @@ loop-number-preserved c =
     let taken = stock_taken (λ s. s.items) t.size t.passes t.installing c.loop-number.number (t.passes - c.loop-number.number) _ _ c.in-Some.stock c.in-Some.ensures.items
     (i.stocks ∙ ap (stocks_back t.size t.passes t.installing c.loop-number.number) more) in
     let new = is_new_pass k i.before.low high (taken.1 ∙ its_first t c.loop-number.number) c.new.ensures (s.3 ∙ i.table)
-    (s.4 ∙ ap (λ (m : Sat). (first_alone m.0, [])) i.me) in
+    (s.4 ∙ ap (λ (m : Sat). (first_alone seats m.0, [])) i.me) in
     record {
       before = one_dealt i.before c.push_reserved.ensures.items new test;
       table = s.0 ∙ i.table;
-      me = s.2 ∙ (ap (λ (m : Sat). (without_first m.0, m.1)) i.me ∙ ap (λ (v : View). (v, [])) (rest_is_dealt high));
+      me = s.2 ∙ (ap (λ (m : Sat). (without_first seats m.0, m.1)) i.me ∙ ap (λ (v : View). (v, [])) (rest_is_dealt seats laws c.args.self.now.table.shared.key high));
       room = let a = i.room in let b = c.push_reserved.ensures.capacity in omega arith;
       stocks = let e : t.passes - c.loop-number.number ≡ (t.passes + 1) - (c.loop-number.number + 1) = omega arith in
           taken.0 ∙ ap (stocks_back t.size t.passes t.installing (c.loop-number.number + 1)) e;
@@ -46,7 +48,7 @@ returns c =
     let taken = stock_taken (λ s. s.items) t.size t.passes t.installing c.loop-number.number 0 _ _ c.in-Some-pop.stock c.in-Some-pop.ensures.items
     (i.stocks ∙ ap (stocks_back t.size t.passes t.installing c.loop-number.number) more) in
     let new = is_new_pass k i.before.low high (taken.1 ∙ its_first t c.loop-number.number) c.new-2.ensures i.table
-    (i.me ∙ ap (λ (v : View). (v, [])) (last_is_dealt (last ∙ all))) in
+    (i.me ∙ ap (λ (v : View). (v, [])) (last_is_dealt seats laws c.args.self.now.table.shared.key (last ∙ all))) in
     let done = all_dealt i.before c.push_reserved-2.ensures.items new last in
     record { ready = done.0; count = done.1; new = shown_so t.table.shared.table_id k _ done.0 _ done.2 }
 
