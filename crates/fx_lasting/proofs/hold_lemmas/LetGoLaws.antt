@@ -180,11 +180,22 @@ module _ (turn : Turn) (slots n : ℕ) (carried : List (ℕ × Option Closed))
 
   by_outcome : {f : File} {h₁ : List Event} {debt' : ℕ → ℕ} {xs : List Action} (g : IsLetGo turn n f h₁ debt' xs)
       (fewer : owed debt' v.start.passes n + 1 ≡ owed r.debt v.start.passes n + taking n v.work) → busy v.work ≡ 0
-      → ((m : Sat) → (word ≢ 2) → Goes (v, carried) xs Idle v.glance m → Told word m)
-      → ((m : Sat) → (word ≡ 2) → TakesOut (v, carried) xs f n m → Told word m) → Goal
-  by_outcome {f} {h₁} {debt'} {xs} g fewer calm waits closes = ⊎_elim
-      (λ z. (w turn (open_after g carried (less g fewer carried fits) z.1), keeps, tt, z.2, waits (w turn (open_after g carried (less g fewer carried fits) z.1), carried) z.0 z.3))
-      (λ z. (w turn (out_after g carried (less g fewer carried fits)), takes n (Some f.identity), z.1, z.2, closes (w turn (out_after g carried (less g fewer carried fits)), (n, Some f.identity) ∷ carried) z.0 z.3))
+      → ((m : Sat) → (word ≢ 2 → Goes (v, carried) xs Idle v.glance m) × (word ≡ 2 → TakesOut (v, carried) xs f n m) → Told word m) → Goal
+  by_outcome {f} {h₁} {debt'} {xs} g fewer calm tells = ⊎_elim
+      (λ z. (
+        w turn (open_after g carried (less g fewer carried fits) z.1),
+        keeps,
+        tt,
+        z.2,
+        tells (w turn (open_after g carried (less g fewer carried fits) z.1), carried) (λ _. z.3, λ last. absurd (z.0 last)),
+      ))
+      (λ z. (
+        w turn (out_after g carried (less g fewer carried fits)),
+        takes n (Some f.identity),
+        z.1,
+        z.2,
+        tells (w turn (out_after g carried (less g fewer carried fits)), (n, Some f.identity) ∷ carried) (λ more. absurd (more z.0), λ _. z.3),
+      ))
       (outcome g fewer carried fits calm (r.phase n) refl g.its.1)
 
   owing : v.work ≡ Owing n → Goal
@@ -192,13 +203,8 @@ module _ (turn : Turn) (slots n : ℕ) (carried : List (ℕ × Option Closed))
       let range = in_range turn in let file = owed_file turn n l (owed_at r.debt v.start.passes x.number n range.0 range.1 o.1) in
       by_outcome (mark_lets turn n is file.1 o.1 o.0)
       (let a = paid_for turn n o.1 n in let b = bit_here (n + 1) (n + 1) refl in let c = ap (taking n) is in omega arith) (ap busy is)
-      (λ m more goes. record {
-        owed = λ i is'. let same : n ≡ i = cc (sym is ∙ is') in rw (← same) (λ _. goes, λ last. absurd (more last));
-        yielded = λ f i is'. absurd (cc (sym is ∙ is'));
-        counted = λ f i is'. absurd (cc (sym is ∙ is'));
-      })
-      (λ m last out. record {
-        owed = λ i is'. let same : n ≡ i = cc (sym is ∙ is') in rw (← same) (λ more. absurd (more last), λ _. (file.0, out));
+      (λ m goes. record {
+        owed = λ i is'. let same : n ≡ i = cc (sym is ∙ is') in rw (← same) (goes.0, λ last. (file.0, goes.1 last));
         yielded = λ f i is'. absurd (cc (sym is ∙ is'));
         counted = λ f i is'. absurd (cc (sym is ∙ is'));
       })
@@ -209,16 +215,9 @@ module _ (turn : Turn) (slots n : ℕ) (carried : List (ℕ × Option Closed))
       (λ m other. let a = paid_for turn n o.1 m in let b = bit_else (m + 1) (n + 1) (λ e. other (omega arith)) in omega arith)
       (λ m other. ap (taking m) is) (λ q other. changed_else r.debt x.number 0 q other) (changed_here r.debt x.number 0 x.number refl) o.0)
       (let a = paid_for turn n o.1 n in let b = bit_here (n + 1) (n + 1) refl in let c = ap (taking n) is in omega arith) (ap busy is)
-      (λ m more goes. record {
+      (λ m goes. record {
         owed = λ i is'. absurd (cc (sym is ∙ is'));
-        yielded = λ h i is'. let same : f ≡ h = cc (sym is ∙ is') in let at : n ≡ i = cc (sym is ∙ is') in
-            rw (← same, ← at) (λ _. goes, λ last. absurd (more last));
-        counted = λ h i is'. absurd (cc (sym is ∙ is'));
-      })
-      (λ m last out. record {
-        owed = λ i is'. absurd (cc (sym is ∙ is'));
-        yielded = λ h i is'. let same : f ≡ h = cc (sym is ∙ is') in let at : n ≡ i = cc (sym is ∙ is') in
-            rw (← same, ← at) (λ more. absurd (more last), λ _. out);
+        yielded = λ h i is'. let same : f ≡ h = cc (sym is ∙ is') in let at : n ≡ i = cc (sym is ∙ is') in rw (← same, ← at) goes;
         counted = λ h i is'. absurd (cc (sym is ∙ is'));
       })
 
@@ -227,17 +226,10 @@ module _ (turn : Turn) (slots n : ℕ) (carried : List (ℕ × Option Closed))
       by_outcome (hold_lets turn n f (ap held_in is) its r.debt (ap busy is) (λ m other. refl)
       (λ m other. ap (taking m) is ∙ bit_else m n (λ e. other (sym e))) (λ q other. refl) o.1 o.0)
       (let c = ap (taking n) is in let d = bit_here n n refl in omega arith) (ap busy is)
-      (λ m more goes. record {
+      (λ m goes. record {
         owed = λ i is'. absurd (cc (sym is ∙ is'));
         yielded = λ h i is'. absurd (cc (sym is ∙ is'));
-        counted = λ h i is'. let same : f ≡ h = cc (sym is ∙ is') in let at : n ≡ i = cc (sym is ∙ is') in
-            rw (← same, ← at) (λ _. goes, λ last. absurd (more last));
-      })
-      (λ m last out. record {
-        owed = λ i is'. absurd (cc (sym is ∙ is'));
-        yielded = λ h i is'. absurd (cc (sym is ∙ is'));
-        counted = λ h i is'. let same : f ≡ h = cc (sym is ∙ is') in let at : n ≡ i = cc (sym is ∙ is') in
-            rw (← same, ← at) (λ more. absurd (more last), λ _. out);
+        counted = λ h i is'. let same : f ≡ h = cc (sym is ∙ is') in let at : n ≡ i = cc (sym is ∙ is') in rw (← same, ← at) goes;
       })
 
 pub letting_go_keeps : LettingGoKeeps LettingGo

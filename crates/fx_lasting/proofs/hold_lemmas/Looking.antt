@@ -12,6 +12,7 @@ use Rattle.fx_lasting.proofs.Histories.{grows_none, grows_one, legal_more, part_
 use Rattle.fx_lasting.proofs.Frames.{busy}
 use Rattle.fx_lasting.proofs.Counts.{tally_at}
 use Rattle.fx_lasting.proofs.Keeping.{Turn, turn_of, After, word_at, slot_word, Made, by_turn, its_log, its_work, in_range, tells, w}
+use Rattle.fx_lasting.specs.Laws.{Kind}
 use Rattle.fx_lasting.proofs.Calm.{read_after, Reads, read_kept}
 use Rattle.fx_lasting.proofs.node_lemmas.Choosing.{no_file, no_take, not_busy, holds_none}
 use Rattle.fx_lasting.proofs.Places.{slot_back}
@@ -110,11 +111,16 @@ module _ (turn : Turn) (s : ℕ) (inside : s < slots_of turn.v.start) where
       holds = λ n. let a = ap (if_file n) same_held in omega arith;
     }
 
-    pub goes_quiet : (carried : List (ℕ × Option Closed)) → Goes (v, carried) [] d g (w turn quiet_after, carried)
+    goes_quiet : (carried : List (ℕ × Option Closed)) → Goes (v, carried) [] d g (w turn quiet_after, carried)
     goes_quiet carried = record {
       stepped = tells turn quiet_after refl carried carried [] (grows_none x.number r.history) r.life.legal refl knows;
       carried = refl;
     }
+
+    loads : (kind : Kind) (slots : ℕ) (carried : List (ℕ × Option Closed))
+        → (Goes (v, carried) [] d g (w turn quiet_after, carried) → kind (step slots (slot_place s) 0 0 none) (v, carried) word (w turn quiet_after, carried))
+        → Made turn carried (slot_place s) (λ word. word) (kind (step slots (slot_place s) 0 0 none) (v, carried))
+    loads kind slots carried makes = (w turn quiet_after, keeps, tt, read_kept turn d g (slot_place s) quiet, makes (goes_quiet carried))
 
   -- an empty slot
   abbrev pub h₀ : List Event
@@ -176,30 +182,22 @@ module _ (turn : Turn) (s : ℕ) (inside : s < slots_of turn.v.start) where
         },
       ))
       (λ (z : (n : ℕ) × (full_name_in word ≡ n + 1)). ⊎_elim
-      (λ (cold : IsHot word → ⊥). let sees : GlanceAgrees v.start (slot_word st.words) (λ i. r.deed i x.number) (Cold s) = (inside, not_over cold calm) in (
-        w turn (quiet_after v.work (inl refl) (Cold s) calm sees (its_inside turn)),
-        keeps,
-        tt,
-        read_kept turn v.work (Cold s) (slot_place s) (quiet v.work (inl refl) (Cold s) calm sees (its_inside turn)),
-        record {
-          empty = λ is. absurd (let a = z.1 in omega arith);
-          cold = λ _ _. rw (slot_back s) (goes_quiet v.work (inl refl) (Cold s) calm sees (its_inside turn) carried);
-          hot = λ n is hot. absurd (cold hot);
-        },
-      ))
+      (λ (cold : IsHot word → ⊥). let sees : GlanceAgrees v.start (slot_word st.words) (λ i. r.deed i x.number) (Cold s) = (inside, not_over cold calm) in
+      loads v.work (inl refl) (Cold s) calm sees (its_inside turn) Aims slots carried
+      (λ goes. record {
+        empty = λ is. absurd (let a = z.1 in omega arith);
+        cold = λ _ _. rw (slot_back s) goes;
+        hot = λ n is hot. absurd (cold hot);
+      }))
       (λ (hot : IsHot word). let o = named z.1 in
-      let sees : GlanceAgrees v.start (slot_word st.words) (λ i. r.deed i x.number) (Hot s z.0) = (inside, o.3, inl (z.1, hot)) in (
-        w turn (quiet_after v.work (inl refl) (Hot s z.0) calm sees (its_inside turn)),
-        keeps,
-        tt,
-        read_kept turn v.work (Hot s z.0) (slot_place s) (quiet v.work (inl refl) (Hot s z.0) calm sees (its_inside turn)),
-        record {
-          empty = λ is. absurd (let a = z.1 in omega arith);
-          cold = λ _ cold. absurd (cold hot);
-          hot = λ n is _. let same : z.0 ≡ n = (let a = z.1 in omega arith) in
-              rw (← same, slot_back s) (goes_quiet v.work (inl refl) (Hot s z.0) calm sees (its_inside turn) carried, o.3);
-        },
-      )) hot_cases)
+      let sees : GlanceAgrees v.start (slot_word st.words) (λ i. r.deed i x.number) (Hot s z.0) = (inside, o.3, inl (z.1, hot)) in
+      loads v.work (inl refl) (Hot s z.0) calm sees (its_inside turn) Aims slots carried
+      (λ goes. record {
+        empty = λ is. absurd (let a = z.1 in omega arith);
+        cold = λ _ cold. absurd (cold hot);
+        hot = λ n is _. let same : z.0 ≡ n = (let a = z.1 in omega arith) in
+            rw (← same, slot_back s) (goes, o.3);
+      })) hot_cases)
       name_cases
 
   pub glance : (slots : ℕ) (carried : List (ℕ × Option Closed)) → HasNoFile v.work → v.glance ≡ Nothing
@@ -221,30 +219,22 @@ module _ (turn : Turn) (s : ℕ) (inside : s < slots_of turn.v.start) where
       ))
       (λ (z : (n : ℕ) × (full_name_in word ≡ n + 1)). let o = named z.1 in ⊎_elim
       (λ (cold : (IsHot word × (x.listed ≡ true) → ⊥) × (r.deed s x.number ≡ untouched)).
-      let sees : GlanceAgrees v.start (slot_word st.words) (λ i. r.deed i x.number) (Cold s) = (inside, cold.1) in (
-        w turn (quiet_after Idle (inr (works, refl)) (Cold s) calm sees tt),
-        keeps,
-        tt,
-        read_kept turn Idle (Cold s) (slot_place s) (quiet Idle (inr (works, refl)) (Cold s) calm sees tt),
-        record {
-          empty = λ is. absurd (let a = z.1 in omega arith);
-          cold = λ n is _. rw (slot_back s) (goes_quiet Idle (inr (works, refl)) (Cold s) calm sees tt carried);
-          hot = λ n is hot has. absurd (cold.0 (hot, mine has));
-        },
-      ))
+      let sees : GlanceAgrees v.start (slot_word st.words) (λ i. r.deed i x.number) (Cold s) = (inside, cold.1) in
+      loads Idle (inr (works, refl)) (Cold s) calm sees tt Glances slots carried
+      (λ goes. record {
+        empty = λ is. absurd (let a = z.1 in omega arith);
+        cold = λ n is _. rw (slot_back s) goes;
+        hot = λ n is hot has. absurd (cold.0 (hot, mine has));
+      }))
       (λ (hot : IsHot word × (x.listed ≡ true)).
-      let sees : GlanceAgrees v.start (slot_word st.words) (λ i. r.deed i x.number) (Hot s z.0) = (inside, o.3, inl (z.1, hot.0)) in (
-        w turn (quiet_after Idle (inr (works, refl)) (Hot s z.0) calm sees tt),
-        keeps,
-        tt,
-        read_kept turn Idle (Hot s z.0) (slot_place s) (quiet Idle (inr (works, refl)) (Hot s z.0) calm sees tt),
-        record {
-          empty = λ is. absurd (let a = z.1 in omega arith);
-          cold = λ n is cold. absurd (cold (hot.0, theirs hot.1));
-          hot = λ n is _ _. let same : z.0 ≡ n = (let a = z.1 in omega arith) in
-              rw (← same, slot_back s) (goes_quiet Idle (inr (works, refl)) (Hot s z.0) calm sees tt carried, o.3);
-        },
-      )) way)
+      let sees : GlanceAgrees v.start (slot_word st.words) (λ i. r.deed i x.number) (Hot s z.0) = (inside, o.3, inl (z.1, hot.0)) in
+      loads Idle (inr (works, refl)) (Hot s z.0) calm sees tt Glances slots carried
+      (λ goes. record {
+        empty = λ is. absurd (let a = z.1 in omega arith);
+        cold = λ n is cold. absurd (cold (hot.0, theirs hot.1));
+        hot = λ n is _ _. let same : z.0 ≡ n = (let a = z.1 in omega arith) in
+            rw (← same, slot_back s) (goes, o.3);
+      })) way)
       name_cases
     where
       mine : IsOnList (v, carried) → x.listed ≡ true
@@ -333,17 +323,13 @@ module _ (turn : Turn) (s : ℕ) (inside : s < slots_of turn.v.start) where
             moved = λ i k saw' works' not_so. let same : n ≡ k = cc (sym saw ∙ saw') in absurd (not_so (rw (← same) so));
           },
         ))
-        (λ not_so. let sees : GlanceAgrees v.start (slot_word st.words) (λ i. r.deed i x.number) (Cold s) = (inside, moved_on not_so) in (
-          w turn (quiet_after v.work (inl refl) (Cold s) calm_hot sees (its_inside turn)),
-          keeps,
-          tt,
-          read_kept turn v.work (Cold s) (slot_place s) (quiet v.work (inl refl) (Cold s) calm_hot sees (its_inside turn)),
-          record {
-            holds = λ i k saw' works' names is_hot. let same : n ≡ k = cc (sym saw ∙ saw') in absurd (not_so (rw same (names, is_hot)));
-            moved = λ i k saw' works' _. let at : s ≡ i = cc (sym saw ∙ saw') in
-                rw (← at) (goes_quiet v.work (inl refl) (Cold s) calm_hot sees (its_inside turn) carried);
-          },
-        ))
+        (λ not_so. let sees : GlanceAgrees v.start (slot_word st.words) (λ i. r.deed i x.number) (Cold s) = (inside, moved_on not_so) in
+        loads v.work (inl refl) (Cold s) calm_hot sees (its_inside turn) Confirms slots carried
+        (λ goes. record {
+          holds = λ i k saw' works' names is_hot. let same : n ≡ k = cc (sym saw ∙ saw') in absurd (not_so (rw same (names, is_hot)));
+          moved = λ i k saw' works' _. let at : s ≡ i = cc (sym saw ∙ saw') in
+              rw (← at) goes;
+        }))
         still_so
       where
         still_so : ((full_name_in word ≡ n + 1) × IsHot word) ⊎ ((full_name_in word ≡ n + 1) × IsHot word → ⊥)

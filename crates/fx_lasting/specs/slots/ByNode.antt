@@ -177,7 +177,8 @@ pub record MayEmpty (leaves swaps : Kind) (k : Start) (slot node : ℕ) (m : Sat
   pub swapped : (own : ℕ) → IsInStock (pass_in m).stock own
       → MayExchange swaps k slot node (Some (empty_word_of own)) m
 
--- a pass that tried to empty a slot by such steps; it had the stock `before`, and has this stock now
+-- a pass that tried to empty a slot by such steps: it had the stock `before`, and has this stock
+-- now
 abbrev pub TriedEmptying : (leaves swaps : Kind) → Start → (slot node : ℕ)
     → (before stock : List ℕ) → Sat → Result ℕ Miss → Sat → Type 0
 TriedEmptying leaves swaps k slot node before stock m (Ok word) m' =
