@@ -2,8 +2,8 @@
 use crate::view::{Start, View};
 use atomic_table::{Join, Play, Split, TableRule};
 use fx_plain::PlainTable;
-use std::marker::{Brand, PhantomData};
 use fx_seen::Learning;
+use std::marker::{Brand, PhantomData};
 
 /// The rule of the shared table: the table and all passes agree with one legal history. The word is
 /// 1 while the table is at home, and 0 while one pass has it.
