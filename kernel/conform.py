@@ -270,22 +270,23 @@ def in_flight(options):
             continue
         recorder = flights.built_recorder()
         seeds = range(options.seed, options.seed + count)
-        yield "Calls in flight", rule, in_parallel(lambda seed: of_log(yachtlog, recorder, those, rule, seed), seeds)
+        found = in_parallel(lambda seed: of_log(yachtlog, recorder, those, rule, seed), seeds)
+        print(f"# {rule}: {sum(overlaps for _, overlaps in found)} of {count} logs have an answer before that of an earlier call")
+        yield "Calls in flight", rule, [outcome for outcome, _ in found]
 
 
 def of_log(yachtlog, recorder, those, rule, seed):
-    """Returns the outcome of one log of the kernel."""
+    """Returns the outcome of one log of the kernel, and whether its calls overlap."""
     name = f"{rule}_{seed}"
     log, complaint = flights.recorded(recorder, those.words, seed)
+    is_undecided = False
     if not complaint:
         complaint, is_undecided = flights.complaint_of(yachtlog, log, those.is_whole)
-        if is_undecided:
-            return Outcome(name, skipped="undecided")
     if not complaint:
-        return Outcome(name)
+        return Outcome(name, skipped="undecided" if is_undecided else ""), flights.overlaps(log)
     path = os.path.join(BUILD, f"conform-{name}.log")
     write(path, log)
-    return Outcome(name, False, comments=[f"log {os.path.relpath(path, ROOT)}", complaint])
+    return Outcome(name, False, comments=[f"log {os.path.relpath(path, ROOT)}", complaint]), flights.overlaps(log)
 
 
 def of_rule(rule, outcomes):

@@ -2,6 +2,7 @@
 (bindings/python/yachtlog.py), for kernel/conform. Whole updates are Linux's and no rule of MODEL.md: the judge has an option for them."""
 import glob
 import os
+import re
 import subprocess
 from typing import NamedTuple
 
@@ -9,6 +10,8 @@ from scripts.programs import given_time, run
 from scripts.repository import BUILD, ROOT
 
 RECORDER = os.path.join(BUILD, "record-in-flight")
+# how often the recorder waits until all is settled
+SETTLED = 2
 
 
 class Flights(NamedTuple):
@@ -45,9 +48,18 @@ def built_recorder(sources=f"{ROOT}/kernel", program=RECORDER):
 
 
 def recorded(program, words, seed):
-    """Returns a log, and why there is none."""
+    """Returns a log, and why there is none. The recorder waits until all is settled, empties the table, and waits again."""
     status, log, complaint = run([program, str(seed), *words], seconds=given_time(60))
-    return log, "" if status == 0 else f"the recorder ended with status {status}: {complaint}"
+    if status:
+        return log, f"the recorder ended with status {status}: {complaint}"
+    is_whole = log.endswith("\nsettled\n") and log.count("\nsettled\n") == SETTLED
+    return log, "" if is_whole else f"the log was cut off: it doesn't end with the second of {SETTLED} lines `settled`"
+
+
+def overlaps(log):
+    """Checks whether a log has an answer before that of an earlier call, as most logs of requests have that threads of the kernel start."""
+    calls = [int(it) for it in re.findall(r"^done (\d+)\.", log, re.MULTILINE)]
+    return any(later < it for it, later in zip(calls, calls[1:]))
 
 
 def complaint_of(yachtlog, log, is_whole=False):

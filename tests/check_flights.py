@@ -12,9 +12,10 @@ Enough logs must have a reason. The rows of tests/reason_rows.py must hold: for 
 
 The rows of tests/log_lines.py must hold: what is a log, and how yachtlog.py ends. Each wrong module of that file must fail on a row.
 
-This machine's kernel must keep the rules of kernel/conform of calls in flight, also for the oracle, on as many logs as conform says. Logs of
-changed recorders, which show what a wrong kernel would show, must not be legal, nor those of a recorder that fails, nor, where it is
-asked, a log with an update of two steps."""
+This machine's kernel must keep the rules of kernel/conform of calls in flight, on LOGS logs of each, and for the oracle too. More than half of
+them must have calls that overlap. Logs of changed recorders, which show what a wrong kernel would show, must not be legal, also if one of
+LOGS is wrong; nor those of a recorder that fails or is cut off; nor a log with an update of two steps, but only where whole updates are
+asked for."""
 import collections
 import concurrent.futures
 import os
@@ -28,7 +29,7 @@ from model import flight_states
 from kernel import conform, flights
 from kernel.kernels import NO_KERNEL, built_player
 from tests import log_lines
-from scripts.programs import in_parallel, run
+from scripts.programs import given_time, in_parallel, run
 from tests import reason_rows
 from tests import reasons
 from scripts.repository import ROOT, read, write
@@ -45,16 +46,13 @@ COUNT, SEED = 10_000, 1
 SPLIT = 8
 # the least share of the tiny logs that are not legal that must have a reason, in percent
 CERTIFIED = 89
-# the number of random scripts of which kernel/conform records its share of logs, of logs of the
-# kernel for the oracle, and of logs of each wrong recorder
-SCRIPTS, KERNEL_LOGS, WRONG_LOGS = 500, 500, 20
-# the number of logs of each rule for so many scripts, as kernel/conform describes them
-SHARES = {"chains_in_flight_are_requests_one_at_a_time": 100, "waiting_reads_hold_their_file": 50, "updates_in_flight_are_one_step": 50}
-# the number of logs of a recorder of which more than half have an answer before that of an earlier
-# call, since a thread of the kernel starts each request
+# the number of logs of each rule, of logs of the kernel for the oracle, and of logs of each wrong
+# recorder but the one that spoils one of LOGS
+LOGS, KERNEL_LOGS, WRONG_LOGS = 1_000, 500, 20
+# the number of logs of a recorder of which fewer than half have calls that overlap
 OVERLAPPING = 60
 # the number of cases that need a kernel with io_uring
-OF_KERNEL = 13
+OF_KERNEL = 16
 # a log that is legal, but not if each update is one step
 BETWEEN = """file a 61
 call 1 sparse 2
@@ -65,22 +63,33 @@ done 3.1 1 61
 call 4 read 1 0 1
 done 4.1 -9
 done 2.1 2
+settled
+call 5 regupdate 0 -1,-1
+done 5.1 2
+closed 2.1.0 a
+closed 2.1.1 a
+settled
 """
-# rows for kernel/conform: the rule, the status of a recorder that prints this log, and whether it
-# passes; and changes of kernel/flights.py with which a row is wrong
+CUT = BETWEEN[: BETWEEN.index("call 5")]
+# rows for kernel/conform: the rule, the log of a recorder, its status, and whether it passes; and
+# changes of kernel/flights.py with which a row is wrong
 CHAINS, WHOLE = "chains_in_flight_are_requests_one_at_a_time", "updates_in_flight_are_one_step"
-CONFORM_ROWS = (CHAINS, 0, True), (CHAINS, 3, False), (WHOLE, 0, False)
+CONFORM_ROWS = (CHAINS, BETWEEN, 0, True), (CHAINS, BETWEEN, 3, False), (CHAINS, CUT, 0, False), (WHOLE, BETWEEN, 0, False)
 WRONG_CONFORM = {
     "takes the log of a recorder that failed": {"recorded": lambda program, words, seed: (run([program])[1], "")},
-    "never asks for whole updates": {"RULES": {it: those._replace(is_whole=False) for it, those in flights.RULES.items()}},
+    "takes a log that is cut off": {"SETTLED": 1},
+    **{f"{words} asks for whole updates": {"RULES": {it: those._replace(is_whole=is_asked) for it, those in flights.RULES.items()}}
+       for words, is_asked in (("never", False), ("always", True))},
 }
 # changes of kernel/flight, each with the arguments of the recorder
+SPOILS_ONE = f"spoils one of {LOGS} logs"
 WRONG_RECORDERS = {
     "loses a close": ([], "links.c", "\t\tappend_close(of,", "\t\tstatic int is_lost;\n\t\tif (is_lost++)\n\t\t\tappend_close(of,"),
     "closes twice": ([], "links.c", "\t\tremove_link(link);", '\t\tappend_close(of, "closed %.*s %s", (int)(name - link), link, name + 1);'),
     "answers that a file is missing": ([], "chain.c", "\tif (res < 0)\n", "\tif (it->is_read)\n\t\tres = -9;\n\tif (res < 0)\n"),
     "closes a file that a read waits for": (["--waiting-read"], "record.c", "\n\tfeed_a_pipe();",
                                             '\n\tappend_close((struct member_name){ 2, 1 }, "closed 2.1.0 p0");\n\tfeed_a_pipe();'),
+    SPOILS_ONE: ([], "record.c", "\twrite_log();", f'\tif (seed % {LOGS} == {LOGS // 2})\n\t\tappend("closed 2.1.0 a");\n\twrite_log();'),
 }
 
 
@@ -172,11 +181,11 @@ def conform_rows():
     """Returns for each row of kernel/conform whether it holds."""
     with tempfile.TemporaryDirectory() as room, mock.patch.object(conform, "BUILD", room):
         found = []
-        for rule, status, passes in CONFORM_ROWS:
-            program = os.path.join(room, f"recorder{status}")
-            write(program, f"#!/bin/sh\ncat << 'END'\n{BETWEEN}END\nexit {status}\n")
+        for nth, (rule, log, status, passes) in enumerate(CONFORM_ROWS):
+            program = os.path.join(room, f"recorder{nth}")
+            write(program, f"#!/bin/sh\ncat << 'END'\n{log}END\nexit {status}\n")
             os.chmod(program, 0o755)
-            outcome = conform.of_log(yachtlog, program, flights.RULES[rule], rule, 1)
+            outcome, _ = conform.of_log(yachtlog, program, flights.RULES[rule], rule, 1)
             found.append(outcome.is_ok == passes and not outcome.skipped)
     return found
 
@@ -193,10 +202,8 @@ def changed_recorder(room, file, old, new):
 
 
 def overlapping(program):
-    """Returns how many logs of a recorder have an answer before that of an earlier call."""
-    logs = (flights.recorded(program, [], seed)[0] for seed in range(1, OVERLAPPING + 1))
-    answers = ([int(it) for it in re.findall(r"^done (\d+)\.", log, re.MULTILINE)] for log in logs)
-    return sum(any(later < it for it, later in zip(those, those[1:])) for those in answers)
+    """Returns how many logs of a recorder have calls that overlap."""
+    return sum(flights.overlaps(flights.recorded(program, [], seed)[0]) for seed in range(1, OVERLAPPING + 1))
 
 
 def wrong_rows(folder):
@@ -299,10 +306,13 @@ class Checks(Counted):
         if status == NO_KERNEL:
             self.skip(OF_KERNEL, "io_uring", missing)
             return
-        for rule in flights.RULES:
-            status, text, message = run([f"{ROOT}/kernel/conform", "--scripts", str(SCRIPTS), "--rule", rule])
+        for rule, those in flights.RULES.items():
+            command = [f"{ROOT}/kernel/conform", "--scripts", str(round(LOGS / those.share)), "--rule", rule]
+            status, text, message = run(command, seconds=given_time(300))
             passes = re.findall(rf"^  ok \d+ {rule}_\d+$", text, re.MULTILINE)
-            self.want(status == 0 and len(passes) == SHARES[rule], f"{rule}: {len(passes)} logs are legal: {text[-500:]}{message}")
+            self.want(status == 0 and len(passes) == LOGS, f"{rule}: {len(passes)} logs are legal: {text[-500:]}{message}")
+            overlaps = re.search(rf"^# {rule}: (\d+) of {LOGS} logs", text, re.MULTILINE)
+            self.want(overlaps and int(overlaps[1]) * 2 > LOGS, f"{rule}: few logs have calls that overlap: {text[:300]}")
         for rule in flights.RULES:
             self.want(self.skips(rule), f"{rule} is judged without the library, or isn't skipped by name")
         with concurrent.futures.ThreadPoolExecutor(os.cpu_count()) as pool:
@@ -310,11 +320,11 @@ class Checks(Counted):
             words = collections.Counter(pool.map(lambda seed: kernel_verdict(program, seed), range(1, KERNEL_LOGS + 1)))
         self.want(words[LEGAL] == KERNEL_LOGS, f"the oracle finds logs of the kernel {dict(words)}")
         with tempfile.TemporaryDirectory() as room:
-            self.want(overlapping(program) * 2 > OVERLAPPING, "few answers of the recorder come before that of an earlier call")
             self.want(overlapping(changed_recorder(room, "chain.c", "\t\tsqe->flags |= IOSQE_ASYNC;\n", "")) * 2 < OVERLAPPING,
                       "a recorder whose requests start at once is not noticed")
             for what, (words, *change) in WRONG_RECORDERS.items():
-                self.want(self.is_found(changed_recorder(room, *change), words), f"a recorder that {what} is not noticed")
+                count = LOGS if what == SPOILS_ONE else WRONG_LOGS
+                self.want(self.is_found(changed_recorder(room, *change), words, count), f"a recorder that {what} is not noticed")
 
     def skips(self, rule):
         """Returns whether kernel/conform skips a rule without the library, and names it."""
@@ -322,9 +332,9 @@ class Checks(Counted):
         status, text, _ = run(command, env={**os.environ, "YACHTBANYAN_LIB_DIR": ROOT})
         return status == 0 and f"  ok 1 {rule} # SKIP The library {ROOT}/libyachtjudge.so.5 was not found." in text
 
-    def is_found(self, program, words):
+    def is_found(self, program, words, count):
         """Returns whether one of the logs of a recorder is not legal."""
-        logs = (flights.recorded(program, words, seed)[0] for seed in range(1, WRONG_LOGS + 1))
+        logs = in_parallel(lambda seed: flights.recorded(program, words, seed)[0], range(1, count + 1))
         return any(flights.complaint_of(yachtlog, it)[0] for it in logs)
 
 
