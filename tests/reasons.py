@@ -6,6 +6,7 @@ access, the numbers of earlier steps, the earlier point, the later point, and wh
 import json
 import re
 import sys
+from typing import NamedTuple
 
 EVENT, ACCESS, PUT, GONE = "event", "access", "put", "gone"
 CANCELED = -125
@@ -18,6 +19,24 @@ class Wrong(Exception):
 def want(holds, why):
     if not holds:
         raise Wrong(why)
+
+
+class Request(NamedTuple):
+    """A request: its kind, or `any` for an open at any slot; its slot, or None for that; the file that an open names; and an update's list."""
+
+    kind: str
+    slot: int
+    name: str = ""
+    entries: tuple = ()
+
+
+def request_of(text):
+    kind, *words = [it for it in text.split() if it not in ("link", "hardlink")]
+    if kind == "open":
+        return Request("any", None, words[0]) if words[1] == "any" else Request(kind, int(words[2]), words[0])
+    if kind in ("update", "regupdate"):
+        return Request("update", int(words[0]), "", tuple(map(int, words[1].split(","))))
+    return Request(kind, int(words[0]))
 
 
 class Log:
@@ -44,23 +63,23 @@ class Log:
         self.fed = {it.split()[2].lower(): it.split()[1] for it in self.lines if it.startswith("fed ")}
 
     def chain(self, call):
-        """Returns the requests of a call, each as its words without its link."""
+        """Returns the requests of a call."""
         want(call in self.calls, f"there is no call {call}")
-        requests = self.lines[self.calls[call]].split(" ", 2)[2].split(" ; ")
-        return [[it for it in request.split() if it not in ("link", "hardlink")] for request in requests]
+        return [request_of(it) for it in self.lines[self.calls[call]].split(" ", 2)[2].split(" ; ")]
+
+    def request(self, call, member):
+        """Returns the request of a member, or None if the call has no such member."""
+        chain = self.chain(call)
+        return chain[member - 1] if 1 <= member <= len(chain) else None
 
     def file_of(self, mark):
         """Returns the name of the file that the request of a mark installs, or None."""
         call, member, entry = mark
-        chain = self.chain(call) if call in self.calls else []
-        request = chain[member - 1] if 1 <= member <= len(chain) else [""]
-        if request[0] == "open" and entry == 0:
-            return request[1] if request[1] in self.names else None
-        if request[0] in ("update", "regupdate"):
-            entries = list(map(int, request[2].split(",")))
-            number = entries[entry] if entry < len(entries) else -1
-            return self.names[number] if 0 <= number < len(self.names) else None
-        return None
+        request = self.request(call, member) if call in self.calls else None
+        if request and request.kind in ("open", "any") and entry == 0:
+            return request.name if request.name in self.names else None
+        number = request.entries[entry] if request and entry < len(request.entries) else -1
+        return self.names[number] if 0 <= number < len(self.names) else None
 
     def call_at(self, line):
         """Returns the call that a line begins."""
@@ -89,15 +108,14 @@ class Log:
     def found_at(self, line):
         """Returns the look that a line answers, and the file that it found."""
         call, _, result, more = self.answer_at(line)
-        request = self.chain(call)[0]
-        want(result >= 0 and (request[0] == "look" or self.is_of_pipes and request[0] == "read"), f"line {line} finds no file")
-        return call, mark_of(more[0]) if request[0] == "look" else self.pipe_of(more[0])
+        kind = self.chain(call)[0].kind
+        want(result >= 0 and (kind == "look" or self.is_of_pipes and kind == "read"), f"line {line} finds no file")
+        return call, mark_of(more[0]) if kind == "look" else self.pipe_of(more[0])
 
     def pipe_of(self, byte):
         """Returns the mark of the pipe that a read found, by the byte that the pipe alone was fed."""
         marks = [(call, member, entry) for call in self.calls for member, request in enumerate(self.chain(call), 1)
-                 for entry in range(len(request[2].split(",")) if request[0] in ("update", "regupdate") else 0)
-                 if self.file_of((call, member, entry)) == self.fed.get(byte.lower(), "")]
+                 for entry in range(len(request.entries)) if self.file_of((call, member, entry)) == self.fed.get(byte.lower(), "")]
         return marks[0] if len(marks) == 1 else (0, 0, 0)
 
     def access(self, call_line, line, number):
@@ -106,93 +124,74 @@ class Log:
         call = self.call_at(call_line)
         answered, member, result, _ = self.answer_at(line)
         want(answered == call, f"line {line} doesn't answer call {call}")
-        requests = self.chain(call)
-        want(1 <= member <= len(requests), f"call {call} has no member {member}")
-        made = self.accesses((call, member), requests[member - 1], result, line)
+        want(self.request(call, member), f"call {call} has no member {member}")
+        made = self.accesses_of(line)
         want(0 <= number < len(made), f"member {call}.{member} made no access {number}, as it answered {result}")
         return made[number]
 
-    def accesses(self, place, request, result, line):
-        """Returns what is known of the accesses of a member that answered this."""
-        kind, slot = request[0], int(request[1]) if request[0] not in ("open",) else 0
-        if result in (CANCELED, -12):
+    def accesses_of(self, line):
+        """Returns what is known of the accesses of the member that a line answers."""
+        call, member, result, _ = self.answer_at(line)
+        request, place = self.request(call, member), (call, member)
+        kind, slot = request.kind, request.slot
+        if result in (CANCELED, -12) or kind != "update" and self.refusal(request):
             return []
-        if kind == "open":
-            return self.of_open(place, request, result)
-        if kind in ("update", "regupdate"):
-            entries = list(map(int, request[2].split(",")))
-            rows = [(slot + at, (*place, at) if it >= 0 else None) for at, it in enumerate(entries) if it >= -1]
-            return rows if result == len(entries) else []
+        if kind == "any":
+            return [(result, (*place, 0)) if result >= 0 else None]
+        if kind == "update":
+            rows = [(slot + at, (*place, at) if it >= 0 else None) for at, it in enumerate(request.entries) if it >= -1]
+            return rows if result == len(request.entries) else []
         if slot >= self.size:
             return []
+        if kind == "open":
+            return [(slot, (*place, 0))]
         if kind == "look" or kind == "read" and self.is_of_pipes:
             return [(slot, self.found_at(line)[1])] if result >= 0 else [(slot, None)]
         # a close leaves its slot empty, whatever it finds; a read that answers -9 found it empty
         return [(slot, None) if kind == "close" or result < 0 else None]
 
-    def of_open(self, place, request, result):
-        if request[1] not in self.names:
-            return []
-        if request[2] == "any":
-            return [(result, (*place, 0)) if result >= 0 else None]
-        return [(int(request[3]), (*place, 0))] if int(request[3]) < self.size else []
-
-
     def found_slots(self, call_line, line, number):
         """Returns the slots at which an access finds a file, by its answer."""
         self.access(call_line, line, number)
         call, member, result, _ = self.answer_at(line)
-        request = self.chain(call)[member - 1]
-        if request[0] == "open" and request[2] == "any":
+        request = self.request(call, member)
+        if request.kind == "any":
             return range(self.size) if result < 0 else []
-        return [int(request[1])] if request[0] in ("close", "read", "look") and result >= 0 else []
+        return [request.slot] if request.kind in ("close", "read", "look") and result >= 0 else []
+
+    def changes(self, before):
+        """Yields the accesses that calls before a line may make and that put or take a file: the call, the member, the number of the access, the
+        slot, or None if it may be any, and the file that it installs, or None."""
+        for call, line in self.calls.items():
+            for member, it in enumerate(self.chain(call) if line < before else [], 1):
+                if it.kind in ("close", "open", "any") and not self.refusal(it):
+                    yield call, member, 0, it.slot, None if it.kind == "close" else (call, member, 0)
+                made = [at for at, entry in enumerate(it.entries) if entry >= -1 and not self.refusal(it)]
+                for number, at in enumerate(made):
+                    yield call, member, number, it.slot + at, (call, member, at) if it.entries[at] >= 0 else None
 
     def installs(self, slot, before):
-        """Yields the marks of the files that calls before a line may install at a slot."""
-        for call, line in self.calls.items():
-            for member, request in enumerate(self.chain(call) if line < before else [], 1):
-                if self.is_refused(request):
-                    continue
-                if request[0] == "open" and (request[2] == "any" or int(request[3]) == slot):
-                    yield call, member, 0
-                if request[0] in ("update", "regupdate"):
-                    entry = slot - int(request[1])
-                    entries = list(map(int, request[2].split(",")))
-                    if 0 <= entry < len(entries) and entries[entry] >= 0:
-                        yield call, member, entry
+        """Returns the marks of the files that calls before a line may install at a slot."""
+        return [file for *_, at, file in self.changes(before) if file and at in (slot, None)]
 
     def takers(self, slot, before):
         """Yields the accesses that calls before a line may make to a slot and that take its file: the call, the member, the number of the access,
         and the file that it installs, or None."""
-        for call, line in self.calls.items():
-            for member, request in enumerate(self.chain(call) if line < before else [], 1):
-                if self.is_refused(request):
-                    continue
-                if request[0] == "close" and int(request[1]) == slot:
-                    yield call, member, 0, None
-                if request[0] == "open" and request[2] == "at" and int(request[3]) == slot:
-                    yield call, member, 0, (call, member, 0)
-                if request[0] in ("update", "regupdate"):
-                    made = [at for at, it in enumerate(map(int, request[2].split(","))) if it >= -1]
-                    for number, at in enumerate(made):
-                        if int(request[1]) + at == slot:
-                            is_put = int(request[2].split(",")[at]) >= 0
-                            yield call, member, number, (call, member, at) if is_put else None
+        return ((*access, file) for *access, at, file in self.changes(before) if at == slot)
 
-    def is_refused(self, request):
-        """Returns whether an open or an update fails without an access."""
-        if request[0] == "open":
-            return request[1] not in self.names or request[2] != "any" and int(request[3]) >= self.size
-        if request[0] in ("update", "regupdate"):
-            entries = list(map(int, request[2].split(",")))
-            return int(request[1]) + len(entries) > self.size or any(not -2 <= it < len(self.names) for it in entries)
-        return False
+    def refusal(self, request):
+        """Returns the answer of a request that changes nothing, whatever is at the slots, or None."""
+        if request.kind in ("open", "any") and request.name not in self.names:
+            return -2
+        if request.kind in ("open", "close", "update") and request.slot + max(len(request.entries), 1) > self.size:
+            return -22
+        return -9 if any(not -2 <= it < len(self.names) for it in request.entries) else None
 
     def slot_of(self, file, result):
         """Returns the slot at which a member that answered a result installed a file."""
         call, member, entry = file
-        request = self.chain(call)[member - 1]
-        return int(request[1]) + entry if request[0] != "open" else result if request[2] == "any" else int(request[3])
+        request = self.request(call, member)
+        return result if request.kind == "any" else request.slot + entry
 
     def answer_of(self, file):
         """Returns the line and the result of the answer of the member that installs a file, or 0 twice."""
@@ -210,28 +209,18 @@ class Log:
                     if left and left[0] == slot:
                         yield self.calls[call], left[1]
 
-    def accesses_of(self, line):
-        call, member, result, _ = self.answer_at(line)
-        return self.accesses((call, member), self.chain(call)[member - 1], result, line)
-
     def may_answer(self, request, result, more):
         """Returns whether a request of a chain may have a result, and words after it, whatever it finds."""
-        kind, slot = request[0], int(request[1]) if request[0] != "open" else 0
+        kind, refusal = request.kind, self.refusal(request)
         if more and kind != "read":
             return False
-        if kind in ("update", "regupdate"):
-            entries = list(map(int, request[2].split(",")))
-            is_bad = any(not -2 <= it < len(self.names) for it in entries)
-            return result == (-22 if slot + len(entries) > self.size else -9 if is_bad else len(entries))
+        if refusal:
+            return result == refusal
         if kind == "read":
-            return result == -9 or result >= 0 and slot < self.size
-        if kind == "close":
-            return result in (0, -9) if slot < self.size else result == -22
-        if request[1] not in self.names:
-            return result == -2
-        if request[2] == "any":
+            return result == -9 or result >= 0 and request.slot < self.size
+        if kind == "any":
             return result == -23 or 0 <= result < self.size
-        return result == (0 if int(request[3]) < self.size else -22)
+        return result in {"open": (0,), "close": (0, -9), "update": (len(request.entries),)}[kind]
 
 
 def mark_of(word):
@@ -368,9 +357,9 @@ class Reason:
 
     def _cant_answer(self, lines, access, premises):
         call, member, result, more = self.log.answer_at(lines[1])
-        want(self.log.call_at(lines[0]) == call and self.log.chain(call)[0][0] != "look", "another call is answered, or a look")
+        want(self.log.call_at(lines[0]) == call and self.log.chain(call)[0].kind != "look", "another call is answered, or a look")
         want(result != -12 and (result != CANCELED or member == 1), "a member may lack memory, or be canceled after another one")
-        want(not self.log.may_answer(self.log.chain(call)[member - 1], result, more), "the request may have this answer")
+        want(not self.log.may_answer(self.log.request(call, member), result, more), "the request may have this answer")
         return (EVENT, lines[1]), (EVENT, lines[1]), True
 
     def _holds(self, lines, access, premises, points):
@@ -396,7 +385,7 @@ class Reason:
 
     def _lands(self, lines, access, premises, slot):
         put, may = self._landing(premises, slot)
-        want(may and self.log.file_of(put[1]) and self.log.chain(put[1][0])[put[1][1] - 1][2] != "any", "it isn't the only slot")
+        want(may and self.log.file_of(put[1]) and self.log.request(*put[1][:2]).kind != "any", "it isn't the only slot")
         return put, (GONE, put[1], slot), True
 
     def _misses(self, lines, access, premises, slot):
