@@ -1,17 +1,23 @@
-/* The C table after each call, also one that is refused: an error writes nothing and leaves the
- * value with its caller, no call but a look-up takes a hold, and each value is at a slot, held,
- * or dropped once. */
+/* The C table after each call, also one that is refused: its answer, by the rules of the header; an
+ * error writes nothing and leaves the value with its caller, no call but a look-up takes a hold,
+ * the slots have the values that they should have, a key that was written finds its value, and each
+ * value is at a slot, held, or dropped once. */
 #include "refusing.h"
 #include <stdint.h>
 #include <stdlib.h>
 #include <string.h>
 #include <yachtbanyan.h>
 
-enum { FAR = 2 /* a slot that the table hasn't */, KEYS = 4, STATES = 3, USES = 3, CALLS = 15 };
+enum { FAR = 2 /* a slot that the table hasn't */, KEYS = 4, STATES = 3, USES = 3 };
 /* the value of slot 1 before the call: none, one, or one that another handle holds */
 enum { EMPTY, FULL, HELD };
-/* the call's handle: idle, holding a value, or a reader */
+/* the call's handle: idle, holding the value of slot 0, or a reader */
 enum { IDLE, BUSY, READER };
+/* the calls, up to INSERT_WITH those that insert, up to REPLACE those that install */
+enum {
+    GET_AT, GET, KEY_OF, REMOVE_AT, REMOVE, RELEASE, INSERT, TRY_INSERT, INSERT_KEY, TRY_INSERT_KEY, INSERT_WITH,
+    REPLACE_AT, REPLACE_AT_KEY, REPLACE, CALLS
+};
 
 static int alive;
 static const yacht_key untouched = {77, 78};
@@ -28,88 +34,114 @@ static void drop(void *value, void *with) {
     free(value);
 }
 
-static void *make(yacht_key key, void *with) {
-    *(yacht_key *)with = key;
-    return new_value();
-}
-
-/* what a call was given, and what it wrote */
+/* a call's handle, what it was given, and what it wrote */
 typedef struct call {
     yacht_handle *handle;
-    yacht_key key, written;
+    yacht_key key, written, made;
     void *value, *found;
-    int answer, installs, may_hold;
 } call;
 
+static void *make(yacht_key key, void *with) {
+    call *it = with;
+    it->made = key;
+    return it->value = new_value();
+}
+
 static int answer_of(call *it, int which) {
-    yacht_key made;
     yacht_handle *handle = it->handle;
-    it->installs = which >= 5 && which <= 11;
-    it->may_hold = which < 2;
-    it->value = it->installs && which != 9 ? new_value() : NULL;
+    it->value = which > RELEASE && which != INSERT_WITH ? new_value() : NULL;
     switch (which) {
-    case 0: return yacht_get_at(handle, it->key.slot, &it->found);
-    case 1: return yacht_get(handle, it->key, &it->found);
-    case 2: return yacht_key_of(handle, &it->written);
-    case 3: return yacht_remove_at(handle, it->key.slot);
-    case 4: return yacht_remove(handle, it->key);
-    case 5: return yacht_insert(handle, it->value);
-    case 6: return yacht_try_insert(handle, it->value);
-    case 7: return yacht_insert_key(handle, it->value, &it->written);
-    case 8: return yacht_try_insert_key(handle, it->value, &it->written);
-    case 9: return yacht_insert_with(handle, make, &made, &it->written);
-    case 10: return yacht_replace_at(handle, it->key.slot, it->value);
-    case 11: return yacht_replace_at_key(handle, it->key.slot, it->value, &it->written);
-    case 12: return yacht_release(handle);
-    case 13: return yacht_insert_with(handle, NULL, &made, &it->written);
-    default:
-        it->installs = 1, it->value = new_value(), it->written = it->key;
-        return yacht_replace(handle, &it->written, it->value);
+    case GET_AT: return yacht_get_at(handle, it->key.slot, &it->found);
+    case GET: return yacht_get(handle, it->key, &it->found);
+    case KEY_OF: return yacht_key_of(handle, &it->written);
+    case REMOVE_AT: return yacht_remove_at(handle, it->key.slot);
+    case REMOVE: return yacht_remove(handle, it->key);
+    case RELEASE: return yacht_release(handle);
+    case INSERT: return yacht_insert(handle, it->value);
+    case TRY_INSERT: return yacht_try_insert(handle, it->value);
+    case INSERT_KEY: return yacht_insert_key(handle, it->value, &it->written);
+    case TRY_INSERT_KEY: return yacht_try_insert_key(handle, it->value, &it->written);
+    case INSERT_WITH: return yacht_insert_with(handle, make, it, &it->written);
+    case REPLACE_AT: return yacht_replace_at(handle, it->key.slot, it->value);
+    case REPLACE_AT_KEY: return yacht_replace_at_key(handle, it->key.slot, it->value, &it->written);
+    default: it->written = it->key; return yacht_replace(handle, &it->written, it->value);
     }
+}
+
+/* the answer by the header; key 0 is that of slot 1 */
+static int expected(int which, int nth, uint32_t slot, int state, int use) {
+    int is_keyed = which == GET || which == REMOVE || which == REPLACE, looks = which == GET_AT || which == GET;
+    int is_empty = slot == 1 && state == EMPTY, inserts = RELEASE < which && which <= INSERT_WITH;
+    if (which == KEY_OF || which == RELEASE) return use == BUSY ? YACHT_DONE : YACHT_IDLE;
+    if (use == BUSY) return YACHT_BUSY;
+    if (use == READER && (inserts || which == REMOVE || which == REPLACE)) return YACHT_READER;
+    if (inserts) return state == EMPTY ? 1 : YACHT_FULL;
+    if (slot == FAR) return YACHT_NO_SLOT;
+    if (use == READER && !looks) return YACHT_READER;
+    if (is_empty) return which == REPLACE_AT || which == REPLACE_AT_KEY ? YACHT_DONE : YACHT_EMPTY;
+    if (is_keyed && nth) return YACHT_STALE;
+    return looks ? YACHT_DONE : slot == 1 && state == HELD ? YACHT_IN_USE : YACHT_DROPPED;
 }
 
 static int same(yacht_key one, yacht_key two) { return one.number == two.number && one.slot == two.slot; }
 
-/* the number of slots with a value */
-static int filled(yacht_handle *reader) {
-    int count = 0;
+static yacht_table *table;
+static yacht_handle *a, *b, *reader, *last;
+/* what is at each slot, the key of slot 0, and those of slot 1 now and before */
+static void *at[2];
+static yacht_key first, right, stale;
+
+static void begin(int state) {
+    void *value;
+    at[0] = new_value(), at[1] = new_value();
+    WANT(yacht_open(&table, 2, 2, 2, drop, &alive) == YACHT_DONE);
+    a = yacht_handle_of(table, 0), b = yacht_handle_of(table, 1), reader = yacht_reader_of(table, 0), last = yacht_reader_of(table, 1);
+    WANT(yacht_replace_at_key(b, 0, at[0], &first) == YACHT_DONE && yacht_replace_at_key(b, 1, new_value(), &stale) == YACHT_DONE);
+    right = stale;
+    WANT(yacht_replace(b, &right, at[1]) == YACHT_DROPPED);
+    if (state == HELD) WANT(yacht_get_at(b, 1, &value) == YACHT_DONE);
+    if (state == EMPTY) WANT(yacht_remove_at(b, 1) == YACHT_DROPPED), at[1] = NULL;
+}
+
+/* what a call wrote and changed */
+static void check_call(const call *it, int which, int answer) {
+    if (answer < 0) {
+        WANT(it->found == (void *)&other && (same(it->written, untouched) || (which == REPLACE && same(it->written, it->key))));
+        if (it->value) drop(it->value, &alive);
+    } else if (which == GET_AT || which == GET) {
+        WANT(it->found == at[it->key.slot]);
+    } else if (which != KEY_OF && which != RELEASE) {
+        at[RELEASE < which && which <= INSERT_WITH ? (uint32_t)answer : it->key.slot] = it->value;
+    }
+}
+
+/* that a slot has what is there, and that a written key finds it */
+static void check_slots(const call *it, int which, int answer) {
     void *value;
     for (uint32_t slot = 0; slot < 2; slot++) {
-        if (yacht_get_at(reader, slot, &value) != YACHT_DONE) continue;
-        count++;
-        WANT(yacht_release(reader) == YACHT_DONE);
+        WANT(yacht_get_at(last, slot, &value) == (at[slot] ? YACHT_DONE : YACHT_EMPTY));
+        WANT(!at[slot] || (value == at[slot] && yacht_release(last) == YACHT_DONE));
     }
-    return count;
+    if (answer < 0 || same(it->written, untouched)) return;
+    WANT(yacht_get(last, it->written, &value) == YACHT_DONE && value == at[it->written.slot] && yacht_release(last) == YACHT_DONE);
+    WANT(which == INSERT_WITH ? same(it->made, it->written) : which != KEY_OF || same(it->written, first));
 }
 
 static void balance(int which, int nth, int state, int use) {
-    yacht_table *table;
-    yacht_key stale, right;
-    void *value = NULL;
-    WANT(yacht_open(&table, 2, 2, 2, drop, &alive) == YACHT_DONE);
-    yacht_handle *a = yacht_handle_of(table, 0), *b = yacht_handle_of(table, 1);
-    yacht_handle *reader = yacht_reader_of(table, 0), *last = yacht_reader_of(table, 1);
-    WANT(yacht_replace_at(b, 0, new_value()) == YACHT_DONE && yacht_replace_at_key(b, 1, new_value(), &stale) == YACHT_DONE);
-    right = stale;
-    WANT(yacht_replace(b, &right, new_value()) == YACHT_DROPPED);
-    if (state == HELD) WANT(yacht_get_at(b, 1, &value) == YACHT_DONE);
-    if (state == EMPTY) WANT(yacht_remove_at(b, 1) == YACHT_DROPPED);
-    call it = {.handle = use == READER ? reader : a, .written = untouched, .found = (void *)&other};
+    void *value;
+    begin(state);
     const yacht_key keys[KEYS] = {right, stale, {0, 0}, {1, FAR}};
-    it.key = keys[nth];
+    call it = {.handle = use == READER ? reader : a, .key = keys[nth], .written = untouched, .found = (void *)&other};
     if (use == BUSY) WANT(yacht_get_at(a, 0, &value) == YACHT_DONE);
-    it.answer = answer_of(&it, which);
-    if (it.answer < 0) {
-        WANT(it.found == (void *)&other && (same(it.written, untouched) || (which == 14 && same(it.written, it.key))));
-        if (it.value) drop(it.value, &alive);
-    }
+    int answer = answer_of(&it, which);
+    WANT(answer == expected(which, nth, it.key.slot, state, use));
+    check_call(&it, which, answer);
     /* the handle holds a value if it did before, or if this call found one */
-    int holds = it.answer >= 0 && it.may_hold ? 1 : use == BUSY && which != 12;
-    WANT(yacht_release(it.handle) == (holds ? YACHT_DONE : YACHT_IDLE) || (holds && it.answer >= 0));
-    WANT(yacht_release(it.handle) == YACHT_IDLE);
-    if (state == HELD) WANT(yacht_release(b) >= YACHT_DONE);
-    WANT(yacht_release(b) == YACHT_IDLE);
-    WANT(alive == filled(last));
+    int holds = (answer >= 0 && which <= GET) || (use == BUSY && which != RELEASE);
+    WANT(yacht_release(it.handle) == (holds ? YACHT_DONE : YACHT_IDLE) && yacht_release(it.handle) == YACHT_IDLE);
+    if (state == HELD) WANT(yacht_release(b) == YACHT_DONE);
+    WANT(yacht_release(b) == YACHT_IDLE && alive == (at[0] != NULL) + (at[1] != NULL));
+    check_slots(&it, which, answer);
     yacht_free(table);
     WANT(alive == 0);
 }

@@ -16,7 +16,7 @@ judges_examples() {
     python tests/bindings/judge.py "$PWD" > "$room/text"
     local status=$?
     cat "$room/text"
-    [ "$status" -eq 0 ] && grep -qx "judge.py: $(($(find examples -maxdepth 1 -name '*.script' | wc -l) + 2 * lines + 2 * lists + 3 * faults + 3)) looked at, 0 wrong" "$room/text"
+    [ "$status" -eq 0 ] && grep -qx "judge.py: $(($(find examples -maxdepth 1 -name '*.script' | wc -l) + 2 * lines + lists + 2 * faults + 3)) looked at, 0 wrong" "$room/text"
 }
 
 # judges_rows NAME NUMBER

@@ -1,5 +1,6 @@
-/* Each answer of the C table, derived by hand, also of the calls by key; and the opening of a table
- * with each allocation failing in turn. */
+/* The C table: arguments that are out of range, values that a drop or a function installs, the bits
+ * of a key, and the opening of a table with each allocation failing in turn. balance.c has each
+ * answer. */
 #include "refusing.h"
 #include <stdlib.h>
 #include <string.h>
@@ -51,59 +52,18 @@ static void numbers_out_of_range(void) {
     yacht_free(NULL);
 }
 
-static void errors(yacht_handle *a, yacht_handle *reader) {
-    void *value = NULL;
-    WANT(yacht_get_at(a, 0, &value) == YACHT_EMPTY);
-    WANT(yacht_get_at(a, 2, &value) == YACHT_NO_SLOT);
-    WANT(value == NULL);
-    WANT(yacht_release(a) == YACHT_IDLE);
-    WANT(yacht_remove_at(a, 1) == YACHT_EMPTY);
-    WANT(yacht_remove_at(a, 2) == YACHT_NO_SLOT);
-    WANT(yacht_replace_at(a, 2, &dropped[0]) == YACHT_NO_SLOT);
-    WANT(yacht_replace_at(a, 0, NULL) == YACHT_BAD_ARGUMENT);
-    WANT(yacht_insert(a, NULL) == YACHT_BAD_ARGUMENT);
-    WANT(yacht_try_insert(a, NULL) == YACHT_BAD_ARGUMENT);
-    WANT(yacht_replace_at(reader, 0, &dropped[0]) == YACHT_READER);
-    WANT(yacht_insert(reader, &dropped[0]) == YACHT_READER);
-    WANT(yacht_try_insert(reader, &dropped[0]) == YACHT_READER);
-    WANT(yacht_remove_at(reader, 0) == YACHT_READER);
-}
-
-static void busy(yacht_handle *b) {
-    void *value = NULL;
-    WANT(yacht_get_at(b, 0, &value) == YACHT_DONE && value == &dropped[0]);
-    WANT(yacht_get_at(b, 1, &value) == YACHT_BUSY && value == &dropped[0]);
-    WANT(yacht_replace_at(b, 0, &dropped[2]) == YACHT_BUSY);
-    WANT(yacht_insert(b, &dropped[2]) == YACHT_BUSY);
-    WANT(yacht_try_insert(b, &dropped[2]) == YACHT_BUSY);
-    WANT(yacht_remove_at(b, 0) == YACHT_BUSY);
-}
-
-static void each_answer(void) {
+/* NULL for a value, a key or a function */
+static void bad_arguments(void) {
     yacht_table *table;
-    void *value = NULL;
-    WANT(yacht_open(&table, 2, 2, 1, drop, &drops) == YACHT_DONE);
-    yacht_handle *a = yacht_handle_of(table, 0), *b = yacht_handle_of(table, 1), *reader = yacht_reader_of(table, 0);
-    errors(a, reader);
-    WANT(yacht_replace_at(a, 0, &dropped[0]) == YACHT_DONE);
-    WANT(yacht_try_insert(a, &dropped[1]) == 1);
-    WANT(yacht_insert(a, &dropped[2]) == YACHT_FULL);
-    WANT(yacht_try_insert(a, &dropped[2]) == YACHT_FULL);
-    busy(b);
-    /* its holder drops a value that was replaced while it was held */
-    WANT(yacht_replace_at(a, 0, &dropped[2]) == YACHT_IN_USE && drops == 0);
-    WANT(yacht_release(b) == YACHT_DONE && drops == 1 && dropped[0] == 1);
-    /* the call that replaces or removes a value drops it if nobody holds it */
-    WANT(yacht_replace_at(a, 0, &dropped[3]) == YACHT_DROPPED && drops == 2 && dropped[2] == 1);
-    WANT(yacht_remove_at(b, 1) == YACHT_DROPPED && drops == 3 && dropped[1] == 1);
-    WANT(yacht_replace_at(b, 1, &dropped[4]) == YACHT_DONE && drops == 3);
-    WANT(yacht_get_at(reader, 1, &value) == YACHT_DONE && value == &dropped[4]);
-    WANT(yacht_remove_at(b, 1) == YACHT_IN_USE && drops == 3);
-    WANT(yacht_release(reader) == YACHT_DONE && drops == 4 && dropped[4] == 1);
-    WANT(yacht_get_at(reader, 0, &value) == YACHT_DONE && value == &dropped[3]);
-    WANT(yacht_release(reader) == YACHT_DONE && drops == 4);
+    WANT(yacht_open(&table, 1, 1, 0, drop, &drops) == YACHT_DONE);
+    yacht_handle *a = yacht_handle_of(table, 0);
+    yacht_key key = {1, 0};
+    WANT(yacht_replace_at(a, 0, NULL) == YACHT_BAD_ARGUMENT && yacht_replace_at_key(a, 0, &dropped[0], NULL) == YACHT_BAD_ARGUMENT);
+    WANT(yacht_replace(a, NULL, &dropped[0]) == YACHT_BAD_ARGUMENT && yacht_replace(a, &key, NULL) == YACHT_BAD_ARGUMENT);
+    WANT(yacht_insert(a, NULL) == YACHT_BAD_ARGUMENT && yacht_try_insert(a, NULL) == YACHT_BAD_ARGUMENT);
+    WANT(yacht_insert_key(a, &dropped[0], NULL) == YACHT_BAD_ARGUMENT && yacht_try_insert_key(a, &dropped[0], NULL) == YACHT_BAD_ARGUMENT);
     yacht_free(table);
-    WANT(drops == 5 && dropped[3] == 1);
+    WANT(!drops);
 }
 
 /* within yacht_free, the drop of the only value installs another one, whose drop does too */
@@ -113,53 +73,7 @@ static void drops_that_install(void) {
     WANT(yacht_insert(yacht_handle_of(table, 0), &dropped[5]) == 0);
     again = yacht_handle_of(table, 1), more = 2;
     yacht_free(table);
-    WANT(drops == 8 && dropped[5] == 1 && dropped[6] == 1 && dropped[7] == 1);
-}
-
-/* each call by a key that finds no value returns the same */
-static void finds_none(yacht_handle *a, yacht_handle *reader, yacht_key key, int answer) {
-    yacht_key same = key;
-    void *value = NULL;
-    WANT(yacht_get(a, key, &value) == answer && yacht_get(reader, key, &value) == answer && !value);
-    WANT(yacht_remove(a, key) == answer);
-    WANT(yacht_replace(a, &same, &dropped[15]) == answer);
-    WANT(same.slot == key.slot && same.number == key.number && !dropped[15]);
-}
-
-static void calls_by_key(yacht_handle *a, yacht_handle *b, yacht_handle *reader) {
-    yacht_key first, second, third, none = {0, 0};
-    void *value = NULL;
-    /* the handles' numbers are 1, 3, 5.. and 2, 4, 6.. */
-    WANT(yacht_insert_key(a, &dropped[8], &first) == 0 && first.slot == 0 && first.number == 1);
-    WANT(yacht_get(a, first, &value) == YACHT_DONE && value == &dropped[8]);
-    WANT(yacht_key_of(a, &second) == YACHT_DONE && second.slot == 0 && second.number == 1);
-    WANT(yacht_remove(a, first) == YACHT_BUSY && yacht_replace(a, &second, &dropped[15]) == YACHT_BUSY);
-    WANT(yacht_get(a, first, &value) == YACHT_BUSY && yacht_insert_key(a, &dropped[15], &third) == YACHT_BUSY);
-    WANT(yacht_replace(b, &second, &dropped[9]) == YACHT_IN_USE && second.slot == 0 && second.number == 2);
-    WANT(!dropped[8] && yacht_release(a) == YACHT_DONE && dropped[8] == 1);
-    WANT(yacht_key_of(a, &third) == YACHT_IDLE);
-    finds_none(a, reader, first, YACHT_STALE);
-    finds_none(a, reader, none, YACHT_STALE);
-    finds_none(a, reader, (yacht_key){2, 1}, YACHT_NO_SLOT);
-    WANT(yacht_replace(a, NULL, &dropped[15]) == YACHT_BAD_ARGUMENT && yacht_replace(a, &second, NULL) == YACHT_BAD_ARGUMENT);
-    WANT(yacht_remove(reader, second) == YACHT_READER && yacht_replace(reader, &second, &dropped[15]) == YACHT_READER);
-    WANT(yacht_insert_key(reader, &dropped[15], &third) == YACHT_READER);
-    WANT(yacht_try_insert_key(a, &dropped[15], NULL) == YACHT_BAD_ARGUMENT);
-    WANT(yacht_try_insert_key(a, &dropped[15], &third) == YACHT_FULL);
-    WANT(yacht_get(reader, second, &value) == YACHT_DONE && value == &dropped[9]);
-    WANT(yacht_remove(a, second) == YACHT_IN_USE && !dropped[9]);
-    WANT(yacht_release(reader) == YACHT_DONE && dropped[9] == 1);
-    finds_none(a, reader, second, YACHT_EMPTY);
-    WANT(yacht_try_insert_key(b, &dropped[10], &third) == 0 && third.number != second.number);
-    finds_none(b, reader, second, YACHT_STALE);
-    WANT(yacht_replace_at(a, 0, &dropped[11]) == YACHT_DROPPED);
-    finds_none(a, reader, third, YACHT_STALE);
-    WANT(yacht_get_at(a, 0, &value) == YACHT_DONE && yacht_key_of(a, &third) == YACHT_DONE && yacht_release(a) == YACHT_DONE);
-    WANT(yacht_remove(b, third) == YACHT_DROPPED && dropped[11] == 1);
-    WANT(yacht_replace_at_key(a, 0, &dropped[7], NULL) == YACHT_BAD_ARGUMENT && yacht_replace_at_key(a, 1, &dropped[7], &third) == YACHT_NO_SLOT);
-    WANT(yacht_replace_at_key(a, 0, &dropped[7], &third) == YACHT_DONE && third.slot == 0);
-    WANT(yacht_get(b, third, &value) == YACHT_DONE && value == &dropped[7] && yacht_release(b) == YACHT_DONE);
-    WANT(yacht_remove(b, third) == YACHT_DROPPED && dropped[7] == 2);
+    WANT(drops == 3 && dropped[5] == 1 && dropped[6] == 1 && dropped[7] == 1);
 }
 
 /* what `make` returns first and then, and what it does first */
@@ -260,15 +174,6 @@ static void bits(void) {
     WANT(key.slot == 3 && key.number == 5);
 }
 
-static void keys(void) {
-    yacht_table *table;
-    WANT(yacht_open(&table, 1, 2, 1, drop, &drops) == YACHT_DONE);
-    calls_by_key(yacht_handle_of(table, 0), yacht_handle_of(table, 1), yacht_reader_of(table, 0));
-    bits();
-    yacht_free(table);
-    WANT(drops == 13 && dropped[10] == 1 && !dropped[15]);
-}
-
 static void leave(void *value, void *with) { (void)value, (void)with; }
 
 /* nobody else changes the table: each handle finds the only empty slot, by groups of four slots at
@@ -327,9 +232,9 @@ static void refused_openings(void) {
 
 int main(void) {
     numbers_out_of_range();
-    each_answer();
+    bad_arguments();
     drops_that_install();
-    keys();
+    bits();
     made_from_keys();
     made_within();
     an_empty_slot_is_found();

@@ -4,9 +4,11 @@
  * each time: a look-up is overtaken, and the core returns the tag of a value to drop to it; a call
  * by key is the last to use another value; another handle looks a slot up before the call that
  * installed its value returns; the core has changed slots during a round, or look-ups were counted
- * at the slot of a key. */
+ * at the slot of a key. A look-up at a slot may return no number, as of a value of a worker that
+ * has used its numbers up. */
 #include "refusing.h"
 #include <stdint.h>
+#include <string.h>
 #include <yachtbanyan.h>
 #include "core.h"
 
@@ -17,7 +19,7 @@ int64_t __real_yacht_core_insert(yacht_core *, uint64_t, uint64_t *);
 int64_t __real_yacht_core_remove(yacht_core *, uint32_t, uint64_t, yacht_outcome *);
 int64_t __real_yacht_core_replace(yacht_core *, uint32_t, uint64_t, uint64_t, yacht_outcome *);
 
-static int values[8], dropped[8], rounds_to_refuse, calls_to_refuse;
+static int values[8], dropped[8], rounds_to_refuse, calls_to_refuse, is_numberless;
 static yacht_handle *a, *b, *c;
 static int *overtaken, *used_last, *expected;
 
@@ -53,6 +55,7 @@ static int is_refused(yacht_outcome *out) {
 
 int64_t __wrap_yacht_core_get_at(yacht_core *worker, uint32_t slot, yacht_outcome *out) {
     int64_t answer = __real_yacht_core_get_at(worker, slot, out);
+    if (is_numberless) out->number = 0;
     hand_over(out);
     return answer;
 }
@@ -149,8 +152,29 @@ static void overtaken_look_ups(void) {
     WANT(yacht_get_at(a, 0, &found) == YACHT_EMPTY && !found && dropped[3] == 1);
 }
 
+/* a key without a number finds none of the values of a slot, whose numbers are 1, 3, 5.. */
+static void keys_without_numbers(void) {
+    yacht_table *table;
+    yacht_key first;
+    void *found;
+    WANT(yacht_open(&table, 1, 2, 0, drop, NULL) == YACHT_DONE);
+    b = yacht_handle_of(table, 0), is_numberless = 1;
+    WANT(yacht_insert_key(b, &values[0], &first) == 0 && first.number == 1);
+    for (int i = 1; i < 5; i++) {
+        WANT(yacht_replace_at(b, 0, &values[i]) == YACHT_DROPPED && dropped[i - 1] == 1);
+        yacht_key none = key_at(0);
+        WANT(none.number == 0 && none.slot == 0);
+        WANT(yacht_get(b, none, &found) == YACHT_STALE && yacht_remove(b, none) == YACHT_STALE);
+        WANT(yacht_get(b, first, &found) == YACHT_STALE);
+    }
+    yacht_free(table);
+    WANT(dropped[4] == 1);
+    is_numberless = 0, memset(dropped, 0, sizeof dropped);
+}
+
 int main(void) {
     yacht_table *table;
+    keys_without_numbers();
     WANT(yacht_open(&table, 2, 2, 1, drop, NULL) == YACHT_DONE);
     a = yacht_handle_of(table, 0), b = yacht_reader_of(table, 0), c = yacht_handle_of(table, 1);
     installs();
