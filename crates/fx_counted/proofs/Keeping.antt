@@ -1,11 +1,11 @@
 -- A step of a seat with one pass keeps the rule, if it keeps what the step changes.
 use Rattle.fx_counted.proofs.Words.{Contains, contains_head, contains_only, ◌≡◌, ℕ, ◌+◌, ◌<◌, ◌≤◌, List, [], ◌∷◌, ◌++◌, map, set, length, sym, refl}
-use Rattle.fx_counted.proofs.Words.{ap, ◌∙◌, subst, arith, get_or, Option, None, Some, File, inr, eq-eqb, eqb, some, get_elem?, Closed, part_of_pass}
-use Rattle.fx_counted.proofs.Words.{Event, Action, Use, range_of, event_of, sum_set, sum_at, SlotAgrees, NodeAgrees, OwnerAgrees, WorkAgrees}
+use Rattle.fx_counted.proofs.Words.{ap, ◌∙◌, subst, arith, get_or, Option, None, Some, File, some, get_elem?, Closed, part_of_pass}
+use Rattle.fx_counted.proofs.Words.{Event, Action, Use, range_of, event_of, sum_set, SlotAgrees, NodeAgrees, OwnerAgrees, WorkAgrees}
 use Rattle.fx_counted.proofs.Words.{LogAgrees, ViewAgrees, Agrees, ControlCounts, looks, all_looks, DrawsCount, control_place, draw_place}
 use Rattle.fx_counted.proofs.Words.{slot_place, node_place, home_place, Shared, opening_of, slots_of, IsNumber, state_after_all, Sat, shown}
 use Rattle.fx_counted.proofs.Words.{looks_of, held_of, Phase, IsInside, Stepped, Change, Log, View, Work, stepped, Act, Valid, carried_after, HasPass}
-use Rattle.fx_counted.proofs.Words.{held_by, held_in, PlacesNext, placing, next_in, end_in, spare, HasShape, Start, no_use, ◌▷◌, one_if, Allows}
+use Rattle.fx_counted.proofs.Words.{held_by, held_in, PlacesNext, placing, next_in, end_in, spare, HasShape, Start, no_use, ◌▷◌, Allows}
 use Rattle.fx_counted.proofs.Words.{IsSeated, ◌≢◌, Between, Holding, file_in, at_set, ⊎_elim, get_or-set_other, get_or-set_same, Bool, changed_at}
 use Rattle.fx_counted.proofs.Words.{full_in, PlacesAreInside, PlacesAreApart, chain_numbers, owner, retired, ◌⊎◌, length-set, unborn, Grows}
 use Rattle.fx_counted.proofs.Words.{grows_none, grows_one, part_mine, each_changed}

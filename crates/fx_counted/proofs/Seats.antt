@@ -1,14 +1,14 @@
 -- Seats that are split off and joined, passes as they are dealt out, and all of them in one seat
 -- again.
-use Rattle.fx_counted.proofs.Words.{◌≡◌, ℕ, List, length, sym, refl, ap, ◌∙◌, subst, arith, ⊎_elim, length-append, sum_by, sum_by-append, eqb}
+use Rattle.fx_counted.proofs.Words.{◌≡◌, ℕ, List, length, sym, refl, ap, ◌∙◌, subst, arith, ⊎_elim, sum_by, sum_by-append}
 use Rattle.fx_counted.proofs.Words.{WorkAgrees, LogAgrees, Agrees, in_change, added, removed_by, Shared, holding, Outside, Log, Start, View, Work}
-use Rattle.fx_counted.proofs.Words.{Idle, Change, SplitsKeep, JoinsKeep, Between, one_if, times, ◌*◌, ◌+◌, ◌≤◌, [], ◌∷◌, Option}
-use Rattle.fx_counted.proofs.Words.{TableId, Seat, Closed, without_first, first_alone, IsIdle, dealt, Sat, new_log, pass_of, view_of, IsPassOf}
-use Rattle.fx_counted.proofs.Words.{is_idle, CountedPass, new_pass, IsNewPass, ◌≢◌, some, get_elem?, Contains, Contents, state_of}
-use Rattle.fx_counted.proofs.Words.{IsSettled, ClosesTable, times_drawn, HasSameFiles, PassView, contains_none, contains_head, contains_map}
-use Rattle.fx_counted.proofs.Words.{contains_mapped, contains_reverse, contains_reversed, sum_map, sum_of, found_by, found_sum, logs_in, opening_of}
-use Rattle.fx_counted.proofs.Words.{state_after_all, first_log, Event, length-reverse, length-map, once, ◌<◌, map, reverse, once_is, ◌++◌, step}
-use Rattle.fx_counted.proofs.Words.{keeps, contains_only, held_in, set-get_or, Allows, set_again, append-nil, IsSettledSoFar}
+use Rattle.fx_counted.proofs.Words.{Idle, Change, SplitsKeep, JoinsKeep, Between, one_if, times, ◌*◌, ◌≤◌, [], ◌∷◌, Option}
+use Rattle.fx_counted.proofs.Words.{TableId, Seat, Closed, first_alone, IsIdle, dealt, Sat, new_log, pass_of, view_of, IsPassOf}
+use Rattle.fx_counted.proofs.Words.{is_idle, CountedPass, new_pass, IsNewPass, some, get_elem?, Contains, Contents, state_of}
+use Rattle.fx_counted.proofs.Words.{IsSettled, ClosesTable, times_drawn, HasSameFiles, PassView, contains_head, contains_map}
+use Rattle.fx_counted.proofs.Words.{contains_mapped, sum_map, sum_of, found_sum, logs_in, opening_of}
+use Rattle.fx_counted.proofs.Words.{state_after_all, first_log, once, ◌<◌, map, reverse, once_is, ◌++◌}
+use Rattle.fx_counted.proofs.Words.{contains_only, held_in, append-nil, IsSettledSoFar}
 use Rattle.fx_counted.proofs.Words.{some_there, some_times}
 use Rattle.fx_counted.proofs.Openings.{laws}
 use Rattle.fx_counted.proofs.Words.{AreGathered, Moves, seats}

@@ -1,10 +1,9 @@
 -- A pass shows what it has seen, and another pass learns it: the rule holds afterwards. Neither is
 -- an atomic step.
-use Rattle.fx_counted.proofs.Words.{◌≡◌, ℕ, ◌+◌, ◌≤◌, List, [], ◌∷◌, length, sym, refl, ap, ◌∙◌, subst, arith, ⊎_elim, eqb, one_if}
+use Rattle.fx_counted.proofs.Words.{◌≡◌, ℕ, ◌+◌, ◌≤◌, [], ◌∷◌, sym, refl, ap, ◌∙◌, subst, arith, ⊎_elim}
 use Rattle.fx_counted.proofs.Words.{LogAgrees, Agrees, Shared, Log, Start, View, Between, Seat, Closed, TableId, CountedPass, IsPassOf}
-use Rattle.fx_counted.proofs.Words.{contains_only, first_log, view_of, opening_of, set_again, some, get_elem?, Option}
-use Rattle.std.proofs.Common.{◌++◌, set, inr}
-use Rattle.fx_plain.specs.History.{IsSeenBy}
+use Rattle.fx_counted.proofs.Words.{contains_only, first_log, view_of, opening_of, some, get_elem?, Option}
+use Rattle.std.proofs.Common.{set}
 use Rattle.atomic_table.proofs.Lists.{at_set}
 use Rattle.atomic_table.specs.Table.{Splits}
 use Rattle.fx_table.proofs.SumLemmas.{sum_set, contains_alone}

@@ -1,5 +1,5 @@
 -- Shown histories, and views that learn from them.
-use Rattle.std.specs.Prelude.{◌≡◌, ℕ, List, []}
+use Rattle.std.specs.Prelude.{◌≡◌, List, []}
 use Rattle.fx_plain.specs.History.{IsSeenBy}
 use Rattle.fx_plain.specs.declared.event.Event.{Event}
 use Rattle.fx_counted.specs.Passes.{first_log}
