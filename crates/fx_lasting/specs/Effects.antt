@@ -20,8 +20,8 @@ use Rattle.fx_lasting.specs.nodes.Labels.{label_of, as_written}
 use Rattle.fx_lasting.specs.life.Layout.{slot_lines, list_place}
 use Rattle.fx_lasting.specs.Fields.{full_name_in, heat_in, IsHot, count_in, cold_takes, announced}
 use Rattle.fx_lasting.specs.Fields.{IsListedIn}
-use Rattle.table_range.specs.Groups.{group_at, group_of, group_len}
-use Rattle.table_range.specs.Counts.{account, HasQuestionOf}
+use Rattle.table_range.specs.Groups.{group_at, group_of}
+use Rattle.table_range.specs.Counts.{account, CountsAll, HasQuestionOf}
 use Rattle.fx_lasting.specs.nodes.Stocks.{IsInStock}
 use Rattle.fx_lasting.specs.slots.Watches.{HasActed}
 use Rattle.fx_lasting.specs.Passes.{Sat, slots_of, nodes_of, range_at_start, word_of, IsHistory}
@@ -454,13 +454,13 @@ pub record Asks (st : At) (m : Sat) (found : ℕ) (m' : Sat) : Type 0 where
 -- Count, of the word of the next group: where it counts all slots of the group, one group more is
 -- visited
 pub record Counts (st : At) (m : Sat) (found : ℕ) (m' : Sat) : Type 0 where
-  pub full : found ≡ group_len (range_at_start m.0.start).1 (group_at st.word)
+  pub full : CountsAll (range_at_start m.0.start).1 (group_at st.word) found
       → Goes (as_asked (Covered (group_at st.word + 1)) m) [] m.0.work m.0.glance m'
-  pub less : found ≢ group_len (range_at_start m.0.start).1 (group_at st.word)
+  pub less : (CountsAll (range_at_start m.0.start).1 (group_at st.word) found → ⊥)
       → Goes m [] m.0.work m.0.glance m'
   pub asks : (pass_in m').watch.asks ≡ (pass_in m).watch.asks
   -- a slot of the group has no file, or another pass has still to count one
-  pub short : found ≢ group_len (range_at_start m.0.start).1 (group_at st.word)
+  pub short : (CountsAll (range_at_start m.0.start).1 (group_at st.word) found → ⊥)
       → m.0.change ≡ Outside → HasGap m.0.start (pass_in m').front ⊎ MeetsOne m m'
 
 -- Decide, of the question word, by a pass that has visited all groups: where its bit is still

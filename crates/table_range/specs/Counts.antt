@@ -22,6 +22,10 @@ lowered word = (word + (2 ^ 64 - 1)) % 2 ^ 64
 abbrev pub raised : ℕ → ℕ
 raised word = (word + 1) % 2 ^ 64
 
+-- a group's word counts all slots of the group
+abbrev pub CountsAll : (len group word : ℕ) → Type 0
+CountsAll len group word = word ≡ group_len len group
+
 -- the place of a pass's bit in a word with a bit for each of 64 passes
 abbrev pub bit_of : ℕ → ℕ
 bit_of pass = (pass - 1) % 64

@@ -1,8 +1,9 @@
 //! The groups of the range, and the places of their words. A line is 8 words. The question word and
 //! each group's word have a line of their own, with two lines of the table between them. Passes
 //! that fill and empty a small table's last free slots meet less in small groups.
-ghost use Rattle.std.specs.Prelude.{◌≡◌, ◌<◌, ◌≤◌, ◌^◌};
+ghost use Rattle.std.specs.Prelude.{◌≡◌, ◌<◌, ◌≤◌, ◌^◌, ◌↔◌, IsTrue};
 ghost use Rattle.table_range.specs.Groups.{group_place, group_size, groups_in, group_len};
+ghost use Rattle.table_range.specs.Counts.{CountsAll};
 
 /// The greatest number of slots of a range.
 pub const MOST_IN_RANGE: u32 = 1_048_576;
@@ -76,6 +77,16 @@ pub fn group_len(len: u32, group: u32) -> u32
     let each = group_size(len);
     let left = len - group * each;
     if left < each { left } else { each }
+}
+
+/// Checks whether a group's word counts all slots of the group.
+#[inline(always)]
+pub fn counts_all(word: u64, len: u32, group: u32) -> bool
+    requires size { len ≤ MOST_IN_RANGE }
+    requires group { group < groups_in len }
+    ensures { IsTrue result ↔ CountsAll len group word }
+{
+    word == u64::from(group_len(len, group))
 }
 
 /// Returns the place of a group's word.

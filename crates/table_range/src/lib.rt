@@ -16,8 +16,8 @@ mod questions;
 mod views;
 
 pub use groups::{
-    MOST_GROUPS, MOST_IN_RANGE, QUESTION, RANGE_END, group_bits, group_len, group_place,
-    group_size, groups_in,
+    MOST_GROUPS, MOST_IN_RANGE, QUESTION, RANGE_END, counts_all, group_bits, group_len,
+    group_place, group_size, groups_in,
 };
 pub use questions::{MOST_ASKING, asks, pass_bit};
 pub use views::{Change, Survey};

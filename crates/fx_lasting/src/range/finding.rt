@@ -17,7 +17,7 @@ use crate::table::LastingTable;
 use crate::view::View;
 use atomic_table::Seat;
 use fx_base::OpenFile;
-use table_range::{group_len, group_place, group_size, groups_in};
+use table_range::{counts_all, group_len, group_place, group_size, groups_in};
 
 impl LastingTable {
     /// Finds an empty slot of the allocation range, for an idle pass (`is_idle`) that installs
@@ -113,11 +113,11 @@ impl LastingTable {
             seat.old.me result seat.new.me }
     {
         let word = self.table.shared.load::<Peeking>(seat, group_place(group));
-        let len = group_len(self.range_len, group);
-        if word == u64::from(len) {
+        if counts_all(word, self.range_len, group) {
             return None;
         }
         let first = self.range_start + group * group_size(self.range_len);
+        let len = group_len(self.range_len, group);
         for slot in first..first + len {
             if !self.sees_file(seat, slot) {
                 return Some(slot);

@@ -24,7 +24,7 @@ use atomic_table::Seat;
 use fx_base::{Closed, OpenFile};
 use std::sync::Wait;
 use std::thread;
-use table_range::{group_len, group_place, group_size, groups_in};
+use table_range::{counts_all, group_len, group_place, group_size, groups_in};
 
 // The steps by which passes go from group to group. Each is a prime above MOST_GROUPS, so it leads
 // through all groups, whatever their number. Passes that find the same groups full have different
@@ -278,11 +278,11 @@ impl LastingTable {
             → StillPlaces node lost file (group_steps self.now.range_len) seat.old.me seat.new.me }
     {
         let word = self.table.shared.load::<Peeking>(seat, group_place(group));
-        let len = group_len(self.range_len, group);
-        if word == u64::from(len) {
+        if counts_all(word, self.range_len, group) {
             return None;
         }
         let first = self.range_start + group * group_size(self.range_len);
+        let len = group_len(self.range_len, group);
         for slot in first..first + len {
             if let Some(named) = self.try_slot(seat, node, lost, file, slot) {
                 return Some((slot, named));

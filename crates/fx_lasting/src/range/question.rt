@@ -18,7 +18,7 @@ use crate::table::LastingTable;
 use crate::view::View;
 use atomic_table::Seat;
 use fx_base::OpenFile;
-use table_range::{QUESTION, asks, group_len, group_place, groups_in, pass_bit};
+use table_range::{QUESTION, asks, counts_all, group_place, groups_in, pass_bit};
 
 impl LastingTable {
     // Checks whether every slot of the range is full, for a pass that installs files, in at most
@@ -76,7 +76,7 @@ impl LastingTable {
     {
         let shared = &self.table.shared;
         let word = shared.load::<Counting>(seat, group_place(group));
-        word == u64::from(group_len(self.range_len, group))
+        counts_all(word, self.range_len, group)
     }
 
     // Checks whether every slot of the range is full, for a pass that found each group full after
