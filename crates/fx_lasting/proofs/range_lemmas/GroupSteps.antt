@@ -1,6 +1,6 @@
 -- Steps on the words that count full slots keep the rule.
 use Rattle.fx_lasting.proofs.Words.{Renewing, Nearing, Relieving}
-use Rattle.fx_lasting.proofs.Words.{◌≡◌, ◌≢◌, ℕ, ◌+◌, ◌-◌, ◌<◌, ◌≤◌, List, [], ◌∷◌, set, length, sym, refl, ap, ◌∙◌, subst, arith, Option, IsSome, dite}
+use Rattle.fx_lasting.proofs.Words.{◌≡◌, ◌≢◌, ℕ, ◌+◌, ◌<◌, ◌≤◌, List, [], ◌∷◌, set, length, sym, refl, ap, ◌∙◌, subst, arith, Option, IsSome, dite}
 use Rattle.fx_lasting.proofs.Words.{get_or-set_other, get_or-set_same, some, none, ℕ_discrete, get_elem?, keeps, step, sum_by, Closed, File, Full, Event}
 use Rattle.fx_lasting.proofs.Words.{pass_event, range_at_start, Agrees, RangeCounts, WorkAgrees, lengths, owing, question_place, group_place, group_len}
 use Rattle.fx_lasting.proofs.Words.{groups_in, slot_place, word_of, hold_word_of, slots_of, list_place, state_after_all, Change, Outside}
@@ -150,7 +150,7 @@ module _ (turn : Turn) where
           holds = λ n. let e = ap (λ (f : ℕ → ℕ). f n) quiet.holds in omega arith;
         }
 
-    -- the step, and what the pass is told
+    -- the step, with its effect
     pub made : (carried : List (ℕ × Option Closed)) (told : ℕ → Sat → Type 0) → Quiet p.h → WatchAgrees v.start p.h words' x.number p.watch → Kept
         → told (word_at st.words p.place) (w', carried) → Made turn carried p.place (λ _. p.y) told
     made carried told quiet watches counts tells = (w', keeps, tt, wrote quiet watches counts, tells)

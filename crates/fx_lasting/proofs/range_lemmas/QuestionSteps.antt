@@ -1,7 +1,7 @@
 -- Steps on the question word keep the rule.
 use Rattle.fx_lasting.proofs.Words.{◌≡◌, ℕ, ◌+◌, ◌^◌, ◌<◌, ◌≤◌, List, [], sym, refl, ap, ◌∙◌, subst, arith, Option, dite, none, true, ℕ_discrete, step}
 use Rattle.fx_lasting.proofs.Words.{Closed, Full, ◌▷◌, Event, range_at_start, HasQuestionOf, question_place, groups_in, ⊎_elim, Change, Lowered, Inside}
-use Rattle.fx_lasting.proofs.Words.{Log, View, Turns, Checks, Breaks, Begins, Asks, Decides, ChecksKeep, BreaksKeep, BeginsKeep, AsksKeep, DecidesKeep}
+use Rattle.fx_lasting.proofs.Words.{Log, Turns, Checks, Breaks, Begins, Asks, Decides, ChecksKeep, BreaksKeep, BeginsKeep, AsksKeep, DecidesKeep}
 use Rattle.fx_lasting.proofs.Words.{inl, inr, Survey, NotAsked, Covered, bit_of, first_log, bit_at, ◌⊎◌, Watch, WatchAgrees, IsSeenBy, Bool, false}
 use Rattle.fx_lasting.proofs.Words.{its_range, not_there, with_question}
 use Rattle.fx_lasting.proofs.Histories.{part_mine}
