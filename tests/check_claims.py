@@ -287,7 +287,7 @@ def tables_of_proofs(claims):
 
 def imported_by(spec):
     """The files of definitions, of any crate of this repository, that a file of definitions imports from."""
-    for crate, path in re.findall(r"^(?:pub )?use Rattle\.(fx_\w+)\.specs\.([\w.]+)\.\{", read(spec), re.MULTILINE):
+    for crate, path in re.findall(r"^(?:pub )?use Rattle\.((?:fx|table)_\w+)\.specs\.([\w.]+)\.\{", read(spec), re.MULTILINE):
         if not path.startswith("declared."):
             yield f"crates/{crate}/specs/{path.replace('.', '/')}.antt"
 
@@ -309,7 +309,7 @@ def reached():
 
 def is_list_of(part, files, lines):
     """Whether a section has a row for each crate, with its files by their names, and both numbers."""
-    listed = [f"crates/{crate}/specs/{name}.antt" for _, (crate, names) in rows(part) if "fx_" in crate for name in names.split(", ")]
+    listed = [f"crates/{crate}/specs/{name}.antt" for _, (crate, names) in rows(part) if re.search("fx_|table_", crate) for name in names.split(", ")]
     return sorted(listed) == sorted(files) and f"{len(files)} files with {lines} lines of definitions" in " ".join(part.split())
 
 

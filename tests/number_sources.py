@@ -41,7 +41,7 @@ class Sources(dict):
     constants are taken."""
 
     def __missing__(self, name):
-        if re.match("(fx|check|yacht)", name):
+        if re.match("(fx|table|check|yacht)", name):
             return Constants(name)
         if name in self["names"]:
             return value(self["names"][name], self)

@@ -5,7 +5,7 @@ use Rattle.fx_lasting.proofs.Words.{IsAtWork, Sat, Emptying, LastingPass, IsPass
 use Rattle.fx_lasting.proofs.Words.{get_elem?, some, ◌∙◌, sym, mul-le-mul_right, ap, groups_in, group_place, range_at_start, IsGroup, tag_place}
 use Rattle.fx_lasting.proofs.Words.{number_place, tag_word_of, number_word_of, MOST_NODES}
 use Rattle.fx_lasting.proofs.Frames.{HasBesides, alone_cases}
-use Rattle.fx_lasting.proofs.range_lemmas.Groups.{few_groups}
+use Rattle.table_range.proofs.GroupSlots.{few_groups}
 use Rattle.fx_lasting.proofs.Running.{its_inside, stock_is}
 
 -- a slot of the table, as its rule names it

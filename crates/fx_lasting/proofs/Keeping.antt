@@ -11,7 +11,7 @@ use Rattle.fx_lasting.proofs.Words.{IsHistory, held_in, held_of, taken_of, owed,
 use Rattle.fx_lasting.proofs.Words.{removed_in, Change, Glance, Log, View, Work, IsInStock, name_in}
 use Rattle.fx_lasting.proofs.Words.{first_log, Whereabouts, in_stock, NamesItsNode, StockAgrees, ◌⊎◌, list_place, IsListedIn, Deed, untouched}
 use Rattle.fx_lasting.proofs.Words.{Watch, WatchAgrees, Survey, as_asked, Labels, written_in, MOST_SLOTS}
-use Rattle.fx_lasting.proofs.range_lemmas.Groups.{AskAlike, CountAlike, counts_same}
+use Rattle.table_range.proofs.Counting.{AskAlike, CountAlike, counts_same, moved_one}
 use Rattle.fx_lasting.proofs.Histories.{Grows, grows_none, legal_before}
 use Rattle.fx_lasting.proofs.hold_lemmas.Lists.{ListGoesOn, stays_listed, was_listed}
 use Rattle.fx_lasting.proofs.slot_lemmas.Watching.{MovesOn, watch_on}
@@ -350,7 +350,7 @@ module _ (turn : Turn) where
       tells_as a (first_log v.logs).listed a.asked (first_log v.logs).stock (rw one (λ i. ((same i).0, a.asked, (same i).1))) carried carried []
 
   -- the pass has asked what it had asked
-  pub asks_alike : (a : After) → a.asked ≡ x.asked → AskAlike (w a) v
+  pub asks_alike : (a : After) → a.asked ≡ x.asked → AskAlike (λ (u : View). u.logs) (λ (y : Log). y.number) (λ (y : Log). y.asked) (w a) v
   asks_alike a same y has = subst (λ (y : Log). (z : Log) × Contains v.logs z × (z.number ≡ y.number) × (z.asked ≡ y.asked))
       (sym (contains_only (logged x a.listed a.asked a.stock a.watch a.front) y has)) (x, has_x, refl, sym same)
 
@@ -360,7 +360,7 @@ module _ (turn : Turn) where
   -- the range agrees after a step that changes neither its words nor what the pass counts and asks
   pub range_left : (a : After) → (state_after_all v.start a.h).at ≡ (state_after_all v.start r.history).at → CountAlike a.words st.words
       → a.change ≡ v.change → a.asked ≡ x.asked → RangeCounts (state_after_all v.start a.h).at (range_at_start v.start) (views' a) a.words
-  range_left a at alike change asked = counts_same id (w a) here r.range few_slots at alike change (asks_alike a asked)
+  range_left a at alike change asked = counts_same r.range few_slots (moved_one id (w a) here change (asks_alike a asked)) at alike
 
   -- the effect of a step after which the pass has seen what it had seen
   pub tells_less : (a : After) → ◌≡◌ {A = Bool × Survey × List ℕ} (a.listed, a.asked, a.stock) (x.listed, x.asked, x.stock) → (carried homes : List (ℕ × Option Closed)) → a.front ≡ x.front → IsInside v.start a.work

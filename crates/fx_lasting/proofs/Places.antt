@@ -1,8 +1,8 @@
 -- Places are inside, and apart; and what a write to one of them leaves as it was.
 use Rattle.fx_lasting.proofs.Words.{◌≡◌, ◌≢◌, ℕ, ◌<◌, ◌≤◌, List, set, sym, arith, get_or-set_other, get_or-set_same, list_place, slot_place, word_of}
-use Rattle.fx_lasting.proofs.Words.{hold_word_of, slots_of, nodes_of, slot_of, group_at, group_place, pass_at, Start, PlacesAreInside, PlacesAreApart}
+use Rattle.fx_lasting.proofs.Words.{hold_word_of, slots_of, nodes_of, slot_of, pass_at, Start, PlacesAreInside, PlacesAreApart}
 use Rattle.fx_lasting.proofs.Words.{LabelsAreApart, NodesAreInOneLine, IsNoLabel, tag_word_of, number_word_of, length, length-set, refl, dite, ℕ_discrete, subst, ap, ◌∙◌}
-use Rattle.fx_lasting.proofs.range_lemmas.Groups.{CountAlike}
+use Rattle.table_range.proofs.Counting.{CountAlike}
 use Rattle.fx_lasting.proofs.Keeping.{Turn, word_at, slot_word, LabelSame}
 
 pub places_inside : (size passes nodes : ℕ) → PlacesAreInside size passes nodes
@@ -68,9 +68,6 @@ slot_back s = omega arith
 -- the slot that a place of a slot's word says
 pub slot_said : {slot place : ℕ} → place ≡ slot_place slot → slot_of place ≡ slot
 slot_said {slot} is = ap slot_of is ∙ slot_back slot
-
-pub group_back : (g : ℕ) → group_at (group_place g) ≡ g
-group_back g = omega arith
 
 pub pass_back : (k : Start) (p : ℕ) → pass_at k (hold_word_of k p) ≡ p
 pass_back k p = omega arith

@@ -3,7 +3,7 @@ use Rattle.fx_lasting.proofs.Words.{◌≡◌, ℕ, ◌+◌, ◌<◌, ◌≤◌,
 use Rattle.fx_lasting.proofs.Words.{NodeAgrees, WorkAgrees, slots_of, word_of, state_after_all, taken_of, owed, count_in, full_name_in, Phase, Shared}
 use Rattle.fx_lasting.proofs.Words.{Start, range_at_start, group_start, group_len, full_few, cold_takes, has_acted, has_heated, AreBounded}
 use Rattle.fx_lasting.proofs.Words.{slot_word_in, node_word_in}
-use Rattle.fx_lasting.proofs.range_lemmas.Groups.{few_slots}
+use Rattle.table_range.proofs.GroupSlots.{few_slots}
 use Rattle.fx_lasting.proofs.range_lemmas.GroupSteps.{owing_most}
 use Rattle.fx_lasting.proofs.Counts.{tally_few, few_cold}
 use Rattle.fx_lasting.proofs.Keeping.{word_at, slot_word}

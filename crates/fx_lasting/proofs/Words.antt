@@ -4,13 +4,17 @@ pub use Rattle.atomic_table.specs.Seated.{TableId}
 pub use Rattle.atomic_table.specs.Table.{Act, keeps, Valid, stepped, carried_after, step, gives, rest, takes, Allows, Final, Seen, opening, Splits}
 pub use Rattle.atomic_table.specs.Table.{put_back}
 pub use Rattle.fx_base.specs.declared.open_file.Closed.{Closed}
+pub use Rattle.table_range.specs.Groups.{is_in, question_place, group_place, group_size, groups_in}
+pub use Rattle.table_range.specs.Groups.{group_at, group_of, group_start, group_len}
+pub use Rattle.table_range.specs.Counts.{owing, uncounted, account, HasQuestionOf, HasVisitedFull, bit_of, lowered, raised, with_question}
+pub use Rattle.table_range.specs.declared.groups.TheConstants.{RANGE_END}
 pub use Rattle.fx_lasting.specs.holds.HoldsAgree.{IsIn, HoldAgrees, MayBeUnmarked, GuardAgrees, GlanceAgrees, Heats, LogAgrees, ViewAgrees, HoldsAt}
 pub use Rattle.fx_lasting.specs.holds.HoldsAgree.{WorkAgrees, IsAllowed, IsIdleIn, IsToVisit, NamesNode, StillNames}
 pub use Rattle.fx_lasting.specs.Agrees.{Agrees}
 pub use Rattle.fx_lasting.specs.nodes.NodesAgree.{NodeAgrees, Does, OwnerAgrees, Nodes, Home, IsFileOfNode, IsVacant, IsBorn, Labels}
 pub use Rattle.fx_lasting.specs.slots.SlotAgrees.{Names, IsSeated, SlotAgrees}
 pub use Rattle.fx_lasting.specs.AtWork.{IsAtWork, IsReleasing, HasPlace, MayPlace}
-pub use Rattle.fx_lasting.specs.range.Groups.{owing, owing_of, is_in, uncounted, account, GroupCounts, AreFull, HasQuestionOf, HasVisitedFull, RangeCounts}
+pub use Rattle.fx_lasting.specs.range.Groups.{RangeCounts}
 pub use Rattle.fx_lasting.specs.Counts.{tally, owed}
 pub use Rattle.fx_lasting.specs.Ends.{LetsMarkGo, LetsFileGo, LooksByTake, Parked, TakenOut}
 pub use Rattle.fx_lasting.specs.life.Cuts.{seats}
@@ -28,12 +32,12 @@ pub use Rattle.fx_lasting.specs.Laws.{MayAnnounce, EndsItsHoldKeep, SwapsHeldKee
 pub use Rattle.fx_lasting.specs.nodes.LabelSteps.{RecallsTag, Tags, Numbers, ReadsTag, ReadsNumber}
 pub use Rattle.fx_lasting.specs.nodes.Labels.{number_of_mark, label_of, as_written, HasWritten}
 pub use Rattle.fx_lasting.specs.nodes.KeepSteps.{Parks, Resumes, SettlesNode}
-pub use Rattle.fx_lasting.specs.life.Layout.{question_place, group_place, list_place, slot_place, hold_place, node_place, stock_start, stock_for, stock_of}
-pub use Rattle.fx_lasting.specs.life.Layout.{stocks_back, tag_place, number_place, group_size, groups_in, group_of, group_start, group_len}
+pub use Rattle.fx_lasting.specs.life.Layout.{list_place, slot_place, hold_place, node_place, stock_start, stock_for, stock_of}
+pub use Rattle.fx_lasting.specs.life.Layout.{stocks_back, tag_place, number_place}
 pub use Rattle.fx_lasting.specs.life.Layout.{PlacesAreInside, PlacesAreApart, LabelsAreApart, NodesAreInOneLine, IsNoLabel, words_for, nodes_for}
 pub use Rattle.fx_lasting.specs.life.Opens.{word_for, node_for, home_for, first_file, OpensWith}
 pub use Rattle.fx_lasting.specs.slots.Deeds.{Deed, untouched, over, heated, has_acted, has_heated}
-pub use Rattle.fx_lasting.specs.Fields.{heat_unit, count_in, heat_in, IsHot, cold_takes, birth_word, retirement_amount, announced, mark, bit_of}
+pub use Rattle.fx_lasting.specs.Fields.{heat_unit, count_in, heat_in, IsHot, cold_takes, birth_word, retirement_amount, announced, mark}
 pub use Rattle.fx_lasting.specs.Fields.{IsListedIn, full_name_in, file_node_in, file_word_of, empty_word_of, without_file, name_mask, most_carried}
 pub use Rattle.fx_lasting.specs.Fields.{MayCarry}
 pub use Rattle.fx_lasting.specs.Passes.{alone_in, node_of_number, HasNoFile, Shared, Sat, state_at_start, slots_of, range_at_start, nodes_of, first_stock}
@@ -56,15 +60,15 @@ pub use Rattle.fx_lasting.specs.declared.table.LastingTable.{LastingTable}
 pub use Rattle.fx_lasting.specs.Effects.{TakesAs, At, rested, Lists, Skims, IsOnList, as_listed, round_at, round_from, new_round, Announces, Shows, Confirms}
 pub use Rattle.fx_lasting.specs.Effects.{Withdraws, glance_after, Takes, HeatsSlot, StepsDown, TakesOut, slot_of, pass_at, pass_event, pass_in}
 pub use Rattle.fx_lasting.specs.Effects.{IsInside, Stepped, Goes, Glances, Exchanges, LettingGo, Seeks, Births, Rests, Visits, Marks, Retires}
-pub use Rattle.fx_lasting.specs.Effects.{first_visit, retiring_work, Found, Installs, Removes, Turns, Asks, Peeks, as_asked, group_at, as_stocked}
+pub use Rattle.fx_lasting.specs.Effects.{first_visit, retiring_work, Found, Installs, Removes, Turns, Asks, Peeks, as_asked, as_stocked}
 pub use Rattle.fx_lasting.specs.Effects.{IsWatching, MeetsOne, IsOvertaken, HasGap, as_swapped, NamesANode, Lowers, Checks, Breaks, Raises, Begins, Counts, Decides, Sees, TakesIf, Replaces}
 pub use Rattle.fx_lasting.specs.Effects.{HasAnnounced, HasItsHold, EndsItsHold, announcing, guarded_round, guarding, leaving_work, removal_work}
 pub use Rattle.fx_lasting.specs.holds.Visits.{HasVisited, round_to}
 pub use Rattle.fx_lasting.specs.nodes.Searches.{next_of}
-pub use Rattle.fx_lasting.specs.declared.view.Change.{Change}
-pub use Rattle.fx_lasting.specs.declared.view.Change.TheVariants.{Outside, Lowered, Inside}
-pub use Rattle.fx_lasting.specs.declared.view.Survey.{Survey}
-pub use Rattle.fx_lasting.specs.declared.view.Survey.TheVariants.{None as NotAsked, Covered}
+pub use Rattle.table_range.specs.declared.views.Change.{Change}
+pub use Rattle.table_range.specs.declared.views.Change.TheVariants.{Outside, Lowered, Inside}
+pub use Rattle.table_range.specs.declared.views.Survey.{Survey}
+pub use Rattle.table_range.specs.declared.views.Survey.TheVariants.{None as NotAsked, Covered}
 pub use Rattle.fx_lasting.specs.declared.view.Glance.{Glance}
 pub use Rattle.fx_lasting.specs.declared.view.Glance.TheVariants.{None as Nothing, Hot, Cold, Heating}
 pub use Rattle.fx_lasting.specs.declared.view.Log.{Log}

@@ -1,5 +1,4 @@
 -- Lemmas of the allocation range: counts, questions and searches.
-pub mod Groups
 pub mod GroupSteps
 pub mod QuestionSteps
 pub mod Questions

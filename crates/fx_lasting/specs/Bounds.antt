@@ -3,8 +3,9 @@ use Rattle.std.specs.Prelude.{◌≡◌, ℕ, ◌+◌, ◌%◌, ◌^◌, ◌<◌
 use mathlib.Core.Option.{some}
 use lib.ListN.{get_elem?}
 use Rattle.fx_plain.specs.declared.event.File.{File}
+use Rattle.table_range.specs.Groups.{group_place, groups_in}
 use Rattle.fx_lasting.specs.Agrees.{Agrees}
-use Rattle.fx_lasting.specs.life.Layout.{group_place, slot_place, groups_in}
+use Rattle.fx_lasting.specs.life.Layout.{slot_place}
 use Rattle.fx_lasting.specs.Fields.{full_name_in, count_in, heat_in, cold_takes}
 use Rattle.fx_lasting.specs.Passes.{Shared, slots_of, range_at_start, word_of}
 use Rattle.fx_lasting.specs.declared.view.Round.{Round}

@@ -1,10 +1,9 @@
 -- Each kind of step: its effect on the pass that makes it.
 use Rattle.std.specs.Prelude.{◌≡◌, ◌≢◌, ℕ, ◌+◌, ◌-◌, ◌*◌, ◌/◌, ◌<◌, ◌==◌, ◌⊎◌, nat_lt}
-use Rattle.std.specs.Prelude.{if◌then◌else◌, min}
-use Rattle.std.specs.Prelude.{◌≤◌, Bool, true, false, List, [], slice_set}
+use Rattle.std.specs.Prelude.{if◌then◌else◌, min, ◌≤◌, Bool, true, false, List, [], slice_set, ◌∷◌}
+use Rattle.std.specs.Prelude.{◌++◌, map, Option, Some, None}
 use mathlib.Core.Option.{some}
 use lib.ListN.{get_elem?}
-use Rattle.std.specs.Prelude.{◌∷◌, ◌++◌, map, Option, Some, None}
 use Rattle.atomic_table.specs.Table.{Step, rest}
 use Rattle.fx_base.specs.Identity.{Identity}
 use Rattle.fx_plain.specs.History.{◌▷◌, IsSeenBy, part_of_pass}
@@ -18,18 +17,20 @@ use Rattle.fx_words.specs.Words.{entry_in, name_in}
 use Rattle.fx_lasting.specs.slots.SlotAgrees.{Names}
 use Rattle.fx_lasting.specs.holds.HeldFiles.{IsOneOnItsNode}
 use Rattle.fx_lasting.specs.nodes.Labels.{label_of, as_written}
-use Rattle.fx_lasting.specs.life.Layout.{slot_lines, list_place, group_of, group_len}
+use Rattle.fx_lasting.specs.life.Layout.{slot_lines, list_place}
 use Rattle.fx_lasting.specs.Fields.{full_name_in, heat_in, IsHot, count_in, cold_takes, announced}
 use Rattle.fx_lasting.specs.Fields.{IsListedIn}
-use Rattle.fx_lasting.specs.range.Groups.{account, HasQuestionOf}
+use Rattle.table_range.specs.Groups.{group_at, group_of}
+use Rattle.table_range.specs.Counts.{account, CountsAll, HasQuestionOf}
 use Rattle.fx_lasting.specs.nodes.Stocks.{IsInStock}
 use Rattle.fx_lasting.specs.slots.Watches.{HasActed}
-use Rattle.fx_lasting.specs.Passes.{Sat, slots_of, nodes_of, range_at_start, word_of}
-use Rattle.fx_lasting.specs.Passes.{IsHistory, node_of_number, first_log, state_after_all}
-use Rattle.fx_lasting.specs.declared.view.Survey.{Survey}
-use Rattle.fx_lasting.specs.declared.view.Survey.TheVariants.{None as NotAsked, Covered}
-use Rattle.fx_lasting.specs.declared.view.Change.{Change}
-use Rattle.fx_lasting.specs.declared.view.Change.TheVariants.{Outside, Lowered, Inside}
+use Rattle.fx_lasting.specs.Passes.{Sat, slots_of, nodes_of, range_at_start, word_of, IsHistory}
+use Rattle.fx_lasting.specs.Passes.{node_of_number, first_log, state_after_all}
+use Rattle.table_range.specs.declared.groups.TheConstants.{RANGE_END}
+use Rattle.table_range.specs.declared.views.Survey.{Survey}
+use Rattle.table_range.specs.declared.views.Survey.TheVariants.{None as NotAsked, Covered}
+use Rattle.table_range.specs.declared.views.Change.{Change}
+use Rattle.table_range.specs.declared.views.Change.TheVariants.{Outside, Lowered, Inside}
 use Rattle.fx_lasting.specs.declared.view.Glance.{Glance}
 use Rattle.fx_lasting.specs.declared.view.Glance.TheVariants.{None as Nothing, Hot, Cold, Heating}
 use Rattle.fx_lasting.specs.declared.view.Log.{Log}
@@ -39,8 +40,8 @@ use Rattle.fx_lasting.specs.declared.view.Start.{Start}
 use Rattle.fx_lasting.specs.declared.view.Work.{Work}
 use Rattle.fx_lasting.specs.declared.view.Work.TheVariants.{Idle, Announced, Counted, Guarded}
 use Rattle.fx_lasting.specs.declared.view.Work.TheVariants.{Owing, Yielding, Searching, Placing}
-use Rattle.fx_lasting.specs.declared.view.Work.TheVariants.{Renewing, Nearing, Relieving}
-use Rattle.fx_lasting.specs.declared.view.Work.TheVariants.{Retiring, Emptying, Keeping}
+use Rattle.fx_lasting.specs.declared.view.Work.TheVariants.{Renewing, Nearing, Relieving, Retiring}
+use Rattle.fx_lasting.specs.declared.view.Work.TheVariants.{Emptying, Keeping}
 use Rattle.fx_lasting.specs.declared.view.Written.TheVariants.{Nothing as Unlabelled}
 
 -- a step of a table whose places have an open file or none
@@ -49,15 +50,11 @@ At = Step (Option Identity)
 
 -- the slot whose word is there
 abbrev pub slot_of : ℕ → ℕ
-slot_of place = min ((place - 534) / 8) 4096 + (place - (534 + 8 * 4096))
-
--- the group whose word is there
-abbrev pub group_at : ℕ → ℕ
-group_at place = (place - 22) / 8
+slot_of place = min ((place - RANGE_END) / 8) 4096 + (place - (RANGE_END + 8 * 4096))
 
 -- the pass whose hold word is there
 abbrev pub pass_at : Start → ℕ → ℕ
-pass_at k place = (place - (526 + 8 * slot_lines (slots_of k))) / 8
+pass_at k place = (place - (RANGE_END - 8 + 8 * slot_lines (slots_of k))) / 8
 
 -- an action of a pass: a lasting table knows no chains
 abbrev pub pass_event : Log → Action → Event
@@ -457,13 +454,13 @@ pub record Asks (st : At) (m : Sat) (found : ℕ) (m' : Sat) : Type 0 where
 -- Count, of the word of the next group: where it counts all slots of the group, one group more is
 -- visited
 pub record Counts (st : At) (m : Sat) (found : ℕ) (m' : Sat) : Type 0 where
-  pub full : found ≡ group_len (range_at_start m.0.start).1 (group_at st.word)
+  pub full : CountsAll (range_at_start m.0.start).1 (group_at st.word) found
       → Goes (as_asked (Covered (group_at st.word + 1)) m) [] m.0.work m.0.glance m'
-  pub less : found ≢ group_len (range_at_start m.0.start).1 (group_at st.word)
+  pub less : (CountsAll (range_at_start m.0.start).1 (group_at st.word) found → ⊥)
       → Goes m [] m.0.work m.0.glance m'
   pub asks : (pass_in m').watch.asks ≡ (pass_in m).watch.asks
   -- a slot of the group has no file, or another pass has still to count one
-  pub short : found ≢ group_len (range_at_start m.0.start).1 (group_at st.word)
+  pub short : (CountsAll (range_at_start m.0.start).1 (group_at st.word) found → ⊥)
       → m.0.change ≡ Outside → HasGap m.0.start (pass_in m').front ⊎ MeetsOne m m'
 
 -- Decide, of the question word, by a pass that has visited all groups: where its bit is still

@@ -3,6 +3,7 @@ use Rattle.std.specs.Prelude.{◌≡◌, ℕ, ◌+◌, ◌-◌, ◌*◌, ◌/◌
 use Rattle.std.specs.Prelude.{Option}
 use Rattle.std.specs.Int.{bit_at}
 use Rattle.fx_words.specs.Words.{name_in, named, slot_word_of}
+use Rattle.table_range.specs.Counts.{bit_of}
 
 -- the name and the entry of a slot's word are those of `fx_words`. The 32 bits below them count the
 -- passes that heated the slot, 11 bits, say whether the slot is full, one bit, and count its takes,
@@ -49,10 +50,6 @@ IsHot word = 0 < heat_in word
 -- the takes from which on a slot becomes hot: a pass that is alone disturbs nobody
 abbrev pub cold_takes : ℕ → ℕ
 cold_takes passes = if passes == 1 then 2 ^ 19 else 16
-
--- the place of a pass's bit in its word of the list
-abbrev pub bit_of : ℕ → ℕ
-bit_of pass = (pass - 1) % 64
 
 -- the word of the list has the pass's bit
 abbrev pub IsListedIn : ℕ → ℕ → Type 0

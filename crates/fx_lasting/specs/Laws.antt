@@ -1,7 +1,7 @@
 -- The kinds of step keep the rule, whatever the table and the other passes are. A law takes the
 -- place of its word as a premise.
-use Rattle.std.specs.Prelude.{◌≡◌, ◌≢◌, ℕ, ◌+◌, ◌-◌, ◌*◌, ◌%◌, ◌^◌, ◌<◌, ◌≤◌, ◌==◌, ◌⊎◌}
-use Rattle.std.specs.Prelude.{true, false, [], ◌∷◌, Some, None, bit_and}
+use Rattle.std.specs.Prelude.{◌≡◌, ◌≢◌, ℕ, ◌+◌, ◌-◌, ◌*◌, ◌%◌, ◌^◌, ◌<◌, ◌≤◌, ◌==◌, ◌⊎◌, true}
+use Rattle.std.specs.Prelude.{false, [], ◌∷◌, Some, None, bit_and}
 use mathlib.Core.Option.{none}
 use prog.Atomic.{either}
 use Rattle.atomic_table.specs.Table.{step, Splits, Joins, Allows}
@@ -9,22 +9,22 @@ use Rattle.fx_base.specs.Identity.{Identity}
 use Rattle.fx_plain.specs.declared.event.File.{File}
 use Rattle.fx_lasting.specs.Agrees.{Agrees}
 use Rattle.fx_lasting.specs.holds.HoldsAgree.{IsIdleIn}
-use Rattle.fx_lasting.specs.range.Groups.{is_in, uncounted}
+use Rattle.table_range.specs.Groups.{is_in, question_place, group_place, groups_in, group_of}
+use Rattle.table_range.specs.Counts.{uncounted, bit_of, lowered, raised, with_question}
 use Rattle.fx_lasting.specs.nodes.Labels.{label_of, as_written}
-use Rattle.fx_lasting.specs.life.Layout.{question_place, group_place, list_place}
-use Rattle.fx_lasting.specs.life.Layout.{slot_place, groups_in, group_of}
+use Rattle.fx_lasting.specs.life.Layout.{list_place, slot_place}
 use Rattle.fx_lasting.specs.Fields.{heat_unit, birth_word, announced, mark, retirement_amount}
-use Rattle.fx_lasting.specs.Fields.{bit_of, full_name_in, file_word_of, without_file, name_mask}
+use Rattle.fx_lasting.specs.Fields.{full_name_in, file_word_of, without_file, name_mask}
 use Rattle.fx_lasting.specs.Fields.{empty_word_of}
-use Rattle.fx_lasting.specs.Passes.{Sat, HasNoFile, slots_of, range_at_start, word_of}
-use Rattle.fx_lasting.specs.Passes.{alone_in, held_in, hold_word_of, HoldsAlone, HoldsBesides}
-use Rattle.fx_lasting.specs.Passes.{HoldsOn, number_word_of, tag_word_of}
+use Rattle.fx_lasting.specs.Passes.{Sat, HasNoFile, slots_of, range_at_start, word_of, alone_in}
+use Rattle.fx_lasting.specs.Passes.{held_in, hold_word_of, HoldsAlone, HoldsBesides, HoldsOn}
+use Rattle.fx_lasting.specs.Passes.{number_word_of, tag_word_of}
 use Rattle.fx_lasting.specs.nodes.Stocks.{IsInStock}
 use Rattle.fx_lasting.specs.Effects.{At, HasAnnounced}
 use Rattle.fx_lasting.specs.declared.life.layout.TheConstants.{MOST_INSTALLING}
-use Rattle.fx_lasting.specs.declared.view.Survey.TheVariants.{None as NotAsked, Covered}
-use Rattle.fx_lasting.specs.declared.view.Change.{Change}
-use Rattle.fx_lasting.specs.declared.view.Change.TheVariants.{Outside, Lowered, Inside}
+use Rattle.table_range.specs.declared.views.Survey.TheVariants.{None as NotAsked, Covered}
+use Rattle.table_range.specs.declared.views.Change.{Change}
+use Rattle.table_range.specs.declared.views.Change.TheVariants.{Outside, Lowered, Inside}
 use Rattle.fx_lasting.specs.declared.view.Glance.TheVariants.{None as Nothing, Hot, Cold, Heating}
 use Rattle.fx_lasting.specs.declared.view.Log.{Log}
 use Rattle.fx_lasting.specs.declared.view.Placement.{Placement}
@@ -33,9 +33,8 @@ use Rattle.fx_lasting.specs.declared.view.Start.{Start}
 use Rattle.fx_lasting.specs.declared.view.View.{View}
 use Rattle.fx_lasting.specs.declared.view.Work.{Work}
 use Rattle.fx_lasting.specs.declared.view.Work.TheVariants.{Idle, Announced, Counted, Guarded}
-use Rattle.fx_lasting.specs.declared.view.Work.TheVariants.{Owing}
-use Rattle.fx_lasting.specs.declared.view.Work.TheVariants.{Yielding, Searching, Placing, Retiring}
-use Rattle.fx_lasting.specs.declared.view.Work.TheVariants.{Emptying, Keeping}
+use Rattle.fx_lasting.specs.declared.view.Work.TheVariants.{Owing, Yielding, Searching, Placing}
+use Rattle.fx_lasting.specs.declared.view.Work.TheVariants.{Retiring, Emptying, Keeping}
 use Rattle.fx_lasting.specs.declared.view.Written.{Written}
 use Rattle.fx_lasting.specs.declared.view.Written.TheVariants.{Nothing as Unlabelled, Tag}
 
@@ -293,8 +292,7 @@ IsGroup k group = group < groups_in (range_at_start k).1
 abbrev pub LowersKeep : Kind → Type 0
 LowersKeep tells = (k : Start) (slots id i group : ℕ) (m : Sat) (x : Log) → HasPass k m x
     → m.0.change ≡ Outside → IsGroup k group → i ≡ group_place group
-    → Allows (Agrees k) slots id m i (λ word. (word + (2 ^ 64 - 1)) % 2 ^ 64)
-    (tells (step slots i 1 0 none) m)
+    → Allows (Agrees k) slots id m i lowered (tells (step slots i 1 0 none) m)
 
 -- then it loads the question word
 abbrev pub ChecksKeep : Kind → Type 0
@@ -312,7 +310,7 @@ BreaksKeep tells = (k : Start) (slots id i group : ℕ) (m : Sat) (x : Log) → 
 abbrev pub RaisesKeep : Kind → Type 0
 RaisesKeep tells = (k : Start) (slots id i group : ℕ) (m : Sat) (x : Log) → HasPass k m x
     → m.0.change ≡ Inside group → IsGroup k group → i ≡ group_place group
-    → Allows (Agrees k) slots id m i (λ word. (word + 1) % 2 ^ 64) (tells (step slots i 1 0 none) m)
+    → Allows (Agrees k) slots id m i raised (tells (step slots i 1 0 none) m)
 
 -- a pass that installs files loads the question word, before it asks
 abbrev pub BeginsKeep : Kind → Type 0
@@ -324,7 +322,7 @@ BeginsKeep tells = (k : Start) (slots id i : ℕ) (m : Sat) (x : Log) → HasPas
 abbrev pub AsksKeep : Kind → Type 0
 AsksKeep tells = (k : Start) (slots id i : ℕ) (m : Sat) (x : Log) → HasPass k m x
     → x.number ≤ MOST_INSTALLING → x.asked ≡ NotAsked → i ≡ question_place
-    → Allows (Agrees k) slots id m i (λ question. (question + 2 ^ bit_of x.number) % 2 ^ 64)
+    → Allows (Agrees k) slots id m i (with_question x.number)
     (tells (step slots i (2 ^ bit_of x.number) 0 none) m)
 
 -- it loads the word of the next group

@@ -12,7 +12,7 @@ use Rattle.fx_plain.specs.declared.event.Event.{Event}
 use Rattle.fx_plain.specs.declared.event.File.{File}
 use Rattle.fx_lasting.specs.life.Layout.{stock_for, stock_of, nodes_for, hold_place, node_place}
 use Rattle.fx_lasting.specs.life.Layout.{tag_place, number_place}
-use Rattle.fx_lasting.specs.declared.view.Survey.TheVariants.{None as NotAsked}
+use Rattle.table_range.specs.declared.views.Survey.TheVariants.{None as NotAsked}
 use Rattle.fx_lasting.specs.declared.view.Log.{Log}
 use Rattle.fx_lasting.specs.declared.view.Start.{Start}
 use Rattle.fx_lasting.specs.declared.view.View.{View}

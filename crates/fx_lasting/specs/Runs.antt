@@ -4,7 +4,7 @@ use Rattle.fx_plain.specs.History.{IsSeenBy, part_of_pass}
 use Rattle.fx_plain.specs.declared.event.Action.{Action}
 use Rattle.fx_lasting.specs.Passes.{Sat, IsHistory}
 use Rattle.fx_lasting.specs.Effects.{IsInside, pass_event, pass_in}
-use Rattle.fx_lasting.specs.declared.view.Change.{Change}
+use Rattle.table_range.specs.declared.views.Change.{Change}
 use Rattle.fx_lasting.specs.declared.view.Glance.{Glance}
 use Rattle.fx_lasting.specs.declared.view.Log.{Log}
 use Rattle.fx_lasting.specs.declared.view.Work.{Work}

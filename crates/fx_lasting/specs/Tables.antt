@@ -15,11 +15,11 @@ use Rattle.fx_table.specs.declared.values.Doing.TheVariants.{Retiring as Retires
 use Rattle.fx_table.specs.declared.values.Hold.{Hold}
 use Rattle.fx_table.specs.declared.values.Retired.{Retired}
 use Rattle.fx_lasting.specs.AtWork.{IsAtWork}
-use Rattle.fx_lasting.specs.life.Layout.{groups_in}
+use Rattle.table_range.specs.Groups.{groups_in}
 use Rattle.fx_lasting.specs.Passes.{contents_of, first_log, range_at_start}
 use Rattle.fx_lasting.specs.Effects.{pass_in, new_round}
-use Rattle.fx_lasting.specs.declared.view.Survey.TheVariants.{Covered}
-use Rattle.fx_lasting.specs.declared.view.Change.TheVariants.{Outside}
+use Rattle.table_range.specs.declared.views.Survey.TheVariants.{Covered}
+use Rattle.table_range.specs.declared.views.Change.TheVariants.{Outside}
 use Rattle.fx_lasting.specs.declared.view.Glance.TheVariants.{None as Nothing}
 use Rattle.fx_lasting.specs.declared.view.Start.{Start}
 use Rattle.fx_lasting.specs.declared.view.View.{View}

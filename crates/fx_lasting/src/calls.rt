@@ -18,9 +18,7 @@ ghost use Rattle.fx_lasting.specs.slots.SwapSteps.{HasRemoved, SwapsOut};
 ghost use Rattle.fx_lasting.specs.declared.view.Glance.TheVariants.{Hot, Cold};
 ghost use Rattle.fx_lasting.specs.declared.view.Work.TheVariants.{Idle};
 
-use crate::fields::{
-    count_of, file_node_of, file_word, is_hot, list_bit, node_named, retire_amount,
-};
+use crate::fields::{count_of, file_node_of, file_word, is_hot, node_named, retire_amount};
 use crate::kinds::{
     ByClose, ByUpdate, Finishing, Glancing, Installing, Listing, RemovedBy, Retire,
 };
@@ -30,6 +28,7 @@ use crate::table::LastingTable;
 use fx_base::OpenFile;
 use fx_table::{Empty, Hold, LookFault, LookUp, Retired};
 use fx_words::entry_of;
+use table_range::pass_bit;
 
 impl LastingTable {
     /// Looks up a slot below `size`, for an idle pass (`is_idle`), in at most nine atomic steps.
@@ -90,7 +89,7 @@ impl LastingTable {
     {
         let shared = &self.table.shared;
         let place = list_place(pass.number);
-        shared.fetch_add::<Listing>(&mut pass.seat, place, list_bit(pass.number));
+        shared.fetch_add::<Listing>(&mut pass.seat, place, pass_bit(pass.number));
         pass.listed = true;
         let found = self.look_cold(pass, slot);
         LookUp { found, freed: None }

@@ -3,9 +3,8 @@
 ghost use Rattle.std.specs.Prelude.{◌≡◌, ◌≢◌, ◌+◌, ◌-◌, ◌<◌, ◌≤◌, ◌^◌, ◌↔◌};
 ghost use Rattle.std.specs.Prelude.{IsTrue, None, true, false};
 ghost use Rattle.fx_words.specs.Words.{last_node, name_in};
-ghost use Rattle.fx_lasting.specs.range.Groups.{HasQuestionOf};
 ghost use Rattle.fx_lasting.specs.Fields.{full_name_in, file_node_in, file_word_of, empty_word_of};
-ghost use Rattle.fx_lasting.specs.Fields.{without_file, name_mask, count_in, IsHot, bit_of};
+ghost use Rattle.fx_lasting.specs.Fields.{without_file, name_mask, count_in, IsHot};
 ghost use Rattle.fx_lasting.specs.Fields.{announced, mark, retirement_amount, cold_takes, MayCarry};
 
 use fx_words::{node_of, slot_word};
@@ -111,22 +110,6 @@ pub(crate) fn is_hot_at(word: u64, node: u32) -> bool
     ensures { IsTrue result ↔ ((full_name_in word ≡ node + 1) × IsHot word) }
 {
     word / (1 << 40) == u64::from(node) + 1 && word / FULL % 2 == 1 && is_hot(word)
-}
-
-// Returns the bit of a pass in its word of the list.
-pub(crate) fn list_bit(pass: u32) -> u64
-    requires { 1 ≤ pass }
-    ensures { result ≡ 2 ^ bit_of pass }
-{
-    1 << ((pass - 1) % 64)
-}
-
-// Checks whether the question word has the bit of a pass.
-pub(crate) fn asks(question: u64, pass: u32) -> bool
-    requires { 1 ≤ pass }
-    ensures { IsTrue result ↔ HasQuestionOf question pass }
-{
-    question / list_bit(pass) % 2 == 1
 }
 
 // Returns the hold word of a pass that announces the node.

@@ -1,6 +1,7 @@
 use fx_plain::{Event, File, PlainTable};
 use std::collections::LinkedList;
 use std::snapshot::Snapshot;
+use table_range::{Change, Survey};
 
 /// The opening of a lasting table, for contracts alone: the slots with which it was opened, the
 /// number of passes, and the number of those that install files.
@@ -54,16 +55,6 @@ pub struct Watch {
     /// than before, or a group's word didn't count each full slot, or the question word had lost
     /// the pass's bit.
     pub met: u64,
-}
-
-/// The survey of the groups by a pass that asks whether the allocation range is full, as contracts
-/// see it. No value of it is made.
-pub enum Survey {
-    /// The question word doesn't have the pass's bit.
-    None,
-    /// The pass set its bit, and visited this many groups since. While the bit is there, they are
-    /// full.
-    Covered(u32),
 }
 
 /// The progress of a retirement's round through the other passes, as contracts see it. No value of
@@ -150,19 +141,6 @@ pub enum Glance {
     Cold(u32),
     /// It took what the slot named when the slot had its takes, and has still to make the slot hot.
     Heating(u32),
-}
-
-/// The account of a pass with the groups' words, which count the full slots of the allocation
-/// range, as contracts see it. No value of it is made.
-pub enum Change {
-    /// The groups' words count what the pass did.
-    Outside,
-    /// The word of this group counts one full slot too few. The pass has still to load the question
-    /// word, and to clear it, before it empties that slot.
-    Lowered(u32),
-    /// The word of this group counts one full slot too few. The pass is about to empty that slot,
-    /// or has still to add it.
-    Inside(u32),
 }
 
 /// The knowledge of a seat at the table, as contracts see it. No value of it is made.

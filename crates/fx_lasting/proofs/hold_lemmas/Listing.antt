@@ -8,7 +8,8 @@ use Rattle.fx_lasting.proofs.Keeping.{Turn, turn_of, After, word_at, Made, by_tu
 use Rattle.fx_lasting.proofs.Keeping.{range_left, tells_as}
 use Rattle.fx_lasting.proofs.slot_lemmas.Watching.{watch_same}
 use Rattle.fx_lasting.proofs.Calm.{calm_after, calm_kept}
-use Rattle.fx_lasting.proofs.hold_lemmas.Lists.{ListGoesOn, now_listed, bit_added}
+use Rattle.fx_lasting.proofs.hold_lemmas.Lists.{ListGoesOn}
+use Rattle.table_range.proofs.Bits.{bit_now, bit_added}
 use Rattle.fx_lasting.proofs.range_lemmas.GroupSteps.{its_inside}
 use Rattle.fx_lasting.proofs.Places.{list_words, list_here, list_apart, list_node, list_hold, list_slot, list_alike, list_label}
 
@@ -70,7 +71,7 @@ module _ (turn : Turn) (not_yet : turn.x.listed ≡ false) (fits : word_at turn.
         held = o.held;
         allowed = allowed_more x.stock x.listed v.work o.allowed;
         lists = λ p few. goes_on p;
-        its_bit = λ l. inr (rw (list_here turn x.number few new ∙ is_set) (now_listed x.number (word_at st.words (list_place x.number))));
+        its_bit = λ l. inr (rw (list_here turn x.number few new ∙ is_set) (bit_now x.number (word_at st.words (list_place x.number))));
         watches = watch_same v.start x.number ([], refl) same (list_alike turn x.number few new).0 x.watch o.watch;
         its = record {
           hold = own.0;

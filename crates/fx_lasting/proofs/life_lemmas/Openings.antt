@@ -12,7 +12,7 @@ use Rattle.fx_lasting.proofs.Words.{◌/◌, ◌%◌, Whereabouts, at_slot, in_s
 use Rattle.fx_lasting.proofs.Words.{empty_name_made, empty_file_made, empty_takes_made, file_heat_made, stock_start, stock_for, first_stock}
 use Rattle.fx_lasting.proofs.Words.{mul-le-mul_right, length-range_with_len, div-mul-add, mod-mul-add, suc-mul}
 use Rattle.fx_lasting.proofs.Counts.{tally_none, tally_same}
-use Rattle.fx_lasting.proofs.range_lemmas.Groups.{counts_alone}
+use Rattle.table_range.proofs.Counting.{counts_alone}
 use Rattle.fx_lasting.proofs.Words.{HasLaws, seats}
 use Rattle.table_seats.proofs.Together.{opens as seats_open}
 

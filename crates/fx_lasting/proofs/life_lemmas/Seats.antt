@@ -8,9 +8,8 @@ use Rattle.fx_lasting.proofs.Words.{◌∷◌, ◌≢◌, set-set, without_first
 use Rattle.fx_lasting.proofs.Words.{seats, joined, first_alone, Moves}
 use Rattle.fx_lasting.proofs.node_lemmas.Choosing.{no_file, no_take, not_busy, holds_none}
 use Rattle.fx_lasting.proofs.Frames.{busy_alone, busy, owner_map, owner_stays}
-use Rattle.fx_lasting.proofs.range_lemmas.Groups.{counts_same}
+use Rattle.table_range.proofs.Counting.{counts_same, moved_one}
 use Rattle.fx_lasting.proofs.Keeping.{few_in_range}
-use Rattle.fx_lasting.proofs.range_lemmas.Groups.{counts_reseated}
 use Rattle.fx_lasting.proofs.life_lemmas.Openings.{laws}
 use Rattle.fx_lasting.proofs.life_lemmas.Reseating.{reseat}
 use Rattle.table_seats.proofs.Moving.{IsRule, may_join, may_split}
@@ -18,9 +17,6 @@ use Rattle.table_seats.proofs.Together.{renewed, reseated as seats_reseated}
 
 -- the rule holds where passes are in other seats that do nothing
 module _ (k : Start) (s : Shared) (r : Agrees k s) (views : List View) (m : Moves seats k r.history s.views views) where
-  by_change : (f : Change → ℕ) → f Outside ≡ 0 → sum_by (λ (u : View). f u.change) views ≡ sum_by (λ (u : View). f u.change) s.views
-  by_change f still = m.seats.by_work (λ u. f u.change) (λ u idle. ap f idle.2 ∙ still)
-
   by_work : (f : Work → ℕ) → f Idle ≡ 0 → sum_by (λ (u : View). f u.work) views ≡ sum_by (λ (u : View). f u.work) s.views
   by_work f still = m.seats.by_work (λ u. f u.work) (λ u idle. ap f idle.0 ∙ still)
 
@@ -38,10 +34,11 @@ module _ (k : Start) (s : Shared) (r : Agrees k s) (views : List View) (m : Move
     }) (λ old. r.holds.views j u old) (m.seats.each j u e);
     holds = λ n. by_work (λ d. if_file n (held_in d)) refl;
     life = seats_reseated r.life m;
-    counts = counts_reseated r.range views
-        (λ j u g e is. ⊎_elim (λ new. let bad : Inside g ≡ Outside = sym is ∙ new.idle.2 in absurd (cc bad)) (λ old. old) (m.seats.each j u e))
-        (λ j u y e has. ⊎_elim (λ new. let w = new.its y has in (w.0, w.1, w.2, w.4)) (λ old. (j, u, old, has)) (m.seats.each j u e))
-        by_change;
+    counts = counts_same r.range (few_in_range r) record {
+      owe = λ f still. m.seats.by_work (λ u. f u.change) (λ u idle. ap f idle.2 ∙ still);
+      calm = λ j u g e is. ⊎_elim (λ new. let bad : Inside g ≡ Outside = sym is ∙ new.idle.2 in absurd (cc bad)) (λ old. (j, u, old, is)) (m.seats.each j u e);
+      was = λ j u y e has. ⊎_elim (λ new. let w = new.its y has in (w.0, w.1, y, w.2, w.4, refl, refl)) (λ old. (j, u, y, old, has, refl, refl)) (m.seats.each j u e);
+    } refl (refl, λ g l. refl);
   }
 
 pub is_rule : IsRule seats Agrees
@@ -86,7 +83,7 @@ module _ (k : Start) (s : Shared) (r : Agrees k s) (id : ℕ) (v : View) (here :
         }) (λ t. r.holds.views j u t.1) (at_set s.views id j forgot u e);
     holds = λ n. let t = sum_set (held_of n) s.views id v forgot here in let e = ap (if_file n) (no_file free_of) in omega arith;
     life = renewed r.life id here refl refl refl (λ none. let e = (r.life.seats id v here).empty none in (refl, e.1, e.2));
-    counts = counts_same id forgot here r.range (few_in_range r) refl (refl, λ g l. refl) refl (λ y has. (y, has, refl, refl));
+    counts = counts_same r.range (few_in_range r) (moved_one id forgot here refl (λ y has. (y, has, refl, refl))) refl (refl, λ g l. refl);
   }
 
 -- writes at two places, in the other order

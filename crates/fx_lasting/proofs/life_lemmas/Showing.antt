@@ -9,7 +9,7 @@ use Rattle.fx_lasting.proofs.Words.{contains_alone, learned_so, Splits, Seat}
 use Rattle.fx_lasting.proofs.Words.{Closed, Option, Adds, no_use, Learns}
 use Rattle.fx_lasting.specs.life.Showing.{HasLearned}
 use Rattle.fx_lasting.proofs.Frames.{owner_same}
-use Rattle.fx_lasting.proofs.range_lemmas.Groups.{counts_same}
+use Rattle.table_range.proofs.Counting.{counts_same, moved_one}
 use Rattle.fx_lasting.proofs.Keeping.{few_in_range}
 use Rattle.fx_lasting.proofs.Words.{HasSeen, its_pass, seats, shown_view}
 use Rattle.fx_lasting.proofs.life_lemmas.Openings.{laws}
@@ -67,9 +67,9 @@ module _ (k : Start) (id : ℕ) (v w : View) (x : Log) (one : v.logs ≡ x ∷ [
         }) (λ t. r.holds.views j u t.1) (at_set s.views id j learned u e);
     holds = λ n. let t = sum_set (held_of n) s.views id v learned at in omega arith;
     life = seats_learn r.life id at one refl refl refl refl record { seen = ([], refl); own = refl };
-    counts = counts_same id learned at r.range (few_in_range r) refl (refl, λ g l. refl) refl
+    counts = counts_same r.range (few_in_range r) (moved_one id learned at refl
         (λ y has. subst (λ (y : Log). (z : Log) × Contains v.logs z × (z.number ≡ y.number) × (z.asked ≡ y.asked)) (sym (contains_only log y has))
-        (x, contains_alone one, refl, refl));
+        (x, contains_alone one, refl, refl))) refl (refl, λ g l. refl);
   }
 
   learns_so : HasLearned v w learned

@@ -7,7 +7,7 @@ use Rattle.fx_lasting.proofs.Words.{[], zero, suc, file_numbered, files_in_order
 use Rattle.fx_lasting.proofs.Words.{empty_word_of, read_default, length-replicate, replicate, Labels, label_of, tag_place, number_place, HasWritten}
 use Rattle.fx_lasting.proofs.Words.{first_at, AreFirstHomes, IsShell, file_in_place, number_of_mark, words_for, in_place, none_outside, ◌≢◌, subst}
 use Rattle.fx_lasting.proofs.Words.{ℕ_discrete, length-set, get_or-set_other, get_or-set_same, file_word_of, birth_word, slice_set, option_map}
-use Rattle.fx_lasting.proofs.range_lemmas.Groups.{few_groups}
+use Rattle.table_range.proofs.GroupSlots.{few_groups}
 use Rattle.fx_lasting.proofs.Places.{labels_apart}
 
 -- the words of the first groups and slots, this many, are written so

@@ -2,7 +2,7 @@
 use Rattle.fx_lasting.proofs.Words.{◌≡◌, ℕ, ◌+◌, [], ◌▷◌, Full, subst, Bool, true, false, Sat, Work, Glance, Change, Runs, Survey, Covered, as_asked}
 use Rattle.fx_lasting.proofs.Words.{sym, ◌∙◌, ap, IsAtWork, Start, LastingTable, LastingPass, IsPassOfTable, Knows, groups_in, range_at_start}
 use Rattle.fx_lasting.proofs.Words.{opening_of, view_of, Option, Closed, View, List, Action, arith, HasQuestionOf, pass_in, Seat, adds_nothing, Adds}
-use Rattle.fx_lasting.proofs.Words.{no_use, IsIdle, Doing, DoesNothing, AsksSo, DecidesIf, HasAsked}
+use Rattle.fx_lasting.proofs.Words.{cond, no_use, IsIdle, Doing, DoesNothing, AsksSo, DecidesIf, HasAsked}
 use Rattle.fx_lasting.proofs.Passing.{adds_run}
 use Rattle.fx_lasting.proofs.Running.{runs_then, runs_none, runs_asked, at_asked, still_at_work, number_is}
 
@@ -88,10 +88,7 @@ has_not_asked t {p} fits = record {
 }
 
 -- what an idle pass has added
-pub asked_full : {t : LastingTable} {n : ℕ} {p p' : LastingPass} → HasAsked t n p true p' → IsIdle (view_of p)
-    → Adds (opening_of t.table.shared.key) (view_of p) ([] ▷ Full) DoesNothing no_use (view_of p')
-asked_full {t} {p = p} {p' = p'} h idle = subst (λ (d : Doing). Adds (opening_of t.table.shared.key) (view_of p) ([] ▷ Full) d no_use (view_of p')) idle h.adds
-
-pub asked_nothing : {t : LastingTable} {n : ℕ} {p p' : LastingPass} → HasAsked t n p false p' → IsIdle (view_of p)
-    → Adds (opening_of t.table.shared.key) (view_of p) [] DoesNothing no_use (view_of p')
-asked_nothing {t} {p = p} {p' = p'} h idle = subst (λ (d : Doing). Adds (opening_of t.table.shared.key) (view_of p) [] d no_use (view_of p')) idle h.adds
+pub asked_so : {t : LastingTable} {n : ℕ} {p p' : LastingPass} {sure : Bool} → HasAsked t n p sure p' → IsIdle (view_of p)
+    → Adds (opening_of t.table.shared.key) (view_of p) (cond sure ([] ▷ Full) []) DoesNothing no_use (view_of p')
+asked_so {t} {p = p} {p' = p'} {sure} h idle =
+    subst (λ (d : Doing). Adds (opening_of t.table.shared.key) (view_of p) (cond sure ([] ▷ Full) []) d no_use (view_of p')) idle h.adds

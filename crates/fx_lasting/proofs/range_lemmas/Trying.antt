@@ -4,7 +4,7 @@ use Rattle.fx_lasting.proofs.Words.{Allocate, Sat, Work, Glance, Change, Placing
 use Rattle.fx_lasting.proofs.Words.{LastingTable, IsInRange, List, Action, Start, group_of, range_at_start, node_of_number, ◌▷▷◌, ◌-◌, IsAtWork}
 use Rattle.fx_lasting.proofs.Words.{IsInStock, NamesANode, as_swapped, pass_in, name_in, nodes_of, get_elem?, some, label_of, as_written}
 use Rattle.fx_lasting.proofs.Words.{Option, None, IfSome, most_carried, IsPlacing, HasAllocated, StillPlaces, group_steps}
-use Rattle.fx_lasting.proofs.range_lemmas.Groups.{by_size}
+use Rattle.table_range.proofs.GroupSlots.{by_size}
 use Rattle.fx_lasting.proofs.Running.{runs_one, runs_goes, runs_within, turns_then, does_then, swapped_then, at_swapped, still_at_work}
 
 -- a slot of the range is one of the table
@@ -134,9 +134,9 @@ is_placing stock m {n = n} e few run its at place = record {
 
 -- The steps of a search through some groups
 pub group_more : (len count most : ℕ) → most ≤ count * group_steps len → most + group_steps len ≤ (count + 1) * group_steps len
-group_more len count most = by_size (λ size. most ≤ count * (3 * size + 1) → most + (3 * size + 1) ≤ (count + 1) * (3 * size + 1))
-    (λ l. omega (arith, l)) (λ l. omega (arith, l)) (λ l. omega (arith, l)) (λ l. omega (arith, l)) len
+group_more len count most = by_size (λ size. most ≤ count * (3 * size + 1) → most + (3 * size + 1) ≤ (count + 1) * (3 * size + 1)) len
+    (λ _ l. omega (arith, l)) (λ _ l. omega (arith, l)) (λ _ l. omega (arith, l)) (λ l. omega (arith, l))
 
 pub groups_most : (len count most groups : ℕ) → count ≤ groups → most ≤ count * group_steps len → most ≤ groups * group_steps len
-groups_most len count most groups few = by_size (λ size. most ≤ count * (3 * size + 1) → most ≤ groups * (3 * size + 1))
-    (λ l. omega (arith, l, few)) (λ l. omega (arith, l, few)) (λ l. omega (arith, l, few)) (λ l. omega (arith, l, few)) len
+groups_most len count most groups few = by_size (λ size. most ≤ count * (3 * size + 1) → most ≤ groups * (3 * size + 1)) len
+    (λ _ l. omega (arith, l, few)) (λ _ l. omega (arith, l, few)) (λ _ l. omega (arith, l, few)) (λ l. omega (arith, l, few))

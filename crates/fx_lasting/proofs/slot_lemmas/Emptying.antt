@@ -8,7 +8,7 @@ use Rattle.fx_lasting.proofs.slot_lemmas.Swaps.{Ends, IsAlike, found, d_inside, 
 use Rattle.fx_lasting.proofs.node_lemmas.StockMoves.{StaysNamed, names_same, where_moved, stock_moved, names_moved, tells_swapped}
 use Rattle.fx_lasting.proofs.Frames.{owner_stays, node_same}
 use Rattle.fx_lasting.proofs.Keeping.{Turn, After, tells, w, end, asks_alike, few_slots}
-use Rattle.fx_lasting.proofs.range_lemmas.Groups.{counts_emptied}
+use Rattle.table_range.proofs.Counting.{counts_emptied}
 use Rattle.fx_lasting.proofs.Places.{slot_else, slot_alike}
 use Rattle.fx_lasting.proofs.hold_lemmas.Unheld.{in_phase}
 
@@ -55,7 +55,7 @@ module _ (turn : Turn) (s : ℕ) (inside : s < slots_of turn.v.start) (old : Opt
       owners = λ m low apart. owner_stays st.views id v (w turn after) here m (λ bad. let a = ends.works in omega arith) (r.phase m) (r.nodes.owners m low);
       labels = λ m low apart. r.nodes.labels m low;
       counts = counts_emptied id (w turn after) here r.range s old (few_slots turn) was (slot_alike turn s inside left)
-          (asks_alike turn after refl) off refl;
+          (asks_alike turn after refl) refl off;
     }
 
     agrees : StaysNamed turn s left where₁ stock₁ → full_name_in left ≡ 0 → (count_in left ≡ 0) × (heat_in left ≡ 0) → Agrees v.start (end turn after)

@@ -12,7 +12,7 @@ use Rattle.fx_lasting.proofs.Histories.{each_changed}
 use Rattle.fx_lasting.proofs.node_lemmas.StockMoves.{where_moved, stock_moved, names_moved, tells_swapped}
 use Rattle.fx_lasting.proofs.Frames.{owner_stays, node_same}
 use Rattle.fx_lasting.proofs.Keeping.{Turn, After, word_at, slot_word, w, end, Homes, asks_alike, few_slots}
-use Rattle.fx_lasting.proofs.range_lemmas.Groups.{counts_filled}
+use Rattle.table_range.proofs.Counting.{counts_filled}
 use Rattle.fx_lasting.proofs.Places.{slot_words, slot_here, slot_else, slot_alike}
 use Rattle.fx_lasting.proofs.hold_lemmas.Unheld.{in_phase}
 
@@ -127,8 +127,8 @@ module _ (turn : Turn) (s : ℕ) (inside : s < slots_of turn.v.start) (old : Opt
       old_home = λ f is. set_else st.homes n (r.node_of f.number) (some (Some file)) (λ same. its_apart f is (sym same));
       owners = λ m l apart. each_changed (OwnerAgrees (set st.views id (w turn put_after))) r.phase (λ same. tt)
           (λ other. owner_stays st.views id v (w turn put_after) here m (λ bad. let b = does.works in other (omega arith)) (r.phase m) (r.nodes.owners m l));
-      counts = counts_filled id (w turn put_after) here r.range s old new_file (few_slots turn) was (slot_alike turn s inside new_word)
-          (asks_alike turn put_after refl) out refl;
+      counts = counts_filled id (w turn put_after) here r.range s old (few_slots turn) was (slot_alike turn s inside new_word)
+          (asks_alike turn put_after refl) refl new_file out;
     }
 
     pub put_agrees : Agrees v.start (end turn put_after)

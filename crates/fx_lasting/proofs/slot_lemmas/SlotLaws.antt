@@ -15,7 +15,7 @@ use Rattle.fx_lasting.proofs.node_lemmas.StockMoves.{names_a_node}
 use Rattle.fx_lasting.proofs.Histories.{grows_one, legal_more, part_mine, held_mine, same_shape}
 use Rattle.fx_lasting.proofs.Frames.{busy}
 use Rattle.fx_lasting.proofs.Keeping.{Turn, turn_of, After, word_at, slot_word, Made, by_turn, its_log, its_work, w, end}
-use Rattle.fx_lasting.proofs.range_lemmas.Groups.{in_range_so}
+use Rattle.table_range.proofs.GroupSlots.{in_range_so}
 use Rattle.fx_lasting.proofs.slot_lemmas.Sights.{seen_instead}
 use Rattle.fx_lasting.proofs.Places.{slot_back}
 use Rattle.fx_lasting.proofs.hold_lemmas.Looking.{unnamed}

@@ -10,7 +10,8 @@ use Rattle.fx_plain.specs.declared.event.Event.{Event}
 use Rattle.fx_plain.specs.declared.event.File.{File}
 use Rattle.fx_lasting.specs.slots.Deeds.{Deed, untouched, over, heated}
 use Rattle.fx_lasting.specs.life.Layout.{list_place, slot_place}
-use Rattle.fx_lasting.specs.Fields.{full_name_in, IsHot, announced, mark, bit_of, IsListedIn}
+use Rattle.table_range.specs.Counts.{bit_of}
+use Rattle.fx_lasting.specs.Fields.{full_name_in, IsHot, announced, mark, IsListedIn}
 use Rattle.fx_lasting.specs.Passes.{Shared, slots_of, nodes_of, hold_word_of, state_after_all}
 use Rattle.fx_lasting.specs.Passes.{held_in, held_of}
 use Rattle.fx_lasting.specs.nodes.Phases.{Phase, free, placed, seated, leaving, emptied, kept}

@@ -4,7 +4,7 @@ use Rattle.fx_plain.specs.History.{part_of_pass}
 use Rattle.table_seats.specs.Seats.{Seats}
 use Rattle.fx_table.specs.Opening.{lasting_opening}
 use Rattle.fx_lasting.specs.Passes.{contents_of, new_log}
-use Rattle.fx_lasting.specs.declared.view.Change.TheVariants.{Outside}
+use Rattle.table_range.specs.declared.views.Change.TheVariants.{Outside}
 use Rattle.fx_lasting.specs.declared.view.Glance.TheVariants.{None as Nothing}
 use Rattle.fx_lasting.specs.declared.view.Log.{Log}
 use Rattle.fx_lasting.specs.declared.view.Start.{Start}

@@ -5,10 +5,10 @@ use Rattle.fx_plain.specs.State.{State}
 use Rattle.fx_plain.specs.declared.event.File.{File}
 use Rattle.fx_table.specs.FullSlots.{full_in, first_at}
 use Rattle.fx_table.specs.Shells.{file_in_place}
+use Rattle.table_range.specs.Groups.{question_place, group_place, groups_in, group_start, group_len}
 use Rattle.fx_lasting.specs.nodes.Labels.{HasWritten, label_of}
-use Rattle.fx_lasting.specs.life.Layout.{question_place, group_place, list_place, slot_place}
-use Rattle.fx_lasting.specs.life.Layout.{hold_place, node_place, words_for, groups_in, group_start}
-use Rattle.fx_lasting.specs.life.Layout.{group_len, tag_place, number_place, IsNoLabel}
+use Rattle.fx_lasting.specs.life.Layout.{list_place, slot_place, hold_place, node_place, words_for}
+use Rattle.fx_lasting.specs.life.Layout.{tag_place, number_place, IsNoLabel}
 use Rattle.fx_lasting.specs.life.Opens.{word_for, node_for}
 use Rattle.fx_lasting.specs.Fields.{empty_word_of}
 

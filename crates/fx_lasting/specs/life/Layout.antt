@@ -2,7 +2,9 @@
 use Rattle.std.specs.Prelude.{◌≡◌, ◌≢◌, ℕ, ◌+◌, ◌-◌, ◌*◌, ◌/◌, ◌<◌, ◌≤◌, min, nat_lt}
 use Rattle.std.specs.Prelude.{if◌then◌else◌, zero, suc, List, [], ◌∷◌, ◌++◌}
 use Rattle.std.specs.List.{range_with_len}
-use Rattle.fx_lasting.specs.Fields.{bit_of}
+use Rattle.table_range.specs.Counts.{bit_of}
+use Rattle.table_range.specs.Groups.{question_place, group_place}
+use Rattle.table_range.specs.declared.groups.TheConstants.{RANGE_END}
 
 -- A line is 8 words. The table's memory begins with the third word of a line: the malloc of glibc
 -- returns a large block 16 bytes after the beginning of a page, so that a line is a cache line.
@@ -13,14 +15,6 @@ use Rattle.fx_lasting.specs.Fields.{bit_of}
 -- the line of the word at a place
 abbrev pub line_at : ℕ → ℕ
 line_at place = (place + 2) / 8
-
--- the word with a bit for each pass that asks whether the allocation range is full
-abbrev pub question_place : ℕ
-question_place = 0
-
--- the word of a group, which counts its full slots. There are at most 64 groups
-abbrev pub group_place : ℕ → ℕ
-group_place group = 22 + 8 * group
 
 -- the word of the list that has the bit of a pass, from 1
 abbrev pub list_place : ℕ → ℕ
@@ -42,15 +36,15 @@ node_words n = 4 * n + 4 * min n 4096
 
 -- the word of a slot
 abbrev pub slot_place : ℕ → ℕ
-slot_place slot = 534 + slot_words slot
+slot_place slot = RANGE_END + slot_words slot
 
 -- the hold word of a pass, from 1
 abbrev pub hold_place : ℕ → ℕ → ℕ
-hold_place size pass = 526 + 8 * slot_lines size + 8 * pass
+hold_place size pass = RANGE_END - 8 + 8 * slot_lines size + 8 * pass
 
 -- the word of a node, the first one of the node's words. The nodes' words follow all others
 abbrev pub node_place : ℕ → ℕ → ℕ → ℕ
-node_place size passes node = 534 + 8 * slot_lines size + 8 * passes + node_words node
+node_place size passes node = RANGE_END + 8 * slot_lines size + 8 * passes + node_words node
 
 -- the next two words of the node, its label: the tag of its file, and the number
 abbrev pub tag_place : ℕ → ℕ → ℕ → ℕ
@@ -61,7 +55,7 @@ number_place size passes node = node_place size passes node + 2
 
 -- the number of words of a table with `nodes` nodes
 abbrev pub words_for : ℕ → ℕ → ℕ → ℕ
-words_for size passes nodes = 534 + 8 * slot_lines size + 8 * passes + node_words nodes
+words_for size passes nodes = RANGE_END + 8 * slot_lines size + 8 * passes + node_words nodes
 
 -- the first node of a pass's first stock: the nodes that the slots name first come before all
 -- stocks
@@ -87,27 +81,6 @@ stocks_back size passes installing pass (suc n) =
 -- each of these passes as many as the table has passes
 abbrev pub nodes_for : ℕ → ℕ → ℕ → ℕ
 nodes_for size passes installing = size + installing * passes
-
--- the number of slots of a group, in a range of `len` slots. The last group may have fewer
-abbrev pub group_size : ℕ → ℕ
-group_size len = if nat_lt 65536 len then 16384
-    else if nat_lt 4096 len then 1024 else if nat_lt 256 len then 64 else 4
-
--- the number of groups
-abbrev pub groups_in : ℕ → ℕ
-groups_in len = (len + (group_size len - 1)) / group_size len
-
--- the group of a slot of the range
-abbrev pub group_of : ℕ × ℕ → ℕ → ℕ
-group_of range slot = (slot - range.0) / group_size range.1
-
--- the first slot of a group, and the number of its slots
-abbrev pub group_start : ℕ × ℕ → ℕ → ℕ
-group_start range group = range.0 + group * group_size range.1
-
-abbrev pub group_len : ℕ → ℕ → ℕ
-group_len len group = let left = len - group * group_size len in
-    if nat_lt left (group_size len) then left else group_size len
 
 -- the places of words are inside the table's memory
 pub record PlacesAreInside (size passes nodes : ℕ) : Type 0 where

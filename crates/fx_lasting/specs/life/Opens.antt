@@ -7,14 +7,13 @@ use Rattle.atomic_table.specs.Table.{opening}
 use Rattle.fx_base.specs.Identity.{Identity}
 use Rattle.fx_plain.specs.declared.event.File.{File}
 use Rattle.fx_table.specs.FullSlots.{full_in}
+use Rattle.table_range.specs.Groups.{question_place, group_place, groups_in, group_start, group_len}
 use Rattle.fx_lasting.specs.nodes.NodesAgree.{Labels}
 use Rattle.fx_lasting.specs.nodes.Labels.{label_of}
-use Rattle.fx_lasting.specs.life.Layout.{question_place, group_place, list_place, slot_place}
-use Rattle.fx_lasting.specs.life.Layout.{words_for, groups_in, group_start, group_len}
+use Rattle.fx_lasting.specs.life.Layout.{list_place, slot_place, words_for}
 use Rattle.fx_lasting.specs.Fields.{birth_word, empty_word_of, file_word_of}
-use Rattle.fx_lasting.specs.Passes.{Shared, slots_of, range_at_start, nodes_of}
-use Rattle.fx_lasting.specs.Passes.{word_of, hold_word_of}
-use Rattle.fx_lasting.specs.Passes.{state_after_all}
+use Rattle.fx_lasting.specs.Passes.{Shared, slots_of, range_at_start, nodes_of, word_of}
+use Rattle.fx_lasting.specs.Passes.{hold_word_of, state_after_all}
 use Rattle.fx_lasting.specs.declared.life.layout.TheConstants.{MOST_SLOTS}
 use Rattle.fx_lasting.specs.declared.view.Start.{Start}
 use Rattle.fx_lasting.specs.declared.view.View.{View}

@@ -9,8 +9,8 @@ use Rattle.fx_lasting.specs.Tables.{IsPassOfTable, opening_of_table, view_of, st
 use Rattle.fx_lasting.specs.Effects.{as_asked}
 use Rattle.fx_lasting.specs.declared.pass.LastingPass.{LastingPass}
 use Rattle.fx_lasting.specs.declared.table.LastingTable.{LastingTable}
-use Rattle.fx_lasting.specs.declared.view.Survey.{Survey}
-use Rattle.fx_lasting.specs.declared.view.Survey.TheVariants.{Covered}
+use Rattle.table_range.specs.declared.views.Survey.{Survey}
+use Rattle.table_range.specs.declared.views.Survey.TheVariants.{Covered}
 
 -- some steps in a row, after which the pass has asked so; they leave all else as it was
 abbrev pub AsksSo : Survey → ℕ → Sat → Sat → Type 0

@@ -14,7 +14,7 @@ use Rattle.fx_table.specs.Pass.{PassView}
 use Rattle.fx_table.specs.declared.values.Doing.TheVariants.{Idle as DoesNothing}
 use Rattle.fx_lasting.specs.Ends.{Does}
 use Rattle.fx_lasting.specs.nodes.Labels.{label_of, as_written}
-use Rattle.fx_lasting.specs.life.Layout.{group_size, groups_in}
+use Rattle.table_range.specs.Groups.{group_size, groups_in}
 use Rattle.fx_lasting.specs.Fields.{most_carried}
 use Rattle.fx_lasting.specs.Passes.{Sat, nodes_of, node_of_number}
 use Rattle.fx_lasting.specs.nodes.Stocks.{IsInStock}

@@ -7,8 +7,7 @@ use Rattle.fx_plain.specs.declared.event.Action.TheVariants.{Release, Take}
 use Rattle.fx_plain.specs.declared.event.File.{File}
 use Rattle.fx_table.specs.Calls.{Adds, no_use}
 use Rattle.fx_table.specs.Pass.{PassView, IsFileRemoval}
-use Rattle.fx_table.specs.declared.values.Doing.TheVariants.{Holding}
-use Rattle.fx_table.specs.declared.values.Doing.TheVariants.{Retiring as Retires}
+use Rattle.fx_table.specs.declared.values.Doing.TheVariants.{Holding, Retiring as Retires}
 use Rattle.fx_table.specs.declared.values.Hold.{Hold}
 use Rattle.fx_table.specs.declared.values.Retired.{Retired}
 use Rattle.fx_lasting.specs.slots.SlotAgrees.{Names}
@@ -28,7 +27,7 @@ use Rattle.fx_lasting.specs.declared.answers.TakenIf.TheVariants as taken
 use Rattle.fx_lasting.specs.declared.key.Key.{Key}
 use Rattle.fx_lasting.specs.declared.key_answers.KeyFault.{KeyFault}
 use Rattle.fx_lasting.specs.declared.pass.LastingPass.{LastingPass}
-use Rattle.fx_lasting.specs.declared.view.Change.TheVariants.{Outside}
+use Rattle.table_range.specs.declared.views.Change.TheVariants.{Outside}
 use Rattle.fx_lasting.specs.declared.view.Start.{Start}
 
 -- a pass that holds a file, and tried to empty a slot whose word named the file's node. It has this

@@ -36,7 +36,7 @@ use Rattle.fx_lasting.specs.declared.answers.PutIf.{PutIf}
 use Rattle.fx_lasting.specs.declared.answers.PutIf.TheVariants as put
 use Rattle.fx_lasting.specs.declared.answers.TakenIf.{TakenIf}
 use Rattle.fx_lasting.specs.declared.answers.TakenIf.TheVariants.{Removed, Missed}
-use Rattle.fx_lasting.specs.declared.view.Change.TheVariants.{Outside}
+use Rattle.table_range.specs.declared.views.Change.TheVariants.{Outside}
 use Rattle.fx_lasting.specs.declared.view.Start.{Start}
 
 -- the file is on the node

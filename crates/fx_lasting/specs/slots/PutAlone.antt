@@ -42,7 +42,7 @@ use Rattle.fx_lasting.specs.declared.tried.Renewal.{Renewal}
 use Rattle.fx_lasting.specs.declared.tried.Renewal.TheVariants.{Ends, Moved}
 use Rattle.fx_lasting.specs.declared.tried.Taken.{Taken}
 use Rattle.fx_lasting.specs.declared.tried.Taken.TheVariants as taken
-use Rattle.fx_lasting.specs.declared.view.Change.TheVariants.{Outside}
+use Rattle.table_range.specs.declared.views.Change.TheVariants.{Outside}
 use Rattle.fx_lasting.specs.declared.view.Glance.{Glance}
 use Rattle.fx_lasting.specs.declared.view.Glance.TheVariants.{None as Nothing, Cold, Hot}
 use Rattle.fx_lasting.specs.declared.view.Placement.{Placement}

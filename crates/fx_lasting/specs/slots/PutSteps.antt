@@ -11,7 +11,7 @@ use Rattle.fx_plain.specs.declared.event.Action.TheVariants.{Look, Put, Release}
 use Rattle.atomic_table.specs.Table.{rest}
 use Rattle.fx_words.specs.Words.{name_in}
 use Rattle.fx_lasting.specs.slots.SlotAgrees.{Names}
-use Rattle.fx_lasting.specs.range.Groups.{account}
+use Rattle.table_range.specs.Counts.{account}
 use Rattle.fx_lasting.specs.nodes.Labels.{label_of, as_written}
 use Rattle.fx_lasting.specs.Fields.{full_name_in, IsHot}
 use Rattle.fx_lasting.specs.Passes.{Sat, HoldsBesides, is_guarding, node_of_number, nodes_of}

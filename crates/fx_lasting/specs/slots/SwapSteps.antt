@@ -15,15 +15,14 @@ use Rattle.fx_table.specs.declared.values.Doing.TheVariants.{Retiring as Retires
 use Rattle.fx_table.specs.declared.values.Retired.{Retired}
 use Rattle.fx_words.specs.Words.{name_in}
 use Rattle.fx_lasting.specs.slots.SlotAgrees.{Names}
-use Rattle.fx_lasting.specs.range.Groups.{account}
+use Rattle.table_range.specs.Counts.{account}
 use Rattle.fx_lasting.specs.holds.HeldFiles.{IsOneOnItsNode}
 use Rattle.fx_lasting.specs.Fields.{empty_word_of}
 use Rattle.fx_lasting.specs.Passes.{Sat, HoldsAlone, is_guarding, node_of_number, range_at_start}
 use Rattle.fx_lasting.specs.Runs.{Runs}
 use Rattle.fx_lasting.specs.nodes.Stocks.{IsStockOf}
 use Rattle.fx_lasting.specs.Effects.{At, Found, HasItsHold, NamesANode, Sees, Stepped, as_stocked}
-use Rattle.fx_lasting.specs.Effects.{as_swapped, leaving_work, pass_in}
-use Rattle.fx_lasting.specs.Effects.{retiring_work, slot_of}
+use Rattle.fx_lasting.specs.Effects.{as_swapped, leaving_work, pass_in, retiring_work, slot_of}
 use Rattle.fx_lasting.specs.declared.view.Start.{Start}
 
 -- Swap, to the word of an empty slot that names a node of the stock, by a clear or by a take

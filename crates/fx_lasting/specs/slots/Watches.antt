@@ -4,8 +4,9 @@ use Rattle.fx_plain.specs.History.{◌▷◌, IsSeenBy}
 use Rattle.fx_plain.specs.declared.event.Action.{Action}
 use Rattle.fx_plain.specs.declared.event.Action.TheVariants.{Look, Put, Clear, Take, Allocate}
 use Rattle.fx_plain.specs.declared.event.Event.{Event}
-use Rattle.fx_lasting.specs.range.Groups.{HasQuestionOf}
-use Rattle.fx_lasting.specs.life.Layout.{question_place, slot_place}
+use Rattle.table_range.specs.Groups.{question_place}
+use Rattle.table_range.specs.Counts.{HasQuestionOf}
+use Rattle.fx_lasting.specs.life.Layout.{slot_place}
 use Rattle.fx_lasting.specs.Fields.{heat_in}
 use Rattle.fx_lasting.specs.Passes.{slots_of}
 use Rattle.fx_lasting.specs.declared.view.Start.{Start}

@@ -8,11 +8,11 @@
 //! large block 16 bytes after the beginning of a page, so that a line is a cache line there. It
 //! aligns a small block to 16 bytes alone, and then the words of a node may be in two cache lines.
 ghost use Rattle.std.specs.Prelude.{◌≡◌, ◌<◌, ◌≤◌, ◌^◌};
-ghost use Rattle.fx_lasting.specs.life.Layout.{question_place, group_place, group_size, groups_in};
-ghost use Rattle.fx_lasting.specs.life.Layout.{group_len, list_place, slot_place, hold_place};
-ghost use Rattle.fx_lasting.specs.life.Layout.{node_place, tag_place, number_place, words_for};
-ghost use Rattle.fx_lasting.specs.life.Layout.{slot_words, slot_lines, node_words, stock_start};
-ghost use Rattle.fx_lasting.specs.life.Layout.{nodes_for};
+ghost use Rattle.fx_lasting.specs.life.Layout.{list_place, slot_place, hold_place, node_place};
+ghost use Rattle.fx_lasting.specs.life.Layout.{tag_place, number_place, words_for, slot_words};
+ghost use Rattle.fx_lasting.specs.life.Layout.{slot_lines, node_words, stock_start, nodes_for};
+
+use table_range::RANGE_END;
 
 /// The greatest number of slots of a table.
 pub const MOST_SLOTS: u32 = 1_048_576;
@@ -31,83 +31,6 @@ pub(crate) const MOST_NODES: u32 = 1_114_112;
 // are never in one cache line, wherever the allocator puts them: a pass writes its stock in each
 // call that installs or removes a file.
 pub(crate) const STOCK_SPACING: u32 = 16;
-
-// The greatest number of groups.
-pub(crate) const MOST_GROUPS: u32 = 64;
-
-// The place of the question word.
-pub(crate) const QUESTION: usize = 0;
-
-// Returns the number of slots of a group, in a range of `len` slots. The last group may have fewer.
-// Passes that fill and empty a small table's last free slots meet less in small groups.
-#[inline(always)]
-pub(crate) fn group_size(len: u32) -> u32
-    ensures { result ≡ group_size len }
-{
-    if len > 65_536 {
-        16_384
-    } else if len > 4096 {
-        1024
-    } else if len > 256 {
-        64
-    } else {
-        4
-    }
-}
-
-// Returns the exponent of the size of a group, of which it is the power of 2.
-pub(crate) fn group_bits(len: u32) -> u32
-    ensures size { group_size len ≡ 2 ^ result }
-    ensures few { result < 32 }
-{
-    if len > 65_536 {
-        14
-    } else if len > 4096 {
-        10
-    } else if len > 256 {
-        6
-    } else {
-        2
-    }
-}
-
-// Returns the number of groups of a range of `len` slots.
-#[inline(always)]
-pub(crate) fn groups_in(len: u32) -> u32
-    requires { len ≤ MOST_SLOTS }
-    ensures { result ≡ groups_in len }
-{
-    if len > 65_536 {
-        (len + 16_383) / 16_384
-    } else if len > 4096 {
-        (len + 1023) / 1024
-    } else if len > 256 {
-        (len + 63) / 64
-    } else {
-        (len + 3) / 4
-    }
-}
-
-// Returns the number of slots of a group of a range of `len` slots.
-#[inline(always)]
-pub(crate) fn group_len(len: u32, group: u32) -> u32
-    requires size { len ≤ MOST_SLOTS }
-    requires group { group < groups_in len }
-    ensures { result ≡ group_len len group }
-{
-    let each = group_size(len);
-    let left = len - group * each;
-    if left < each { left } else { each }
-}
-
-// Returns the place of a group's word.
-#[inline(always)]
-pub(crate) fn group_place(group: u32) -> usize
-    requires { group < MOST_GROUPS }
-    ensures { result ≡ group_place group }
-{
-    22 + 8 * group as usize
-}
 
 // Returns the place of the word of the list that has the bit of a pass.
 pub(crate) fn list_place(pass: u32) -> usize
@@ -160,7 +83,7 @@ pub(crate) fn slot_place(slot: u32) -> usize
     requires { slot < MOST_SLOTS }
     ensures { result ≡ slot_place slot }
 {
-    534 + slot_words(slot) as usize
+    (RANGE_END + slot_words(slot)) as usize
 }
 
 // Returns the place of a pass's hold word.
@@ -169,7 +92,7 @@ pub(crate) fn hold_place(size: u32, pass: u32) -> usize
     requires pass { pass ≤ MOST_PASSES }
     ensures { result ≡ hold_place size pass }
 {
-    (526 + 8 * slot_lines(size) + 8 * pass) as usize
+    (RANGE_END - 8 + 8 * slot_lines(size) + 8 * pass) as usize
 }
 
 // Returns the place of the first node's word.
@@ -178,7 +101,7 @@ pub(crate) fn first_node(size: u32, passes: u32) -> u32
     requires passes { passes ≤ MOST_PASSES }
     ensures { result ≡ node_place size passes 0 }
 {
-    534 + 8 * slot_lines(size) + 8 * passes
+    RANGE_END + 8 * slot_lines(size) + 8 * passes
 }
 
 // Returns the place of a node's word.
@@ -189,7 +112,7 @@ pub(crate) fn node_place(size: u32, passes: u32, node: u32) -> usize
     requires node { node < MOST_NODES }
     ensures { result ≡ node_place size passes node }
 {
-    (534 + 8 * slot_lines(size) + 8 * passes + node_words(node)) as usize
+    (RANGE_END + 8 * slot_lines(size) + 8 * passes + node_words(node)) as usize
 }
 
 // Returns the place of the tag of a node's file.
@@ -221,7 +144,7 @@ pub(crate) fn words_for(size: u32, passes: u32, nodes: u32) -> usize
     requires nodes { nodes ≤ MOST_NODES }
     ensures { result ≡ words_for size passes nodes }
 {
-    (534 + 8 * slot_lines(size) + 8 * passes + node_words(nodes)) as usize
+    (RANGE_END + 8 * slot_lines(size) + 8 * passes + node_words(nodes)) as usize
 }
 
 // Returns the first node of a pass's first stock.

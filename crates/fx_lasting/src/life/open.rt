@@ -20,9 +20,8 @@ ghost use Rattle.fx_lasting.specs.declared.life.layout.TheConstants.{STOCK_SPACI
 use crate::fields::{BORN, empty_word, file_word};
 use crate::kinds::Deal;
 use crate::life::layout::{
-    MOST_INSTALLING, MOST_PASSES, MOST_SLOTS, STOCK_SPACING, first_node, group_bits, group_len,
-    group_place, group_size, groups_in, node_place, nodes_for, number_place, slot_place,
-    stock_start, tag_place, words_for,
+    MOST_INSTALLING, MOST_PASSES, MOST_SLOTS, STOCK_SPACING, first_node, node_place, nodes_for,
+    number_place, slot_place, stock_start, tag_place, words_for,
 };
 use crate::nodes::labels::number_of_mark;
 use crate::pass::LastingPass;
@@ -34,6 +33,7 @@ use fx_plain::PlainTable;
 use fx_table::{move_out, put_all};
 use std::alloc::Global;
 use std::snapshot::Snapshot;
+use table_range::{group_bits, group_len, group_place, group_size, groups_in};
 
 impl LastingTable {
     /// Shares a settled table (`PlainTable::is_settled`) between `passes` passes, 1 to

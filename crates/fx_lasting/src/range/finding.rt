@@ -3,7 +3,7 @@
 ghost use Rattle.std.specs.Prelude.{◌≡◌, ℕ, ◌+◌, ◌*◌, ◌<◌, ◌≤◌};
 ghost use Rattle.fx_table.specs.Pass.{IsIdle};
 ghost use Rattle.fx_lasting.specs.AtWork.{IsAtWork};
-ghost use Rattle.fx_lasting.specs.life.Layout.{groups_in};
+ghost use Rattle.table_range.specs.Groups.{groups_in};
 ghost use Rattle.fx_lasting.specs.Tables.{view_of, steps_taken, IsPassOfTable};
 ghost use Rattle.fx_lasting.specs.range.Tries.{group_steps, scan_steps};
 ghost use Rattle.fx_lasting.specs.slots.AtEmpty.{HasSearched, LooksFor};
@@ -11,13 +11,13 @@ ghost use Rattle.fx_lasting.specs.declared.life.layout.TheConstants.{MOST_PASSES
 
 use crate::answers::FoundSlot;
 use crate::kinds::Peeking;
-use crate::life::layout::{group_len, group_place, group_size, groups_in};
 use crate::pass::LastingPass;
 use crate::range::put_any::step_of;
 use crate::table::LastingTable;
 use crate::view::View;
 use atomic_table::Seat;
 use fx_base::OpenFile;
+use table_range::{counts_all, group_len, group_place, group_size, groups_in};
 
 impl LastingTable {
     /// Finds an empty slot of the allocation range, for an idle pass (`is_idle`) that installs
@@ -113,11 +113,11 @@ impl LastingTable {
             seat.old.me result seat.new.me }
     {
         let word = self.table.shared.load::<Peeking>(seat, group_place(group));
-        let len = group_len(self.range_len, group);
-        if word == u64::from(len) {
+        if counts_all(word, self.range_len, group) {
             return None;
         }
         let first = self.range_start + group * group_size(self.range_len);
+        let len = group_len(self.range_len, group);
         for slot in first..first + len {
             if !self.sees_file(seat, slot) {
                 return Some(slot);

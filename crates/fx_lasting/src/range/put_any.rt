@@ -4,18 +4,18 @@ ghost use Rattle.fx_table.specs.Calls.{Allocated};
 ghost use Rattle.fx_table.specs.Pass.{IsIdle};
 ghost use Rattle.fx_lasting.specs.AtWork.{IsAtWork};
 ghost use Rattle.fx_lasting.specs.Laws.{IsInRange};
-ghost use Rattle.fx_lasting.specs.life.Layout.{groups_in};
+ghost use Rattle.table_range.specs.Groups.{groups_in};
 ghost use Rattle.fx_lasting.specs.range.Questions.{HasAsked};
 ghost use Rattle.fx_lasting.specs.declared.life.layout.TheConstants.{MOST_PASSES};
 ghost use Rattle.fx_lasting.specs.Tables.{view_of, steps_taken, meetings, opening_of_table, IsPassOfTable};
 ghost use Rattle.fx_lasting.specs.slots.AtEmpty.{FailsToFill, FellShort, GivesUpFor};
 ghost use Rattle.fx_lasting.specs.range.Tries.{IsPlacing, Tries, HasAllocated, StillPlaces, TriedSo};
 ghost use Rattle.fx_lasting.specs.range.Tries.{without_asking, group_steps, scan_steps};
-ghost use Rattle.fx_lasting.specs.declared.view.Change.TheVariants.{Outside};
+ghost use Rattle.table_range.specs.declared.views.Change.TheVariants.{Outside};
 
 use crate::fields::{file_word, is_full, node_named};
 use crate::kinds::{Exchanging, Peeking, Seeing};
-use crate::life::layout::{group_len, group_place, group_size, groups_in, slot_place};
+use crate::life::layout::slot_place;
 use crate::pass::LastingPass;
 use crate::table::LastingTable;
 use crate::tried::TriedPut;
@@ -24,6 +24,7 @@ use atomic_table::Seat;
 use fx_base::{Closed, OpenFile};
 use std::sync::Wait;
 use std::thread;
+use table_range::{counts_all, group_len, group_place, group_size, groups_in};
 
 // The steps by which passes go from group to group. Each is a prime above MOST_GROUPS, so it leads
 // through all groups, whatever their number. Passes that find the same groups full have different
@@ -277,11 +278,11 @@ impl LastingTable {
             → StillPlaces node lost file (group_steps self.now.range_len) seat.old.me seat.new.me }
     {
         let word = self.table.shared.load::<Peeking>(seat, group_place(group));
-        let len = group_len(self.range_len, group);
-        if word == u64::from(len) {
+        if counts_all(word, self.range_len, group) {
             return None;
         }
         let first = self.range_start + group * group_size(self.range_len);
+        let len = group_len(self.range_len, group);
         for slot in first..first + len {
             if let Some(named) = self.try_slot(seat, node, lost, file, slot) {
                 return Some((slot, named));

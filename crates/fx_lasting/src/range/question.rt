@@ -5,21 +5,20 @@
 //! pass, so a bit that is there was never cleared since.
 ghost use Rattle.std.specs.Prelude.{◌≡◌, ℕ, ◌+◌, ◌<◌, ◌≤◌, true, false};
 ghost use Rattle.fx_lasting.specs.AtWork.{IsAtWork};
-ghost use Rattle.fx_lasting.specs.life.Layout.{groups_in};
+ghost use Rattle.table_range.specs.Groups.{groups_in};
 ghost use Rattle.fx_lasting.specs.range.Questions.{DecidesIf, AsksSo, VisitsGroup};
 ghost use Rattle.fx_lasting.specs.Effects.{pass_in, MeetsOne};
 ghost use Rattle.fx_lasting.specs.slots.AtEmpty.{FallsShort};
-ghost use Rattle.fx_lasting.specs.declared.view.Change.TheVariants.{Outside};
+ghost use Rattle.table_range.specs.declared.views.Change.TheVariants.{Outside};
 ghost use Rattle.fx_lasting.specs.declared.life.layout.TheConstants.{MOST_INSTALLING};
-ghost use Rattle.fx_lasting.specs.declared.view.Survey.TheVariants.{Covered};
+ghost use Rattle.table_range.specs.declared.views.Survey.TheVariants.{Covered};
 
-use crate::fields::{asks, list_bit};
 use crate::kinds::{Asking, Beginning, Counting, Deciding};
-use crate::life::layout::{QUESTION, group_len, group_place, groups_in};
 use crate::table::LastingTable;
 use crate::view::View;
 use atomic_table::Seat;
 use fx_base::OpenFile;
+use table_range::{QUESTION, asks, counts_all, group_place, groups_in, pass_bit};
 
 impl LastingTable {
     // Checks whether every slot of the range is full, for a pass that installs files, in at most
@@ -58,7 +57,7 @@ impl LastingTable {
         let shared = &self.table.shared;
         let question = shared.load::<Beginning>(seat, QUESTION);
         if !asks(question, number) {
-            shared.fetch_add::<Asking>(seat, QUESTION, list_bit(number));
+            shared.fetch_add::<Asking>(seat, QUESTION, pass_bit(number));
         }
     }
 
@@ -77,7 +76,7 @@ impl LastingTable {
     {
         let shared = &self.table.shared;
         let word = shared.load::<Counting>(seat, group_place(group));
-        word == u64::from(group_len(self.range_len, group))
+        counts_all(word, self.range_len, group)
     }
 
     // Checks whether every slot of the range is full, for a pass that found each group full after

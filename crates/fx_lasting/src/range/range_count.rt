@@ -1,24 +1,20 @@
-//! The counts of full slots in the allocation range. The slots are in groups, and each group has a
-//! word. A pass takes a slot off its group's count before it empties the slot, and adds a slot
-//! after it has filled it, or if it emptied a slot that was empty. So a word never counts more full
-//! slots than its group has, and a word that counts them all says that the group is full. Between
-//! the two steps of a removal the pass clears the question word, if another pass asks whether all
-//! groups are full (`range/question.rt`).
+//! The steps that take a slot off its group's count, clear the questions of other passes, and add a
+//! slot to the count. `table_range` has what the counts mean.
 ghost use Rattle.std.specs.Prelude.{◌≡◌, ℕ, ◌<◌, [], true};
 ghost use Rattle.fx_lasting.specs.AtWork.{IsAtWork};
-ghost use Rattle.fx_lasting.specs.range.Groups.{is_in, uncounted};
+ghost use Rattle.table_range.specs.Groups.{is_in, group_of, groups_in};
+ghost use Rattle.table_range.specs.Counts.{uncounted};
 ghost use Rattle.fx_lasting.specs.Laws.{IsInRange};
-ghost use Rattle.fx_lasting.specs.life.Layout.{group_of, groups_in};
 ghost use Rattle.fx_lasting.specs.Passes.{range_at_start};
 ghost use Rattle.fx_lasting.specs.Runs.{Runs};
-ghost use Rattle.fx_lasting.specs.declared.view.Change.TheVariants.{Outside};
+ghost use Rattle.table_range.specs.declared.views.Change.TheVariants.{Outside};
 
 use crate::kinds::{Breaking, Checking, Lowering, Raising};
-use crate::life::layout::{QUESTION, group_place};
 use crate::table::LastingTable;
 use crate::view::View;
 use atomic_table::Seat;
 use fx_base::OpenFile;
+use table_range::{QUESTION, group_place};
 
 impl LastingTable {
     // Checks whether the slot is in the allocation range.

@@ -19,7 +19,7 @@ ghost use Rattle.fx_lasting.specs.Fields.{count_in, full_name_in};
 ghost use Rattle.fx_lasting.specs.Effects.{pass_in};
 ghost use Rattle.fx_lasting.specs.Tables.{view_of, steps_taken, opening_of_table, IsPassOfTable};
 ghost use Rattle.fx_lasting.specs.range.Tries.{IsPlacing};
-ghost use Rattle.fx_lasting.specs.declared.view.Change.TheVariants.{Outside};
+ghost use Rattle.table_range.specs.declared.views.Change.TheVariants.{Outside};
 
 use crate::answers::{Miss, PutIf, TakenIf};
 use crate::fields::{count_of, empty_word, file_node_of, file_word, without_file};

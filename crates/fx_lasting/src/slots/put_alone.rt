@@ -16,13 +16,13 @@ ghost use Rattle.fx_lasting.specs.Passes.{held_in, HoldsOn, is_guarding};
 ghost use Rattle.fx_lasting.specs.slots.PutAlone.{AimedAt, AimsAt, Compared, HoldsBeside, IsBeside, PutsAlone};
 ghost use Rattle.fx_lasting.specs.slots.PutAlone.{Renews, TookBeside, TriedRenewal, TriedReplaceHeld};
 ghost use Rattle.fx_lasting.specs.Tables.{view_of, meetings, steps_taken, opening_of_table, IsPassOfTable, IsSeatOfTable};
-ghost use Rattle.fx_lasting.specs.declared.view.Change.TheVariants.{Outside};
+ghost use Rattle.table_range.specs.declared.views.Change.TheVariants.{Outside};
 ghost use Rattle.fx_lasting.specs.declared.view.Glance.TheVariants.{None as Nothing, Cold};
 ghost use Rattle.fx_lasting.specs.declared.view.Placement.{Placement};
 ghost use Rattle.fx_lasting.specs.declared.view.Work.TheVariants.{Placing};
 
 use crate::answers::Miss;
-use crate::fields::{file_node_of, file_word, is_hot_at, list_bit};
+use crate::fields::{file_node_of, file_word, is_hot_at};
 use crate::key::Key;
 use crate::key_answers::{KeyFault, KeyPut, PutOverKey};
 use crate::kinds::{Aiming, Listing, ReadingNumber, ReplacingHeld, TakingBeside};
@@ -35,6 +35,7 @@ use crate::tried::{Aim, Renewal, Taken};
 use crate::view::View;
 use atomic_table::Seat;
 use fx_base::{Closed, OpenFile};
+use table_range::pass_bit;
 
 impl LastingTable {
     /// Installs a file in place of the file of a key, under a number that no file has had
@@ -101,7 +102,7 @@ impl LastingTable {
         }
         let shared = &self.table.shared;
         let place = list_place(pass.number);
-        shared.fetch_add::<Listing>(&mut pass.seat, place, list_bit(pass.number));
+        shared.fetch_add::<Listing>(&mut pass.seat, place, pass_bit(pass.number));
         pass.listed = true;
     }
 

@@ -1,5 +1,5 @@
 //! The words of the table: their places and their parts, as `life/layout.rt` and `fields.rt` in
-//! `crates/fx_lasting/src` describe them.
+//! `crates/fx_lasting/src`, and `groups.rt` in `crates/table_range/src`, describe them.
 use super::super::sync::{self, AtomicU64, SeqCst};
 use std::cell::UnsafeCell;
 

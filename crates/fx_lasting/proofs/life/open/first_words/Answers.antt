@@ -1,6 +1,6 @@
 use Rattle.fx_lasting.proofs.Words.{◌<◌, ◌+◌, ◌*◌, ◌∙◌, ap, sym, subst, arith, state_of, ℕ, group_size, group_len, full_in, first_at, slice_set}
 use Rattle.fx_lasting.proofs.Words.{AreNamed, words_for, replicate}
-use Rattle.fx_lasting.proofs.range_lemmas.Groups.{few_groups}
+use Rattle.table_range.proofs.GroupSlots.{few_groups}
 use Rattle.fx_lasting.proofs.life_lemmas.Starting.{AreWordsSoFar, named_so_far, group_written, entry_full, entry_none, slot_written, slot_empty}
 use Rattle.fx_lasting.proofs.life.open.first_words.Goals.{in-Some, in_default}
 use Rattle.fx_lasting.proofs.life.open.first_words.Goals as goal

@@ -1,5 +1,5 @@
 use Rattle.fx_lasting.proofs.Words.{◌∙◌, sym, range_at_start}
-use Rattle.fx_lasting.proofs.range_lemmas.Groups.{in_range_so, was_in}
+use Rattle.table_range.proofs.GroupSlots.{in_range_so, was_in}
 use Rattle.fx_lasting.proofs.table.LastingTable.allocates.Goals as goal
 
 pub returns : goal.returns

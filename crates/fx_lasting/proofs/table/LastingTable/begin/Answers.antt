@@ -18,7 +18,7 @@ fetch_add-requires c =
     let not_yet : at.log.asked ≡ NotAsked = sym (ap (λ (l : List Log). (first_log l).asked) at.pass.1) ∙ run.asked in (
       c.load-question.ensures.0 ∙ c.requires.table,
       omega (arith, c.args.self.now.words),
-      rw (c.list_bit.ensures ∙ ap (λ (n : ℕ). 2 ^ bit_of n) (sym at.its_number)) (asks_keep _ _ _ _ c.load-question.new.seat.me _ at.pass
+      rw (c.pass_bit.ensures ∙ ap (λ (n : ℕ). 2 ^ bit_of n) (sym at.its_number)) (asks_keep _ _ _ _ c.load-question.new.seat.me _ at.pass
           (omega (arith, at.its_number, c.requires.number)) not_yet refl),
     )
 

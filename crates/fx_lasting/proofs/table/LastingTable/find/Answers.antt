@@ -2,7 +2,7 @@ use Rattle.fx_lasting.proofs.Words.{refl, arith, [], ◌∙◌, true, false, Has
 use Rattle.fx_lasting.proofs.slot_lemmas.ByNode.{adds_none, was_before}
 use Rattle.fx_lasting.proofs.slot_lemmas.EmptySlots.{tells_so}
 use Rattle.fx_lasting.proofs.Passing.{at_rest, still_pass}
-use Rattle.fx_lasting.proofs.range_lemmas.Questions.{asked_nothing}
+use Rattle.fx_lasting.proofs.range_lemmas.Questions.{asked_so}
 use Rattle.fx_lasting.proofs.table.LastingTable.find.Goals as goal
 
 pub returns-in-Some-clause-fits : goal.returns-in-Some-clause-fits
@@ -17,7 +17,7 @@ returns-in-Some-clause-found c =
     let k = c.args.self.now.table.shared.key in
     let h : HasAsked c.args.self.now 1 c.args.pass.now false c.is_still_full.new.pass = rw c.if-is_still_full.false at c.is_still_full.ensures in
     let looks = c.in-Some.ensures.looks in
-    let before = asked_nothing h c.requires.idle in
+    let before = asked_so h c.requires.idle in
     let p : LastingPass = record c.is_still_full.new.pass { seat = c.look_for.new.seat; emptied = c.take_last-from.new.self } in (
       looks.0,
       record {
@@ -39,7 +39,7 @@ returns-then-is_all_full-clause-found c =
     let k = c.args.self.now.table.shared.key in
     let h : HasAsked c.args.self.now 1 c.args.pass.now false c.is_still_full.new.pass = rw c.if-is_still_full.false at c.is_still_full.ensures in
     let looks = c.in_default.ensures.looks in
-    let before = asked_nothing h c.requires.idle in
+    let before = asked_so h c.requires.idle in
     let p : LastingPass = record c.is_still_full.new.pass { seat = c.look_for.new.seat; emptied = c.take_last-from.new.self } in
     let adds = adds_then (opening_of k) (view_of c.args.pass.now) (view_of c.is_still_full.new.pass) (view_of p) [] [] DoesNothing DoesNothing no_use no_use
     before (adds_none h.fits before.now looks) in
@@ -51,7 +51,7 @@ returns-else-is_all_full-clause-found c =
     let k = c.args.self.now.table.shared.key in
     let h : HasAsked c.args.self.now 1 c.args.pass.now false c.is_still_full.new.pass = rw c.if-is_still_full.false at c.is_still_full.ensures in
     let looks = c.in_default.ensures.looks in
-    let before = asked_nothing h c.requires.idle in
+    let before = asked_so h c.requires.idle in
     let p : LastingPass = record c.is_still_full.new.pass { seat = c.look_for.new.seat; emptied = c.take_last-from.new.self } in
     let adds = adds_then (opening_of k) (view_of c.args.pass.now) (view_of c.is_still_full.new.pass) (view_of p) [] [] DoesNothing DoesNothing no_use no_use
     before (adds_none h.fits before.now looks) in

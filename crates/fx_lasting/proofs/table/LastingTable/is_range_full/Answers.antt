@@ -1,5 +1,5 @@
 use Rattle.fx_lasting.proofs.Words.{arith, true, false, HasAsked}
-use Rattle.fx_lasting.proofs.range_lemmas.Questions.{asked_full, asked_nothing}
+use Rattle.fx_lasting.proofs.range_lemmas.Questions.{asked_so}
 use Rattle.fx_lasting.proofs.slot_lemmas.EmptySlots.{tells_so}
 use Rattle.fx_lasting.proofs.table.LastingTable.is_range_full.Goals as goal
 
@@ -7,7 +7,7 @@ pub returns-then-is_still_full : goal.returns-then-is_still_full
 returns-then-is_still_full c =
     let h : HasAsked c.args.self.now 1 c.args.pass.now true c.is_still_full.new.pass = rw c.if-is_still_full.true at c.is_still_full.ensures in record {
       fits = h.fits;
-      told = asked_full h c.requires.idle;
+      told = asked_so h c.requires.idle;
       steps = let few = h.steps in omega arith;
     }
 
@@ -23,6 +23,6 @@ returns c =
     record {
       fits = asked.fits;
       told = tells_so c.args.self.now c.args.pass.now c.is_still_full.new.pass c.is_all_full.new.pass c.is_all_full.result
-          (asked_nothing h c.requires.idle) h.met asked c.is_all_full.ensures.short;
+          (asked_so h c.requires.idle) h.met asked c.is_all_full.ensures.short;
       steps = omega (arith, h.steps, asked.steps);
     }

@@ -13,7 +13,7 @@ fetch_add-requires c =
     let not_yet : s.at.log.listed ≡ false = sym (ap (λ (l : List Log). (first_log l).listed) s.at.pass.1) ∙ (sym s.listed ∙ c.requires.unlisted) in (
       s.table,
       list_inside t (omega (arith, s.at.high, t.key.0, t.bounds.1)) c.list_place-place.ensures,
-      rw (c.list_bit.ensures ∙ ap (λ (n : ℕ). 2 ^ bit_of n) (sym s.at.its_number)) (lists_keep _ _ _ _ c.args.pass.now.seat.me _ s.at.pass not_yet
+      rw (c.pass_bit.ensures ∙ ap (λ (n : ℕ). 2 ^ bit_of n) (sym s.at.its_number)) (lists_keep _ _ _ _ c.args.pass.now.seat.me _ s.at.pass not_yet
           (c.list_place-place.ensures ∙ ap list_place (sym s.at.its_number))),
     )
 

@@ -1,7 +1,7 @@
 use Rattle.fx_lasting.proofs.Words.{◌∙◌, arith, refl, subst, ◌+◌, ◌*◌, ◌<◌, ◌≤◌, ℕ, true, false, SeesFile, Some, group_start, group_len}
 use Rattle.fx_lasting.proofs.Calling.{group_word}
 use Rattle.fx_lasting.proofs.range_lemmas.GapSearches.{looks_then, looks_within, looks_at}
-use Rattle.fx_lasting.proofs.range_lemmas.Groups.{group_short, of_group}
+use Rattle.table_range.proofs.GroupSlots.{group_short, of_group}
 use Rattle.fx_lasting.proofs.Peeking.{peeks_keep}
 use Rattle.fx_lasting.proofs.slot_lemmas.ByNode.{stands_then}
 use Rattle.fx_lasting.proofs.Running.{still_at_work, runs_goes, runs_none, runs_within}

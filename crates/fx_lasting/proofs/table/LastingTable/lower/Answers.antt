@@ -1,10 +1,9 @@
 use Rattle.fx_lasting.proofs.Words.{◌≡◌, refl, ap, ◌∙◌, sym, subst, arith, uncounted, Inside, Change, group_of, group_at, range_at_start, true, Runs}
 use Rattle.fx_lasting.proofs.Words.{[]}
 use Rattle.fx_lasting.proofs.Calling.{group_word, its_group}
-use Rattle.fx_lasting.proofs.range_lemmas.Groups.{was_in}
+use Rattle.table_range.proofs.GroupSlots.{was_in, group_back}
 use Rattle.fx_lasting.proofs.range_lemmas.GroupSteps.{lowers_keep}
 use Rattle.fx_lasting.proofs.range_lemmas.QuestionSteps.{checks_keep, breaks_keep}
-use Rattle.fx_lasting.proofs.Places.{group_back}
 use Rattle.fx_lasting.proofs.Running.{still_at_work, runs_one, runs_goes, turns_then, runs_within}
 use Rattle.fx_lasting.proofs.table.LastingTable.lower.Goals.{After-fetch_sub}
 use Rattle.fx_lasting.proofs.table.LastingTable.lower.Goals as goal

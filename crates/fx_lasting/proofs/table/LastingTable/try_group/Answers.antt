@@ -1,6 +1,6 @@
 use Rattle.fx_lasting.proofs.Words.{◌∙◌, arith, refl, ◌+◌, StillPlaces}
 use Rattle.fx_lasting.proofs.Calling.{group_word}
-use Rattle.fx_lasting.proofs.range_lemmas.Groups.{group_short}
+use Rattle.table_range.proofs.GroupSlots.{group_short}
 use Rattle.fx_lasting.proofs.Peeking.{peeks_keep}
 use Rattle.fx_lasting.proofs.Running.{still_at_work, placed_none}
 use Rattle.fx_lasting.proofs.range_lemmas.Trying.{peeked, still_then, allocated_then, still_within, allocated_within}

@@ -1,7 +1,7 @@
 use Rattle.fx_lasting.proofs.Words.{refl, arith, [], ◌▷◌, Allocate, Full, opening_of, view_of, true, false, HasAsked, adds_then, no_use, one_number}
 use Rattle.fx_lasting.proofs.Words.{DoesNothing}
 use Rattle.fx_lasting.proofs.Passing.{new_file_so}
-use Rattle.fx_lasting.proofs.range_lemmas.Questions.{asked_full, asked_nothing}
+use Rattle.fx_lasting.proofs.range_lemmas.Questions.{asked_so}
 use Rattle.fx_lasting.proofs.slot_lemmas.Overtaking.{short_by}
 use Rattle.fx_lasting.proofs.table.LastingTable.try_put_any.Goals as goal
 
@@ -9,7 +9,7 @@ pub returns-then-is_still_full : goal.returns-then-is_still_full
 returns-then-is_still_full c =
     let h : HasAsked c.args.self.now 1 c.args.pass.now true c.is_still_full.new.pass = rw c.if-is_still_full.true at c.is_still_full.ensures in record {
       fits = h.fits;
-      tried = (refl, asked_full h c.requires.idle);
+      tried = (refl, asked_so h c.requires.idle);
       steps = let few = h.steps in omega arith;
       short = tt;
     }
@@ -17,7 +17,7 @@ returns-then-is_still_full c =
 pub try_slots-requires-clause-idle : goal.try_slots-requires-clause-idle
 try_slots-requires-clause-idle c =
     let h : HasAsked c.args.self.now 1 c.args.pass.now false c.is_still_full.new.pass = rw c.if-is_still_full.false at c.is_still_full.ensures in
-    (asked_nothing h c.requires.idle).now
+    (asked_so h c.requires.idle).now
 
 pub try_slots-requires-clause-numbers : goal.try_slots-requires-clause-numbers
 try_slots-requires-clause-numbers c =
@@ -37,7 +37,7 @@ returns-in-Ok c =
           t.1.0,
           new_file_so k t.1.1 refl,
           adds_then (opening_of k) (view_of c.args.pass.now) (view_of c.is_still_full.new.pass) (view_of c.try_slots.new.pass) []
-              ([] ▷ Allocate c.in-Ok.slot t.1.0) DoesNothing DoesNothing no_use one_number (asked_nothing h c.requires.idle) t.1.2,
+              ([] ▷ Allocate c.in-Ok.slot t.1.0) DoesNothing DoesNothing no_use one_number (asked_so h c.requires.idle) t.1.2,
         ),
       );
       steps = omega (arith, h.steps, c.in-Ok.ensures.steps);
@@ -55,14 +55,14 @@ returns-then-is_all_full c =
     let h : HasAsked c.args.self.now 1 c.args.pass.now false c.is_still_full.new.pass = rw c.if-is_still_full.false at c.is_still_full.ensures in
     let t = c.in-Err.ensures.tried in
     let before = adds_then (opening_of k) (view_of c.args.pass.now) (view_of c.is_still_full.new.pass) (view_of c.try_slots.new.pass) [] []
-    DoesNothing DoesNothing no_use no_use (asked_nothing h c.requires.idle) t.1 in
+    DoesNothing DoesNothing no_use no_use (asked_so h c.requires.idle) t.1 in
     let sure = rw c.if-is_all_full.true at c.is_all_full.ensures.asked in
     record {
       fits = sure.fits;
       tried = (
         t.0,
         adds_then (opening_of k) (view_of c.args.pass.now) (view_of c.try_slots.new.pass) (view_of c.is_all_full.new.pass) [] ([] ▷ Full)
-            DoesNothing DoesNothing no_use no_use before (asked_full sure t.1.now),
+            DoesNothing DoesNothing no_use no_use before (asked_so sure t.1.now),
       );
       steps = omega (arith, h.steps, c.in-Err.ensures.steps, sure.steps);
       short = tt;
@@ -74,14 +74,14 @@ returns-else-is_all_full c =
     let h : HasAsked c.args.self.now 1 c.args.pass.now false c.is_still_full.new.pass = rw c.if-is_still_full.false at c.is_still_full.ensures in
     let t = c.in-Err.ensures.tried in
     let before = adds_then (opening_of k) (view_of c.args.pass.now) (view_of c.is_still_full.new.pass) (view_of c.try_slots.new.pass) [] []
-    DoesNothing DoesNothing no_use no_use (asked_nothing h c.requires.idle) t.1 in
+    DoesNothing DoesNothing no_use no_use (asked_so h c.requires.idle) t.1 in
     let sure = rw c.if-is_all_full.false at c.is_all_full.ensures.asked in
     record {
       fits = sure.fits;
       tried = (
         t.0,
         adds_then (opening_of k) (view_of c.args.pass.now) (view_of c.try_slots.new.pass) (view_of c.is_all_full.new.pass) [] []
-            DoesNothing DoesNothing no_use no_use before (asked_nothing sure t.1.now),
+            DoesNothing DoesNothing no_use no_use before (asked_so sure t.1.now),
       );
       steps = omega (arith, h.steps, c.in-Err.ensures.steps, sure.steps);
       short = short_by k c.args.pass.now c.try_slots.new.pass c.is_all_full.new.pass before.seen (omega (arith, h.met, c.in-Err.ensures.met)) (c.is_all_full.ensures.short c.if-is_all_full.false);
