@@ -2,15 +2,14 @@
 use Rattle.check_certificate.proofs.Words.{◌≡◌, ◌⊎◌, ℕ, zero, suc, ◌+◌, ◌-◌, ◌<◌, List, [], ◌∷◌, ◌++◌, length, refl, sym, ap, ◌∙◌, arith}
 use Rattle.check_certificate.proofs.Words.{⊎_elim, append_assoc, Option, Some, slice_get, Moment, Logged, Accesses, IsOlderPart}
 use Rattle.check_certificate.proofs.Words.{Access, IsAccessAt, Identity, Happening, Completed}
-use Rattle.check_certificate.proofs.Words.{Contains-append_right, IsBegun, MayAccess, contains_tail, WasLogged, Called, Answered, IsLegalLog, made_by, AreTimes, Asked, Contains}
+use Rattle.check_certificate.proofs.Words.{Contains-append_right, IsBegun, MayAccess, contains_tail, WasLogged, Called, Answered, made_by, Asked, Contains}
 use Rattle.check_certificate.proofs.Words.{Looks, take}
 use Rattle.check_certificate.proofs.Intended.{IsIntended, intended}
-use Rattle.check_certificate.proofs.Orders.{IsHere, here, may_at, older, s}
-use Rattle.check_certificate.proofs.Parts.{part_is_flight, part_of_part}
+use Rattle.check_certificate.proofs.Orders.{IsHere, flies, here, may_at, older, ring, s}
+use Rattle.check_certificate.proofs.Parts.{part_of_part}
 use Rattle.check_certificate.specs.Evidence.{IsEventAt, slot_count}
-use Rattle.check_certificate.specs.Forced.{IsSound, log_of_beginning, ring_of_beginning}
+use Rattle.check_certificate.specs.Forced.{TimedFlight}
 use Rattle.check_certificate.specs.declared.beginning.LogBeginning.{LogBeginning}
-use Rattle.check_certificate.specs.declared.certificate.Point.{Point}
 use Rattle.fx_flight.proofs.Chains.{answer_place}
 use Rattle.fx_flight.proofs.InTime.{in_log}
 use Rattle.fx_flight.specs.Events.{first_of_call}
@@ -25,55 +24,48 @@ pub get_here : {X : Type 0} (front : List X) (x : X) (rest : List X) → slice_g
 get_here [] x rest = refl
 get_here (y ∷ front) x rest = get_here front x rest
 
-module _ (b : LogBeginning) where
-  module _ (submissions registrations : ℕ) (sound : IsSound b)
-      (legal : IsLegalLog (ring_of_beginning b submissions registrations) (log_of_beginning b)) (clock : Point → ℕ)
-      (times : AreTimes (s b submissions registrations sound legal clock) legal.flight clock) where
-    -- the call of an access before an event, in the log
-    pub record IsOfLog (limit id : ℕ) (a : Access) (number : ℕ) : Type 0 where
-      pub p : ℕ
-      pub requests : List Asked
-      pub low : p < limit
-      pub called : IsEventAt b p (Called id requests)
-      pub by : IsIntended b.catalogue.now (slot_count b) (first_of_call id) requests a (legal.answers id) number
+module _ {b : LogBeginning} (f : TimedFlight b) where
+  -- the call of an access before an event, in the log
+  pub record IsOfLog (limit id : ℕ) (a : Access) (number : ℕ) : Type 0 where
+    pub p : ℕ
+    pub requests : List Asked
+    pub low : p < limit
+    pub called : IsEventAt b p (Called id requests)
+    pub by : IsIntended b.catalogue.now (slot_count b) (first_of_call id) requests a (f.legal.answers id) number
 
-    pub of_log : (i : ℕ) (e : Happening) (x : IsHere b submissions registrations sound legal clock i e) (time id : ℕ) (a : Access)
-        → ((looked : ℕ) (found : Option Identity) → a ≡ Looks looked found → ⊥) → (at : IsAccessAt x.earlier id a time)
-        → IsOfLog i id a (length (made_by id at.0))
-    of_log i e x time id a looks at =
-        let m : Moment = Accesses (record { chain = id; access = a }) in
-        let inside : IsOlderPart (m ∷ at.0) legal.flight = part_of_part (older b submissions registrations sound legal clock e x.earlier x.inside) at.1 in
-        let may : MayAccess (s b submissions registrations sound legal clock) at.0 id a =
-        (part_is_flight (s b submissions registrations sound legal clock) legal.flight (m ∷ at.0) inside legal.is).1.1 in
-        ⊎_elim
-        (λ (y : (requests : List Asked) × WasLogged at.0 (Called id requests)
-        × IsBegun (s b submissions registrations sound legal clock) id requests (made_by id at.0 ++ a ∷ [])).
-        let there : WasLogged x.earlier (Called id y.0) = later at.1.0 m at.0 x.earlier at.1.1 (Called id y.0) y.1 in
-        let front : Contains x.front (Called id y.0) = rw x.same at (in_log x.earlier (Called id y.0) there) in
-        let got : slice_get x.front front.0 ≡ Some (Called id y.0) = slice_get_read x.front (length x.front) front.0 (Called id y.0) refl front.1 (sym front.2) in
-        let few = x.few in let low = front.1 in
-        let list : (made_by id at.0 ++ a ∷ []) ++ y.2.0 ≡ made_by id at.0 ++ a ∷ y.2.0 = append_assoc (made_by id at.0) (a ∷ []) y.2.0 in
-        record {
-          p = front.0;
-          requests = y.0;
-          low = omega arith;
-          called = rw x.parts (get_front x.front (e ∷ x.rest) front.0 (Called id y.0) got);
-          by = intended b.catalogue.now (slot_count b) (first_of_call id) y.0 (made_by id at.0) a y.2.0 (legal.answers id) (rw list at y.2.1);
-        })
-        (λ y. absurd (looks y.0 y.1 y.4)) may
-      where
-        later : (more : List Moment) (m : Moment) (part whole : List Moment) → whole ≡ more ++ m ∷ part → (e : Happening) → WasLogged part e → WasLogged whole e
-        later more m part whole is e there = rw is (Contains-append_right more (m ∷ part) (Logged e) (contains_tail m part (Logged e) there))
+  pub of_log : {i : ℕ} {e : Happening} (x : IsHere f i e) (time id : ℕ) (a : Access)
+      → ((looked : ℕ) (found : Option Identity) → a ≡ Looks looked found → ⊥) → (at : IsAccessAt x.earlier id a time)
+      → IsOfLog i id a (length (made_by id at.0))
+  of_log {i} {e} x time id a looks at =
+      let m : Moment = Accesses (record { chain = id; access = a }) in
+      let inside : IsOlderPart (m ∷ at.0) f.legal.flight = part_of_part (older f x.inside) at.1 in
+      let may : MayAccess (s f) at.0 id a = (flies f inside).1.1 in
+      ⊎_elim
+      (λ (y : (requests : List Asked) × WasLogged at.0 (Called id requests) × IsBegun (s f) id requests (made_by id at.0 ++ a ∷ [])).
+      let there : WasLogged x.earlier (Called id y.0) = later at.1.0 m at.0 x.earlier at.1.1 (Called id y.0) y.1 in
+      let front : Contains x.front (Called id y.0) = rw x.same at (in_log x.earlier (Called id y.0) there) in
+      let got : slice_get x.front front.0 ≡ Some (Called id y.0) = slice_get_read x.front (length x.front) front.0 (Called id y.0) refl front.1 (sym front.2) in
+      let few = x.few in let low = front.1 in
+      let list : (made_by id at.0 ++ a ∷ []) ++ y.2.0 ≡ made_by id at.0 ++ a ∷ y.2.0 = append_assoc (made_by id at.0) (a ∷ []) y.2.0 in
+      record {
+        p = front.0;
+        requests = y.0;
+        low = omega arith;
+        called = rw x.parts (get_front x.front (e ∷ x.rest) front.0 (Called id y.0) got);
+        by = intended b.catalogue.now (slot_count b) (first_of_call id) y.0 (made_by id at.0) a y.2.0 (f.legal.answers id) (rw list at y.2.1);
+      })
+      (λ y. absurd (looks y.0 y.1 y.4)) may
+    where
+      later : (more : List Moment) (m : Moment) (part whole : List Moment) → whole ≡ more ++ m ∷ part → (e : Happening) → WasLogged part e → WasLogged whole e
+      later more m part whole is e there = rw is (Contains-append_right more (m ∷ part) (Logged e) (contains_tail m part (Logged e) there))
 
-    -- the answer of a member is that of its call in the flight
-    pub answer_is : (at id : ℕ) (c : Completed) → IsEventAt b at (Answered id c) → slice_get (legal.answers id) (c.place.member - 1) ≡ Some c
-    answer_is at id c answered =
-        let ring = ring_of_beginning b submissions registrations in
-        let y = here b submissions registrations sound legal clock times at (Answered id c) answered in
-        let may = may_at b submissions registrations sound legal clock times at (Answered id c) y in
-        let member = may.2 in
-        let place = answer_place ring.catalogue ring.size (first_of_call id) (take (length member.earlier + 1) may.0) member.own
-        (member.earlier ++ c ∷ []) member.earlier c [] member.done refl in
-        let got : slice_get (legal.answers id) (length member.earlier) ≡ Some c = rw member.answer (get_here member.earlier c member.later) in
-        let number : c.place.member - 1 ≡ length member.earlier = omega arith in
-        ap (slice_get (legal.answers id)) number ∙ got
+  -- the answer of a member is that of its call in the flight
+  pub answer_is : (at id : ℕ) (c : Completed) → IsEventAt b at (Answered id c) → slice_get (f.legal.answers id) (c.place.member - 1) ≡ Some c
+  answer_is at id c answered =
+      let may = may_at f (here f answered) in
+      let member = may.2 in
+      let place = answer_place (ring f).catalogue (ring f).size (first_of_call id) (take (length member.earlier + 1) may.0) member.own
+      (member.earlier ++ c ∷ []) member.earlier c [] member.done refl in
+      let got : slice_get (f.legal.answers id) (length member.earlier) ≡ Some c = rw member.answer (get_here member.earlier c member.later) in
+      let number : c.place.member - 1 ≡ length member.earlier = omega arith in
+      ap (slice_get (f.legal.answers id)) number ∙ got

@@ -1,18 +1,18 @@
 -- An access that finds a file at its slot: some file was installed there before.
 use Rattle.check_certificate.proofs.Words.{◌≡◌, ◌⊎◌, ℕ, ◌+◌, ◌-◌, ◌<◌, ◌≤◌, List, [], ◌∷◌, ◌++◌, refl, sym, ◌∙◌, arith, inl, inr, subst}
 use Rattle.check_certificate.proofs.Words.{⊎_elim, append_assoc, Option, Some, None, slice_get, Moment, Logged, Accesses, IsOlderPart}
-use Rattle.check_certificate.proofs.Words.{Access, IsAccessAt, IsPut, Identity, Table, table_of, table_with, table_left_by, Happening, Completed}
-use Rattle.check_certificate.proofs.Words.{Answered, IsLegalLog, made_by, AreTimes, Permits}
-use Rattle.check_certificate.proofs.Words.{Looks, Takes, FindsFull, Puts, Allocates, Clears, Submitted, true, false, cases_Bool, Has, placed}
+use Rattle.check_certificate.proofs.Words.{Access, IsAccessAt, IsPut, Identity, Table, table_with, table_left_by, Happening, Completed}
+use Rattle.check_certificate.proofs.Words.{Answered, made_by, Permits}
+use Rattle.check_certificate.proofs.Words.{Looks, Takes, FindsFull, Puts, Allocates, Clears, Submitted, true, cases_Bool, Has, placed}
 use Rattle.check_certificate.proofs.Forcing.{apart, loose_order, not_after, strict_from, strict_order, weaker}
 use Rattle.check_certificate.proofs.Intended.{chain_number, may_install}
 use Rattle.check_certificate.proofs.Leaving.{same_access, same_slot}
 use Rattle.check_certificate.proofs.Life.{put_here, was_put}
 use Rattle.check_certificate.proofs.Marks.{has_in, mark_at, no_look, of_chain}
-use Rattle.check_certificate.proofs.Orders.{here, new_file, older, s, said, table}
-use Rattle.check_certificate.proofs.Parts.{access_of_part, before_end, part_is_flight, part_length, part_of_part, shorter}
+use Rattle.check_certificate.proofs.Orders.{flies, here, new_file, older, ring, said, said_may, table}
+use Rattle.check_certificate.proofs.Parts.{access_of_part, before_end, part_length, shorter}
 use Rattle.check_certificate.specs.Evidence.{IsAccessMade, IsEventAt, IsEvident}
-use Rattle.check_certificate.specs.Forced.{IsForced, IsOfCall, IsSound, log_of_beginning, ring_of_beginning}
+use Rattle.check_certificate.specs.Forced.{IsForced, IsOfCall, TimedFlight}
 use Rattle.check_certificate.proofs.Called.{answer_is, of_log}
 use Rattle.check_certificate.specs.Absent.{FindsFile, IsOnlyFile, is_negative, IsAbsent, IsEmptyAtFirst}
 use Rattle.check_certificate.specs.Walked.{IsWalked}
@@ -20,12 +20,12 @@ use Rattle.check_certificate.specs.declared.certificate.OnlyFile.TheVariants.{Go
 use Rattle.check_certificate.specs.declared.walk.WalkAim.TheVariants.{Finds as Aimed}
 use Rattle.check_certificate.specs.declared.beginning.LogBeginning.{LogBeginning}
 use Rattle.check_certificate.specs.declared.certificate.Holding.{Holding}
-use Rattle.check_certificate.specs.declared.certificate.Point.{Point}
 use Rattle.check_certificate.specs.declared.certificate.PointOrder.{PointOrder}
 use Rattle.check_certificate.specs.declared.certificate.Point.TheVariants.{Event, Gone, Put}
 use Rattle.check_certificate.specs.declared.certificate.Point.TheVariants.{Access as At}
 use Rattle.check_certificate.specs.declared.evidence.Evidence.{Evidence}
 use Rattle.check_certificate.specs.declared.evidence.Evidence.TheVariants.{Empties, Finds, Full, Installs, Never, Sees, Removes}
+use Rattle.fx_base.specs.Catalogue.{IsCatalogue}
 use Rattle.fx_flight.proofs.InTime.{size_stays}
 use Rattle.fx_flight.specs.Events.{first_of_call}
 use Rattle.fx_order.proofs.Apart.{file_Decides, same_file}
@@ -56,152 +56,139 @@ range_stays t (Accesses x ∷ flight) = same_range (table_left_by t flight) x.ac
 
 module _ (b : LogBeginning) where
   -- an access with this evidence finds a file
-  found_by : (evidence : Evidence) (slot : ℕ) (flight : List Moment) (a : Access) (submissions registrations : ℕ)
-      → Permits (table_left_by (table_of (ring_of_beginning b submissions registrations)) flight) a
+  found_by : (evidence : Evidence) (slot : ℕ) (flight : List Moment) (a : Access) (f : TimedFlight b) → Permits (table_left_by (table f) flight) a
       → IsEvident a evidence → FindsFile b evidence slot
-      → (file : Identity) × ((table_left_by (table_of (ring_of_beginning b submissions registrations)) flight).at slot ≡ Some file)
-  found_by (Removes own) slot flight a submissions registrations may is finds =
-      let here : Permits (table_left_by (table_of (ring_of_beginning b submissions registrations)) flight) (Takes own (Some is.0)) = rw is.1 at may in
-      (is.0, subst (λ (k : ℕ). (table_left_by (table_of (ring_of_beginning b submissions registrations)) flight).at k ≡ Some is.0) finds (sym here.1))
-  found_by (Sees own) slot flight a submissions registrations may is finds =
-      let here : Permits (table_left_by (table_of (ring_of_beginning b submissions registrations)) flight) (Looks own (Some is.0)) = rw is.1 at may in
-      (is.0, subst (λ (k : ℕ). (table_left_by (table_of (ring_of_beginning b submissions registrations)) flight).at k ≡ Some is.0) finds (sym here.1))
-  found_by Full slot flight a submissions registrations may is finds =
-      let t = table_of (ring_of_beginning b submissions registrations) in
+      → (file : Identity) × ((table_left_by (table f) flight).at slot ≡ Some file)
+  found_by (Removes own) slot flight a f may is finds =
+      let here : Permits (table_left_by (table f) flight) (Takes own (Some is.0)) = rw is.1 at may in
+      (is.0, subst (λ (k : ℕ). (table_left_by (table f) flight).at k ≡ Some is.0) finds (sym here.1))
+  found_by (Sees own) slot flight a f may is finds =
+      let here : Permits (table_left_by (table f) flight) (Looks own (Some is.0)) = rw is.1 at may in
+      (is.0, subst (λ (k : ℕ). (table_left_by (table f) flight).at k ≡ Some is.0) finds (sym here.1))
+  found_by Full slot flight a f may is finds =
+      let t = table f in
       let here : Permits (table_left_by t flight) FindsFull = rw is at may in
       let size = size_stays t flight in
       let range = range_stays t flight in
       some_of ((table_left_by t flight).at slot) (here slot (rw size finds.0) (rw range (finds.1, finds.2)))
-  found_by (Empties own) slot flight a submissions registrations may is finds = absurd finds
-  found_by (Installs own file) slot flight a submissions registrations may is finds = absurd finds
-  found_by (Finds own file) slot flight a submissions registrations may is finds = absurd finds
-  found_by Never slot flight a submissions registrations may is finds = absurd finds
+  found_by (Empties own) slot flight a f may is finds = absurd finds
+  found_by (Installs own file) slot flight a f may is finds = absurd finds
+  found_by (Finds own file) slot flight a f may is finds = absurd finds
+  found_by Never slot flight a f may is finds = absurd finds
 
-  module _ (submissions registrations : ℕ) (sound : IsSound b)
-      (legal : IsLegalLog (ring_of_beginning b submissions registrations) (log_of_beginning b)) (clock : Point → ℕ)
-      (times : AreTimes (s b submissions registrations sound legal clock) legal.flight clock) where
+  module _ (f : TimedFlight b) where
     module _ (h : Holding) (evidence : Evidence) (made : IsAccessMade b h.call h.answer h.access evidence) (finds : FindsFile b evidence h.slot)
-        (first : IsEmptyAtFirst b h.slot) (walked : IsWalked b (Aimed h)) where
+        (first : IsEmptyAtFirst b h.slot) (walks : IsCatalogue b.catalogue.now → IsWalked b (Aimed h)) where
       -- the file that the access finds
       record IsHolder : Type 0 where
         file : Identity
-        early : clock (Put file) < clock (At h.answer h.access)
-        late : clock (At h.answer h.access) ≤ clock (Gone file h.slot)
+        early : f.at (Put file) < f.at (At h.answer h.access)
+        late : f.at (At h.answer h.access) ≤ f.at (Gone file h.slot)
         other : (IsOnlyFile h.found file → ⊥) → ⊥
 
       holder : IsHolder
       holder =
-          let x = said b submissions registrations sound legal clock times h.call h.answer h.access evidence made in
-          let m : Moment = Accesses (record { chain = x.id; access = x.access }) in
-          let t = table b submissions registrations sound legal clock in
-          let may : Permits (table_left_by t x.time.0) x.access =
-          (part_is_flight (s b submissions registrations sound legal clock) legal.flight (m ∷ x.time.0) x.time.1 legal.is).1.0 in
-          let found = found_by evidence h.slot x.time.0 x.access submissions registrations may x.is finds in
-          let inside : IsOlderPart x.time.0 legal.flight = part_of_part x.time.1 (m ∷ [], refl) in
+          let x = said f made in
+          let t = table f in
+          let found = found_by evidence h.slot x.time.0 x.access f (said_may f x) x.is finds in
+          let inside : IsOlderPart x.time.0 f.legal.flight = older f x.time.1 in
           let new : t.at h.slot ≡ Some found.0 → ⊥ = λ there. let none : None ≡ Some found.0 = sym first ∙ there in cc in
           let was = was_put t h.slot found.0 new x.time.0 found.1 in
           let at = was.1.3 in
-          let same : was.0 ≡ clock (Put found.0) =
-          (times.put found.0).each was.1.0 h.slot was.0 was.1.1 was.1.2 (access_of_part was.1.0 was.1.1 was.0 inside at) in
+          let same : was.0 ≡ f.at (Put found.0) =
+          (f.times.put found.0).each was.1.0 h.slot was.0 was.1.1 was.1.2 (access_of_part was.1.0 was.1.1 was.0 inside at) in
           let end = before_end x.time.0 was.1.0 was.1.1 was.0 at in
           let count = x.time.2 in
-          let last = (times.gone found.0 h.slot).last x.time.0 inside found.1 in
-          let y = here b submissions registrations sound legal clock times h.answer made.ends made.answered in
+          let last = (f.times.gone found.0 h.slot).last x.time.0 inside found.1 in
+          let y = here f made.answered in
           let before = x.before in
           let count_y = y.count in
-          let part : IsOlderPart x.time.0 y.earlier =
-          shorter y.earlier x.time.0 (older b submissions registrations sound legal clock made.ends y.earlier y.inside) inside (omega arith) in
+          let part : IsOlderPart x.time.0 y.earlier = shorter y.earlier x.time.0 (older f y.inside) inside (omega arith) in
           let looks : (looked : ℕ) (seen : Option Identity) → was.1.1 ≡ Looks looked seen → ⊥ = λ looked seen is. no_look was.1.1 looked seen h.slot found.0 is was.1.2 in
-          let i = of_log b submissions registrations sound legal clock times h.answer made.ends y was.0 was.1.0 was.1.1 looks (access_of_part was.1.0 was.1.1 was.0 part at) in record {
+          let i = of_log f y was.0 was.1.0 was.1.1 looks (access_of_part was.1.0 was.1.1 was.0 part at) in record {
             file = found.0;
             early = omega arith;
             late = omega arith;
-            other = λ differs. walked i.p was.1.0 i.requests i.low i.called i.by.n i.by.request i.by.asked i.by.k i.by.intent i.by.is found.0
-                (may_install i.by.intent was.1.1 h.slot found.0 i.by.of was.1.2) differs submissions registrations sound legal clock times
-                (omega arith) (omega arith);
+            other = λ differs. walks f.sound.catalogue i.p was.1.0 i.requests i.low i.called i.by.n i.by.request i.by.asked i.by.k i.by.intent i.by.is found.0
+                (may_install i.by.intent was.1.1 h.slot found.0 i.by.of was.1.2) differs f (omega arith) (omega arith);
           }
 
       pub holder_is : (file : Identity) → ((other : Identity) → IsOnlyFile h.found other → file ≡ other)
-          → (clock (Put file) < clock (At h.answer h.access)) × (clock (At h.answer h.access) ≤ clock (Gone file h.slot))
+          → (f.at (Put file) < f.at (At h.answer h.access)) × (f.at (At h.answer h.access) ≤ f.at (Gone file h.slot))
       holder_is file only =
           let x = holder in
           let same : file ≡ x.file = elim (cases_Bool (same_file file x.file)) [
             | inl alike ↦ (file_Decides file x.file).0 alike
             | inr differs ↦ absurd (x.other (λ held. false≢true (sym differs ∙ (file_Decides file x.file).1 (only x.file held))))
           ] in
-          subst (λ (f : Identity). (clock (Put f) < clock (At h.answer h.access)) × (clock (At h.answer h.access) ≤ clock (Gone f h.slot))) (sym same)
+          subst (λ (g : Identity). (f.at (Put g) < f.at (At h.answer h.access)) × (f.at (At h.answer h.access) ≤ f.at (Gone g h.slot))) (sym same)
           (x.early, x.late)
 
       pub no_holder : ((file : Identity) → IsOnlyFile h.found file → ⊥) → ⊥
       no_holder none = let x = holder in x.other (none x.file)
 
   module _ (h : Holding) (evidence : Evidence) (made : IsAccessMade b h.call h.answer h.access evidence) (finds : FindsFile b evidence h.slot)
-      (first : IsEmptyAtFirst b h.slot) (walked : IsWalked b (Aimed h)) where
+      (first : IsEmptyAtFirst b h.slot) (walks : IsCatalogue b.catalogue.now → IsWalked b (Aimed h)) where
     pub holder_forced : (file : Identity) → h.found ≡ GoneAfter file → IsForced b (not_after (At h.answer h.access) (Gone file h.slot))
-    holder_forced file is submissions registrations sound legal clock times = loose_order clock (At h.answer h.access) (Gone file h.slot)
-        (holder_is submissions registrations sound legal clock times h evidence made finds first walked file (rw is (λ other held. held))).1
+    holder_forced file is f = loose_order f.at (At h.answer h.access) (Gone file h.slot)
+        (holder_is f h evidence made finds first walks file (rw is (λ other held. held))).1
 
     pub holder_put : (file : Identity) → h.found ≡ PutBefore file → IsForced b (strict_from (Put file) (At h.answer h.access))
-    holder_put file is submissions registrations sound legal clock times = strict_order clock (Put file) (At h.answer h.access)
-        (holder_is submissions registrations sound legal clock times h evidence made finds first walked file (rw is (λ other held. held))).0
+    holder_put file is f = strict_order f.at (Put file) (At h.answer h.access)
+        (holder_is f h evidence made finds first walks file (rw is (λ other held. held))).0
 
     pub none_forced : h.found ≡ Nothing → IsForced b (strict_from (At h.answer h.access) (At h.answer h.access))
-    none_forced is submissions registrations sound legal clock times =
-        absurd (no_holder submissions registrations sound legal clock times h evidence made finds first walked (rw is (λ file held. held)))
+    none_forced is f = absurd (no_holder f h evidence made finds first walks (rw is (λ file held. held)))
 
   -- an order by which the file isn't there
   pub later_absent : (h : Holding) (file : Identity) (o : PointOrder) → o.from ≡ At h.answer h.access → o.to ≡ Put file → IsForced b o → IsAbsent b h file
-  later_absent h file o from to known submissions registrations sound legal clock times early late =
-      let low = rw (from, to) at (weaker clock o (known submissions registrations sound legal clock times)) in omega arith
+  later_absent h file o from to known f early late = let low = rw (from, to) at (weaker f.at o (known f)) in omega arith
 
   pub gone_absent : (h : Holding) (file : Identity) → IsForced b (strict_from (Gone file h.slot) (At h.answer h.access)) → IsAbsent b h file
-  gone_absent h file known submissions registrations sound legal clock times early late =
-      let low = apart clock (Gone file h.slot) (At h.answer h.access) (known submissions registrations sound legal clock times) in omega arith
+  gone_absent h file known f early late = let low = apart f.at (Gone file h.slot) (At h.answer h.access) (known f) in omega arith
 
   -- a file that is installed at another slot
   pub elsewhere_forced : (call answer k own slot id event : ℕ) (file : Identity) → IsAccessMade b call answer k (Installs own file) → IsOfCall id file
       → (own ≡ slot → ⊥) → IsForced b (not_after (Gone file slot) (Event event))
-  elsewhere_forced call answer k own slot id event file made of other submissions registrations sound legal clock times =
-      let t = table b submissions registrations sound legal clock in
-      let new = new_file b submissions registrations sound legal clock file id of slot in
-      ⊎_elim (λ never. loose_order clock (Gone file slot) (Event event) (omega arith))
-      (λ last. let x = said b submissions registrations sound legal clock times call answer k (Installs own file) made in
-      let put = put_here t slot file legal.flight (clock (Put file)) (times.put file) new last.0 last.1 last.2 in
-      let there : IsAccessAt legal.flight put.0 put.1 (clock (Put file)) = access_of_part put.0 put.1 (clock (Put file)) last.1 put.3 in
-      let time = (times.put file).each x.id own (clock (At answer k)) x.access x.is x.time in
-      let one : x.access ≡ put.1 = same_access legal.flight (clock (Put file)) x.id put.0 x.access put.1 (rw time at x.time) there in
+  elsewhere_forced call answer k own slot id event file made of other f =
+      let t = table f in
+      let new = new_file f file id of slot in
+      ⊎_elim (λ never. loose_order f.at (Gone file slot) (Event event) (omega arith))
+      (λ last. let x = said f made in
+      let put = put_here t slot file f.legal.flight (f.at (Put file)) (f.times.put file) new last.0 last.1 last.2 in
+      let there : IsAccessAt f.legal.flight put.0 put.1 (f.at (Put file)) = access_of_part put.0 put.1 (f.at (Put file)) last.1 put.3 in
+      let time = (f.times.put file).each x.id own (f.at (At answer k)) x.access x.is x.time in
+      let one : x.access ≡ put.1 = same_access f.legal.flight (f.at (Put file)) x.id put.0 x.access put.1 (rw time at x.time) there in
       absurd (other (same_slot x.access put.1 own slot file one x.is put.2)))
-      (times.gone file slot).there
+      (f.times.gone file slot).there
 
   -- a file whose member failed is not installed
   pub fails_forced : (event own entry : ℕ) (e : Happening) (c : Completed) (file : Identity) → IsEventAt b event e
       → IsEventAt b own (Answered c.place.submission c) → is_negative c.res ≡ true
       → file.mark ≡ Submitted c.place.submission 1 c.place.member entry → IsForced b (strict_from (Event event) (Put file))
-  fails_forced event own entry e c file there answered failed mark submissions registrations sound legal clock times =
+  fails_forced event own entry e c file there answered failed mark f =
       ⊎_elim (λ put. absurd (fails put))
-      (λ past. let x = here b submissions registrations sound legal clock times event e there in
+      (λ past. let x = here f there in
       let count = x.count in
-      let few = part_length legal.flight (Logged e ∷ x.earlier) x.inside in strict_order clock (Event event) (Put file) (omega arith))
-      (times.put file).some
+      let few = part_length f.legal.flight (Logged e ∷ x.earlier) x.inside in strict_order f.at (Event event) (Put file) (omega arith))
+      (f.times.put file).some
     where
-      fails : ((id : ℕ) × (slot : ℕ) × (a : Access) × IsPut a slot file × IsAccessAt legal.flight id a (clock (Put file))) → ⊥
+      fails : ((id : ℕ) × (slot : ℕ) × (a : Access) × IsPut a slot file × IsAccessAt f.legal.flight id a (f.at (Put file))) → ⊥
       fails put =
-          let ring = ring_of_beginning b submissions registrations in
-          let own_mark = mark_at ring legal.answers legal.flight legal.is file put.0 put.1 (clock (Put file)) put.2 put.3 put.4 in
+          let own_mark = mark_at (ring f) f.legal.answers f.legal.flight f.legal.is file put.0 put.1 (f.at (Put file)) put.2 put.3 put.4 in
           let same : put.0 ≡ c.place.submission = cc (sym own_mark.2 ∙ mark) in
-          let one = of_chain ring legal.answers put.4.0 put.0 put.1 put.2 file put.3
-          (part_is_flight (s b submissions registrations sound legal clock) legal.flight (Accesses (record { chain = put.0; access = put.2 }) ∷ put.4.0) put.4.1 legal.is).1.1 in
+          let one = of_chain (ring f) f.legal.answers put.4.0 put.0 put.1 put.2 file put.3 (flies f put.4.1).1.1 in
           let has : Has (placed ((made_by put.0 put.4.0 ++ put.2 ∷ []) ++ one.more)) put.1 file =
           rw (append_assoc (made_by put.0 put.4.0) (put.2 ∷ []) one.more) (has_in (made_by put.0 put.4.0) put.2 one.more put.1 file put.3) in
-          let got = answer_is b submissions registrations sound legal clock times own c.place.submission c answered in
-          let mine : slice_get (legal.answers put.0) (c.place.member - 1) ≡ Some c =
-          subst (λ (i : ℕ). slice_get (legal.answers i) (c.place.member - 1) ≡ Some c) (sym same) got in
+          let got = answer_is f own c.place.submission c answered in
+          let mine : slice_get (f.legal.answers put.0) (c.place.member - 1) ≡ Some c =
+          subst (λ (i : ℕ). slice_get (f.legal.answers i) (c.place.member - 1) ≡ Some c) (sym same) got in
           let of_member : own_mark.0 ≡ c.place.member = cc (sym own_mark.2 ∙ mark) in
           let first = own_mark.3 in
           let number : 1 + (c.place.member - 1) ≡ c.place.member = omega arith in
           let mark_is : file.mark ≡ Submitted put.0 1 (1 + (c.place.member - 1)) entry =
           mark ∙ (λ i. Submitted (sym same i) 1 (sym number i) entry) in
-          let res = chain_number ring.catalogue ring.size (first_of_call put.0) one.requests _ (legal.answers put.0) one.done put.1 file has
+          let res = chain_number (ring f).catalogue (ring f).size (first_of_call put.0) one.requests _ (f.legal.answers put.0) one.done put.1 file has
           (c.place.member - 1) entry c mine mark_is in
           let low = negative c.res failed in
           let both : negsuc low.0 ≡ pos res.0 = sym low.1 ∙ res.1 in

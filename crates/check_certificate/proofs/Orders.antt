@@ -1,15 +1,14 @@
 -- The rules of certificates: what each flight's times are like.
 use Rattle.check_certificate.proofs.Words.{◌≡◌, ◌⊎◌, ℕ, zero, ◌+◌, ◌-◌, ◌<◌, List, [], ◌∷◌, ◌++◌, length, refl, sym, ap, ◌∙◌, arith, suc}
 use Rattle.check_certificate.proofs.Words.{Some, None, Option, ⊎_elim, length-append, Contains, contains_head, Contains-append_right, subst}
-use Rattle.check_certificate.proofs.Words.{cases_lt, slice_get, Moment, Logged, Accesses, IsOlderPart, Access, IsAccessAt}
-use Rattle.check_certificate.proofs.Words.{AreAccessTimes, IsEventTime, AreTimes, Identity, FlightSetting}
+use Rattle.check_certificate.proofs.Words.{cases_lt, slice_get, Moment, Logged, IsOlderPart, Access, IsAccessAt}
+use Rattle.check_certificate.proofs.Words.{AreAccessTimes, IsEventTime, Identity, FlightSetting, IsFlight}
 use Rattle.check_certificate.proofs.Words.{Table, table_of, log_of, made_by, Happening, MayFollow, MayAccess, WasLogged}
-use Rattle.check_certificate.proofs.Words.{Answered, Called, LookAnswered, LookCalled, IsLegalLog, Submitted}
+use Rattle.check_certificate.proofs.Words.{Answered, Called, LookAnswered, LookCalled, Permits, Submitted, table_left_by}
 use Rattle.check_certificate.proofs.Parts.{access_of_part, before_end, part_is_flight, part_of_part, shorter}
-use Rattle.check_certificate.specs.Forced.{IsOfCall, is_of_no_call, is_registered, IsSound, log_of_beginning, ring_of_beginning}
+use Rattle.check_certificate.specs.Forced.{IsOfCall, TimedFlight, is_of_no_call, is_registered, log_of_beginning, ring_of_beginning}
 use Rattle.check_certificate.specs.Evidence.{IsEventAt, IsAccessMade, IsEvident, IsShownBy}
 use Rattle.check_certificate.specs.declared.beginning.LogBeginning.{LogBeginning}
-use Rattle.check_certificate.specs.declared.certificate.Point.{Point}
 use Rattle.check_certificate.specs.declared.certificate.Point.TheVariants.{Event}
 use Rattle.check_certificate.specs.declared.certificate.Point.TheVariants.{Access as At}
 use Rattle.check_certificate.specs.declared.evidence.Evidence.{Evidence}
@@ -17,6 +16,7 @@ use Rattle.fx_flight.proofs.InTime.{in_log, log_of-parts}
 use Rattle.fx_flight.proofs.Numbers.{new_number, one_call}
 use Rattle.fx_flight.specs.Events.{first_of_call}
 use Rattle.fx_flight.specs.Laws.{IsCallOf}
+use Rattle.fx_ring.specs.Ring.{RingState}
 use Rattle.fx_order.proofs.Words.{Bool, true, false, ◌&&◌, false≢true, slice_index_or}
 use Rattle.std.specs.List.{list_all}
 
@@ -37,16 +37,18 @@ each_of_no_call [] (suc k) all = refl
 each_of_no_call (file ∷ files) zero all = (both_true (is_of_no_call file) (list_all is_of_no_call files) all).0
 each_of_no_call (file ∷ files) (suc k) all = each_of_no_call files k (both_true (is_of_no_call file) (list_all is_of_no_call files) all).1
 
-module _ (b : LogBeginning) (submissions registrations : ℕ) (sound : IsSound b)
-    (legal : IsLegalLog (ring_of_beginning b submissions registrations) (log_of_beginning b)) (clock : Point → ℕ) where
+module _ {b : LogBeginning} (f : TimedFlight b) where
+  abbrev pub ring : RingState
+  ring = ring_of_beginning b f.submissions f.registrations
+
   abbrev pub s : FlightSetting
-  s = record { old = ring_of_beginning b submissions registrations; first = first_of_call; answers = legal.answers }
+  s = record { old = ring; first = first_of_call; answers = f.legal.answers }
 
   abbrev pub log : List Happening
   log = log_of_beginning b
 
   abbrev pub table : Table
-  table = table_of (ring_of_beginning b submissions registrations)
+  table = table_of ring
 
   -- an event, in the flight
   pub record IsHere (i : ℕ) (e : Happening) : Type 0 where
@@ -55,150 +57,157 @@ module _ (b : LogBeginning) (submissions registrations : ℕ) (sound : IsSound b
     pub parts : log ≡ front ++ e ∷ rest
     pub few : length front ≡ i
     pub earlier : List Moment
-    pub inside : IsOlderPart (Logged e ∷ earlier) legal.flight
+    pub inside : IsOlderPart (Logged e ∷ earlier) f.legal.flight
     pub same : log_of earlier ≡ front
-    pub count : length earlier ≡ clock (Event i)
-    pub accesses : AreAccessTimes s earlier e (λ k. clock (At i k))
+    pub count : length earlier ≡ f.at (Event i)
+    pub accesses : AreAccessTimes s earlier e (λ k. f.at (At i k))
 
-  pub older : (e : Happening) (earlier : List Moment) → IsOlderPart (Logged e ∷ earlier) legal.flight → IsOlderPart earlier legal.flight
-  older e earlier inside = part_of_part inside (Logged e ∷ [], refl)
+  pub older : {m : Moment} {earlier : List Moment} → IsOlderPart (m ∷ earlier) f.legal.flight → IsOlderPart earlier f.legal.flight
+  older {m} inside = part_of_part inside (m ∷ [], refl)
+
+  -- each part of it is a flight
+  pub flies : {part : List Moment} → IsOlderPart part f.legal.flight → IsFlight s part
+  flies {part} inside = part_is_flight s f.legal.flight part inside f.legal.is
 
   pub new_file : (file : Identity) → (id : ℕ) → IsOfCall id file → (slot : ℕ) → table.at slot ≡ Some file → ⊥
   new_file file id of slot there =
       let here : is_of_no_call (Some file) ≡ true =
-      subst (λ (o : Option Identity). is_of_no_call o ≡ true) there (each_of_no_call b.slots.now.at.items slot sound.marks) in
+      subst (λ (o : Option Identity). is_of_no_call o ≡ true) there (each_of_no_call b.slots.now.at.items slot f.sound.marks) in
       let no : is_registered (Submitted id of.0 of.1 of.2) ≡ true = rw of.3 at here in
       false≢true no
 
-  module _ (times : AreTimes s legal.flight clock) where
-    pub here : (i : ℕ) (e : Happening) → IsEventAt b i e → IsHere i e
-    here i e is =
-        let p = get_parts log i e is in
-        let time : IsEventTime s legal.flight p.0 e (clock (Event i)) (λ k. clock (At i k)) =
-        rw p.3 at (times.event p.0 e p.1 (legal.same ∙ p.2)) in
-        record {
-          front = p.0;
-          rest = p.1;
-          parts = p.2;
-          few = p.3;
-          earlier = time.earlier;
-          inside = time.part;
-          same = time.same;
-          count = time.count;
-          accesses = time.accesses;
-        }
+  pub here : {i : ℕ} {e : Happening} → IsEventAt b i e → IsHere i e
+  here {i} {e} is =
+      let p = get_parts log i e is in
+      let time : IsEventTime s f.legal.flight p.0 e (f.at (Event i)) (λ k. f.at (At i k)) =
+      rw p.3 at (f.times.event p.0 e p.1 (f.legal.same ∙ p.2)) in
+      record {
+        front = p.0;
+        rest = p.1;
+        parts = p.2;
+        few = p.3;
+        earlier = time.earlier;
+        inside = time.part;
+        same = time.same;
+        count = time.count;
+        accesses = time.accesses;
+      }
 
-    pub may_at : (i : ℕ) (e : Happening) (h : IsHere i e) → MayFollow s h.earlier e
-    may_at i e h = (part_is_flight s legal.flight (Logged e ∷ h.earlier) h.inside legal.is).1
+  pub may_at : {i : ℕ} {e : Happening} (h : IsHere i e) → MayFollow s h.earlier e
+  may_at h = (flies h.inside).1
 
-    -- events are in the log's order
-    pub event_order : (i j : ℕ) (e d : Happening) → IsEventAt b i e → IsEventAt b j d → i < j → clock (Event i) < clock (Event j)
-    event_order i j e d is so lt =
-        let x = here i e is in
-        let y = here j d so in
-        let few_x = x.few in let few_y = y.few in let count_x = x.count in let count_y = y.count in
-        ⊎_elim (λ low. omega arith)
-        (λ high. let more = shorter x.earlier y.earlier (older e x.earlier x.inside) (older d y.earlier y.inside) high in
-        let long = ap length (sym x.same ∙ (ap log_of more.1 ∙ log_of-parts more.0 y.earlier)) in
-        let sum = length-append (log_of y.earlier) (log_of more.0) in
-        let same = ap length y.same in
-        absurd (omega arith)) (cases_lt (length x.earlier) (length y.earlier))
+  -- events are in the log's order
+  pub event_order : {i j : ℕ} {e d : Happening} → IsEventAt b i e → IsEventAt b j d → i < j → f.at (Event i) < f.at (Event j)
+  event_order is so lt =
+      let x = here is in
+      let y = here so in
+      let few_x = x.few in let few_y = y.few in let count_x = x.count in let count_y = y.count in
+      ⊎_elim (λ low. omega arith)
+      (λ high. let more = shorter x.earlier y.earlier (older x.inside) (older y.inside) high in
+      let long = ap length (sym x.same ∙ (ap log_of more.1 ∙ log_of-parts more.0 y.earlier)) in
+      let sum = length-append (log_of y.earlier) (log_of more.0) in
+      let same = ap length y.same in
+      absurd (omega arith)) (cases_lt (length x.earlier) (length y.earlier))
 
-    -- a call comes before its accesses
-    pub call_before : (i id time : ℕ) (e : Happening) (a : Access) → IsEventAt b i e → IsCallOf id e → IsAccessAt legal.flight id a time
-        → clock (Event i) < time
-    call_before i id time e a is call access =
-        let x = here i e is in
-        let m : Moment = Accesses (record { chain = id; access = a }) in
-        let may : MayAccess s access.0 id a = (part_is_flight s legal.flight (m ∷ access.0) access.1 legal.is).1.1 in
-        let own : (d : Happening) × IsCallOf id d × WasLogged access.0 d =
-        ⊎_elim (λ y. (Called id y.0, refl, y.1)) (λ y. (LookCalled id y.0, refl, y.2)) may in
-        let count = x.count in let time_is = access.2 in
-        ⊎_elim (λ low. omega arith)
-        (λ high. let more = shorter x.earlier access.0 (older e x.earlier x.inside) (part_of_part access.1 (m ∷ [], refl)) high in
-        let there : WasLogged x.earlier own.0 = rw more.1 (Contains-append_right more.0 access.0 (Logged own.0) own.2) in
-        let inside : Contains x.front own.0 = rw x.same at (in_log x.earlier own.0 there) in
-        absurd (new_number id 0 [] x.front x.rest e own.0 (rw x.parts at sound.faultless) inside own.1 call))
-        (cases_lt (length x.earlier) (length access.0))
+  -- a call comes before its accesses
+  pub call_before : {i id time : ℕ} {e : Happening} {a : Access} → IsEventAt b i e → IsCallOf id e → IsAccessAt f.legal.flight id a time
+      → f.at (Event i) < time
+  call_before {i} {id} {time} {e} {a} is call access =
+      let x = here is in
+      let may : MayAccess s access.0 id a = (flies access.1).1.1 in
+      let own : (d : Happening) × IsCallOf id d × WasLogged access.0 d =
+      ⊎_elim (λ y. (Called id y.0, refl, y.1)) (λ y. (LookCalled id y.0, refl, y.2)) may in
+      let count = x.count in let time_is = access.2 in
+      ⊎_elim (λ low. omega arith)
+      (λ high. let more = shorter x.earlier access.0 (older x.inside) (older access.1) high in
+      let there : WasLogged x.earlier own.0 = rw more.1 (Contains-append_right more.0 access.0 (Logged own.0) own.2) in
+      let inside : Contains x.front own.0 = rw x.same at (in_log x.earlier own.0 there) in
+      absurd (new_number id 0 [] x.front x.rest e own.0 (rw x.parts at f.sound.faultless) inside own.1 call))
+      (cases_lt (length x.earlier) (length access.0))
 
-    -- the event answers the first member of a call
-    abbrev pub IsFirst : Happening → Type 0
-    IsFirst (Answered id c) = c.place.member ≡ 1
-    IsFirst event = ⊥
+  -- the event answers the first member of a call
+  abbrev pub IsFirst : Happening → Type 0
+  IsFirst (Answered id c) = c.place.member ≡ 1
+  IsFirst event = ⊥
 
-    -- an access of which an answer says something
-    pub record IsSaid (call answer k : ℕ) (evidence : Evidence) : Type 0 where
-      pub id : ℕ
-      pub begins : Happening
-      pub called : IsEventAt b call begins
-      pub own : IsCallOf id begins
-      pub access : Access
-      pub time : IsAccessAt legal.flight id access (clock (At answer k))
-      pub before : clock (At answer k) < clock (Event answer)
-      pub is : IsEvident access evidence
-      pub ends : Happening
-      pub answered : IsEventAt b answer ends
-      pub first : IsFirst ends → length (made_by id time.0) ≡ k
+  -- an access of which an answer says something
+  pub record IsSaid (call answer k : ℕ) (evidence : Evidence) : Type 0 where
+    pub id : ℕ
+    pub begins : Happening
+    pub called : IsEventAt b call begins
+    pub own : IsCallOf id begins
+    pub access : Access
+    pub time : IsAccessAt f.legal.flight id access (f.at (At answer k))
+    pub before : f.at (At answer k) < f.at (Event answer)
+    pub is : IsEvident access evidence
+    pub ends : Happening
+    pub answered : IsEventAt b answer ends
+    pub first : IsFirst ends → length (made_by id time.0) ≡ k
 
-    contained : (i : ℕ) (e : Happening) → IsEventAt b i e → Contains log e
-    contained i e is = let p = get_parts log i e is in rw p.2 (Contains-append_right p.0 (e ∷ p.1) e (contains_head e p.1))
+  contained : (i : ℕ) (e : Happening) → IsEventAt b i e → Contains log e
+  contained i e is = let p = get_parts log i e is in rw p.2 (Contains-append_right p.0 (e ∷ p.1) e (contains_head e p.1))
 
-    -- a call in the flight is that of the log
-    same_call : (i id : ℕ) (e d : Happening) (part : List Moment) → IsEventAt b i e → IsCallOf id e → IsOlderPart part legal.flight
-        → WasLogged part d → IsCallOf id d → d ≡ e
-    same_call i id e d part is call inside there call_d =
-        let all : WasLogged legal.flight d = rw inside.1 (Contains-append_right inside.0 part (Logged d) there) in
-        one_call id 0 [] log d e sound.faultless (rw legal.same at (in_log legal.flight d all)) (contained i e is) call_d call
+  -- a call in the flight is that of the log
+  same_call : (i id : ℕ) (e d : Happening) (part : List Moment) → IsEventAt b i e → IsCallOf id e → IsOlderPart part f.legal.flight
+      → WasLogged part d → IsCallOf id d → d ≡ e
+  same_call i id e d part is call inside there call_d =
+      let all : WasLogged f.legal.flight d = rw inside.1 (Contains-append_right inside.0 part (Logged d) there) in
+      one_call id 0 [] log d e f.sound.faultless (rw f.legal.same at (in_log f.legal.flight d all)) (contained i e is) call_d call
 
-    said_by : (call answer k : ℕ) (evidence : Evidence) (begins ends : Happening) → IsEventAt b call begins → IsEventAt b answer ends → (h : IsHere answer ends)
-        → IsShownBy b begins ends k evidence → IsSaid call answer k evidence
-    said_by call answer k evidence (Called id requests) (Answered other c) is at h shows =
-        let member = h.accesses in
-        let same : Called other member.requests ≡ Called id requests =
-        same_call call id (Called id requests) (Called other member.requests) h.earlier is refl (older (Answered other c) h.earlier h.inside)
-        member.called shows.0 in
-        let list : member.requests ≡ requests = cc in
-        let one = shows.1 member.request (rw list at member.asked) member.accesses member.done in
-        let time = member.made k one.0 one.1 in
-        let before = before_end h.earlier other one.0 (clock (At answer k)) time in
-        let count = h.count in
-        record {
-          id = other;
-          begins = Called id requests;
-          called = is;
-          own = sym shows.0;
-          access = one.0;
-          time = (time.0, part_of_part (older (Answered other c) h.earlier h.inside) time.1, time.2);
-          before = omega arith;
-          is = one.2;
-          ends = Answered other c;
-          answered = at;
-          first = λ first. member.first first k one.0 one.1;
-        }
-    said_by call answer k evidence (LookCalled id slot) (LookAnswered other found) is at h shows =
-        let look = h.accesses in
-        let same : LookCalled other look.slot ≡ LookCalled id slot =
-        same_call call id (LookCalled id slot) (LookCalled other look.slot) h.earlier is refl (older (LookAnswered other found) h.earlier h.inside)
-        look.called shows.0 in
-        let own : look.slot ≡ slot = cc in
-        let one = shows.1 look.accesses (rw own at look.done) in
-        let time = look.made k one.0 one.1 in
-        let before = before_end h.earlier other one.0 (clock (At answer k)) time in
-        let count = h.count in
-        record {
-          id = other;
-          begins = LookCalled id slot;
-          called = is;
-          own = sym shows.0;
-          access = one.0;
-          time = access_of_part other one.0 (clock (At answer k)) (older (LookAnswered other found) h.earlier h.inside) time;
-          before = omega arith;
-          is = one.2;
-          ends = LookAnswered other found;
-          answered = at;
-          first = λ none. absurd none;
-        }
-    said_by call answer k evidence begins ends is at h shows = absurd shows
+  said_by : (call answer k : ℕ) (evidence : Evidence) (begins ends : Happening) → IsEventAt b call begins → IsEventAt b answer ends → (h : IsHere answer ends)
+      → IsShownBy b begins ends k evidence → IsSaid call answer k evidence
+  said_by call answer k evidence (Called id requests) (Answered other c) is at h shows =
+      let member = h.accesses in
+      let same : Called other member.requests ≡ Called id requests =
+      same_call call id (Called id requests) (Called other member.requests) h.earlier is refl (older h.inside)
+      member.called shows.0 in
+      let list : member.requests ≡ requests = cc in
+      let one = shows.1 member.request (rw list at member.asked) member.accesses member.done in
+      let time = member.made k one.0 one.1 in
+      let before = before_end h.earlier other one.0 (f.at (At answer k)) time in
+      let count = h.count in
+      record {
+        id = other;
+        begins = Called id requests;
+        called = is;
+        own = sym shows.0;
+        access = one.0;
+        time = (time.0, part_of_part (older h.inside) time.1, time.2);
+        before = omega arith;
+        is = one.2;
+        ends = Answered other c;
+        answered = at;
+        first = λ first. member.first first k one.0 one.1;
+      }
+  said_by call answer k evidence (LookCalled id slot) (LookAnswered other found) is at h shows =
+      let look = h.accesses in
+      let same : LookCalled other look.slot ≡ LookCalled id slot =
+      same_call call id (LookCalled id slot) (LookCalled other look.slot) h.earlier is refl (older h.inside)
+      look.called shows.0 in
+      let own : look.slot ≡ slot = cc in
+      let one = shows.1 look.accesses (rw own at look.done) in
+      let time = look.made k one.0 one.1 in
+      let before = before_end h.earlier other one.0 (f.at (At answer k)) time in
+      let count = h.count in
+      record {
+        id = other;
+        begins = LookCalled id slot;
+        called = is;
+        own = sym shows.0;
+        access = one.0;
+        time = access_of_part other one.0 (f.at (At answer k)) (older h.inside) time;
+        before = omega arith;
+        is = one.2;
+        ends = LookAnswered other found;
+        answered = at;
+        first = λ none. absurd none;
+      }
+  said_by call answer k evidence begins ends is at h shows = absurd shows
 
-    pub said : (call answer k : ℕ) (evidence : Evidence) → IsAccessMade b call answer k evidence → IsSaid call answer k evidence
-    said call answer k evidence made = said_by call answer k evidence made.begins made.ends made.called made.answered (here answer made.ends made.answered) (made.shows sound.catalogue)
+  pub said : {call answer k : ℕ} {evidence : Evidence} → IsAccessMade b call answer k evidence → IsSaid call answer k evidence
+  said {call} {answer} {k} {evidence} made =
+      said_by call answer k evidence made.begins made.ends made.called made.answered (here made.answered) (made.shows f.sound.catalogue)
+
+  -- the table permits the access
+  pub said_may : {call answer k : ℕ} {evidence : Evidence} (x : IsSaid call answer k evidence) → Permits (table_left_by table x.time.0) x.access
+  said_may x = (flies x.time.1).1.0

@@ -2,21 +2,21 @@
 use Rattle.check_certificate.proofs.Words.{◌≡◌, ◌⊎◌, ℕ, ◌+◌, ◌-◌, ◌<◌, ◌≤◌, List, [], ◌∷◌, ◌++◌, length, refl, sym, ap, ◌∙◌, arith, inl, inr, subst}
 use Rattle.check_certificate.proofs.Words.{⊎_elim, cases_lt, length-append, Option, Some, None, slice_get, Moment, Logged, Accesses, IsOlderPart}
 use Rattle.check_certificate.proofs.Words.{Access, IsAccessAt, IsPut, IsLeftAt, Identity, Table, table_with, table_left_by, Happening, Completed, FileEntry}
-use Rattle.check_certificate.proofs.Words.{Answered, IsLegalLog, made_by, by_equality, if◌then◌else◌, AreTimes, Permits, Place, IsRequestDone, true, Bool}
+use Rattle.check_certificate.proofs.Words.{Answered, made_by, by_equality, if◌then◌else◌, Permits, Place, IsRequestDone, true}
 use Rattle.check_certificate.proofs.Words.{Looks, Takes, FindsFull, Puts, Allocates, Clears, either_option}
 use Rattle.check_certificate.proofs.Called.{IsOfLog, answer_is, of_log}
-use Rattle.check_certificate.proofs.Forcing.{apart, call_id, loose_order, not_after, strict_from, strict_order, strictly, weaker}
+use Rattle.check_certificate.proofs.Forcing.{apart, call_id, event_at, loose_order, not_after, strict_from, strict_order, unless_after, weaker}
 use Rattle.check_certificate.proofs.Intended.{may_install}
 use Rattle.check_certificate.proofs.Leaving.{there_after}
 use Rattle.check_certificate.proofs.Life.{put_here}
 use Rattle.check_certificate.proofs.Marks.{no_look as installs_not}
-use Rattle.check_certificate.proofs.Orders.{IsFirst, IsHere, call_before, here, new_file, older, s, said, table}
-use Rattle.check_certificate.proofs.Parts.{access_of_part, one_more, part_cases, part_is_flight, part_length, part_of_part, shorter, whole}
+use Rattle.check_certificate.proofs.Orders.{IsHere, call_before, flies, here, new_file, older, said, table}
+use Rattle.check_certificate.proofs.Parts.{access_of_part, one_more, part_cases, part_length, part_of_part, shorter, whole}
 use Rattle.check_certificate.specs.Absent.{IsInEach, MayInstall, is_negative}
 use Rattle.check_certificate.specs.Evidence.{IsAccessMade, IsEventAt}
-use Rattle.check_certificate.specs.Forced.{IsForced, IsOfCall, IsSound, log_of_beginning, ring_of_beginning}
-use Rattle.check_certificate.specs.Landed.{LandsThere, MissesThere}
-use Rattle.check_certificate.specs.Taken.{IsMadeAs, IsNoOther, IsTakenThen, IsTaking, TakesNone, slot_taken}
+use Rattle.check_certificate.specs.Forced.{IsForced, IsOfCall, TimedFlight}
+use Rattle.check_certificate.specs.Landed.{IsInstalledBefore, LandsThere, MissesThere}
+use Rattle.check_certificate.specs.Taken.{IsNoOther, IsTakenThen, IsTaking, TakesNone, slot_taken}
 use Rattle.check_certificate.specs.Walked.{IsWalked}
 use Rattle.check_certificate.specs.declared.beginning.LogBeginning.{LogBeginning}
 use Rattle.check_certificate.specs.declared.certificate.Point.{Point}
@@ -27,6 +27,7 @@ use Rattle.check_certificate.specs.declared.evidence.Evidence.{Evidence}
 use Rattle.check_certificate.specs.declared.walk.Landing.{Landing}
 use Rattle.check_certificate.specs.declared.walk.Leaving.{Leaving}
 use Rattle.check_certificate.specs.declared.walk.WalkAim.TheVariants.{Leaves, Lands, Misses}
+use Rattle.fx_base.specs.Catalogue.{IsCatalogue}
 use Rattle.fx_chain.specs.Intents.{answer_at_table, close_answer}
 use Rattle.fx_chain.specs.Operation.{Operation}
 use Rattle.fx_chain.specs.Refusal.{refusal_of}
@@ -34,7 +35,6 @@ use Rattle.fx_chain.specs.declared.intent.Finding.TheVariants.{At as Found}
 use Rattle.fx_chain.specs.declared.intent.Intent.{Intent}
 use Rattle.fx_chain.specs.declared.intent.Intent.TheVariants.{Put as Install, Clear, Take, Look, Allocate}
 use Rattle.fx_flight.proofs.InTime.{made_by-parts}
-use Rattle.fx_flight.specs.Events.{first_of_call}
 use Rattle.fx_flight.specs.Laws.{IsCallOf}
 use Rattle.fx_order.proofs.Intents.{by_intents}
 use Rattle.fx_order.proofs.Words.{IsOf, false≢true, last_finding}
@@ -146,13 +146,13 @@ same_order o from to strict first last = λ i. record { from = first i; to = las
 -- points of a strict order are apart
 pub strict_apart : (o : PointOrder) (one other : Point) → o ≡ strict_from one other → (b : LogBeginning) → IsForced b o
     → IsInEach b (λ at. at one ≡ at other → ⊥)
-strict_apart o one other is b known submissions registrations sound legal clock times same =
-    let low = apart clock one other (rw is at (known submissions registrations sound legal clock times)) in omega arith
+strict_apart o one other is b known f same =
+    let low = apart f.at one other (rw is at (known f)) in omega arith
 
 pub strict_apart_back : (o : PointOrder) (one other : Point) → o ≡ strict_from other one → (b : LogBeginning) → IsForced b o
     → IsInEach b (λ at. at one ≡ at other → ⊥)
-strict_apart_back o one other is b known submissions registrations sound legal clock times same =
-    let low = apart clock other one (rw is at (known submissions registrations sound legal clock times)) in omega arith
+strict_apart_back o one other is b known f same =
+    let low = apart f.at other one (rw is at (known f)) in omega arith
 
 -- an answer, with the place that it has
 pub answered_at : (b : LogBeginning) (answer : ℕ) (place : Place) (c : Completed) → IsEventAt b answer (Answered c.place.submission c) → c.place ≡ place
@@ -165,172 +165,165 @@ pub failed_at : (b : LogBeginning) (answer : ℕ) (place : Place) (c : Completed
 failed_at b answer place c there same failed =
     (c, subst (λ (i : ℕ). IsEventAt b answer (Answered i c)) (ap (λ (p : Place). p.submission) same) there, same, failed)
 
+module _ {b : LogBeginning} (f : TimedFlight b) where
+  -- an access of a call before an event takes the file when it leaves its slot
+  record IsTakenBefore (earlier : List Moment) (file : Identity) (slot : ℕ) : Type 0 where
+    id : ℕ
+    access : Access
+    at : IsAccessAt earlier id access (f.at (Gone file slot))
+    takes : IsTaking access slot file
+
+  taken_before : (until : ℕ) (e : Happening) (y : IsHere f until e) (file : Identity) (slot : ℕ)
+      → 0 < f.at (Gone file slot) → f.at (Gone file slot) ≤ f.at (Event until) → IsTakenBefore y.earlier file slot
+  taken_before until e y file slot some low =
+      ⊎_elim (λ never. absurd (omega arith))
+      (λ last. let few = last.3 in let count = y.count in
+      let part : IsOlderPart last.0 (Logged e ∷ y.earlier) = shorter (Logged e ∷ y.earlier) last.0 y.inside last.1 (omega arith) in
+      let next = after_part (Logged e ∷ y.earlier) last.0 part (omega arith) in
+      by_moment last.0 last.2 last.3 next.0 next.1)
+      (f.times.gone file slot).there
+    where
+      by_moment : (part : List Moment) → IsLeftAt (table f) part slot file → length part ≡ f.at (Gone file slot) → (m : Moment)
+          → IsOlderPart (m ∷ part) (Logged e ∷ y.earlier) → IsTakenBefore y.earlier file slot
+      by_moment part there few (Logged d) inside =
+          let low = (f.times.gone file slot).last (Logged d ∷ part) (part_of_part y.inside inside) there in absurd (omega arith)
+      by_moment part there few (Accesses x) inside =
+          let within : IsOlderPart (Accesses x ∷ part) f.legal.flight = part_of_part y.inside inside in
+          let gone : IsLeftAt (table f) (Accesses x ∷ part) slot file → ⊥ =
+          λ still. let low = (f.times.gone file slot).last (Accesses x ∷ part) within still in omega arith in
+          let older_one : IsOlderPart (Accesses x ∷ part) y.earlier =
+          ⊎_elim (λ same. let head : Accesses x ≡ Logged e = cc in absurd (cc)) (λ is. is) (part_cases (Logged e) y.earlier (Accesses x ∷ part) inside) in
+          record {
+            id = x.chain;
+            access = x.access;
+            at = (part, older_one, few);
+            takes = takes_it (table_left_by (table f) part) x.access slot file (flies f within).1.0 there gone;
+          }
+
+  -- the call of an access that installs a file before an event
+  installed_by : (until : ℕ) (e : Happening) → IsEventAt b until e → (id slot time : ℕ) (a : Access) (file : Identity) → IsPut a slot file
+      → (at : IsAccessAt f.legal.flight id a time) → time < f.at (Event until)
+      → IsOfLog f until id a (length (made_by id at.0))
+  installed_by until e there id slot time a file is at early =
+      let y = here f there in
+      let count = y.count in let few = at.2 in
+      let m : Moment = Accesses (record { chain = id; access = a }) in
+      let part : IsOlderPart (m ∷ at.0) y.earlier = shorter y.earlier (m ∷ at.0) (older f y.inside) at.1 (omega arith) in
+      of_log f y time id a (λ looked seen same. installs_not a looked seen slot file same is) (at.0, part, at.2)
+
+  -- a file that was installed before an event is at the slot at which it may be
+  pub landed : (l : Landing) (e : Happening) → IsEventAt b l.until e → IsWalked b (Lands l) → f.at (Put l.file) < f.at (Event l.until)
+      → f.at (Put l.file) < f.at (Gone l.file l.slot)
+  landed l e there walked early =
+      ⊎_elim
+      (λ put. let i = installed_by l.until e there put.0 put.1 (f.at (Put l.file)) put.2 l.file put.3 put.4 early in
+      let same : put.1 ≡ l.slot = there_only l i.by.intent put.1
+      (walked i.p put.0 i.requests i.low i.called i.by.n i.by.request i.by.asked i.by.k i.by.intent i.by.is)
+      (may_install i.by.intent put.2 put.1 l.file i.by.of put.3) in
+      let m : Moment = Accesses (record { chain = put.0; access = put.2 }) in
+      let left : IsLeftAt (table f) (m ∷ put.4.0) l.slot l.file =
+      subst (λ (k : ℕ). IsLeftAt (table f) (m ∷ put.4.0) k l.file) same
+      (there_after (table_left_by (table f) put.4.0) put.2 put.1 l.file put.3) in
+      let low = (f.times.gone l.file l.slot).last (m ∷ put.4.0) put.4.1 left in let few = put.4.2 in omega arith)
+      (λ past. let y = here f there in
+      let count = y.count in
+      let whole_part = part_length f.legal.flight (Logged e ∷ y.earlier) y.inside in absurd (omega arith))
+      (f.times.put l.file).some
+    where
+      there_only : (l : Landing) (intent : Intent) (slot : ℕ) → LandsThere l intent → MayInstall intent slot l.file → slot ≡ l.slot
+      there_only l (Install own file) slot lands may = sym may.0 ∙ lands may.1
+      there_only l (Allocate file) slot lands may = absurd (lands may)
+      there_only l (Look own) slot lands may = absurd may
+      there_only l (Clear own) slot lands may = absurd may
+      there_only l (Take own) slot lands may = absurd may
+
+  -- and at no other one
+  pub missed : (l : Landing) (e : Happening) (id : ℕ) → IsEventAt b l.until e → IsWalked b (Misses l) → IsOfCall id l.file
+      → f.at (Put l.file) < f.at (Event l.until) → f.at (Gone l.file l.slot) ≤ f.at (Put l.file)
+  missed l e id there walked of early =
+      ⊎_elim (λ never. omega arith)
+      (λ last. let put = put_here (table f) l.slot l.file f.legal.flight (f.at (Put l.file)) (f.times.put l.file)
+      (new_file f l.file id of l.slot) last.0 last.1 last.2 in
+      let at : IsAccessAt f.legal.flight put.0 put.1 (f.at (Put l.file)) = access_of_part put.0 put.1 (f.at (Put l.file)) last.1 put.3 in
+      let i = installed_by l.until e there put.0 l.slot (f.at (Put l.file)) put.1 l.file put.2 at early in
+      absurd (not_there l i.by.intent (walked i.p put.0 i.requests i.low i.called i.by.n i.by.request i.by.asked i.by.k i.by.intent i.by.is)
+      (may_install i.by.intent put.1 l.slot l.file i.by.of put.2)))
+      (f.times.gone l.file l.slot).there
+    where
+      not_there : (l : Landing) (intent : Intent) → MissesThere l intent → MayInstall intent l.slot l.file → ⊥
+      not_there l (Install own file) misses may = misses may.1 may.0
+      not_there l (Allocate file) misses may = misses may
+      not_there l (Look own) misses may = may
+      not_there l (Clear own) misses may = may
+      not_there l (Take own) misses may = may
+
+  no_look : (a : Access) (slot : ℕ) (file : Identity) → IsTaking a slot file → (looked : ℕ) (seen : Option Identity) → a ≡ Looks looked seen → ⊥
+  no_look a slot file takes looked seen is = let none : IsTaking (Looks looked seen) slot file = rw is at takes in none
+
+  -- so it is the access that may take it
+  pub taker : (l : Leaving) (e : Happening) → IsEventAt b l.until e → IsWalked b (Leaves l) → 0 < f.at (Gone l.file l.slot)
+      → f.at (Gone l.file l.slot) ≤ f.at (Event l.until) → IsTakenThen l.taker (Gone l.file l.slot) f.at
+  taker l e there walked some low =
+      let y = here f there in
+      let x = taken_before l.until e y l.file l.slot some low in
+      let i = of_log f y (f.at (Gone l.file l.slot)) x.id x.access
+      (no_look x.access l.slot l.file x.takes) x.at in
+      let member : 1 + i.by.n - 1 ≡ i.by.n = omega arith in
+      walked i.p x.id i.requests i.low i.called i.by.n i.by.request i.by.asked i.by.k i.by.intent i.by.is f x.access i.by.of x.takes
+      (record {
+        at = (x.at.0, part_of_part (older f y.inside) x.at.1, x.at.2);
+        first = λ one. i.by.first (omega (arith, one));
+        c = i.by.c;
+        answer = ap (slice_get (f.legal.answers x.id)) member ∙ i.by.answer;
+        own = i.by.at;
+        front = i.by.front;
+        rest = i.by.rest;
+        done = i.by.done;
+      })
+
 module _ (b : LogBeginning) where
-  module _ (submissions registrations : ℕ) (sound : IsSound b)
-      (legal : IsLegalLog (ring_of_beginning b submissions registrations) (log_of_beginning b)) (clock : Point → ℕ)
-      (times : AreTimes (s b submissions registrations sound legal clock) legal.flight clock) where
-    -- an access of a call before an event takes the file when it leaves its slot
-    record IsTakenBefore (earlier : List Moment) (file : Identity) (slot : ℕ) : Type 0 where
-      id : ℕ
-      access : Access
-      at : IsAccessAt earlier id access (clock (Gone file slot))
-      takes : IsTaking access slot file
-
-    taken_before : (until : ℕ) (e : Happening) (y : IsHere b submissions registrations sound legal clock until e) (file : Identity) (slot : ℕ)
-        → 0 < clock (Gone file slot) → clock (Gone file slot) ≤ clock (Event until) → IsTakenBefore y.earlier file slot
-    taken_before until e y file slot some low =
-        ⊎_elim (λ never. absurd (omega arith))
-        (λ last. let few = last.3 in let count = y.count in
-        let part : IsOlderPart last.0 (Logged e ∷ y.earlier) = shorter (Logged e ∷ y.earlier) last.0 y.inside last.1 (omega arith) in
-        let next = after_part (Logged e ∷ y.earlier) last.0 part (omega arith) in
-        by_moment last.0 last.2 last.3 next.0 next.1)
-        (times.gone file slot).there
-      where
-        by_moment : (part : List Moment) → IsLeftAt (table b submissions registrations sound legal clock) part slot file → length part ≡ clock (Gone file slot) → (m : Moment)
-            → IsOlderPart (m ∷ part) (Logged e ∷ y.earlier) → IsTakenBefore y.earlier file slot
-        by_moment part there few (Logged d) inside =
-            let low = (times.gone file slot).last (Logged d ∷ part) (part_of_part y.inside inside) there in absurd (omega arith)
-        by_moment part there few (Accesses x) inside =
-            let within : IsOlderPart (Accesses x ∷ part) legal.flight = part_of_part y.inside inside in
-            let gone : IsLeftAt (table b submissions registrations sound legal clock) (Accesses x ∷ part) slot file → ⊥ =
-            λ still. let low = (times.gone file slot).last (Accesses x ∷ part) within still in omega arith in
-            let may : Permits (table_left_by (table b submissions registrations sound legal clock) part) x.access =
-            (part_is_flight (s b submissions registrations sound legal clock) legal.flight (Accesses x ∷ part) within legal.is).1.0 in
-            let older_one : IsOlderPart (Accesses x ∷ part) y.earlier =
-            ⊎_elim (λ same. let head : Accesses x ≡ Logged e = cc in absurd (cc)) (λ is. is) (part_cases (Logged e) y.earlier (Accesses x ∷ part) inside) in
-            record {
-              id = x.chain;
-              access = x.access;
-              at = (part, older_one, few);
-              takes = takes_it (table_left_by (table b submissions registrations sound legal clock) part) x.access slot file may there gone;
-            }
-
-    -- the call of an access that installs a file before an event
-    installed_by : (until : ℕ) (e : Happening) → IsEventAt b until e → (id slot time : ℕ) (a : Access) (file : Identity) → IsPut a slot file
-        → (at : IsAccessAt legal.flight id a time) → time < clock (Event until)
-        → IsOfLog b submissions registrations sound legal clock times until id a (length (made_by id at.0))
-    installed_by until e there id slot time a file is at early =
-        let y = here b submissions registrations sound legal clock times until e there in
-        let count = y.count in let few = at.2 in
-        let m : Moment = Accesses (record { chain = id; access = a }) in
-        let part : IsOlderPart (m ∷ at.0) y.earlier =
-        shorter y.earlier (m ∷ at.0) (older b submissions registrations sound legal clock e y.earlier y.inside) at.1 (omega arith) in
-        of_log b submissions registrations sound legal clock times until e y time id a (λ looked seen same. installs_not a looked seen slot file same is)
-        (at.0, part, at.2)
-
-    -- a file that was installed before an event is at the slot at which it may be
-    pub landed : (l : Landing) (e : Happening) → IsEventAt b l.until e → IsWalked b (Lands l) → clock (Put l.file) < clock (Event l.until)
-        → clock (Put l.file) < clock (Gone l.file l.slot)
-    landed l e there walked early =
-        ⊎_elim
-        (λ put. let i = installed_by l.until e there put.0 put.1 (clock (Put l.file)) put.2 l.file put.3 put.4 early in
-        let same : put.1 ≡ l.slot = there_only l i.by.intent put.1
-        (walked i.p put.0 i.requests i.low i.called i.by.n i.by.request i.by.asked i.by.k i.by.intent i.by.is)
-        (may_install i.by.intent put.2 put.1 l.file i.by.of put.3) in
-        let m : Moment = Accesses (record { chain = put.0; access = put.2 }) in
-        let left : IsLeftAt (table b submissions registrations sound legal clock) (m ∷ put.4.0) l.slot l.file =
-        subst (λ (k : ℕ). IsLeftAt (table b submissions registrations sound legal clock) (m ∷ put.4.0) k l.file) same
-        (there_after (table_left_by (table b submissions registrations sound legal clock) put.4.0) put.2 put.1 l.file put.3) in
-        let low = (times.gone l.file l.slot).last (m ∷ put.4.0) put.4.1 left in let few = put.4.2 in omega arith)
-        (λ past. let y = here b submissions registrations sound legal clock times l.until e there in
-        let count = y.count in
-        let whole_part = part_length legal.flight (Logged e ∷ y.earlier) y.inside in absurd (omega arith))
-        (times.put l.file).some
-      where
-        there_only : (l : Landing) (intent : Intent) (slot : ℕ) → LandsThere l intent → MayInstall intent slot l.file → slot ≡ l.slot
-        there_only l (Install own file) slot lands may = sym may.0 ∙ lands may.1
-        there_only l (Allocate file) slot lands may = absurd (lands may)
-        there_only l (Look own) slot lands may = absurd may
-        there_only l (Clear own) slot lands may = absurd may
-        there_only l (Take own) slot lands may = absurd may
-
-    -- and at no other one
-    pub missed : (l : Landing) (e : Happening) (id : ℕ) → IsEventAt b l.until e → IsWalked b (Misses l) → IsOfCall id l.file
-        → clock (Put l.file) < clock (Event l.until) → clock (Gone l.file l.slot) ≤ clock (Put l.file)
-    missed l e id there walked of early =
-        ⊎_elim (λ never. omega arith)
-        (λ last. let put = put_here (table b submissions registrations sound legal clock) l.slot l.file legal.flight (clock (Put l.file)) (times.put l.file)
-        (new_file b submissions registrations sound legal clock l.file id of l.slot) last.0 last.1 last.2 in
-        let at : IsAccessAt legal.flight put.0 put.1 (clock (Put l.file)) = access_of_part put.0 put.1 (clock (Put l.file)) last.1 put.3 in
-        let i = installed_by l.until e there put.0 l.slot (clock (Put l.file)) put.1 l.file put.2 at early in
-        absurd (not_there l i.by.intent (walked i.p put.0 i.requests i.low i.called i.by.n i.by.request i.by.asked i.by.k i.by.intent i.by.is)
-        (may_install i.by.intent put.1 l.slot l.file i.by.of put.2)))
-        (times.gone l.file l.slot).there
-      where
-        not_there : (l : Landing) (intent : Intent) → MissesThere l intent → MayInstall intent l.slot l.file → ⊥
-        not_there l (Install own file) misses may = misses may.1 may.0
-        not_there l (Allocate file) misses may = misses may
-        not_there l (Look own) misses may = may
-        not_there l (Clear own) misses may = may
-        not_there l (Take own) misses may = may
-
-    no_look : (a : Access) (slot : ℕ) (file : Identity) → IsTaking a slot file → (looked : ℕ) (seen : Option Identity) → a ≡ Looks looked seen → ⊥
-    no_look a slot file takes looked seen is = let none : IsTaking (Looks looked seen) slot file = rw is at takes in none
-
-    -- so it is the access that may take it
-    pub taker : (l : Leaving) (e : Happening) → IsEventAt b l.until e → IsWalked b (Leaves l) → 0 < clock (Gone l.file l.slot)
-        → clock (Gone l.file l.slot) ≤ clock (Event l.until) → IsTakenThen l.taker (Gone l.file l.slot) clock
-    taker l e there walked some low =
-        let y = here b submissions registrations sound legal clock times l.until e there in
-        let x = taken_before l.until e y l.file l.slot some low in
-        let i = of_log b submissions registrations sound legal clock times l.until e y (clock (Gone l.file l.slot)) x.id x.access
-        (no_look x.access l.slot l.file x.takes) x.at in
-        let member : 1 + i.by.n - 1 ≡ i.by.n = omega arith in
-        walked i.p x.id i.requests i.low i.called i.by.n i.by.request i.by.asked i.by.k i.by.intent i.by.is
-        submissions registrations sound legal clock times x.access i.by.of x.takes
-        (record {
-          at = (x.at.0, part_of_part (older b submissions registrations sound legal clock e y.earlier y.inside) x.at.1, x.at.2);
-          first = λ one. i.by.first (omega (arith, one));
-          c = i.by.c;
-          answer = ap (slice_get (legal.answers x.id)) member ∙ i.by.answer;
-          own = i.by.at;
-          front = i.by.front;
-          rest = i.by.rest;
-          done = i.by.done;
-        })
-
-  module _ (l : Leaving) (e : Happening) (inside : IsEventAt b l.until e) (walked : IsWalked b (Leaves l))
+  module _ (l : Leaving) (inside : l.until < length b.events.now) (walks : IsCatalogue b.catalogue.now → IsWalked b (Leaves l))
       (there : IsForced b (strict_from (Event l.since) (Gone l.file l.slot))) where
     pub stays_forced : l.taker ≡ None → IsForced b (strict_from (Event l.until) (Gone l.file l.slot))
-    stays_forced none submissions registrations sound legal clock times =
-        let some = apart clock (Event l.since) (Gone l.file l.slot) (there submissions registrations sound legal clock times) in
-        ⊎_elim (λ lt. strict_order clock (Event l.until) (Gone l.file l.slot) lt)
-        (λ low. let taken : IsTakenThen None (Gone l.file l.slot) clock =
-        rw none at (taker submissions registrations sound legal clock times l e inside walked (omega arith) low) in absurd taken)
-        (cases_lt (clock (Event l.until)) (clock (Gone l.file l.slot)))
+    stays_forced none f =
+        let some = apart f.at (Event l.since) (Gone l.file l.slot) (there f) in
+        let e = event_at b l.until inside in
+        unless_after f.at (Event l.until) (Gone l.file l.slot) (λ low.
+        let taken : IsTakenThen None (Gone l.file l.slot) f.at = rw none at (taker f l e.0 e.1 (walks f.sound.catalogue) (omega arith) low) in taken)
 
     pub taken_then : (point : Point) → l.taker ≡ Some point → (o : PointOrder) → o.from ≡ Gone l.file l.slot → o.to ≡ Event l.until → IsForced b o
-        → IsInEach b (λ at. at point ≡ at (Gone l.file l.slot))
-    taken_then point is o from to known submissions registrations sound legal clock times =
-        let some = apart clock (Event l.since) (Gone l.file l.slot) (there submissions registrations sound legal clock times) in
-        let low = rw (from, to) at (weaker clock o (known submissions registrations sound legal clock times)) in
-        rw is at (taker submissions registrations sound legal clock times l e inside walked (omega arith) low)
+        → IsInEach b (λ at. at point ≡ at o.from)
+    taken_then point is o from to known f =
+        let some = apart f.at (Event l.since) (Gone l.file l.slot) (there f) in
+        let low = rw (from, to) at (weaker f.at o (known f)) in
+        let e = event_at b l.until inside in
+        rw is at (taker f l e.0 e.1 (walks f.sound.catalogue) (omega arith) low) ∙ ap f.at (sym from)
 
-  pub lands_forced : (l : Landing) (e : Happening) → IsEventAt b l.until e → IsWalked b (Lands l) → (o : PointOrder) → o.from ≡ Put l.file
-      → o.to ≡ Event l.until → o.strict ≡ true → IsForced b o → IsForced b (strict_from (Put l.file) (Gone l.file l.slot))
-  lands_forced l e there walked o from to strict known submissions registrations sound legal clock times =
-      let early = rw (from, to) at (strictly clock o strict (known submissions registrations sound legal clock times)) in
-      strict_order clock (Put l.file) (Gone l.file l.slot) (landed submissions registrations sound legal clock times l e there walked early)
+  pub lands_forced : (l : Landing) → l.until < length b.events.now → (IsCatalogue b.catalogue.now → IsWalked b (Lands l)) → IsInstalledBefore b l
+      → IsForced b (strict_from (Put l.file) (Gone l.file l.slot))
+  lands_forced l inside walks installed f =
+      let e = event_at b l.until inside in
+      strict_order f.at (Put l.file) (Gone l.file l.slot)
+      (landed f l e.0 e.1 (walks f.sound.catalogue) (apart f.at (Put l.file) (Event l.until) (installed f)))
 
-  pub misses_forced : (l : Landing) (e : Happening) (id : ℕ) → IsEventAt b l.until e → IsWalked b (Misses l) → IsOfCall id l.file → (o : PointOrder)
-      → o.from ≡ Put l.file → o.to ≡ Event l.until → o.strict ≡ true → IsForced b o → IsForced b (not_after (Gone l.file l.slot) (Put l.file))
-  misses_forced l e id there walked of o from to strict known submissions registrations sound legal clock times =
-      let early = rw (from, to) at (strictly clock o strict (known submissions registrations sound legal clock times)) in
-      loose_order clock (Gone l.file l.slot) (Put l.file) (missed submissions registrations sound legal clock times l e id there walked of early)
+  pub misses_forced : (l : Landing) (id : ℕ) → l.until < length b.events.now → (IsCatalogue b.catalogue.now → IsWalked b (Misses l)) → IsOfCall id l.file
+      → IsInstalledBefore b l → IsForced b (not_after (Gone l.file l.slot) (Put l.file))
+  misses_forced l id inside walks of installed f =
+      let e = event_at b l.until inside in
+      loose_order f.at (Gone l.file l.slot) (Put l.file)
+      (missed f l e.0 id e.1 (walks f.sound.catalogue) of (apart f.at (Put l.file) (Event l.until) (installed f)))
 
-  pub not_before : (one other : Point) → IsInEach b (λ at. at one ≡ at other) → IsForced b (not_after one other)
-  not_before one other same submissions registrations sound legal clock times =
-      let is = same submissions registrations sound legal clock times in loose_order clock one other (omega arith)
+  pub not_before : (one other : Point) (o : PointOrder) → o ≡ not_after one other → IsInEach b (λ at. at one ≡ at other) → IsForced b o
+  not_before one other o is same f = let one_time = same f in rw is (loose_order f.at one other (omega arith))
 
-  pub not_later : (one other : Point) → IsInEach b (λ at. at one ≡ at other) → IsForced b (not_after other one)
-  not_later one other same submissions registrations sound legal clock times =
-      let is = same submissions registrations sound legal clock times in loose_order clock other one (omega arith)
+  pub not_later : (one other : Point) (o : PointOrder) → o ≡ not_after other one → IsInEach b (λ at. at one ≡ at other) → IsForced b o
+  not_later one other o is same f = let one_time = same f in rw is (loose_order f.at other one (omega arith))
 
   pub no_other_by : (l : Leaving) (point : Point) → IsInEach b (λ at. at point ≡ at (Gone l.file l.slot) → ⊥) → IsNoOther b l point
-  no_other_by l point apart submissions registrations sound legal clock times same = absurd (apart submissions registrations sound legal clock times same)
+  no_other_by l point apart f same = absurd (apart f same)
 
   pub the_taker : (l : Leaving) (point : Point) → l.taker ≡ Some point → IsNoOther b l point
-  the_taker l point is submissions registrations sound legal clock times same = rw is same
+  the_taker l point is f same = rw is same
 
   module _ (l : Leaving) (place : Place) (operation : Operation) (k : ℕ) where
     -- An access of another slot, or of none.
@@ -345,31 +338,31 @@ module _ (b : LogBeginning) where
     taken_slot (Allocate new) a slot file (inr is) takes = let none : IsTaking FindsFull slot file = rw is at takes in absurd none
 
     pub no_slot_takes_none : (intent : Intent) → slot_taken intent ≡ None → TakesNone b l place operation k intent
-    no_slot_takes_none intent none submissions registrations sound legal clock times a of takes made =
+    no_slot_takes_none intent none f a of takes made =
         let both : None ≡ Some l.slot = sym none ∙ taken_slot intent a l.slot l.file of takes in absurd (cc)
 
     pub other_slot_takes_none : (intent : Intent) (slot : ℕ) → slot_taken intent ≡ Some slot → (slot ≡ l.slot → ⊥) → TakesNone b l place operation k intent
-    other_slot_takes_none intent slot own other submissions registrations sound legal clock times a of takes made =
+    other_slot_takes_none intent slot own other f a of takes made =
         let both : Some slot ≡ Some l.slot = sym own ∙ taken_slot intent a l.slot l.file of takes in
         let same : slot ≡ l.slot = cc in absurd (other same)
 
     pub put_itself : (own : ℕ) (file : Identity) → file ≡ l.file → TakesNone b l place operation k (Install own file)
-    put_itself own file same submissions registrations sound legal clock times a of takes made =
+    put_itself own file same f a of takes made =
         let here : IsTaking (Puts own file of.0) l.slot l.file = rw of.1 at takes in absurd (here.2 same)
 
     -- An access whose time is known.
 
     pub put_takes_none : (own : ℕ) (file : Identity) → IsNoOther b l (Put file) → TakesNone b l place operation k (Install own file)
-    put_takes_none own file other submissions registrations sound legal clock times a of takes made =
+    put_takes_none own file other f a of takes made =
         let put : IsPut a own file = rw of.1 (refl, refl) in
-        let same = (times.put file).each place.submission own (clock (Gone l.file l.slot)) a put made.at in
-        other submissions registrations sound legal clock times (sym same)
+        let same = (f.times.put file).each place.submission own (f.at (Gone l.file l.slot)) a put made.at in
+        other f (sym same)
 
     pub first_takes_none : (call answer : ℕ) (evidence : Evidence) (e : Happening) (c : Completed) (intent : Intent) → IsAccessMade b call answer k evidence
         → IsEventAt b call e → IsCallOf place.submission e → IsEventAt b answer (Answered place.submission c) → c.place ≡ place → place.member ≡ 1
         → IsNoOther b l (At answer k) → TakesNone b l place operation k intent
-    first_takes_none call answer evidence e c intent shows called own answered at_place member other submissions registrations sound legal clock times a of takes made =
-        let x = said b submissions registrations sound legal clock times call answer k evidence shows in
+    first_takes_none call answer evidence e c intent shows called own answered at_place member other f a of takes made =
+        let x = said f shows in
         let event : Some x.begins ≡ Some e = sym x.called ∙ called in
         let begins : x.begins ≡ e = cc in
         let same : x.id ≡ place.submission = call_id e x.id place.submission (rw begins at x.own) own in
@@ -377,25 +370,24 @@ module _ (b : LogBeginning) where
         let ends : x.ends ≡ Answered place.submission c = cc in
         let first : c.place.member ≡ 1 = ap (λ (p : Place). p.member) at_place ∙ member in
         let number = x.first (rw ends first) in
-        let time : clock (At answer k) ≡ clock (Gone l.file l.slot) = same_number legal.flight x.id place.submission same x.access a (clock (At answer k))
-        (clock (Gone l.file l.slot)) x.time made.at (number ∙ sym (made.first member)) in
-        other submissions registrations sound legal clock times time
+        let time : f.at (At answer k) ≡ f.at (Gone l.file l.slot) = same_number f.legal.flight x.id place.submission same x.access a (f.at (At answer k))
+        (f.at (Gone l.file l.slot)) x.time made.at (number ∙ sym (made.first member)) in
+        other f time
 
     pub later_takes_none : (call : ℕ) (e : Happening) (intent : Intent) → IsEventAt b call e → IsCallOf place.submission e
         → IsForced b (strict_from (Gone l.file l.slot) (Event call)) → TakesNone b l place operation k intent
-    later_takes_none call e intent called own known submissions registrations sound legal clock times a of takes made =
-        let low = apart clock (Gone l.file l.slot) (Event call) (known submissions registrations sound legal clock times) in
-        let late = call_before b submissions registrations sound legal clock times call place.submission (clock (Gone l.file l.slot)) e a called own made.at in
-        absurd (omega arith)
+    later_takes_none call e intent called own known f a of takes made =
+        let low = apart f.at (Gone l.file l.slot) (Event call) (known f) in
+        let late = call_before f called own made.at in absurd (omega arith)
 
     -- An access of a member that failed.
 
     pub failed_takes_none : (answer : ℕ) (c : Completed) (intent : Intent) → IsEventAt b answer (Answered place.submission c) → c.place ≡ place
         → is_negative c.res ≡ true → TakesNone b l place operation k intent
-    failed_takes_none answer c intent answered at_place failed submissions registrations sound legal clock times a of takes made =
-        let got = answer_is b submissions registrations sound legal clock times answer place.submission c answered in
-        let mine : slice_get (legal.answers place.submission) (place.member - 1) ≡ Some c =
-        ap (λ (p : Place). slice_get (legal.answers place.submission) (p.member - 1)) (sym at_place) ∙ got in
+    failed_takes_none answer c intent answered at_place failed f a of takes made =
+        let got = answer_is f answer place.submission c answered in
+        let mine : slice_get (f.legal.answers place.submission) (place.member - 1) ≡ Some c =
+        ap (λ (p : Place). slice_get (f.legal.answers place.submission) (p.member - 1)) (sym at_place) ∙ got in
         let both : Some made.c ≡ Some c = sym made.answer ∙ mine in
         let same : made.c ≡ c = cc in
         absurd (took_none b.catalogue.now (length b.slots.now.at.items) made.own operation made.front a made.rest made.c made.done

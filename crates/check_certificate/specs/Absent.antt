@@ -4,11 +4,8 @@ use Rattle.std.specs.Prelude.{slice_index_or, None}
 use Rattle.fx_base.specs.Identity.{Identity}
 use Rattle.fx_chain.specs.declared.intent.Intent.{Intent}
 use Rattle.fx_chain.specs.declared.intent.Intent.TheVariants.{Put, Allocate}
-use Rattle.fx_flight.specs.Events.{first_of_call}
-use Rattle.fx_flight.specs.Flight.{IsLegalLog}
 use Rattle.check_certificate.specs.Evidence.{slot_count}
-use Rattle.check_certificate.specs.Forced.{IsSound, log_of_beginning, ring_of_beginning}
-use Rattle.check_certificate.specs.Times.{AreTimes}
+use Rattle.check_certificate.specs.Forced.{TimedFlight}
 use Rattle.check_certificate.specs.declared.beginning.LogBeginning.{LogBeginning}
 use Rattle.check_certificate.specs.declared.certificate.OnlyFile.{OnlyFile}
 use Rattle.check_certificate.specs.declared.certificate.OnlyFile.TheVariants.{Nothing, PutBefore}
@@ -40,16 +37,7 @@ IsEmptyAtFirst b slot = slice_index_or b.slots.now.at.items slot None ≡ None
 
 -- the times of each flight's points are so
 abbrev pub IsInEach : LogBeginning → ((Point → ℕ) → Type 0) → Type 0
-IsInEach b claim =
-    (submissions registrations : ℕ) → IsSound b
-    → (is : IsLegalLog (ring_of_beginning b submissions registrations) (log_of_beginning b))
-    → (at : Point → ℕ)
-    → AreTimes (record {
-      old = ring_of_beginning b submissions registrations;
-      first = first_of_call;
-      answers = is.answers;
-    }) is.flight at
-    → claim at
+IsInEach b claim = (f : TimedFlight b) → claim f.at
 
 -- the file is the one that an access may find
 abbrev pub IsOnlyFile : OnlyFile → Identity → Type 0

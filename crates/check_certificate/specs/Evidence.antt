@@ -12,6 +12,7 @@ use Rattle.fx_order.specs.declared.access.Access.{Access}
 use Rattle.fx_order.specs.declared.access.Access.TheVariants.{FindsFull, Looks, Takes}
 use Rattle.fx_flight.specs.Events.{Happening, Called, Answered, LookCalled, LookAnswered}
 use Rattle.fx_flight.specs.Flight.{IsLookDone}
+use Rattle.fx_flight.specs.Laws.{IsCallOf}
 use Rattle.check_certificate.specs.Forced.{log_of_beginning}
 use Rattle.check_certificate.specs.Times.{IsPut, IsMemberDoneBy}
 use Rattle.check_certificate.specs.declared.beginning.LogBeginning.{LogBeginning}
@@ -62,6 +63,10 @@ IsShownBy b begins ends k evidence = ⊥
 -- the event at a position of the beginning
 abbrev pub IsEventAt : LogBeginning → ℕ → Happening → Type 0
 IsEventAt b at event = slice_get (log_of_beginning b) at ≡ Some event
+
+-- it begins the call of this number
+abbrev pub IsCallAt : LogBeginning → ℕ → ℕ → Type 0
+IsCallAt b at id = (event : Happening) × IsEventAt b at event × IsCallOf id event
 
 -- the events at these positions do
 pub record IsAccessMade (b : LogBeginning) (call answer k : ℕ) (evidence : Evidence) : Type 0 where

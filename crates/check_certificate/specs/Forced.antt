@@ -53,18 +53,30 @@ gap_of false = 0
 abbrev pub IsInOrder : (Point → ℕ) → PointOrder → Type 0
 IsInOrder at order = at order.from + gap_of order.strict ≤ at order.to
 
+-- a flight of the beginning, with the times of its points
+pub record TimedFlight (b : LogBeginning) : Type 0 where
+  pub submissions : ℕ
+  pub registrations : ℕ
+  pub sound : IsSound b
+  pub legal : IsLegalLog (ring_of_beginning b submissions registrations) (log_of_beginning b)
+  pub at : Point → ℕ
+  pub times : AreTimes (record {
+    old = ring_of_beginning b submissions registrations;
+    first = first_of_call;
+    answers = legal.answers;
+  }) legal.flight at
+
 -- each flight of the beginning keeps the order
 abbrev pub IsForced : LogBeginning → PointOrder → Type 0
-IsForced b order =
-    (submissions registrations : ℕ) → IsSound b
-    → (is : IsLegalLog (ring_of_beginning b submissions registrations) (log_of_beginning b))
-    → (at : Point → ℕ)
-    → AreTimes (record {
-      old = ring_of_beginning b submissions registrations;
-      first = first_of_call;
-      answers = is.answers;
-    }) is.flight at
-    → IsInOrder at order
+IsForced b order = (f : TimedFlight b) → IsInOrder f.at order
+
+-- each flight keeps the order if all keep this one
+abbrev pub IsForcedBy : LogBeginning → PointOrder → PointOrder → Type 0
+IsForcedBy b premise order = IsForced b premise → IsForced b order
+
+-- or these two
+abbrev pub IsForcedByBoth : LogBeginning → PointOrder → PointOrder → PointOrder → Type 0
+IsForcedByBoth b one two order = IsForced b one → IsForced b two → IsForced b order
 
 -- no flight of the beginning is left
 abbrev pub IsContradicted : LogBeginning → Type 0

@@ -1,8 +1,17 @@
 -- Accesses that may install a file: at which slot.
-use Rattle.std.specs.Prelude.{◌≡◌}
+use Rattle.std.specs.Prelude.{◌≡◌, true}
 use Rattle.fx_chain.specs.declared.intent.Intent.{Intent}
 use Rattle.fx_chain.specs.declared.intent.Intent.TheVariants.{Put, Allocate}
+use Rattle.check_certificate.specs.Forced.{IsForced}
+use Rattle.check_certificate.specs.declared.beginning.LogBeginning.{LogBeginning}
+use Rattle.check_certificate.specs.declared.certificate.Point.TheVariants.{Event}
+use Rattle.check_certificate.specs.declared.certificate.Point.TheVariants.{Put as Installed}
 use Rattle.check_certificate.specs.declared.walk.Landing.{Landing}
+
+-- the file was installed before the event
+abbrev pub IsInstalledBefore : LogBeginning → Landing → Type 0
+IsInstalledBefore b l =
+    IsForced b (record { from = Installed l.file; to = Event l.until; strict = true })
 
 -- the access that is intended installs the file at the slot, or doesn't install it
 abbrev pub LandsThere : Landing → Intent → Type 0

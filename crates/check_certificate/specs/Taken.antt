@@ -6,20 +6,20 @@ use Rattle.fx_chain.specs.Operation.{Operation}
 use Rattle.fx_chain.specs.declared.completion.Place.{Place}
 use Rattle.fx_chain.specs.declared.intent.Intent.{Intent}
 use Rattle.fx_chain.specs.declared.intent.Intent.TheVariants.{Put, Clear, Take, Look, Allocate}
-use Rattle.fx_flight.specs.Events.{first_of_call}
-use Rattle.fx_flight.specs.Flight.{IsLegalLog, Moment, made_by}
+use Rattle.fx_flight.specs.Flight.{Moment, made_by}
 use Rattle.fx_order.specs.Access.{IsOf}
 use Rattle.fx_order.specs.Requests.{IsRequestDone}
 use Rattle.fx_order.specs.declared.access.Access.{Access}
 use Rattle.fx_order.specs.declared.access.Access.TheVariants.{Clears, Puts, Takes}
 use Rattle.check_certificate.specs.Absent.{IsInEach}
 use Rattle.check_certificate.specs.Evidence.{slot_count}
-use Rattle.check_certificate.specs.Forced.{IsSound, log_of_beginning, ring_of_beginning}
-use Rattle.check_certificate.specs.Times.{AreTimes, IsAccessAt}
+use Rattle.check_certificate.specs.Forced.{TimedFlight}
+use Rattle.check_certificate.specs.Times.{IsAccessAt}
 use Rattle.check_certificate.specs.declared.beginning.LogBeginning.{LogBeginning}
 use Rattle.check_certificate.specs.declared.certificate.Point.{Point}
 use Rattle.check_certificate.specs.declared.certificate.Point.TheVariants.{Gone}
 use Rattle.check_certificate.specs.declared.walk.Leaving.{Leaving}
+use Rattle.check_certificate.specs.declared.walk.MemberAccess.{MemberAccess}
 
 -- the slot from which an access that is intended takes a file, if it takes one
 abbrev pub slot_taken : Intent → Option ℕ
@@ -66,15 +66,12 @@ IsNoOther b l point =
 -- an access that is intended doesn't take the file, unless it is that access
 abbrev pub TakesNone : LogBeginning → Leaving → Place → Operation → ℕ → Intent → Type 0
 TakesNone b l place operation k intent =
-    (submissions registrations : ℕ) → IsSound b
-    → (is : IsLegalLog (ring_of_beginning b submissions registrations) (log_of_beginning b))
-    → (at : Point → ℕ)
-    → AreTimes (record {
-      old = ring_of_beginning b submissions registrations;
-      first = first_of_call;
-      answers = is.answers;
-    }) is.flight at
-    → (a : Access) → IsOf intent a → IsTaking a l.slot l.file
-    → IsMadeAs b is.flight (is.answers place.submission) place operation k a
-    (at (Gone l.file l.slot))
-    → IsTakenThen l.taker (Gone l.file l.slot) at
+    (f : TimedFlight b) (a : Access) → IsOf intent a → IsTaking a l.slot l.file
+    → IsMadeAs b f.legal.flight (f.legal.answers place.submission) place operation k a
+    (f.at (Gone l.file l.slot))
+    → IsTakenThen l.taker (Gone l.file l.slot) f.at
+
+-- an access doesn't take the file, whatever it is
+abbrev pub IsNoTaker : LogBeginning → Leaving → MemberAccess → Type 0
+IsNoTaker b l by =
+    (operation : Operation) (intent : Intent) → TakesNone b l by.place operation by.access intent

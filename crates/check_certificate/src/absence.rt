@@ -8,7 +8,8 @@ ghost use Rattle.check_certificate.specs.declared.certificate.Point.TheVariants.
 use crate::beginning::{LogBeginning, call_of};
 use crate::certificate::{Holding, Point, PointOrder};
 use crate::evidence::Evidence;
-use crate::rules::{joined, ordered};
+use crate::rules::{not_after, ordered};
+use crate::walk::MemberAccess;
 use fx_base::{Closed as File, Mark};
 use fx_chain::{Completion, Place};
 use fx_flight::LogEvent;
@@ -44,9 +45,9 @@ fn is_of_member(file: File, place: Place) -> bool
             submission,
             chain,
             member,
-            entry: _,
+            ..
         } => submission == place.submission && chain == 1 && member == place.member,
-        Mark::Registered { k: _, i: _ } => false,
+        Mark::Registered { .. } => false,
     }
 }
 
@@ -93,11 +94,7 @@ impl LogBeginning<'_> {
         if own == slot {
             return None;
         }
-        Some(PointOrder {
-            from: Point::Gone(file, slot),
-            to: Point::Event(event),
-            strict: false,
-        })
+        Some(not_after(Point::Gone(file, slot), Point::Event(event)))
     }
 
     // Returns the order of a file's removal and the access that `since` names, before which
@@ -109,13 +106,13 @@ impl LogBeginning<'_> {
         let installs = self.installs(call, answer, access)?;
         let next = self.events_in_order(answer, later)?;
         let begins = self.begins(later, later_answer, number)?;
-        let first = joined(&installs, &next)?;
-        let installed = joined(&first, &begins)?;
+        let first = self.joined(&installs, &next)?;
+        let installed = self.joined(&first, &begins)?;
         let gone = self.empties(later, later_answer, number, &installed)?;
         let ends = self.ends(later, later_answer, number)?;
         let past = self.events_in_order(later_answer, h.call)?;
-        let second = joined(&gone, &ends)?;
-        joined(&second, &past)
+        let second = self.joined(&gone, &ends)?;
+        self.joined(&second, &past)
     }
 
     /// Returns the position of the answer of a member, from that of its call on.
@@ -132,26 +129,19 @@ impl LogBeginning<'_> {
 
     /// Returns an order by which the file of an access that a member of a call intends isn't at
     /// the slot just before the access of `h`: by the answer of that member.
-    pub(crate) fn absence(
-        &self,
-        h: &Holding,
-        call: usize,
-        place: Place,
-        access: usize,
-        file: File,
-    ) -> Option<PointOrder>
+    pub(crate) fn absence(&self, h: &Holding, by: MemberAccess, file: File) -> Option<PointOrder>
         ensures { IfSome result (IsForced self.now) }
     {
-        let answer = self.answer_of(call, place)?;
+        let answer = self.answer_of(by.call, by.place)?;
         let ends = self.ends(h.call, h.answer, h.access)?;
         if let Some(failed) = self.fails(h.answer, answer, file) {
-            return joined(&ends, &failed);
+            return self.joined(&ends, &failed);
         }
         let begins = self.begins(h.call, h.answer, h.access)?;
-        if let Some(other) = self.elsewhere(call, answer, access, h.slot, h.call) {
-            return joined(&other, &begins);
+        if let Some(other) = self.elsewhere(by.call, answer, by.access, h.slot, h.call) {
+            return self.joined(&other, &begins);
         }
-        let gone = self.replaced(h, call, answer, access)?;
-        joined(&gone, &begins)
+        let gone = self.replaced(h, by.call, answer, by.access)?;
+        self.joined(&gone, &begins)
     }
 }

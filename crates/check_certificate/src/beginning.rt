@@ -1,10 +1,9 @@
 //! The beginning of a log that is to be refuted, and its events.
 ghost use Rattle.std.specs.Prelude.{◌≡◌, ◌≤◌, Contains, IfSome, IsTrue, Some, length, take};
-ghost use Rattle.fx_flight.specs.Events.{AllSettled, FileClosed, Freed, Happening, LookAnswered};
+ghost use Rattle.fx_flight.specs.Events.{AllSettled, FileClosed, Freed, LookAnswered};
 ghost use Rattle.fx_flight.specs.Events.{all_happenings, happening_of};
-ghost use Rattle.fx_flight.specs.Laws.{IsCallOf};
 ghost use Rattle.check_certificate.specs.Forced.{IsOfCall, log_of_beginning};
-ghost use Rattle.check_certificate.specs.Evidence.{IsEventAt};
+ghost use Rattle.check_certificate.specs.Evidence.{IsCallAt, IsEventAt};
 
 use fx_base::{Catalogue, Closed as File, Mark};
 use fx_flight::LogEvent;
@@ -27,12 +26,7 @@ pub(crate) fn call_of(file: File) -> Option<u32>
     ensures { IfSome result (λ id. IsOfCall id file) }
 {
     match file.mark {
-        Mark::Submitted {
-            submission,
-            chain: _,
-            member: _,
-            entry: _,
-        } => Some(submission),
+        Mark::Submitted { submission, .. } => Some(submission),
         _ => None,
     }
 }
@@ -57,8 +51,8 @@ fn frees_look(event: &LogEvent, look: u32) -> bool
     }
 }
 
-// Checks whether one of the events is the close of a file.
-fn was_closed(events: &[LogEvent], file: File) -> bool
+/// Checks whether one of the events is the close of a file.
+pub fn was_closed(events: &[LogEvent], file: File) -> bool
     ensures { Contains (all_happenings events.now) (FileClosed file) → IsTrue result }
 {
     for event in events {
@@ -69,8 +63,8 @@ fn was_closed(events: &[LogEvent], file: File) -> bool
     false
 }
 
-// Checks whether one of the events is the end of the hold of a look.
-fn was_freed(events: &[LogEvent], look: u32) -> bool
+/// Checks whether one of the events is the end of the hold of a look.
+pub fn was_freed(events: &[LogEvent], look: u32) -> bool
     ensures { Contains (all_happenings events.now) (Freed look) → IsTrue result }
 {
     for event in events {
@@ -84,8 +78,7 @@ fn was_freed(events: &[LogEvent], look: u32) -> bool
 impl LogBeginning<'_> {
     /// Returns the number of the call that the event at a position begins.
     pub(crate) fn call_at(&self, at: usize) -> Option<u32>
-        ensures { IfSome result (λ id. (event : Happening) × IsEventAt self.now at event
-            × IsCallOf id event) }
+        ensures { IfSome result (IsCallAt self.now at) }
     {
         let event = self.events.get(at)?;
         match event {

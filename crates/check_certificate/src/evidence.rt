@@ -62,20 +62,9 @@ fn evidence_of(intent: Intent, c: &Completion) -> Evidence
             Err(_) => Evidence::Full,
         },
         Intent::Clear(slot) => Evidence::Empties(slot),
-        Intent::Take(slot) => {
-            if c.res < 0 {
-                Evidence::Empties(slot)
-            } else {
-                Evidence::Removes(slot)
-            }
-        }
-        Intent::Look(slot) => {
-            if c.res < 0 {
-                Evidence::Empties(slot)
-            } else {
-                Evidence::Sees(slot)
-            }
-        }
+        Intent::Take(slot) if c.res >= 0 => Evidence::Removes(slot),
+        Intent::Look(slot) if c.res >= 0 => Evidence::Sees(slot),
+        Intent::Take(slot) | Intent::Look(slot) => Evidence::Empties(slot),
     }
 }
 

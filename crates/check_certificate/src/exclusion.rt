@@ -2,14 +2,12 @@
 ghost use Rattle.std.specs.Prelude.{◌≡◌, ℕ, All, IfSome, IsTrue, true};
 ghost use Rattle.fx_chain.specs.Completed.{Completed, completed_of};
 ghost use Rattle.fx_chain.specs.Operation.{Operation};
-ghost use Rattle.fx_chain.specs.declared.intent.Intent.{Intent as Purpose};
 ghost use Rattle.fx_chain.specs.declared.intent.Intent.TheVariants.{Put as Installation};
-ghost use Rattle.fx_flight.specs.Events.{Answered, Happening};
-ghost use Rattle.fx_flight.specs.Laws.{IsCallOf};
+ghost use Rattle.fx_flight.specs.Events.{Answered};
 ghost use Rattle.check_certificate.specs.Absent.{is_negative};
-ghost use Rattle.check_certificate.specs.Evidence.{IsEventAt};
-ghost use Rattle.check_certificate.specs.Forced.{IsForced};
-ghost use Rattle.check_certificate.specs.Taken.{IsNoOther, TakesNone, slot_taken};
+ghost use Rattle.check_certificate.specs.Evidence.{IsCallAt, IsEventAt};
+ghost use Rattle.check_certificate.specs.Forced.{IsForced, IsForcedBy};
+ghost use Rattle.check_certificate.specs.Taken.{IsNoOther, IsNoTaker, TakesNone, slot_taken};
 ghost use Rattle.check_certificate.specs.declared.beginning.LogBeginning.{LogBeginning as In};
 ghost use Rattle.check_certificate.specs.declared.certificate.Point.TheVariants.{Access, Put};
 
@@ -17,8 +15,8 @@ use crate::absence::is_failure;
 use crate::beginning::LogBeginning;
 use crate::certificate::{Point, PointOrder};
 use crate::known::{are_apart, is_apart, is_known};
-use crate::rules::{joined, ordered};
-use crate::walk::Leaving;
+use crate::rules::ordered;
+use crate::walk::{Leaving, MemberAccess};
 use fx_base::Closed as File;
 use fx_chain::{Completion, Intent, Place};
 use fx_flight::LogEvent;
@@ -102,8 +100,7 @@ impl LogBeginning<'_> {
         answer: usize,
     ) -> Option<PointOrder>
         requires { All (IsForced self.now) known.now }
-        ensures { IfSome result (λ order. IsForced self.now answered.now
-            → IsForced self.now order) }
+        ensures { IfSome result (IsForcedBy self.now answered.now) }
     {
         let since = Point::Event(l.since);
         let gone = Point::Gone(l.file, l.slot);
@@ -112,165 +109,118 @@ impl LogBeginning<'_> {
         }
         let there = ordered(since, gone);
         if answer == l.since {
-            let sooner = joined(answered, &there)?;
+            let sooner = self.joined(answered, &there)?;
             return Some(sooner);
         }
         let later = self.events_in_order(answer, l.since)?;
-        let second = joined(&later, &there)?;
-        let all = joined(answered, &second)?;
+        let second = self.joined(&later, &there)?;
+        let all = self.joined(answered, &second)?;
         Some(all)
     }
 
-    // Returns the order of an access and the time at which the file leaves its slot, if the file
-    // isn't gone yet at the answer.
-    fn early(
+    // Checks whether a point that comes before the event at `answer` isn't the time at which the
+    // file leaves its slot, since the file isn't gone yet at that event.
+    fn is_before(
         &self,
         l: &Leaving,
         known: &[PointOrder],
-        call: usize,
+        answered: &PointOrder,
         answer: usize,
-        access: usize,
-    ) -> Option<PointOrder>
-        requires { All (IsForced self.now) known.now }
-        ensures { IfSome result (IsForced self.now) }
-    {
-        let ends = self.ends(call, answer, access)?;
-        self.left_later(l, known, &ends, answer)
-    }
-
-    // Checks whether an access comes before its answer, and the file leaves its slot later.
-    fn is_early(
-        &self,
-        l: &Leaving,
-        known: &[PointOrder],
-        call: usize,
-        answer: usize,
-        access: usize,
+        point: Point,
     ) -> bool
         requires { All (IsForced self.now) known.now }
-        ensures { IsTrue result → IsNoOther self.now l.now (Access answer access) }
+        ensures { IsTrue result → IsForced self.now answered.now → IsNoOther self.now l.now point }
     {
-        let point = Point::Access(answer, access);
-        match self.early(l, known, call, answer, access) {
+        match self.left_later(l, known, answered, answer) {
             Some(order) => is_apart(&order, point, Point::Gone(l.file, l.slot)),
             None => false,
         }
     }
 
-    // Returns the order of the installation of a file and the time at which another file leaves its
-    // slot, if that file isn't gone yet at the answer.
-    fn put_early(
-        &self,
-        l: &Leaving,
-        known: &[PointOrder],
-        call: usize,
-        place: Place,
-        access: usize,
-    ) -> Option<PointOrder>
+    // Checks whether an access comes before its answer, and the file leaves its slot later.
+    fn is_early(&self, l: &Leaving, known: &[PointOrder], by: MemberAccess, answer: usize) -> bool
         requires { All (IsForced self.now) known.now }
-        ensures { IfSome result (IsForced self.now) }
+        ensures { IsTrue result → IsNoOther self.now l.now (Access answer by.access) }
     {
-        let answer = self.answer_of(call, place)?;
-        let installs = self.installs(call, answer, access)?;
-        self.left_later(l, known, &installs, answer)
-    }
-
-    // Checks whether a file was installed before an answer, and the other one leaves its slot
-    // later.
-    fn is_put_early(
-        &self,
-        l: &Leaving,
-        known: &[PointOrder],
-        call: usize,
-        place: Place,
-        access: usize,
-        file: File,
-    ) -> bool
-        requires { All (IsForced self.now) known.now }
-        ensures { IsTrue result → IsNoOther self.now l.now (Put file) }
-    {
-        match self.put_early(l, known, call, place, access) {
-            Some(order) => is_apart(&order, Point::Put(file), Point::Gone(l.file, l.slot)),
+        let point = Point::Access(answer, by.access);
+        match self.ends(by.call, answer, by.access) {
+            Some(ends) => self.is_before(l, known, &ends, answer, point),
             None => false,
         }
     }
 
-    // Checks whether an access of the first member of a call, which the event at `answer` answers,
-    // isn't at the time at which the file leaves its slot, unless it is the one that may take it.
+    // Checks whether the access of a first member, which the event at `answer` answers, isn't at
+    // the time at which the file leaves its slot, unless it is the one that may take it.
     fn is_first_ruled_out(
         &self,
         l: &Leaving,
         known: &[PointOrder],
-        call: usize,
+        by: MemberAccess,
         answer: usize,
-        place: Place,
-        access: usize,
     ) -> bool
         requires { All (IsForced self.now) known.now }
-        ensures { IsTrue result → ((event : Happening) × IsEventAt self.now call event
-            × IsCallOf place.submission event) → (operation : Operation) (intent : Purpose)
-            → TakesNone self.now l.now place operation access intent }
+        ensures { IsTrue result → IsCallAt self.now by.call by.place.submission
+            → IsNoTaker self.now l.now by }
     {
-        if place.member != 1 || !self.is_answered_at(answer, place) {
+        if by.place.member != 1 || !self.is_answered_at(answer, by.place) {
             return false;
         }
-        let Some(_evidence) = self.made(call, answer, access) else {
+        let Some(_evidence) = self.made(by.call, answer, by.access) else {
             return false;
         };
-        if is_no_other(known, l, Point::Access(answer, access)) {
+        if is_no_other(known, l, Point::Access(answer, by.access)) {
             return true;
         }
-        self.is_early(l, known, call, answer, access)
+        self.is_early(l, known, by, answer)
     }
 
-    // Checks whether an access of a member of a call doesn't take the file, unless it is the one
-    // that may, by the answer of the member.
-    fn is_by_answer(
-        &self,
-        l: &Leaving,
-        known: &[PointOrder],
-        call: usize,
-        place: Place,
-        access: usize,
-    ) -> bool
+    // Checks whether an access doesn't take the file, unless it is the one that may, by the answer
+    // of its member.
+    fn is_by_answer(&self, l: &Leaving, known: &[PointOrder], by: MemberAccess) -> bool
         requires { All (IsForced self.now) known.now }
-        ensures { IsTrue result → ((event : Happening) × IsEventAt self.now call event
-            × IsCallOf place.submission event) → (operation : Operation) (intent : Purpose)
-            → TakesNone self.now l.now place operation access intent }
+        ensures { IsTrue result → IsCallAt self.now by.call by.place.submission
+            → IsNoTaker self.now l.now by }
     {
-        let Some(answer) = self.answer_of(call, place) else {
+        let Some(answer) = self.answer_of(by.call, by.place) else {
             return false;
         };
-        if self.is_failed_at(answer, place) {
+        if self.is_failed_at(answer, by.place) {
             return true;
         }
-        self.is_first_ruled_out(l, known, call, answer, place, access)
+        self.is_first_ruled_out(l, known, by, answer)
     }
 
-    // Checks whether an access of a member of a call, whatever it is, doesn't take the file, unless
-    // it is the one that may: since its call begins later, or by its answer.
-    fn is_other_time(
-        &self,
-        l: &Leaving,
-        known: &[PointOrder],
-        call: usize,
-        place: Place,
-        access: usize,
-    ) -> bool
+    // Checks whether an access, whatever it is, doesn't take the file, unless it is the one that
+    // may: since its call begins later, or by its answer.
+    fn is_other_time(&self, l: &Leaving, known: &[PointOrder], by: MemberAccess) -> bool
         requires { All (IsForced self.now) known.now }
-        ensures { IsTrue result → (operation : Operation) (intent : Purpose)
-            → TakesNone self.now l.now place operation access intent }
+        ensures { IsTrue result → IsNoTaker self.now l.now by }
     {
-        let Some(id) = self.call_at(call) else {
+        let Some(id) = self.call_at(by.call) else {
             return false;
         };
-        if id != place.submission {
+        if id != by.place.submission {
             return false;
         }
-        if is_known(known, Point::Gone(l.file, l.slot), Point::Event(call)) {
+        if is_known(known, Point::Gone(l.file, l.slot), Point::Event(by.call)) {
             return true;
         }
-        self.is_by_answer(l, known, call, place, access)
+        self.is_by_answer(l, known, by)
+    }
+
+    // Checks whether a file was installed before an answer, and the other one leaves its slot
+    // later.
+    fn is_put_early(&self, l: &Leaving, known: &[PointOrder], by: MemberAccess, file: File) -> bool
+        requires { All (IsForced self.now) known.now }
+        ensures { IsTrue result → IsNoOther self.now l.now (Put file) }
+    {
+        let Some(answer) = self.answer_of(by.call, by.place) else {
+            return false;
+        };
+        match self.installs(by.call, answer, by.access) {
+            Some(installs) => self.is_before(l, known, &installs, answer, Point::Put(file)),
+            None => false,
+        }
     }
 
     // Checks whether an access that installs a file at the slot doesn't take the other file, unless
@@ -279,14 +229,12 @@ impl LogBeginning<'_> {
         &self,
         l: &Leaving,
         known: &[PointOrder],
-        call: usize,
-        place: Place,
-        access: usize,
+        by: MemberAccess,
         file: File,
     ) -> bool
         requires { All (IsForced self.now) known.now }
         ensures { IsTrue result → (operation : Operation) (slot : ℕ)
-            → TakesNone self.now l.now place operation access (Installation slot file) }
+            → TakesNone self.now l.now by.place operation by.access (Installation slot file) }
     {
         if file == l.file {
             return true;
@@ -294,10 +242,10 @@ impl LogBeginning<'_> {
         if is_no_other(known, l, Point::Put(file)) {
             return true;
         }
-        if self.is_put_early(l, known, call, place, access, file) {
+        if self.is_put_early(l, known, by, file) {
             return true;
         }
-        self.is_other_time(l, known, call, place, access)
+        self.is_other_time(l, known, by)
     }
 
     /// Checks whether an access that a member of a call intends doesn't take the file from its
@@ -306,14 +254,12 @@ impl LogBeginning<'_> {
         &self,
         l: &Leaving,
         known: &[PointOrder],
-        call: usize,
-        place: Place,
-        access: usize,
+        by: MemberAccess,
         intent: Intent,
     ) -> bool
         requires { All (IsForced self.now) known.now }
         ensures { IsTrue result → (operation : Operation)
-            → TakesNone self.now l.now place operation access intent }
+            → TakesNone self.now l.now by.place operation by.access intent }
     {
         let Some(slot) = slot_of(intent) else {
             return true;
@@ -322,8 +268,8 @@ impl LogBeginning<'_> {
             return true;
         }
         match intent {
-            Intent::Put(_slot, file) => self.put_takes_none(l, known, call, place, access, file),
-            _ => self.is_other_time(l, known, call, place, access),
+            Intent::Put(_slot, file) => self.put_takes_none(l, known, by, file),
+            _ => self.is_other_time(l, known, by),
         }
     }
 }

@@ -9,10 +9,10 @@ use crate::absence::{is_gone, is_later};
 use crate::beginning::LogBeginning;
 use crate::certificate::{Holding, OnlyFile, Point, PointOrder};
 use crate::evidence::Evidence;
-use crate::rules::ordered;
-use crate::walk::WalkAim;
+use crate::rules::{not_after, ordered};
+use crate::walk::{MemberAccess, WalkAim};
 use fx_base::Closed as File;
-use fx_chain::{Intent, Place};
+use fx_chain::Intent;
 
 // Checks whether an order shows that a file isn't at the slot just before the access.
 fn shows_absent(order: &PointOrder, h: &Holding, file: File) -> bool
@@ -72,22 +72,14 @@ impl LogBeginning<'_> {
     }
 
     // Checks whether a file of an access that a member of a call intends is absent.
-    fn is_absent(
-        &self,
-        h: &Holding,
-        known: &[PointOrder],
-        call: usize,
-        place: Place,
-        access: usize,
-        file: File,
-    ) -> bool
+    fn is_absent(&self, h: &Holding, known: &[PointOrder], by: MemberAccess, file: File) -> bool
         requires { All (IsForced self.now) known.now }
         ensures { IsTrue result → (IsOnlyFile h.now.found file → ⊥) → IsAbsent self.now h.now file }
     {
         if is_held(h.found, file) || is_known_absent(known, h, file) {
             return true;
         }
-        match self.absence(h, call, place, access, file) {
+        match self.absence(h, by, file) {
             Some(order) => shows_absent(&order, h, file),
             None => false,
         }
@@ -98,19 +90,15 @@ impl LogBeginning<'_> {
         &self,
         h: &Holding,
         known: &[PointOrder],
-        call: usize,
-        place: Place,
-        access: usize,
+        by: MemberAccess,
         intent: Intent,
     ) -> bool
         requires { All (IsForced self.now) known.now }
         ensures { IsTrue result → InstallsNone self.now h.now intent }
     {
         match intent {
-            Intent::Put(slot, file) => {
-                slot != h.slot || self.is_absent(h, known, call, place, access, file)
-            }
-            Intent::Allocate(file) => { self.is_absent(h, known, call, place, access, file) }
+            Intent::Put(slot, file) => { slot != h.slot || self.is_absent(h, known, by, file) }
+            Intent::Allocate(file) => { self.is_absent(h, known, by, file) }
             _ => true,
         }
     }
@@ -132,11 +120,7 @@ impl LogBeginning<'_> {
         match h.found {
             OnlyFile::Nothing => Some(ordered(access, access)),
             OnlyFile::PutBefore(file) => Some(ordered(Point::Put(file), access)),
-            OnlyFile::GoneAfter(file) => Some(PointOrder {
-                from: access,
-                to: Point::Gone(file, h.slot),
-                strict: false,
-            }),
+            OnlyFile::GoneAfter(file) => Some(not_after(access, Point::Gone(file, h.slot))),
         }
     }
 }

@@ -21,5 +21,6 @@ mod taking;
 mod walk;
 
 pub use answers::is_impossible;
+pub use beginning::{was_closed, was_freed};
 pub use certificate::{Holding, OnlyFile, Point, PointOrder, Step};
 pub use refuted::is_refuted;

@@ -1,13 +1,13 @@
 //! The rules of certificates that have known orders as premises, and those that contradict.
 ghost use Rattle.std.specs.Prelude.{◌≡◌, IfSome, true};
-ghost use Rattle.check_certificate.specs.Forced.{IsForced};
+ghost use Rattle.check_certificate.specs.Forced.{IsForced, IsForcedBy, IsForcedByBoth};
 ghost use Rattle.check_certificate.specs.declared.certificate.Point.TheVariants.{Event, Gone, Put};
 ghost use Rattle.check_certificate.specs.declared.certificate.Point.TheVariants.{Access};
 
 use crate::beginning::{LogBeginning, call_of};
 use crate::certificate::{Point, PointOrder};
 use crate::evidence::Evidence;
-use crate::rules::ordered;
+use crate::rules::{not_after, ordered};
 use fx_base::Closed as File;
 
 // Returns the files and the slot of the order of the access that installs a file and the removal of
@@ -83,8 +83,7 @@ impl LogBeginning<'_> {
         access: usize,
         installed: &PointOrder,
     ) -> Option<PointOrder>
-        ensures { IfSome result (λ order. IsForced self.now installed.now
-            → IsForced self.now order) }
+        ensures { IfSome result (IsForcedBy self.now installed.now) }
     {
         let evidence = self.made(call, answer, access)?;
         let (slot, left) = evidence.left()?;
@@ -92,11 +91,7 @@ impl LogBeginning<'_> {
         if installed.to != Point::Access(answer, access) || left == Some(file) {
             return None;
         }
-        Some(PointOrder {
-            from: Point::Gone(file, slot),
-            to: Point::Access(answer, access),
-            strict: false,
-        })
+        Some(not_after(Point::Gone(file, slot), Point::Access(answer, access)))
     }
 
     /// Returns the order of an access that leaves a slot without a file, and the file's
@@ -108,7 +103,7 @@ impl LogBeginning<'_> {
         access: usize,
         there: &PointOrder,
     ) -> Option<PointOrder>
-        ensures { IfSome result (λ order. IsForced self.now there.now → IsForced self.now order) }
+        ensures { IfSome result (IsForcedBy self.now there.now) }
     {
         let evidence = self.made(call, answer, access)?;
         let (slot, left) = evidence.left()?;
@@ -127,8 +122,7 @@ impl LogBeginning<'_> {
         installed: &PointOrder,
         placed: &PointOrder,
     ) -> Option<PointOrder>
-        ensures { IfSome result (λ order. IsForced self.now installed.now
-            → IsForced self.now placed.now → IsForced self.now order) }
+        ensures { IfSome result (IsForcedByBoth self.now installed.now placed.now) }
     {
         let file = put_of(installed)?;
         let (other, own, slot) = stay_of(placed)?;
@@ -136,18 +130,13 @@ impl LogBeginning<'_> {
         if own != other || other == file || installed.to != Point::Put(other) {
             return None;
         }
-        Some(PointOrder {
-            from: Point::Gone(file, slot),
-            to: Point::Put(other),
-            strict: false,
-        })
+        Some(not_after(Point::Gone(file, slot), Point::Put(other)))
     }
 
     /// Returns the order of the installations of two files at a slot: by `there` one is at the slot
     /// after the other one was installed, and `placed` says that the other one was at the slot.
     pub(crate) fn outlives(&self, there: &PointOrder, placed: &PointOrder) -> Option<PointOrder>
-        ensures { IfSome result (λ order. IsForced self.now there.now
-            → IsForced self.now placed.now → IsForced self.now order) }
+        ensures { IfSome result (IsForcedByBoth self.now there.now placed.now) }
     {
         let (other, file, slot) = stay_of(there)?;
         let (same, own, at) = stay_of(placed)?;
@@ -166,8 +155,7 @@ impl LogBeginning<'_> {
         installed: &PointOrder,
         placed: &PointOrder,
     ) -> Option<PointOrder>
-        ensures { IfSome result (λ order. IsForced self.now installed.now
-            → IsForced self.now placed.now → IsForced self.now order) }
+        ensures { IfSome result (IsForcedByBoth self.now installed.now placed.now) }
     {
         let (file, own, slot) = stay_of(placed)?;
         let _call = call_of(file)?;
@@ -192,7 +180,7 @@ impl LogBeginning<'_> {
         other: usize,
         order: &PointOrder,
     ) -> Option<PointOrder>
-        ensures { IfSome result (λ new. IsForced self.now order.now → IsForced self.now new) }
+        ensures { IfSome result (IsForcedBy self.now order.now) }
     {
         let id = self.call_at(call)?;
         let jd = self.call_at(other)?;

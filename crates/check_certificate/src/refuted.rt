@@ -10,7 +10,6 @@ ghost use Rattle.check_certificate.specs.Forced.{IsForced, IsContradicted, is_of
 
 use crate::beginning::LogBeginning;
 use crate::certificate::{PointOrder, Step};
-use crate::rules::joined;
 use fx_base::{Catalogue, Closed as File, Mark, NoMemory};
 use fx_flight::{LogEvent, fault_of_log};
 use fx_order::Slots;
@@ -20,7 +19,7 @@ use std::alloc::Global;
 fn is_registered(mark: Mark) -> bool
     ensures { result ≡ is_registered mark }
 {
-    matches!(mark, Mark::Registered { k: _, i: _ })
+    matches!(mark, Mark::Registered { .. })
 }
 
 // Checks whether a slot is empty, or its file has the mark of a registration.
@@ -103,17 +102,23 @@ impl LogBeginning<'_> {
             Step::Outlives { there, placed } => {
                 self.outlives(known.get(there)?, known.get(placed)?)
             }
-            Step::Then { first, second } => joined(known.get(first)?, known.get(second)?),
+            Step::Then { first, second } => self.joined(known.get(first)?, known.get(second)?),
             Step::Holds(holding) => self.holds(&holding, known),
-            Step::Lands { slot, installed } => self.lands(slot, known.get(installed)?, known),
-            Step::Misses { slot, installed } => self.misses(slot, known.get(installed)?, known),
+            Step::Lands { slot, installed } => {
+                self.lands(self.landing(known.get(installed)?, slot)?, known)
+            }
+            Step::Misses { slot, installed } => {
+                self.misses(self.landing(known.get(installed)?, slot)?, known)
+            }
             Step::Existed { close } => self.existed(close),
             Step::Stays { until, there } => self.stays(until, known.get(there)?, known),
             Step::Takes { taker, there, gone } => {
-                self.takes(taker, known.get(there)?, known.get(gone)?, known)
+                let orders = self.taken(taker, known.get(there)?, known.get(gone)?, known)?;
+                Some(orders.0)
             }
             Step::TakenBy { taker, there, gone } => {
-                self.taken_by(taker, known.get(there)?, known.get(gone)?, known)
+                let orders = self.taken(taker, known.get(there)?, known.get(gone)?, known)?;
+                Some(orders.1)
             }
             Step::Differs { call, other, order } => self.differs(call, other, known.get(order)?),
             Step::FindsClosed { close, answer } => self.finds_closed(close, answer),

@@ -1,28 +1,11 @@
 //! The rules of certificates: the order that each step adds, if its premises hold.
-ghost use Rattle.std.specs.Prelude.{◌≡◌, IfSome, true};
-ghost use Rattle.check_certificate.specs.Forced.{IsForced};
-ghost use Rattle.check_certificate.specs.declared.beginning.LogBeginning.{LogBeginning as In};
+ghost use Rattle.std.specs.Prelude.{◌≡◌, IfSome, false, true};
+ghost use Rattle.check_certificate.specs.Forced.{IsForced, IsForcedByBoth};
 
 use crate::beginning::{LogBeginning, call_of};
 use crate::certificate::{Point, PointOrder};
 use crate::evidence::Evidence;
 use fx_base::Closed as File;
-
-/// Returns the order from the first point of one order to the second point of another one that
-/// begins where the first one ends.
-pub(crate) fn joined(first: &PointOrder, second: &PointOrder) -> Option<PointOrder>
-    ensures { IfSome result (λ order. (b : In)
-        → IsForced b first.now → IsForced b second.now → IsForced b order) }
-{
-    if first.to != second.from {
-        return None;
-    }
-    Some(PointOrder {
-        from: first.from,
-        to: second.to,
-        strict: if first.strict { true } else { second.strict },
-    })
-}
 
 /// Returns the order of a point that comes before another one.
 pub(crate) fn ordered(from: Point, to: Point) -> PointOrder
@@ -35,7 +18,33 @@ pub(crate) fn ordered(from: Point, to: Point) -> PointOrder
     }
 }
 
+/// Returns the order of a point that doesn't come after another one.
+pub(crate) fn not_after(from: Point, to: Point) -> PointOrder
+    ensures { result ≡ record { from = from; to = to; strict = false } }
+{
+    PointOrder {
+        from,
+        to,
+        strict: false,
+    }
+}
+
 impl LogBeginning<'_> {
+    /// Returns the order from the first point of one order to the second point of another one that
+    /// begins where the first one ends.
+    pub(crate) fn joined(&self, first: &PointOrder, second: &PointOrder) -> Option<PointOrder>
+        ensures { IfSome result (IsForcedByBoth self.now first.now second.now) }
+    {
+        if first.to != second.from {
+            return None;
+        }
+        Some(PointOrder {
+            from: first.from,
+            to: second.to,
+            strict: if first.strict { true } else { second.strict },
+        })
+    }
+
     /// Returns the order of two events.
     pub(crate) fn events_in_order(&self, earlier: usize, later: usize) -> Option<PointOrder>
         ensures { IfSome result (IsForced self.now) }
@@ -47,6 +56,7 @@ impl LogBeginning<'_> {
     }
 
     /// Returns the order of a call and one of its accesses.
+    #[tactic(auto, using(crate::proofs::Forcing::begins_forced))]
     pub(crate) fn begins(&self, call: usize, answer: usize, access: usize) -> Option<PointOrder>
         ensures { IfSome result (IsForced self.now) }
     {
@@ -55,6 +65,7 @@ impl LogBeginning<'_> {
     }
 
     /// Returns the order of an access and the answer of its member.
+    #[tactic(auto, using(crate::proofs::Forcing::ends_forced))]
     pub(crate) fn ends(&self, call: usize, answer: usize, access: usize) -> Option<PointOrder>
         ensures { IfSome result (IsForced self.now) }
     {
@@ -75,6 +86,7 @@ impl LogBeginning<'_> {
     }
 
     /// Returns the order of the access that installs a file and the answer of its member.
+    #[tactic(auto, using(crate::proofs::Forcing::installs_forced))]
     pub(crate) fn installs(&self, call: usize, answer: usize, access: usize) -> Option<PointOrder>
         ensures { IfSome result (IsForced self.now) }
     {
@@ -89,6 +101,7 @@ impl LogBeginning<'_> {
     }
 
     /// Returns the order of the access that installs a file and the file's removal.
+    #[tactic(auto, using(crate::proofs::Forcing::places_forced))]
     pub(crate) fn places(&self, call: usize, answer: usize, access: usize) -> Option<PointOrder>
         ensures { IfSome result (IsForced self.now) }
     {
@@ -117,6 +130,7 @@ impl LogBeginning<'_> {
     }
 
     /// Returns the order of a look that finds a file and the file's removal.
+    #[tactic(auto, using(crate::proofs::Forcing::finds_forced))]
     pub(crate) fn finds(&self, call: usize, answer: usize) -> Option<PointOrder>
         ensures { IfSome result (IsForced self.now) }
     {

@@ -1,14 +1,12 @@
 //! The rules of a file that leaves its slot: some access takes it, and the others are excluded.
 ghost use Rattle.std.specs.Prelude.{◌≡◌, All, IfSome, true};
-ghost use Rattle.check_certificate.specs.Absent.{IsInEach};
-ghost use Rattle.check_certificate.specs.Forced.{IsForced};
+ghost use Rattle.check_certificate.specs.Forced.{IsForced, IsForcedBy};
 ghost use Rattle.check_certificate.specs.declared.certificate.Point.TheVariants.{Event, Gone};
 
 use crate::beginning::LogBeginning;
 use crate::certificate::{Point, PointOrder};
-use crate::rules::ordered;
+use crate::rules::{not_after, ordered};
 use crate::walk::{Leaving, WalkAim};
-use fx_base::Closed as File;
 
 // Returns the position of an event.
 fn event_of(point: Point) -> Option<usize>
@@ -51,7 +49,7 @@ impl LogBeginning<'_> {
         known: &[PointOrder],
     ) -> Option<PointOrder>
         requires { All (IsForced self.now) known.now }
-        ensures { IfSome result (λ order. IsForced self.now there.now → IsForced self.now order) }
+        ensures { IfSome result (IsForcedBy self.now there.now) }
     {
         let l = leaving(there, until, None)?;
         if l.until >= self.events.len() || !self.is_walked(&WalkAim::Leaves(l), known) {
@@ -60,18 +58,19 @@ impl LogBeginning<'_> {
         Some(ordered(Point::Event(l.until), Point::Gone(l.file, l.slot)))
     }
 
-    // Returns the file, and the slot, that an access takes, since no other may take it: `gone` says
-    // that the file is gone at some event.
-    fn taken(
+    /// Returns the orders of the access that takes a file and the file's removal, which are at one
+    /// time, either way round: no other access may take it, and by `gone` it is gone at some event.
+    pub(crate) fn taken(
         &self,
         taker: Point,
         there: &PointOrder,
         gone: &PointOrder,
         known: &[PointOrder],
-    ) -> Option<(File, u32)>
+    ) -> Option<(PointOrder, PointOrder)>
         requires { All (IsForced self.now) known.now }
-        ensures { IfSome result (λ file. IsForced self.now there.now → IsForced self.now gone.now
-            → IsInEach self.now (λ at. at taker ≡ at (Gone file.0 file.1))) }
+        ensures { IfSome result (λ orders. IsForced self.now there.now
+            → IsForced self.now gone.now
+            → IsForced self.now orders.0 × IsForced self.now orders.1) }
     {
         let until = event_of(gone.to)?;
         let l = leaving(there, until, Some(taker))?;
@@ -81,46 +80,6 @@ impl LogBeginning<'_> {
         if !self.is_walked(&WalkAim::Leaves(l), known) {
             return None;
         }
-        Some((l.file, l.slot))
-    }
-
-    /// Returns the order of the access that takes a file, and the file's removal.
-    pub(crate) fn takes(
-        &self,
-        taker: Point,
-        there: &PointOrder,
-        gone: &PointOrder,
-        known: &[PointOrder],
-    ) -> Option<PointOrder>
-        requires { All (IsForced self.now) known.now }
-        ensures { IfSome result (λ order. IsForced self.now there.now → IsForced self.now gone.now
-            → IsForced self.now order) }
-    {
-        let (file, slot) = self.taken(taker, there, gone, known)?;
-        Some(PointOrder {
-            from: taker,
-            to: Point::Gone(file, slot),
-            strict: false,
-        })
-    }
-
-    /// Returns the order of a file's removal, and the access that takes the file.
-    pub(crate) fn taken_by(
-        &self,
-        taker: Point,
-        there: &PointOrder,
-        gone: &PointOrder,
-        known: &[PointOrder],
-    ) -> Option<PointOrder>
-        requires { All (IsForced self.now) known.now }
-        ensures { IfSome result (λ order. IsForced self.now there.now → IsForced self.now gone.now
-            → IsForced self.now order) }
-    {
-        let (file, slot) = self.taken(taker, there, gone, known)?;
-        Some(PointOrder {
-            from: Point::Gone(file, slot),
-            to: taker,
-            strict: false,
-        })
+        Some((not_after(taker, gone.from), not_after(gone.from, taker)))
     }
 }

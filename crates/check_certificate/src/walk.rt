@@ -42,6 +42,17 @@ pub(crate) struct Landing {
     pub(crate) until: usize,
 }
 
+/// An access that a member of a call may make.
+#[derive(Clone, Copy, Debug)]
+pub(crate) struct MemberAccess {
+    /// The position of the call.
+    pub(crate) call: usize,
+    /// The place of the member.
+    pub(crate) place: Place,
+    /// The number of the access.
+    pub(crate) access: usize,
+}
+
 /// A rule, by which each access before an event is checked.
 #[derive(Clone, Copy, Debug)]
 pub(crate) enum WalkAim {
@@ -73,21 +84,19 @@ impl LogBeginning<'_> {
         &self,
         aim: &WalkAim,
         known: &[PointOrder],
-        call: usize,
-        place: Place,
-        access: usize,
+        by: MemberAccess,
         intent: Option<Intent>,
     ) -> bool
         requires { All (IsForced self.now) known.now }
         ensures { IsTrue result → (operation : Operation) (own : Purpose)
-            → intent ≡ Some own → IsRuledOut self.now aim.now place operation access own }
+            → intent ≡ Some own → IsRuledOut self.now aim.now by.place operation by.access own }
     {
         let Some(own) = intent else {
             return true;
         };
         match *aim {
-            WalkAim::Finds(h) => self.installs_none(&h, known, call, place, access, own),
-            WalkAim::Leaves(l) => self.takes_none(&l, known, call, place, access, own),
+            WalkAim::Finds(h) => self.installs_none(&h, known, by, own),
+            WalkAim::Leaves(l) => self.takes_none(&l, known, by, own),
             WalkAim::Lands(l) => lands_there(&l, own),
             WalkAim::Misses(l) => misses_there(&l, own),
         }
@@ -111,7 +120,12 @@ impl LogBeginning<'_> {
         };
         for access in 0..request.accesses() {
             let intent = intent_of(self.catalogue, size, place, request, access);
-            if !self.is_ruled_out(aim, known, call, place, access, intent) {
+            let by = MemberAccess {
+                call,
+                place,
+                access,
+            };
+            if !self.is_ruled_out(aim, known, by, intent) {
                 return false;
             }
         }

@@ -1,8 +1,6 @@
-use Rattle.check_certificate.proofs.Words.{subst, sym}
 use Rattle.check_certificate.proofs.Forcing.{closes_forced}
-use Rattle.check_certificate.specs.Forced.{IsForced}
 use Rattle.check_certificate.proofs.beginning.LogBeginning.closes.Goals as goal
 
 pub returns : goal.returns
-returns c = subst (IsForced c.args.self.now) (sym c.ordered.ensures)
-    (closes_forced c.args.self.now c.args.close c.in_ok-_own._own c.args.slot c.in_ok-file.file c.in_ok-file.ensures c.in_ok-_own.ensures)
+returns c = closes_forced c.args.self.now c.args.close c.in_ok-_own._own c.args.slot c.in_ok-file.file _ c.ordered.ensures c.in_ok-file.ensures
+    c.in_ok-_own.ensures

@@ -13,7 +13,8 @@ returns c = λ known there.
     let own : c.in_ok-other.own ≡ c.in_ok-other.other = first_of (search rules, grind (arith, common_steps)) in
     let placed : IsForced c.args.self.now (strict_from (Put c.in_ok-other.other) (Gone c.in_ok-other.own c.in_ok-other.slot)) =
     subst (IsForced c.args.self.now) c.in_ok-other.ensures there in
-    displaces_forced c.args.self.now c.in_ok-other.slot c.in_ok-_call._call c.in_ok-file.file c.in_ok-other.other c.in_ok-_call.ensures
+    subst (IsForced c.args.self.now) (sym c.not_after.ensures)
+    (displaces_forced c.args.self.now c.in_ok-other.slot c.in_ok-_call._call c.in_ok-file.file c.in_ok-other.other c.in_ok-_call.ensures
     (λ same. false≢true (sym c.if-eq.false ∙ (c.eq.ensures ∙ (file_Decides c.in_ok-other.other c.in_ok-file.file).1 same)))
     c.args.installed.now c.in_ok-file.ensures to known
-    (subst (λ f. IsForced c.args.self.now (strict_from (Put c.in_ok-other.other) (Gone f c.in_ok-other.slot))) own placed)
+    (subst (λ f. IsForced c.args.self.now (strict_from (Put c.in_ok-other.other) (Gone f c.in_ok-other.slot))) own placed))

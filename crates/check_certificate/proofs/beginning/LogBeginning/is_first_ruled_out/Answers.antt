@@ -5,13 +5,13 @@ use Rattle.check_certificate.proofs.beginning.LogBeginning.is_first_ruled_out.Go
 pub returns-then-is_no_other : goal.returns-then-is_no_other
 returns-then-is_no_other c = λ _ own operation intent.
     let answered = c.is_answered_at.ensures c.if-not-is_answered_at.false in
-    let member : c.args.place.member ≡ 1 = omega arith in
-    first_takes_none c.args.self.now c.args.l.now c.args.place operation c.args.access c.args.call c.args.answer c.in-Some._evidence own.0 answered.0 intent
+    let member : c.args.by.place.member ≡ 1 = omega arith in
+    first_takes_none c.args.self.now c.args.l.now c.args.by.place operation c.args.by.access c.args.by.call c.args.answer c.in-Some._evidence own.0 answered.0 intent
     c.in-Some.ensures own.1 own.2 answered.1 answered.2 member (c.is_no_other.ensures c.if-is_no_other.true c.args.self.now c.requires)
 
 pub returns : goal.returns
 returns c = λ yes own operation intent.
     let answered = c.is_answered_at.ensures c.if-not-is_answered_at.false in
-    let member : c.args.place.member ≡ 1 = omega arith in
-    first_takes_none c.args.self.now c.args.l.now c.args.place operation c.args.access c.args.call c.args.answer c.in-Some._evidence own.0 answered.0 intent
+    let member : c.args.by.place.member ≡ 1 = omega arith in
+    first_takes_none c.args.self.now c.args.l.now c.args.by.place operation c.args.by.access c.args.by.call c.args.answer c.in-Some._evidence own.0 answered.0 intent
     c.in-Some.ensures own.1 own.2 answered.1 answered.2 member (c.is_early.ensures yes)

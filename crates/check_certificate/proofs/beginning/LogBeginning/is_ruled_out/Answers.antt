@@ -8,5 +8,5 @@ pub returns-in-Leaves : goal.returns-in-Leaves
 returns-in-Leaves c = λ yes operation own same.
     let both : Some c.in-Some.own ≡ Some own = sym c.in-Some.is ∙ same in
     let one : c.in-Some.own ≡ own = cc in
-    subst (λ (aim : WalkAim). IsRuledOut c.args.self.now aim c.args.place operation c.args.access own) (sym c.in-Leaves.is)
-    (subst (TakesNone c.args.self.now c.in-Leaves.l c.args.place operation c.args.access) one (c.takes_none.ensures yes operation))
+    subst (λ (aim : WalkAim). IsRuledOut c.args.self.now aim c.args.by.place operation c.args.by.access own) (sym c.in-Leaves.is)
+    (subst (TakesNone c.args.self.now c.in-Leaves.l c.args.by.place operation c.args.by.access) one (c.takes_none.ensures yes operation))

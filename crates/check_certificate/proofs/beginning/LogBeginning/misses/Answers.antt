@@ -1,16 +1,9 @@
-use Rattle.check_certificate.proofs.Words.{AllSettled, arith, slice_index_or}
+use Rattle.check_certificate.proofs.Words.{arith, subst, sym}
 use Rattle.check_certificate.proofs.Takers.{misses_forced}
-use Rattle.check_certificate.specs.Forced.{log_of_beginning}
-use Rattle.fx_flight.specs.Events.{happening_of}
-use Rattle.std.proofs.lemmas.List.{length-map}
-use Rattle.std.proofs.lemmas.Option.{slice_get-get_or}
+use Rattle.check_certificate.specs.Forced.{IsForced}
 use Rattle.check_certificate.proofs.beginning.LogBeginning.misses.Goals as goal
 
 pub returns : goal.returns
-returns c = λ known submissions registrations sound legal clock times.
-    let log = log_of_beginning c.args.self.now in
-    let long = length-map c.args.self.now.events.now happening_of in
-    let inside = slice_get-get_or log c.in_ok-l.l.until AllSettled (omega (arith, c.if-l-self.false, long)) in
-    misses_forced c.args.self.now c.in_ok-l.l (slice_index_or log c.in_ok-l.l.until AllSettled) c.in_ok-_call._call inside
-    (c.is_walked.ensures c.if-not-is_walked.false sound.catalogue) c.in_ok-_call.ensures c.args.installed.now c.in_ok-l.ensures.0 c.in_ok-l.ensures.1
-    c.if-not-installed.false known submissions registrations sound legal clock times
+returns c = λ installed. subst (IsForced c.args.self.now) (sym c.not_after.ensures)
+    (misses_forced c.args.self.now c.args.l c.in_ok-_call._call (omega (arith, c.if-l-self.false)) (c.is_walked.ensures c.if-not-is_walked.false)
+    c.in_ok-_call.ensures installed)

@@ -7,14 +7,14 @@ use Rattle.check_certificate.proofs.beginning.LogBeginning.put_takes_none.Goals 
 pub returns-then-eq : goal.returns-then-eq
 returns-then-eq c = λ _ operation slot.
     let same : c.args.file ≡ c.args.l.now.file = first_of (search rules, grind (arith, common_steps)) in
-    put_itself c.args.self.now c.args.l.now c.args.place operation c.args.access slot c.args.file same
+    put_itself c.args.self.now c.args.l.now c.args.by.place operation c.args.by.access slot c.args.file same
 
 pub returns-then-is_no_other : goal.returns-then-is_no_other
-returns-then-is_no_other c = λ _ operation slot. put_takes_none c.args.self.now c.args.l.now c.args.place operation c.args.access slot c.args.file
+returns-then-is_no_other c = λ _ operation slot. put_takes_none c.args.self.now c.args.l.now c.args.by.place operation c.args.by.access slot c.args.file
     (c.is_no_other.ensures c.if-is_no_other.true c.args.self.now c.requires)
 
 pub returns-then-is_put_early : goal.returns-then-is_put_early
-returns-then-is_put_early c = λ _ operation slot. put_takes_none c.args.self.now c.args.l.now c.args.place operation c.args.access slot c.args.file
+returns-then-is_put_early c = λ _ operation slot. put_takes_none c.args.self.now c.args.l.now c.args.by.place operation c.args.by.access slot c.args.file
     (c.is_put_early.ensures c.if-is_put_early.true)
 
 pub returns : goal.returns
