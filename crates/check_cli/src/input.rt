@@ -112,12 +112,9 @@ fn is_script(alloc: Global, source: &[u8]) -> Result<bool, NoVerdict> {
         Err(ScriptError::Fault { .. }) => return Ok(false),
         Err(ScriptError::NoMemory) => return Err(NoVerdict::Fault(PlayFault::NoMemory)),
     };
-    for command in script.commands() {
-        if matches!(command, Command::Submit(_)) {
-            return Ok(true);
-        }
-    }
-    Ok(script.catalogue().len() > 0)
+    let mut commands = script.commands().iter();
+    let submits = commands.any(|command| matches!(command, Command::Submit(_)));
+    Ok(submits || script.catalogue().len() > 0)
 }
 
 // Checks whether a path is seen to lead to such a script.

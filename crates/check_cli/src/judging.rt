@@ -27,26 +27,6 @@ const SEARCHES: usize = 32;
 /// The number of seconds before anything is printed.
 const QUIET_SECONDS: u64 = 2;
 
-// Prints that a submission has more states than were met, unless the search began a moment ago.
-// What can't be printed is left out.
-fn note_states(
-    rt: &HostRuntime,
-    begin: &Instant,
-    judgement: &Judgement,
-    states: usize,
-    limits: Limits,
-) {
-    let (Judgement::Undecided(submission, _), Ok(passed)) = (judgement, begin.elapsed(rt)) else {
-        return;
-    };
-    let most = limits.states;
-    if passed.as_secs() >= QUIET_SECONDS {
-        let _ = eprintln!(rt;
-            "fixcheck: submission {submission} has more than {states} states; the limit is {most}"
-        );
-    }
-}
-
 /// Decides whether a script may print a text, as `check_judge::judge` does with the given limits.
 /// If standard error is a terminal, it searches with few states first, and after two seconds prints
 /// how many states were too few.
@@ -78,7 +58,15 @@ pub fn judged(
         if !matches!(&judgement, Judgement::Undecided(..)) {
             return Ok(judgement);
         }
-        note_states(rt, &begin, &judgement, states, limits);
+        if let (Judgement::Undecided(submission, _), Ok(passed)) = (&judgement, begin.elapsed(rt))
+            && passed.as_secs() >= QUIET_SECONDS
+        {
+            let most = limits.states;
+            // What can't be printed is left out.
+            let _ = eprintln!(rt;
+                "fixcheck: submission {submission} has more than {states} states; the limit is {most}"
+            );
+        }
         states = states.saturating_mul(LARGER);
     }
     judge(alloc, script, text, limits)

@@ -28,24 +28,20 @@ pub(crate) fn status_of_texts(all: &AllTexts) -> u8
     if all.are_counted { 0 } else { 6 }
 }
 
-// Appends the request of an access of a submission, and its position in the list of an update.
-fn push_access(report: &mut Words, submission: u32, it: &AccessPlace) {
-    report.say(" ");
-    report.place(Place {
-        submission,
-        chain: it.chain,
-        member: it.member,
-    });
-    if let Some(entry) = it.entry {
-        report.count(".", entry as u64, "");
-    }
-}
-
-/// Appends the line of an order: its submission, and the requests of its accesses.
+/// Appends the line of an order: its submission, and of each access the request, and the position
+/// in the list of an update.
 pub(crate) fn push_order(report: &mut Words, submission: u32, places: &[AccessPlace]) {
     report.count("order ", u64::from(submission), ":");
     for it in places {
-        push_access(report, submission, it);
+        report.say(" ");
+        report.place(Place {
+            submission,
+            chain: it.chain,
+            member: it.member,
+        });
+        if let Some(entry) = it.entry {
+            report.count(".", entry as u64, "");
+        }
     }
     report.say("\n");
 }
@@ -99,16 +95,16 @@ impl<'a> ListedOrders<'a> {
                 next.push(i)?;
             }
         }
-        report.count("order ", u64::from(past.submission), ":");
+        let mut places = Vec::new(self.alloc);
         for made in &past.order {
             if let Some(turn) = next.get_mut((made.chain as usize).saturating_sub(1))
                 && let Some(place) = all.get(*turn)
             {
-                push_access(report, past.submission, place);
+                places.push(*place)?;
                 *turn = turn.saturating_add(1);
             }
         }
-        report.say("\n");
+        push_order(report, past.submission, &places);
         Ok(())
     }
 
@@ -213,10 +209,8 @@ pub(crate) fn listing_of_texts(
             report.say("\n");
         }
         if let Some(by) = all.by.get(i) {
-            for number in by {
-                if let Some(past) = all.orders.get(*number) {
-                    orders.push(&mut report, past)?;
-                }
+            for past in by.iter().filter_map(|number| all.orders.get(*number)) {
+                orders.push(&mut report, past)?;
             }
         }
     }

@@ -37,15 +37,13 @@ fn write(rt: &HostRuntime, words: &Words) -> Result<(), NoVerdict> {
 }
 
 // Prints a whole history of a legal text, part by part.
-fn print_history(
+fn print_history<'a>(
     rt: &HostRuntime,
-    question: &Question<'_>,
-    orders: &[Order],
+    question: &'a Question<'a>,
+    orders: &'a [Order],
 ) -> Result<(), NoVerdict> {
-    let (alloc, script) = (question.alloc, question.script);
-    let catalogue = script.catalogue();
-    let mut history = History::new(alloc, catalogue, question.asked, question.text, orders);
-    for command in script.commands() {
+    let mut history = History::new(question, orders);
+    for command in question.script.commands() {
         history.push(command)?;
         if history.lines().len() >= KEPT {
             write(rt, history.lines())?;
@@ -116,22 +114,6 @@ fn print_judgement(
     }
 }
 
-// Judges a text that was read from a path, and prints the verdict. Returns the exit status.
-fn judge_text(
-    rt: &HostRuntime,
-    question: &Question<'_>,
-    settings: Settings<'_>,
-    path: &str,
-) -> Result<u8, NoVerdict> {
-    let limits = limits_of(settings);
-    let judgement = judged(rt, question.script, question.text, limits)?;
-    if matches!(&judgement, Judgement::NotLegal(_)) {
-        note_script(rt, path, question.text)?;
-    }
-    print_judgement(rt, question, settings, &judgement)?;
-    Ok(status_of(&judgement))
-}
-
 // Judges the text at a path, and prints the verdict. Returns the exit status.
 fn print_verdict(
     rt: &HostRuntime,
@@ -148,7 +130,12 @@ fn print_verdict(
         asked: &asked,
         text: &text,
     };
-    judge_text(rt, &question, settings, path)
+    let judgement = judged(rt, script, &text, limits_of(settings))?;
+    if matches!(&judgement, Judgement::NotLegal(_)) {
+        note_script(rt, path, &text)?;
+    }
+    print_judgement(rt, &question, settings, &judgement)?;
+    Ok(status_of(&judgement))
 }
 
 // Does what the arguments ask for. Returns the exit status.

@@ -115,12 +115,8 @@ fn may_have_file(facts: &Facts<'_>, slot: u32) -> bool {
     if let Some(Some(_)) = facts.case.slots.at.get(slot as usize) {
         return true;
     }
-    for act in &facts.acts {
-        if act.asked == Some(slot) && act.put.is_some() {
-            return true;
-        }
-    }
-    false
+    let mut acts = facts.acts.iter();
+    acts.any(|act| act.asked == Some(slot) && act.put.is_some())
 }
 
 /// Replaces some bytes by those that a request reads of a file of an entry, or by none without one.
@@ -188,10 +184,8 @@ impl<'a> Answers<'a> {
     // any file.
     fn push_file(&mut self, row: &Row<'_>, entry: u8) {
         let entry = row.request.is_read().then_some(entry);
-        for answer in &self.list {
-            if answer.entry == entry {
-                return;
-            }
+        if self.list.iter().any(|answer| answer.entry == entry) {
+            return;
         }
         self.is_whole &= read(self.facts, row, entry, &mut self.bytes);
         let number = i32::try_from(self.bytes.len()).unwrap_or(i32::MAX);
@@ -280,18 +274,10 @@ impl<'a> Answers<'a> {
     fn may_be_full(&self, row: &Row<'_>) -> bool {
         let facts = self.facts;
         let (first, end) = slots_of(None, facts.case.slots.range);
-        let (mut empty, mut opens) = (0usize, 0usize);
-        for slot in first..end {
-            if !may_have_file(facts, slot) {
-                empty = empty.saturating_add(1);
-            }
-        }
-        for act in &facts.acts {
-            if act.asked.is_none() && act.line != row.at {
-                opens = opens.saturating_add(1);
-            }
-        }
-        empty <= opens
+        let empty = (first..end).filter(|slot| !may_have_file(facts, *slot));
+        let acts = facts.acts.iter();
+        let opens = acts.filter(|act| act.asked.is_none() && act.line != row.at);
+        empty.count() <= opens.count()
     }
 
     /// Checks whether one of them, the answers of a request, severs its chain.

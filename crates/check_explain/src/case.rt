@@ -81,10 +81,7 @@ impl Row<'_> {
     /// Returns the result of the request, unless it is canceled, if that doesn't depend on the
     /// slots.
     pub(crate) fn fixed_result(&self) -> Option<i32> {
-        match self.refusal {
-            Some(errno) => Some(result_of(errno)),
-            None => self.request.fixed_result(),
-        }
+        self.refusal.map(result_of).or(self.request.fixed_result())
     }
 
     /// Checks whether it depends on the slots whether the request severs its chain.
@@ -125,14 +122,15 @@ pub(crate) fn place_of(submission: u32, chain: u32, member: u32) -> Place {
 
 /// Returns the place of the request after one.
 pub(crate) fn place_after(place: Place, request: &Request) -> Place {
-    let mut next = place;
     if request.links() {
-        next.member = place.member.saturating_add(1);
+        place_of(
+            place.submission,
+            place.chain,
+            place.member.saturating_add(1),
+        )
     } else {
-        next.chain = place.chain.saturating_add(1);
-        next.member = 1;
+        place_of(place.submission, place.chain.saturating_add(1), 1)
     }
-    next
 }
 
 /// Returns the places of the accesses that the requests of a submission make at a table of `size`

@@ -139,17 +139,10 @@ impl ClaimsView<'_> {
     // slot, if anything.
     fn claim_of(&self, act: &Act) -> Result<Option<Claim>, NoMemory> {
         let Some(slot) = act.slot else {
-            return Ok(if act.found.is_some() {
-                Some(Claim::Full)
-            } else {
-                None
-            });
+            return Ok(act.found.map(|_| Claim::Full));
         };
         let is_out = self.is_out(act.line);
-        let resident = match act.file {
-            Some(number) => self.resident(number),
-            None => None,
-        };
+        let resident = act.file.and_then(|number| self.resident(number));
         let (expects, leaves) = match (act.intent, act.found, resident) {
             (Intent::Look(_), Some(_), _) if is_out => return Ok(None),
             (Intent::Take(_), Some(_), _) if is_out => (Condition::Anything, Leaves::Empty),

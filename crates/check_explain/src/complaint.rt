@@ -22,9 +22,7 @@ pub struct Complaint {
 impl Complaint {
     /// Adds a line.
     pub(crate) fn line(&mut self, at: usize) {
-        if self.lines.push(at).is_err() {
-            self.why.is_whole = false;
-        }
+        self.why.is_whole &= self.lines.push(at).is_ok();
     }
 
     /// Says that a line is wrong, in fixed words.
@@ -36,20 +34,6 @@ impl Complaint {
 }
 
 impl Facts<'_> {
-    // Looks for the first invalid lines, and complains about them. Returns whether there are such
-    // lines.
-    fn complain(&self, slot: Option<u32>, out: &mut Complaint) -> Result<bool, NoMemory> {
-        let is_found = wrong_answer(self, out)?
-            || wrong_close(self, out)
-            || wrong_count(self, out)?
-            || no_order(self, slot, out)?;
-        if out.expected.is_whole && out.why.is_whole {
-            Ok(is_found)
-        } else {
-            Err(NoMemory)
-        }
-    }
-
     /// Looks for the first invalid lines of the submission. `slot`: the slot that the judge blames,
     /// if it blames one.
     ///
@@ -62,9 +46,13 @@ impl Facts<'_> {
             expected: Words::new(alloc),
             why: Words::new(alloc),
         };
-        if self.complain(slot, &mut out)? {
-            return Ok(Some(out));
+        let is_found = wrong_answer(self, &mut out)?
+            || wrong_close(self, &mut out)
+            || wrong_count(self, &mut out)?
+            || no_order(self, slot, &mut out)?;
+        if !out.expected.is_whole || !out.why.is_whole {
+            return Err(NoMemory);
         }
-        Ok(None)
+        Ok(is_found.then_some(out))
     }
 }

@@ -84,11 +84,9 @@ impl<'a> Contradiction<'a> {
     // Searches as `searched` does, if these files stay. Returns `None` also if an allocation fails.
     fn search(&mut self, stays: Stays) -> Option<bool> {
         self.view.stays = stays;
-        if let Ok(seen) = self.searched() {
-            return seen;
-        }
-        self.is_whole = false;
-        None
+        let seen = self.searched();
+        self.is_whole &= seen.is_ok();
+        seen.unwrap_or(None)
     }
 
     // Returns the number of choices of the file that stays at a slot, if any: one if the slot isn't
@@ -96,15 +94,14 @@ impl<'a> Contradiction<'a> {
     fn choices_at(&self, slot: usize) -> usize
         ensures { 0 < result }
     {
-        let mut files = 0u32;
-        if let Some(true) = self.view.slots.get(slot) {
-            for it in &self.view.facts.files {
-                if it.slot as usize == slot {
-                    files = files.saturating_add(1);
-                }
-            }
+        if !matches!(self.view.slots.get(slot), Some(true)) {
+            return 1;
         }
-        files as usize + 1
+        let files = self.view.facts.files.iter();
+        files
+            .filter(|it| it.slot as usize == slot)
+            .count()
+            .saturating_add(1)
     }
 
     // Searches with the files of a choice, by its number from 0: one of each slot stays, or none.
@@ -203,12 +200,10 @@ impl<'a> Contradiction<'a> {
 
     // Checks whether a line is named, or a later one of its chain.
     fn is_named(&self, named: &[usize], chain: u32, line: usize) -> bool {
-        for other in named {
-            if *other >= line && self.view.facts.chain_of(*other) == chain {
-                return true;
-            }
-        }
-        false
+        let facts = self.view.facts;
+        named
+            .iter()
+            .any(|other| *other >= line && facts.chain_of(*other) == chain)
     }
 
     // Checks whether a request may sever its chain before an access that may change the slots,
@@ -249,19 +244,22 @@ impl<'a> Contradiction<'a> {
 
     // Appends the reason that some lines have no order together.
     fn why(&self, lines: &[usize], slot: Option<u32>, why: &mut Words) {
-        let is_one = lines.len() == 1;
-        why.say(if is_one {
-            "no order of the requests gives this one"
+        let (gives, concerns, unsure) = if lines.len() == 1 {
+            (
+                "no order of the requests gives this one",
+                ", which concerns slot ",
+                "; there may be none without it",
+            )
         } else {
-            "no order of the requests gives all of these"
-        });
+            (
+                "no order of the requests gives all of these",
+                ", which concern slot ",
+                "; fewer of them may contradict each other",
+            )
+        };
+        why.say(gives);
         if let Some(slot) = slot {
-            let which = if is_one {
-                ", which concerns slot "
-            } else {
-                ", which concern slot "
-            };
-            why.count(which, u64::from(slot), "");
+            why.count(concerns, u64::from(slot), "");
         }
         if self.rests_on_closes {
             why.say(", and closes no other file");
@@ -270,11 +268,7 @@ impl<'a> Contradiction<'a> {
             why.say(", and cancels the same requests");
         }
         if !self.is_sure {
-            why.say(if is_one {
-                "; there may be none without it"
-            } else {
-                "; fewer of them may contradict each other"
-            });
+            why.say(unsure);
         }
     }
 }

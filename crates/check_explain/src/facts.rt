@@ -59,12 +59,11 @@ fn found_by(intent: Intent, res: i32) -> Option<bool> {
 impl<'a> Facts<'a> {
     // Adds a file that is at a slot before the submission, or that the request of a line installs.
     fn add_file(&mut self, file: Closed, slot: u32, line: Option<usize>) {
-        let closed = None;
         let installed = Installed {
             file,
             slot,
             line,
-            closed,
+            closed: None,
         };
         self.is_whole &= self.files.push(installed).is_ok();
     }
@@ -82,14 +81,9 @@ impl<'a> Facts<'a> {
 
     // Reads a line of a completion if `count` is 1, or a `closed` line if it is 0.
     fn read(&mut self, line: &[u8], count: usize) -> Option<ReportLines> {
-        match read_report(self.case.alloc, line, count) {
-            Ok(Some((report, _))) => Some(report),
-            Ok(None) => None,
-            Err(_) => {
-                self.is_whole = false;
-                None
-            }
-        }
+        let found = read_report(self.case.alloc, line, count);
+        self.is_whole &= found.is_ok();
+        Some(found.ok()??.0)
     }
 
     // Checks whether each request has a completion.
@@ -163,10 +157,7 @@ impl<'a> Facts<'a> {
     // Adds the accesses of a request that isn't refused.
     fn add_acts(&mut self, row: &Row<'_>) {
         let catalogue = self.case.catalogue;
-        let res = match &row.answer {
-            Some(it) => it.res,
-            None => UNREAD,
-        };
+        let res = row.answer.as_ref().map_or(UNREAD, |it| it.res);
         let may_install = self.may_install(row);
         for made in 0..row.request.accesses() {
             let Some(intent) = intent_of(catalogue, u32::MAX, row.place, row.request, made) else {
@@ -273,11 +264,7 @@ impl<'a> Facts<'a> {
         if facts.is_answered() {
             facts.take_closes();
         }
-        if facts.is_whole {
-            Ok(facts)
-        } else {
-            Err(NoMemory)
-        }
+        facts.is_whole.then_some(facts).ok_or(NoMemory)
     }
 
     /// Returns the accesses from one on up to another one, by their numbers.
@@ -287,10 +274,7 @@ impl<'a> Facts<'a> {
 
     /// Returns the chain of the request of a line, or 0 if it isn't that of a request.
     pub(crate) fn chain_of(&self, line: usize) -> u32 {
-        match self.rows.get(line) {
-            Some(row) => row.place.chain,
-            None => 0,
-        }
+        self.rows.get(line).map_or(0, |row| row.place.chain)
     }
 
     /// Returns the slots that the text shows after the submission, and the rest of the text. A file

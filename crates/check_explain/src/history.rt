@@ -2,13 +2,13 @@
 //! the state of the table after it.
 use crate::case::{place_after, place_of};
 use crate::lines::{AskedLine, Lines, cut_word};
+use crate::question::Question;
 use crate::words::Words;
-use fx_base::{Catalogue, Closed, Mark, NoMemory};
+use fx_base::{Closed, Mark, NoMemory};
 use fx_chain::{Place, Request};
 use fx_order::{Access, AccessPlace, Order};
 use fx_ring::tag_at;
 use fx_script::Command;
-use std::alloc::Global;
 
 /// A request's place, its line of the script without its end, and its result as the text has it.
 #[derive(Clone, Copy)]
@@ -31,8 +31,7 @@ enum Maker<'a> {
 /// is closed at once.
 #[derive(Drop)]
 pub struct History<'a> {
-    alloc: Global,
-    catalogue: &'a Catalogue,
+    question: &'a Question<'a>,
     asked: &'a [AskedLine<'a>],
     text: Lines<'a>,
     orders: &'a [Order],
@@ -63,25 +62,17 @@ fn is_last(places: &[AccessPlace], from: usize, request: &AccessPlace) -> bool {
 
 impl<'a> History<'a> {
     /// Returns the history of a legal text before the first command of a script, with the orders of
-    /// its submissions: a line that says that the text is legal. `asked`: the lines of the script's
-    /// commands and requests.
-    pub fn new(
-        alloc: Global,
-        catalogue: &'a Catalogue,
-        asked: &'a [AskedLine<'a>],
-        text: &'a [u8],
-        orders: &'a [Order],
-    ) -> History<'a> {
-        let mut lines = Words::new(alloc);
+    /// its submissions: a line that says that the text is legal.
+    pub fn new(question: &'a Question<'a>, orders: &'a [Order]) -> History<'a> {
+        let mut lines = Words::new(question.alloc);
         lines.say("legal\n");
         History {
-            alloc,
-            catalogue,
-            asked,
-            text: Lines::new(text),
+            question,
+            asked: question.asked,
+            text: Lines::new(question.text),
             orders,
             lists: 0,
-            at: Vec::new(alloc),
+            at: Vec::new(question.alloc),
             who: Maker::Command(b""),
             held: None,
             removed: None,
@@ -196,7 +187,7 @@ impl<'a> History<'a> {
         self.lines.number(u64::from(slot));
         if let Some(file) = put {
             self.lines.say(", ");
-            self.lines.file(self.catalogue, file);
+            self.lines.file(self.question.script.catalogue(), file);
         }
         self.lines.say(if found.is_some() { ", " } else { none });
         if let Some(file) = found {
@@ -259,9 +250,11 @@ impl<'a> History<'a> {
     // Appends the events of a call between submissions that was accepted.
     fn push_events(&mut self, command: &Command) -> Result<(), NoMemory> {
         match command {
-            Command::Sparse(slots) => self.at = vec![in self.alloc; None; *slots as usize]?,
+            Command::Sparse(slots) => self.at = vec![in self
+                .question
+                .alloc; None; *slots as usize]?,
             Command::Register(list, tags) => {
-                self.at = vec![in self.alloc; None; list.len()]?;
+                self.at = vec![in self.question.alloc; None; list.len()]?;
                 self.push_list(0, list, tags.as_deref(), false);
             }
             Command::Unregister => {
@@ -348,7 +341,7 @@ impl<'a> History<'a> {
         submission: u32,
         next: &mut Vec<usize>,
     ) -> Result<Vec<Answer<'a>>, NoMemory> {
-        let (mut answers, mut place) = (Vec::new(self.alloc), place_of(submission, 1, 1));
+        let (mut answers, mut place) = (Vec::new(self.question.alloc), place_of(submission, 1, 1));
         for request in requests {
             if place.member == 1 {
                 next.push(answers.len())?;
@@ -368,7 +361,7 @@ impl<'a> History<'a> {
     // lines of the script and of the text. The script has the submission's own line after those of
     // the requests.
     fn push_submission(&mut self, requests: &[Request], order: &Order) -> Result<(), NoMemory> {
-        let mut next = Vec::new(self.alloc);
+        let mut next = Vec::new(self.question.alloc);
         let answers = self.answers(requests, order.submission, &mut next)?;
         self.next_asked();
         self.text = self.text.after_closes();

@@ -7,12 +7,10 @@ use std::alloc::{AllocError, Global};
 fn length_to(text: &[u8], end: u8) -> usize
     ensures { result ≤ length text.now }
 {
-    for (i, byte) in text.iter().enumerate() {
-        if *byte == end {
-            return i + 1;
-        }
+    match text.iter().position(|byte| *byte == end) {
+        Some(i) => i + 1,
+        None => text.len(),
     }
-    text.len()
 }
 
 /// Returns a line without its end.
@@ -48,12 +46,7 @@ impl<'a> Lines<'a> {
     /// Returns the lines of a text from the one that begins at a byte on.
     pub fn at(text: &'a [u8], at: usize) -> Lines<'a> {
         let (front, rest) = text.split_at(at.min(text.len()));
-        let mut before = 0usize;
-        for byte in front {
-            if *byte == b'\n' {
-                before = before.saturating_add(1);
-            }
-        }
+        let before = front.iter().filter(|byte| **byte == b'\n').count();
         Lines { rest, before }
     }
 

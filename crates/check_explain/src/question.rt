@@ -40,10 +40,8 @@ impl Question<'_> {
     /// `NoMemory` if an allocation fails.
     pub fn facts_at<'b>(&'b self, broken: &'b Break) -> Result<Option<Facts<'b>>, NoMemory> {
         let submissions = broken.ring.submissions;
-        let Some(command) = self.script.commands().get(broken.commands) else {
-            return Ok(None);
-        };
-        let Some(requests) = accepted_in(command, submissions) else {
+        let command = self.script.commands().get(broken.commands);
+        let Some(requests) = command.and_then(|command| accepted_in(command, submissions)) else {
             return Ok(None);
         };
         let facts = Facts::new(&Case {

@@ -136,10 +136,8 @@ fn why_unread(line: &[u8]) -> &'static str {
     if !line.ends_with(b"\n") {
         return "the text ends within this line";
     }
-    for byte in line {
-        if byte.is_ascii_uppercase() {
-            return "bytes are printed in lower case";
-        }
+    if line.iter().any(|byte| byte.is_ascii_uppercase()) {
+        return "bytes are printed in lower case";
     }
     "its result can't be read"
 }

@@ -119,11 +119,8 @@ pub(crate) fn wrong_close(facts: &Facts<'_>, out: &mut Complaint) -> bool {
 
 // Says that two files are left at one slot.
 fn two_left(facts: &Facts<'_>, one: &Installed, other: &Installed, out: &mut Complaint) {
-    if let Some(line) = one.line {
-        out.line(line);
-    }
-    if let Some(line) = other.line {
-        out.line(line);
+    for line in [one.line, other.line].iter().flatten() {
+        out.line(*line);
     }
     out.why.file(facts.case.catalogue, one.file);
     out.why.say(" and ");

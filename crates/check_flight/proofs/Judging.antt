@@ -219,13 +219,6 @@ fewer_more waiting before after look fewer still other inside = ⊎_elim
 
 -- The events.
 
-pub not_logged : (events : List LogEvent) (event : Happening)
-    → ((k : ℕ) (d : LogEvent) → k < length events → happening_of (slice_index_or events k d) ≡ event → ⊥)
-    → Contains (all_happenings events) event → ⊥
-not_logged events event none inside =
-    let (x, (k, low, is), same) = contains_map happening_of events event inside in
-    none k x low (ap happening_of is ∙ sym same)
-
 -- one event more was read
 pub read_more : (events : List LogEvent) (at : ℕ) (event : LogEvent) → at < length events → event ≡ slice_index_or events at event
     → take (at + 1) (all_happenings events) ≡ take at (all_happenings events) ++ happening_of event ∷ []

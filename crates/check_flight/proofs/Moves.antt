@@ -380,7 +380,7 @@ module _ (old : RingState) (log : JudgedLog) (plans : List CallPlan) (ring : IsR
       (held_on flight player.holds.items e (λ id found same. cc) so_far.holds)
 
   -- the answer of a look
-  pub moves_found : {read : List Happening} (player next : FlightPlayer) (id : ℕ) (found : Option Identity) → IsLookAnswered log plans player id found
+  pub moves_found : {read : List Happening} (player next : FlightPlayer) (id : ℕ) (found : Option Identity) → IsLookAnswered log.setting.size plans player id found
       → ((hold : HeldFile) → Contains player.holds.items hold → Contains next.holds.items hold)
       → ((file : Identity) → found ≡ Some file → Contains next.holds.items (record { id = id; file = file }))
       → player.amid ≡ None → HasMadeFlight old log plans read player

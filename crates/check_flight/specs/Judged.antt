@@ -13,6 +13,7 @@ use Rattle.check_outcomes.specs.Rests.{IsNext, Rest, Rules, over, rules_of, step
 use Rattle.check_outcomes.specs.Stands.{rest_in}
 use Rattle.check_outcomes.specs.Views.{not_begun, run_at}
 use Rattle.fx_flight.specs.Events.{Happening, all_happenings, first_of_call, AllSettled}
+use Rattle.fx_flight.specs.Whole.{IsLegalBy}
 use Rattle.check_flight.specs.States.{AreWaitsDenied, FlightView, IsFollowed, IsLookDenied}
 use Rattle.check_flight.specs.States.{IsStateFollowed, AreFollowed, ArePassed, HasNoFlightBy, IsLed}
 use Rattle.check_flight.specs.States.{IsNumbered, IsOneDenied, IsStopped, StepsByAccess, runs_with}
@@ -24,6 +25,8 @@ use Rattle.check_flight.specs.declared.judged.JudgedLog.{JudgedLog}
 use Rattle.check_flight.specs.declared.state.FlightState.{FlightState}
 use Rattle.check_flight.specs.declared.state.WaitingLook.{WaitingLook}
 use Rattle.fx_order.specs.declared.slots.Slots.{Slots}
+use Rattle.check_flight.specs.declared.verdict.Decision.{Decision}
+use Rattle.check_flight.specs.declared.verdict.Decision.TheVariants.{Flight, Neither, Wrong}
 use Rattle.check_flight.specs.declared.passage.Passage.{Passage}
 use Rattle.check_flight.specs.declared.passage.Passage.TheVariants.{Stops, Leads, IsUnfit}
 
@@ -168,11 +171,23 @@ IsReachedFrom log slots events reached = (submissions registrations : ℕ)
     → IsReached log.whole (ring_of_slots (catalogue_in log) slots submissions registrations) events
     reached
 
--- these events have no flight from these slots on, or none by whole updates
-abbrev pub HaveNoFlight : JudgedLog → Slots → List Happening → Type 0
-HaveNoFlight log slots events = (submissions registrations : ℕ)
+-- the first `count` events have no flight from these slots on, or none by whole updates
+abbrev pub HaveNoFlight : JudgedLog → Slots → ℕ → Type 0
+HaveNoFlight log slots count = (submissions registrations : ℕ)
     → HasNoFlightBy log.whole
-    (ring_of_slots (catalogue_in log) slots submissions registrations) events
+    (ring_of_slots (catalogue_in log) slots submissions registrations) (take count (log_in log))
+
+-- the log has a flight from these slots on, by whole updates if these are required
+abbrev pub HasFlight : JudgedLog → Slots → Type 0
+HasFlight log slots = (submissions registrations : ℕ)
+    → IsLegalBy log.whole
+    (ring_of_slots (catalogue_in log) slots submissions registrations) (log_in log)
+
+-- the decision is right
+abbrev pub IsRight : JudgedLog → Slots → Decision → Type 0
+IsRight log slots Flight = HasFlight log slots
+IsRight log slots (Wrong count) = HaveNoFlight log slots count
+IsRight log slots Neither = Unit {0}
 
 -- the table has as many slots as the log says
 abbrev pub IsTableOf : JudgedLog → Slots → Type 0

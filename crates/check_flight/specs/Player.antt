@@ -155,7 +155,7 @@ pub record HasMadeFlight (old : RingState) (log : JudgedLog) (plans : List CallP
   pub holds : AreFoundHeld flight player.holds.items
 
 -- the answer of a look is what its access found, and the file isn't closed
-pub record IsLookAnswered (log : JudgedLog) (plans : List CallPlan) (player : FlightPlayer) (id : ℕ)
+pub record IsLookAnswered (size : ℕ) (plans : List CallPlan) (player : FlightPlayer) (id : ℕ)
     (found : Option Identity) : Type 0 where
   -- its position among the calls, from 0
   pub at : ℕ
@@ -165,7 +165,7 @@ pub record IsLookAnswered (log : JudgedLog) (plans : List CallPlan) (player : Fl
   pub call : FlightCall
   pub here : slice_index_or player.calls.items at call ≡ call
   pub kind : call.kind ≡ Look slot
-  pub done : IsLookDone log.setting.size slot (take call.made (accesses_in plans id)) found
+  pub done : IsLookDone size slot (take call.made (accesses_in plans id)) found
   pub unclosed : (file : Identity) → found ≡ Some file → IsMarked player.closed file → ⊥
 
 -- the ring has the catalogue and the size by which a log is judged
@@ -180,7 +180,7 @@ MovesOn log plans read player more next = (old : RingState) → IsRingOf old log
     → HasMadeFlight old log plans read player → HasMadeFlight old log plans more next
 
 -- a flight with an event more follows, if no call is amid an update
-abbrev pub Follows : JudgedLog → List CallPlan → List Happening → FlightPlayer → Happening
-    → FlightPlayer → Type 0
-Follows log plans read player event next =
-    player.amid ≡ None → MovesOn log plans read player (read ++ event ∷ []) next
+abbrev pub Follows : JudgedLog → List CallPlan → FlightPlayer → Happening → FlightPlayer → Type 0
+Follows log plans player event next =
+    (read : List Happening) → player.amid ≡ None
+    → MovesOn log plans read player (read ++ event ∷ []) next

@@ -1,58 +1,15 @@
 //! Reads of the log that is judged at a position: an answer, a close, a hold.
 ghost use Rattle.std.specs.Prelude.{◌≡◌, ◌≤◌, Contains, IfSome, IsTrue, Some, length, take};
 ghost use Rattle.fx_chain.specs.Completed.{all_completed, completed_of};
-ghost use Rattle.fx_flight.specs.Events.{Answered, FileClosed, Freed, LookAnswered, all_happenings, happening_of};
+ghost use Rattle.fx_flight.specs.Events.{Answered, FileClosed, LookAnswered, all_happenings};
 ghost use Rattle.check_flight.specs.Judged.{log_in};
 ghost use Rattle.check_flight.specs.States.{IsDenied, IsFoundClosed, IsHeld, IsLookDenied, IsOneDenied};
 
 use crate::judged::JudgedLog;
+use check_certificate::was_freed;
 use fx_base::Closed;
 use fx_chain::{Completion, Place};
 use fx_flight::LogEvent;
-
-// Checks whether an event is the close of a file.
-fn is_close_of(event: &LogEvent, file: Closed) -> bool
-    ensures { happening_of event.now ≡ FileClosed file → IsTrue result }
-{
-    match event {
-        LogEvent::Closed(other) => *other == file,
-        _ => false,
-    }
-}
-
-/// Checks whether one of the events is the close of a file.
-pub(crate) fn was_closed(events: &[LogEvent], file: Closed) -> bool
-    ensures { Contains (all_happenings events.now) (FileClosed file) → IsTrue result }
-{
-    for event in events {
-        if is_close_of(event, file) {
-            return true;
-        }
-    }
-    false
-}
-
-// Checks whether an event is the end of the hold of a look.
-fn is_free_of(event: &LogEvent, look: u32) -> bool
-    ensures { happening_of event.now ≡ Freed look → IsTrue result }
-{
-    match event {
-        LogEvent::Free { id } => *id == look,
-        _ => false,
-    }
-}
-
-// Checks whether one of the events is the end of the hold of a look.
-fn was_freed(events: &[LogEvent], look: u32) -> bool
-    ensures { Contains (all_happenings events.now) (Freed look) → IsTrue result }
-{
-    for event in events {
-        if is_free_of(event, look) {
-            return true;
-        }
-    }
-    false
-}
 
 // Checks whether the event at a position is this answer of a look.
 fn is_found_at(events: &[LogEvent], position: usize, look: u32, found: Option<Closed>) -> bool

@@ -11,9 +11,9 @@ ghost use Rattle.check_flight.specs.States.{IsNumbered, IsStopped, IsUnmade};
 
 use crate::call::{first_place, members_at};
 use crate::judged::{ChainCall, JudgedLog};
-use crate::log::was_closed;
 use crate::state::{FlightState, WaitingLook, remove_file, still_waiting, trimmed};
 use crate::turn::is_out_of_turn;
+use check_certificate::was_closed;
 use check_outcomes::{Progress, settle};
 use fx_base::{Closed, NoMemory};
 use fx_chain::{Completion, Request};
@@ -212,8 +212,8 @@ pub(crate) fn passage_of(
             by_look(log, calls, state, WaitingLook { id, slot })
         }
         LogEvent::Done(_) => Ok(Passage::Leads(trimmed(alloc, calls, state)?)),
-        LogEvent::Found { id: _, file: _ } => Ok(Passage::Leads(trimmed(alloc, calls, state)?)),
-        LogEvent::Free { id: _ } => Ok(Passage::Leads(state.copy(alloc, state.base, 0)?)),
+        LogEvent::Found { .. } => Ok(Passage::Leads(trimmed(alloc, calls, state)?)),
+        LogEvent::Free { .. } => Ok(Passage::Leads(state.copy(alloc, state.base, 0)?)),
         LogEvent::Closed(file) => by_close(log, calls, state, *file),
         LogEvent::Settled => Ok(Passage::Leads(state.copy(alloc, state.base, 0)?)),
     }

@@ -7,10 +7,9 @@ ghost use Rattle.fx_base.specs.Identity.{Identity};
 ghost use Rattle.fx_chain.specs.Completed.{completed_of};
 ghost use Rattle.fx_flight.specs.Events.{Answered, FileClosed, AllSettled, Happening, Freed, LookAnswered};
 ghost use Rattle.fx_flight.specs.Events.{happening_of};
-ghost use Rattle.fx_flight.specs.Whole.{IsLegalBy};
 ghost use Rattle.fx_order.specs.Access.{file_removed_by};
-ghost use Rattle.fx_order.specs.Slots.{ring_of_slots, table_of_slots};
-ghost use Rattle.check_flight.specs.Judged.{catalogue_in, log_in};
+ghost use Rattle.fx_order.specs.Slots.{table_of_slots};
+ghost use Rattle.check_flight.specs.Judged.{HasFlight, log_in};
 ghost use Rattle.check_flight.specs.Player.{Follows, IsLookAnswered, IsMarked, MovesOn, begun_by};
 ghost use Rattle.check_flight.specs.declared.judged.JudgedLog.{JudgedLog as TheLog};
 ghost use Rattle.check_flight.specs.declared.plan.CallPlan.{CallPlan as Plan};
@@ -179,8 +178,8 @@ impl<'a> FlightPlayer<'a> {
         id: u32,
         kind: CallKind<'a>,
     ) -> Result<bool, NoMemory>
-        ensures { IfOk result (λ yes. IsTrue yes → (read : List Happening)
-            → Follows log.now plans.now read self.old (begun_by id kind.entry) self.new) }
+        ensures { IfOk result (λ yes. IsTrue yes
+            → Follows log.now plans.now self.old (begun_by id kind.entry) self.new) }
     {
         let i = self.calls.len();
         if id == 0 || id as usize - 1 != i || i >= plans.len() {
@@ -194,14 +193,8 @@ impl<'a> FlightPlayer<'a> {
     }
 
     // Checks whether a look made its access, and found a file that isn't closed, or none.
-    fn has_found(
-        &self,
-        log: &JudgedLog<'_>,
-        plans: &[CallPlan],
-        id: u32,
-        found: Option<Closed>,
-    ) -> bool
-        ensures { IsTrue result → IsLookAnswered log.now plans.now self.now id found }
+    fn has_found(&self, size: u32, plans: &[CallPlan], id: u32, found: Option<Closed>) -> bool
+        ensures { IsTrue result → IsLookAnswered size plans.now self.now id found }
     {
         let i = (id as usize).saturating_sub(1);
         if id == 0 || i >= self.calls.len() || i >= plans.len() {
@@ -214,7 +207,7 @@ impl<'a> FlightPlayer<'a> {
         if self.is_marked(found) {
             return false;
         }
-        is_look_made(log.setting.size, slot, &plans[i].accesses, call.made, found)
+        is_look_made(size, slot, &plans[i].accesses, call.made, found)
     }
 
     // Notes the answer of a look. Returns whether it may follow.
@@ -225,10 +218,10 @@ impl<'a> FlightPlayer<'a> {
         id: u32,
         found: Option<Closed>,
     ) -> Result<bool, NoMemory>
-        ensures { IfOk result (λ yes. IsTrue yes → (read : List Happening)
-            → Follows log.now plans.now read self.old (LookAnswered id found) self.new) }
+        ensures { IfOk result (λ yes. IsTrue yes
+            → Follows log.now plans.now self.old (LookAnswered id found) self.new) }
     {
-        if !self.has_found(log, plans, id, found) {
+        if !self.has_found(log.setting.size, plans, id, found) {
             return Ok(false);
         }
         add_hold(&mut self.holds, id, found)?;
@@ -237,8 +230,8 @@ impl<'a> FlightPlayer<'a> {
 
     // Notes that the hold of a look begins to end.
     fn free(&mut self, id: u32)
-        ensures { (log : TheLog) (plans : List Plan) (read : List Happening)
-            → Follows log plans read self.old (Freed id) self.new }
+        ensures { (log : TheLog) (plans : List Plan)
+            → Follows log plans self.old (Freed id) self.new }
     {
         self.holds.retain(|hold| hold.id != id);
     }
@@ -250,8 +243,7 @@ impl<'a> FlightPlayer<'a> {
         plans: &[CallPlan],
         c: &Completion,
     ) -> Result<bool, NoMemory>
-        ensures { IfOk result (λ yes. IsTrue yes → (read : List Happening)
-            → Follows log.now plans.now read self.now
+        ensures { IfOk result (λ yes. IsTrue yes → Follows log.now plans.now self.now
             (Answered c.now.place.submission (completed_of c.now)) self.now) }
     {
         let id = c.place.submission as usize;
@@ -270,8 +262,7 @@ impl<'a> FlightPlayer<'a> {
     // Closes a file. Returns whether it may be closed.
     fn close(&mut self, file: Closed) -> Result<bool, NoMemory>
         ensures { IfOk result (λ yes. IsTrue yes → (log : TheLog) (plans : List Plan)
-            (read : List Happening)
-            → Follows log plans read self.old (FileClosed file) self.new) }
+            → Follows log plans self.old (FileClosed file) self.new) }
     {
         if !has_file(&self.removed, file) || is_held(&self.holds, file) {
             return Ok(false);
@@ -284,8 +275,7 @@ impl<'a> FlightPlayer<'a> {
     // Checks whether a wait for all closes may end.
     fn may_settle(&self) -> bool
         ensures { IsTrue result → (log : TheLog) (plans : List Plan)
-            (read : List Happening)
-            → Follows log plans read self.now AllSettled self.now }
+            → Follows log plans self.now AllSettled self.now }
     {
         self.removed.is_empty()
     }
@@ -297,8 +287,8 @@ impl<'a> FlightPlayer<'a> {
         plans: &[CallPlan],
         event: &'a LogEvent,
     ) -> Result<bool, NoMemory>
-        ensures { IfOk result (λ yes. IsTrue yes → (read : List Happening)
-            → Follows log.now plans.now read self.old (happening_of event.now) self.new) }
+        ensures { IfOk result (λ yes. IsTrue yes
+            → Follows log.now plans.now self.old (happening_of event.now) self.new) }
     {
         match event {
             LogEvent::Call { id, chain } => {
@@ -366,10 +356,7 @@ pub(crate) fn is_flight(
     plan: &FlightPlan,
 ) -> Result<bool, NoMemory>
     requires { log.now.setting.size ≡ length slots.now.at.items }
-    ensures { IfOk result (λ yes. IsTrue yes → (submissions registrations : ℕ)
-        → IsLegalBy log.now.whole
-        (ring_of_slots (catalogue_in log.now) slots.now submissions registrations)
-        (log_in log.now)) }
+    ensures { IfOk result (λ yes. IsTrue yes → HasFlight log.now slots.now) }
 {
     let mut player = FlightPlayer::new(log.setting.alloc, slots)?;
     player.play(log, plan)

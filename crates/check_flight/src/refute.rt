@@ -41,7 +41,7 @@ pub(crate) fn refute<'a>(
     requires { count ≤ length log.now.events.now }
     ensures { IfOk result (λ at. IfSome at (λ _. (slots : Slots) → IsTableOf log.now slots
         → IsReachedFrom log.now slots (take count (log_in log.now)) from.entry
-        → HaveNoFlight log.now slots (take count (log_in log.now)))) }
+        → HaveNoFlight log.now slots count)) }
 {
     let beginning = beginning_of(log, count);
     let Some(end) = from.go_on(&beginning, most)? else {

@@ -6,9 +6,8 @@ ghost use Rattle.fx_order.specs.Slots.{ring_of_slots};
 ghost use Rattle.fx_flight.specs.Events.{all_happenings};
 ghost use Rattle.fx_flight.specs.Faults.{fault_of_log};
 ghost use Rattle.fx_flight.specs.Whole.{IsLegalBy};
-ghost use Rattle.check_flight.specs.Judged.{catalogue_in, log_in, HaveNoFlight, IsReachedFrom, IsTableOf};
+ghost use Rattle.check_flight.specs.Judged.{log_in, HasFlight, HaveNoFlight, IsReachedFrom, IsRight, IsTableOf};
 ghost use Rattle.check_flight.specs.States.{HasNoFlightBy};
-ghost use Rattle.check_flight.specs.declared.verdict.Decision.TheVariants.{Flight, Wrong};
 ghost use Rattle.check_flight.specs.declared.verdict.FlightVerdict.TheVariants.{Faulty, Legal, NotLegal};
 
 use crate::judged::JudgedLog;
@@ -103,8 +102,7 @@ fn is_refuted_from<'a>(
     requires size { IsTableOf log.now slots.now }
     requires count { count ≤ length log.now.events.now }
     requires saved { IsReachedFrom log.now slots.now (take count (log_in log.now)) saved.now }
-    ensures { IfOk result (λ yes. IsTrue yes
-        → HaveNoFlight log.now slots.now (take count (log_in log.now))) }
+    ensures { IfOk result (λ yes. IsTrue yes → HaveNoFlight log.now slots.now count) }
 {
     let from = saved.copy(log.setting.alloc)?;
     let at = refute(log, from, count, most)?;
@@ -142,11 +140,10 @@ fn shortest_refuted<'a>(
 ) -> Result<usize, NoMemory>
     requires size { IsTableOf log.now slots.now }
     requires high { high ≤ length log.now.events.now }
-    requires refuted { HaveNoFlight log.now slots.now (take high (log_in log.now)) }
+    requires refuted { HaveNoFlight log.now slots.now high }
     requires saved { (longer : ℕ) → low ≤ longer
         → IsReachedFrom log.now slots.now (take longer (log_in log.now)) saved.now }
-    ensures { IfOk result (λ count. HaveNoFlight log.now slots.now
-        (take count (log_in log.now))) }
+    ensures { IfOk result (HaveNoFlight log.now slots.now) }
 {
     let (mut low, mut high, mut ahead) = (low, high, 0usize);
     for _ in 0..128 {
@@ -173,8 +170,7 @@ fn refuted_beginning(
     most: usize,
 ) -> Result<Option<usize>, NoMemory>
     requires { IsTableOf log.now slots.now }
-    ensures { IfOk result (λ count. IfSome count (λ count. HaveNoFlight log.now slots.now
-        (take count (log_in log.now)))) }
+    ensures { IfOk result (λ count. IfSome count (HaveNoFlight log.now slots.now)) }
 {
     if is_refuted_alone(log, slots, hint, most)? {
         return Ok(Some(hint));
@@ -198,9 +194,7 @@ fn has_flight(
     search: &mut Search,
 ) -> Result<bool, NoMemory>
     requires { log.now.setting.size ≡ length slots.now.at.items }
-    ensures { IfOk result (λ yes. IsTrue yes → (submissions registrations : ℕ) → IsLegalBy
-        log.now.whole (ring_of_slots (catalogue_in log.now) slots.now submissions registrations)
-        (log_in log.now)) }
+    ensures { IfOk result (λ yes. IsTrue yes → HasFlight log.now slots.now) }
 {
     if !propose(log, slots, most, search)? {
         return Ok(false);
@@ -217,12 +211,7 @@ fn decide_wholly(
     most: usize,
 ) -> Result<Decision, NoMemory>
     requires { IsTableOf log.now slots.now }
-    ensures flight { IfOk result (λ found. found ≡ Flight → (submissions registrations : ℕ)
-        → IsLegalBy log.now.whole
-        (ring_of_slots (catalogue_in log.now) slots.now submissions registrations)
-        (log_in log.now)) }
-    ensures wrong { IfOk result (λ found. (count : ℕ) → found ≡ Wrong count
-        → HaveNoFlight log.now slots.now (take count (log_in log.now))) }
+    ensures { IfOk result (IsRight log.now slots.now) }
 {
     let mut search = Search::new(log.setting.alloc);
     let yes = has_flight(log, slots, most, &mut search)?;
@@ -245,12 +234,7 @@ fn decide_quickly(
     hint: &mut usize,
 ) -> Result<Decision, NoMemory>
     requires { IsTableOf log.now slots.now }
-    ensures flight { IfOk result (λ found. found ≡ Flight → (submissions registrations : ℕ)
-        → IsLegalBy log.now.whole
-        (ring_of_slots (catalogue_in log.now) slots.now submissions registrations)
-        (log_in log.now)) }
-    ensures wrong { IfOk result (λ found. (count : ℕ) → found ≡ Wrong count
-        → HaveNoFlight log.now slots.now (take count (log_in log.now))) }
+    ensures { IfOk result (IsRight log.now slots.now) }
 {
     let mut search = Search::new(log.setting.alloc);
     let yes = has_flight(log, slots, quick, &mut search)?;
@@ -268,12 +252,7 @@ fn decide_quickly(
 // Decides whether the log has a flight, by quick searches first.
 fn decide(log: &JudgedLog<'_>, slots: &Slots, most: usize) -> Result<Decision, NoMemory>
     requires { IsTableOf log.now slots.now }
-    ensures flight { IfOk result (λ found. found ≡ Flight → (submissions registrations : ℕ)
-        → IsLegalBy log.now.whole
-        (ring_of_slots (catalogue_in log.now) slots.now submissions registrations)
-        (log_in log.now)) }
-    ensures wrong { IfOk result (λ found. (count : ℕ) → found ≡ Wrong count
-        → HaveNoFlight log.now slots.now (take count (log_in log.now))) }
+    ensures { IfOk result (IsRight log.now slots.now) }
 {
     let mut hint = 0;
     let first = decide_quickly(log, slots, most.min(FIRST_STATES), &mut hint)?;

@@ -1,7 +1,7 @@
 //! The first event with which no flight is left, as a search finds it, and whether the beginning up
 //! to it is refuted.
-ghost use Rattle.std.specs.Prelude.{IfOk, IfSome, IsTrue, take};
-ghost use Rattle.check_flight.specs.Judged.{log_in, HaveNoFlight, IsTableOf};
+ghost use Rattle.std.specs.Prelude.{IfOk, IfSome, IsTrue};
+ghost use Rattle.check_flight.specs.Judged.{HaveNoFlight, IsTableOf};
 
 use crate::call::push_call;
 use crate::judged::{ChainCall, JudgedLog};
@@ -104,8 +104,7 @@ pub(crate) fn wrong_beginning(
 
 // Checks whether a certificate refutes the first `count` events.
 fn is_explained(log: &JudgedLog<'_>, slots: &Slots, count: usize) -> Result<bool, NoMemory>
-    ensures { IfOk result (λ yes. IsTrue yes
-        → HaveNoFlight log.now slots.now (take count (log_in log.now))) }
+    ensures { IfOk result (λ yes. IsTrue yes → HaveNoFlight log.now slots.now count) }
 {
     let setting = &log.setting;
     let reason = explain(setting.alloc, setting.catalogue, slots, log.events, count)?;
@@ -121,8 +120,7 @@ pub(crate) fn explained_beginning(
     slots: &Slots,
     count: usize,
 ) -> Result<Option<usize>, NoMemory>
-    ensures { IfOk result (λ early. IfSome early (λ early. HaveNoFlight log.now slots.now
-        (take early (log_in log.now)))) }
+    ensures { IfOk result (λ early. IfSome early (HaveNoFlight log.now slots.now)) }
 {
     let yes = is_explained(log, slots, count)?;
     if yes {
@@ -140,8 +138,7 @@ pub(crate) fn is_refuted_alone(
     most: usize,
 ) -> Result<bool, NoMemory>
     requires { IsTableOf log.now slots.now }
-    ensures { IfOk result (λ yes. IsTrue yes
-        → HaveNoFlight log.now slots.now (take count (log_in log.now))) }
+    ensures { IfOk result (λ yes. IsTrue yes → HaveNoFlight log.now slots.now count) }
 {
     if count > log.events.len() {
         return Ok(false);

@@ -202,10 +202,8 @@ fn order_of(graph: &Graph, pair: Pair) -> PointOrder {
 impl Assembly {
     // Appends the step that joins two others.
     fn push_join(&mut self, first: usize, second: usize) -> Result<(), NoMemory> {
-        let one = self.steps.get(first).copied();
-        let other = self.steps.get(second).copied();
-        if let Some(one) = one
-            && let Some(other) = other
+        if let Some(one) = self.steps.get(first).copied()
+            && let Some(other) = self.steps.get(second).copied()
         {
             let order = PointOrder {
                 from: one.order.from,
@@ -230,11 +228,8 @@ impl Assembly {
     // Appends the step that puts two events in order, and joins it to the last one of a path.
     fn append_events(&mut self, last: usize, run: (usize, usize)) -> Result<usize, NoMemory> {
         let (earlier, later) = run;
-        let order = PointOrder {
-            from: Point::Event(earlier),
-            to: Point::Event(later),
-            strict: true,
-        };
+        let (from, to, strict) = (Point::Event(earlier), Point::Event(later), true);
+        let order = PointOrder { from, to, strict };
         let step = Step::Events { earlier, later };
         let number = self.steps.len();
         self.steps.push(ReasonStep { step, order })?;

@@ -85,10 +85,8 @@ fn push(
 pub(crate) fn missing(log: &Reading<'_>) -> Result<Vec<ReasonStep>, NoMemory> {
     let mut steps = Vec::new(log.alloc);
     let last = log.events.len().saturating_sub(1);
-    let Some(look) = log.shown_at(last, 0) else {
-        return Ok(steps);
-    };
-    if let Shown::Finds(slot, file) = look.shown
+    if let Some(look) = log.shown_at(last, 0)
+        && let Shown::Finds(slot, file) = look.shown
         && log.slot_of(file) != Some(slot)
     {
         push_missing(&mut steps, &look, slot, file)?;
@@ -126,17 +124,14 @@ pub(crate) fn direct(log: &Reading<'_>) -> Option<ReasonStep> {
     let last = log.events.len().checked_sub(1)?;
     let step = match log.events.get(last)? {
         LogEvent::Found {
-            id: _,
             file: Some(file),
+            ..
         } => by_found(log, last, *file)?,
         LogEvent::Closed(file) => by_closed(log, last, *file)?,
         LogEvent::Done(c) => by_answer(log, last, c)?,
         _ => return None,
     };
-    let order = PointOrder {
-        from: Point::Event(last),
-        to: Point::Event(last),
-        strict: true,
-    };
+    let (from, to, strict) = (Point::Event(last), Point::Event(last), true);
+    let order = PointOrder { from, to, strict };
     Some(ReasonStep { step, order })
 }

@@ -50,13 +50,8 @@ fn is_replaced(install: Option<ShownAccess>, file: File, since: Option<ShownAcce
 impl Problem {
     // Applies the rule to an access that finds a file at a slot. Returns whether an order was
     // added.
-    fn hold(
-        &mut self,
-        log: &Reading<'_>,
-        window: &Window,
-        z: &AccessPoint,
-        slot: u32,
-    ) -> Result<bool, NoMemory> {
+    fn hold(&mut self, window: &Window<'_>, z: &AccessPoint, slot: u32) -> Result<bool, NoMemory> {
+        let log = window.log;
         let (call, answer, access) = (z.shown.call, z.shown.answer, z.shown.access);
         let last = since(log, slot, call);
         let mut absent = Vec::new(log.alloc);
@@ -72,12 +67,7 @@ impl Problem {
             if is_replaced(known.install, known.file, last) {
                 continue;
             }
-            let Some(own) = self
-                .files
-                .iter()
-                .find(|own| own.file == known.file)
-                .copied()
-            else {
+            let Some(own) = self.points_of(known.file) else {
                 return Ok(false);
             };
             if let Some(pair) = self.absence(z, &own) {
@@ -119,16 +109,12 @@ impl Problem {
         holding: Holding,
         absent: usize,
     ) -> Result<bool, NoMemory> {
-        if self.graph.loops.is_some() || self.graph.holds(pair) {
-            return Ok(false);
-        }
-        self.graph.add(Edge {
+        self.add_new(Edge {
             pair,
             step: Step::Holds(holding),
             premises: (None, None),
             absent,
-        })?;
-        Ok(true)
+        })
     }
 
     // Applies the rule of accesses of different calls.
@@ -176,11 +162,7 @@ impl Problem {
 
     /// Applies the rule of accesses that find a file to each of them. Returns whether an order was
     /// added.
-    pub(crate) fn hold_all(
-        &mut self,
-        log: &Reading<'_>,
-        window: &Window,
-    ) -> Result<bool, NoMemory> {
+    pub(crate) fn hold_all(&mut self, window: &Window<'_>) -> Result<bool, NoMemory> {
         let mut is_new = false;
         for i in 0..self.accesses.len() {
             let Some(z) = self.accesses.get(i).copied() else {
@@ -188,12 +170,12 @@ impl Problem {
             };
             let slots = match z.shown.shown {
                 Shown::Takes(slot) | Shown::Reads(slot) => slot..slot.saturating_add(1),
-                Shown::Full if log.size <= MOST_SLOTS => 0..log.size,
+                Shown::Full if window.log.size <= MOST_SLOTS => 0..window.log.size,
                 _ => 0..0,
             };
             for slot in slots {
                 if self.graph.loops.is_none() {
-                    is_new |= self.hold(log, window, &z, slot)?;
+                    is_new |= self.hold(window, &z, slot)?;
                 }
             }
         }

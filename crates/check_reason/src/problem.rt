@@ -2,7 +2,6 @@
 //! certificates add, until a point comes before itself.
 
 use crate::graph::{Edge, Graph, Pair, in_order};
-use crate::reading::Reading;
 use crate::shown::{Shown, ShownAccess, left_by};
 use crate::window::{Window, WindowFile};
 use check_certificate::{Point, Step};
@@ -61,14 +60,15 @@ fn ends(shown: &ShownAccess) -> Step {
 
 impl Problem {
     /// Returns the orders that the events of a window show.
-    pub(crate) fn of(log: &Reading<'_>, window: &Window) -> Result<Problem, NoMemory> {
+    pub(crate) fn of(window: &Window<'_>) -> Result<Problem, NoMemory> {
+        let alloc = window.log.alloc;
         let mut problem = Problem {
-            graph: Graph::new(log.alloc),
-            accesses: Vec::new(log.alloc),
-            files: Vec::new(log.alloc),
+            graph: Graph::new(alloc),
+            accesses: Vec::new(alloc),
+            files: Vec::new(alloc),
         };
         problem.add_points(window)?;
-        problem.graph.begin(log.alloc)?;
+        problem.graph.begin(alloc)?;
         problem.add_events(window)?;
         for i in 0..problem.accesses.len() {
             if let Some(access) = problem.accesses.get(i).copied() {
@@ -82,7 +82,7 @@ impl Problem {
     }
 
     // Adds the points: first those of the events, in the order of their positions.
-    fn add_points(&mut self, window: &Window) -> Result<(), NoMemory> {
+    fn add_points(&mut self, window: &Window<'_>) -> Result<(), NoMemory> {
         for at in &window.positions {
             self.graph.add_point(Point::Event(*at))?;
         }
@@ -111,7 +111,7 @@ impl Problem {
     }
 
     // Adds the order of the events.
-    fn add_events(&mut self, window: &Window) -> Result<(), NoMemory> {
+    fn add_events(&mut self, window: &Window<'_>) -> Result<(), NoMemory> {
         let mut last = None;
         for (point, at) in window.positions.iter().enumerate() {
             if let Some((before, earlier)) = last {
@@ -125,7 +125,7 @@ impl Problem {
     }
 
     // Adds the orders of an access: with its call, its answer, and the file that it finds.
-    fn add_access(&mut self, window: &Window, access: &AccessPoint) -> Result<(), NoMemory> {
+    fn add_access(&mut self, window: &Window<'_>, access: &AccessPoint) -> Result<(), NoMemory> {
         let (shown, point) = (access.shown, access.point);
         let (call, answer) = (shown.call, shown.answer);
         if let Ok(event) = window.positions.binary_search(&call) {
@@ -147,13 +147,13 @@ impl Problem {
         Ok(())
     }
 
-    // Returns the points of a file.
-    fn points_of(&self, file: File) -> Option<FilePoints> {
+    /// Returns the points of a file.
+    pub(crate) fn points_of(&self, file: File) -> Option<FilePoints> {
         self.files.iter().find(|own| own.file == file).copied()
     }
 
     // Adds the orders of a file: with its call, the answer of its installation, and its close.
-    fn add_file(&mut self, window: &Window, known: &WindowFile) -> Result<(), NoMemory> {
+    fn add_file(&mut self, window: &Window<'_>, known: &WindowFile) -> Result<(), NoMemory> {
         let file = known.file;
         let Some(own) = self.points_of(file) else {
             return Ok(());
@@ -181,7 +181,7 @@ impl Problem {
     // Adds the orders of an access that installs a file.
     fn add_install(
         &mut self,
-        window: &Window,
+        window: &Window<'_>,
         shown: &ShownAccess,
         own: &FilePoints,
     ) -> Result<(), NoMemory> {
@@ -203,27 +203,32 @@ impl Problem {
         Ok(())
     }
 
-    // Adds an order by a rule with premises, if they hold and the order isn't known.
+    /// Adds an order by a rule, unless it is known. Returns whether it was added.
+    pub(crate) fn add_new(&mut self, edge: Edge) -> Result<bool, NoMemory> {
+        if self.graph.loops.is_some() || self.graph.holds(edge.pair) {
+            return Ok(false);
+        }
+        self.graph.add(edge)?;
+        Ok(true)
+    }
+
+    /// Adds an order by a rule with premises, if they hold and the order isn't known.
     pub(crate) fn add_by(
         &mut self,
-        new: Pair,
+        pair: Pair,
         step: Step,
         first: Pair,
         second: Option<Pair>,
     ) -> Result<bool, NoMemory> {
-        if self.graph.loops.is_some() || self.graph.holds(new) || !self.graph.holds(first) {
+        if !self.graph.holds(first) || matches!(second, Some(second) if !self.graph.holds(second)) {
             return Ok(false);
         }
-        if matches!(second, Some(second) if !self.graph.holds(second)) {
-            return Ok(false);
-        }
-        self.graph.add(Edge {
-            pair: new,
+        self.add_new(Edge {
+            pair,
             step,
             premises: (Some(first), second),
             absent: usize::MAX,
-        })?;
-        Ok(true)
+        })
     }
 
     // Applies the rules of an access that leaves a slot without a file.
@@ -276,17 +281,13 @@ impl Problem {
     }
 
     // Applies the rule of the moments at which all was settled to a file.
-    fn by_settled(
-        &mut self,
-        log: &Reading<'_>,
-        window: &Window,
-        f: &FilePoints,
-        close: Option<usize>,
-    ) -> Result<bool, NoMemory> {
+    fn by_settled(&mut self, window: &Window<'_>, f: &FilePoints) -> Result<bool, NoMemory> {
+        let known = window.files.iter().find(|known| known.file == f.file);
+        let close = known.and_then(|known| known.close);
         let mut is_new = false;
         for (event, at) in window.positions.iter().enumerate() {
             let settled = *at;
-            let is_settled = matches!(log.events.get(settled), Some(LogEvent::Settled));
+            let is_settled = matches!(window.log.events.get(settled), Some(LogEvent::Settled));
             let is_closed = matches!(close, Some(close) if close < settled);
             if !is_settled || is_closed {
                 continue;
@@ -299,15 +300,13 @@ impl Problem {
             let new = in_order(event, f.gone, true);
             let installed = in_order(f.put, event, true);
             let placed = Some(in_order(f.put, f.gone, true));
-            if self.add_by(new, step, installed, placed)? {
-                is_new = true;
-            }
+            is_new |= self.add_by(new, step, installed, placed)?;
         }
         Ok(is_new)
     }
 
     // Applies each rule with premises once to everything. Returns whether an order was added.
-    fn go_on(&mut self, log: &Reading<'_>, window: &Window) -> Result<bool, NoMemory> {
+    fn go_on(&mut self, window: &Window<'_>) -> Result<bool, NoMemory> {
         let mut is_new = false;
         for i in 0..self.files.len() {
             let Some(f) = self.files.get(i).copied() else {
@@ -325,23 +324,21 @@ impl Problem {
                 };
                 is_new |= self.by_files(&f, &g)?;
             }
-            let close = window.files.iter().find(|known| known.file == f.file);
-            let close = close.and_then(|known| known.close);
-            is_new |= self.by_settled(log, window, &f, close)?;
+            is_new |= self.by_settled(window, &f)?;
         }
         Ok(is_new)
     }
 
     /// Applies the rules until they add nothing, or a point comes before itself.
-    pub(crate) fn saturate(&mut self, log: &Reading<'_>, window: &Window) -> Result<(), NoMemory> {
+    pub(crate) fn saturate(&mut self, window: &Window<'_>) -> Result<(), NoMemory> {
         for _ in 0..usize::MAX {
             if self.graph.loops.is_some() {
                 break;
             }
-            if !self.go_on(log, window)?
+            if !self.go_on(window)?
                 && !self.differ_all()?
-                && !self.hold_all(log, window)?
-                && !self.take_all(log, window)?
+                && !self.hold_all(window)?
+                && !self.take_all(window)?
             {
                 break;
             }

@@ -38,12 +38,7 @@ pub(crate) struct Reading<'a> {
 /// Returns the number of the call that installs a file, or 0 for a file of a registration.
 pub(crate) fn number_of(file: File) -> u32 {
     match file.mark {
-        Mark::Submitted {
-            submission,
-            chain: _,
-            member: _,
-            entry: _,
-        } => submission,
+        Mark::Submitted { submission, .. } => submission,
         _ => 0,
     }
 }
@@ -51,10 +46,8 @@ pub(crate) fn number_of(file: File) -> u32 {
 /// Returns the number of the call to which an event belongs, or 0 if it belongs to none.
 pub(crate) fn call_number(event: &LogEvent) -> u32 {
     match event {
-        LogEvent::Call { id, chain: _ } => *id,
-        LogEvent::Look { id, slot: _ } => *id,
+        LogEvent::Call { id, .. } | LogEvent::Look { id, .. } | LogEvent::Found { id, .. } => *id,
         LogEvent::Done(c) => c.place.submission,
-        LogEvent::Found { id, file: _ } => *id,
         _ => 0,
     }
 }
@@ -127,11 +120,8 @@ impl<'a> Reading<'a> {
 
     /// Returns the number of members of the call with a number, from 1.
     pub(crate) fn members(&self, id: u32) -> usize {
-        let Some(call) = self.call(id) else {
-            return 0;
-        };
-        match self.events.get(call.at) {
-            Some(LogEvent::Call { id: _, chain }) => chain.len(),
+        match self.call(id).and_then(|call| self.events.get(call.at)) {
+            Some(LogEvent::Call { chain, .. }) => chain.len(),
             _ => 0,
         }
     }
@@ -140,9 +130,8 @@ impl<'a> Reading<'a> {
     pub(crate) fn install_of(&self, file: File) -> Option<ShownAccess> {
         let Mark::Submitted {
             submission,
-            chain: _,
             member,
-            entry: _,
+            ..
         } = file.mark
         else {
             return None;

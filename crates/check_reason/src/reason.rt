@@ -41,8 +41,8 @@ fn propose(log: &Reading<'_>, width: usize) -> Result<Vec<ReasonStep>, NoMemory>
     if points.saturating_add(window.files.len().saturating_mul(2)) > MOST_POINTS {
         return Ok(Vec::new(log.alloc));
     }
-    let mut problem = Problem::of(log, &window)?;
-    problem.saturate(log, &window)?;
+    let mut problem = Problem::of(&window)?;
+    problem.saturate(&window)?;
     match problem.graph.loops {
         Some(point) => certificate_of(log.alloc, &problem.graph, point),
         None => Ok(Vec::new(log.alloc)),

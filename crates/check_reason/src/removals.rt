@@ -50,13 +50,8 @@ impl Reading<'_> {
         };
         let request = self.request(place)?;
         for access in 0..request.accesses() {
-            if let Some(Intent::Put(slot, other)) = intent_of(
-                self.catalogue,
-                self.size,
-                place,
-                request,
-                access,
-            )
+            let intent = intent_of(self.catalogue, self.size, place, request, access);
+            if let Some(Intent::Put(slot, other)) = intent
                 && other == file
             {
                 return Some(slot);

@@ -45,20 +45,9 @@ fn shown_by(intent: Intent, c: &Completion) -> Option<Shown> {
             Err(_) => Shown::Full,
         },
         Intent::Clear(slot) => Shown::Empties(slot),
-        Intent::Take(slot) => {
-            if c.res < 0 {
-                Shown::Empties(slot)
-            } else {
-                Shown::Takes(slot)
-            }
-        }
-        Intent::Look(slot) => {
-            if c.res < 0 {
-                Shown::Empties(slot)
-            } else {
-                Shown::Reads(slot)
-            }
-        }
+        Intent::Take(slot) | Intent::Look(slot) if c.res < 0 => Shown::Empties(slot),
+        Intent::Take(slot) => Shown::Takes(slot),
+        Intent::Look(slot) => Shown::Reads(slot),
     })
 }
 
@@ -76,10 +65,7 @@ pub(crate) fn left_by(shown: Shown) -> Option<(u32, Option<File>)> {
 pub(crate) fn slot_of(shown: Shown) -> Option<u32> {
     match shown {
         Shown::Reads(slot) => Some(slot),
-        _ => match left_by(shown) {
-            Some((slot, _)) => Some(slot),
-            None => None,
-        },
+        _ => left_by(shown).map(|(slot, _)| slot),
     }
 }
 
@@ -98,10 +84,7 @@ impl Reading<'_> {
     // Returns the number of accesses that the event at a position may show, at most.
     pub(crate) fn accesses_at(&self, at: usize) -> usize {
         match self.events.get(at) {
-            Some(LogEvent::Done(c)) => match self.request(c.place) {
-                Some(request) => request.accesses(),
-                None => 0,
-            },
+            Some(LogEvent::Done(c)) => self.request(c.place).map_or(0, |it| it.accesses()),
             Some(LogEvent::Found { .. }) => 1,
             _ => 0,
         }

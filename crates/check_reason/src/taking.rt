@@ -2,7 +2,6 @@
 
 use crate::graph::{Edge, Pair, in_order};
 use crate::problem::{FilePoints, Problem};
-use crate::reading::Reading;
 use crate::removals::Remover;
 use crate::window::Window;
 use check_certificate::Step;
@@ -35,7 +34,7 @@ struct Takers {
 
 impl Problem {
     // Returns the last event that comes before a file leaves its slot: its number and its position.
-    fn last_before(&self, window: &Window, f: &FilePoints) -> Option<(usize, usize)> {
+    fn last_before(&self, window: &Window<'_>, f: &FilePoints) -> Option<(usize, usize)> {
         let mut last = None;
         for (event, at) in window.positions.iter().enumerate() {
             if self.graph.holds(in_order(event, f.gone, true)) {
@@ -46,7 +45,7 @@ impl Problem {
     }
 
     // Returns the first event that doesn't come before a file leaves its slot.
-    fn first_after(&self, window: &Window, f: &FilePoints) -> Option<(usize, usize)> {
+    fn first_after(&self, window: &Window<'_>, f: &FilePoints) -> Option<(usize, usize)> {
         for (event, at) in window.positions.iter().enumerate() {
             if self.graph.holds(in_order(f.gone, event, false)) {
                 return Some((event, *at));
@@ -58,8 +57,7 @@ impl Problem {
     // Returns the point of the time of an access, if the window has it.
     fn point_of(&self, it: &Remover) -> Option<usize> {
         if let Some(file) = it.file {
-            let own = self.files.iter().find(|own| own.file == file);
-            return own.map(|own| own.put);
+            return self.points_of(file).map(|own| own.put);
         }
         if !it.is_first {
             return None;
@@ -70,7 +68,7 @@ impl Problem {
     }
 
     // Returns what is known of an access, if the file isn't gone yet at the event at `since`.
-    fn chance(&self, window: &Window, f: &FilePoints, since: usize, it: &Remover) -> Chance {
+    fn chance(&self, window: &Window<'_>, f: &FilePoints, since: usize, it: &Remover) -> Chance {
         let is_early = it.answer <= since && (it.is_first || it.file.is_some());
         if it.has_failed || is_early {
             return Chance::Never;
@@ -98,13 +96,12 @@ impl Problem {
     // Returns the accesses of calls before a position that may take a file. Stops after `most`.
     fn takers(
         &self,
-        log: &Reading<'_>,
-        window: &Window,
+        window: &Window<'_>,
         f: &FilePoints,
         range: (usize, usize),
         most: usize,
     ) -> Result<(Takers, usize), NoMemory> {
-        let (since, until) = range;
+        let (log, (since, until)) = (window.log, range);
         let mut takers = Takers {
             absent: Vec::new(log.alloc),
             count: 0,
@@ -137,38 +134,17 @@ impl Problem {
 }
 
 impl Problem {
-    // Adds an order by a rule of a file that leaves its slot, unless it is known.
-    fn add_taking(
-        &mut self,
-        pair: Pair,
-        step: Step,
-        premises: (Option<Pair>, Option<Pair>),
-        absent: usize,
-    ) -> Result<bool, NoMemory> {
-        if self.graph.loops.is_some() || self.graph.holds(pair) {
-            return Ok(false);
-        }
-        self.graph.add(Edge {
-            pair,
-            step,
-            premises,
-            absent,
-        })?;
-        Ok(true)
-    }
-
     // Applies the rule of a file that no access takes. Returns whether an order was added.
     fn stay(
         &mut self,
-        log: &Reading<'_>,
-        window: &Window,
+        window: &Window<'_>,
         f: &FilePoints,
         since: (usize, usize),
     ) -> Result<bool, NoMemory> {
-        let Some(last) = log.events.len().checked_sub(1) else {
+        let Some(last) = window.log.events.len().checked_sub(1) else {
             return Ok(false);
         };
-        let (takers, stop) = self.takers(log, window, f, (since.1, last), 0)?;
+        let (takers, stop) = self.takers(window, f, (since.1, last), 0)?;
         let event = match window.positions.binary_search(&stop) {
             Ok(event) => event,
             Err(next) => next.saturating_sub(1),
@@ -179,31 +155,29 @@ impl Problem {
         if until > stop {
             return Ok(false);
         }
-        let list = self.graph.lists.len();
+        let absent = self.graph.lists.len();
         self.graph.lists.push(takers.absent)?;
         let there = in_order(since.0, f.gone, true);
-        let step = Step::Stays { until, there: 0 };
-        self.add_taking(
-            in_order(event, f.gone, true),
-            step,
-            (Some(there), None),
-            list,
-        )
+        self.add_new(Edge {
+            pair: in_order(event, f.gone, true),
+            step: Step::Stays { until, there: 0 },
+            premises: (Some(there), None),
+            absent,
+        })
     }
 
     // Applies the rule of a file that only one access can have taken. Returns whether an order was
     // added.
     fn take(
         &mut self,
-        log: &Reading<'_>,
-        window: &Window,
+        window: &Window<'_>,
         f: &FilePoints,
         since: (usize, usize),
     ) -> Result<bool, NoMemory> {
         let Some((event, until)) = self.first_after(window, f) else {
             return Ok(false);
         };
-        let (takers, stop) = self.takers(log, window, f, (since.1, until), 1)?;
+        let (takers, stop) = self.takers(window, f, (since.1, until), 1)?;
         let Some(point) = takers.point else {
             return Ok(false);
         };
@@ -213,27 +187,32 @@ impl Problem {
         if stop < until || takers.count != 1 {
             return Ok(false);
         }
-        let list = self.graph.lists.len();
+        let absent = self.graph.lists.len();
         self.graph.lists.push(takers.absent)?;
         let there = in_order(since.0, f.gone, true);
-        let premises = (Some(there), Some(in_order(f.gone, event, false)));
-        let takes = Step::Takes {
+        let mut edge = Edge {
+            pair: in_order(point, f.gone, false),
+            step: Step::Takes {
+                taker,
+                there: 0,
+                gone: 0,
+            },
+            premises: (Some(there), Some(in_order(f.gone, event, false))),
+            absent,
+        };
+        let one = self.add_new(edge)?;
+        edge.pair = in_order(f.gone, point, false);
+        edge.step = Step::TakenBy {
             taker,
             there: 0,
             gone: 0,
         };
-        let one = self.add_taking(in_order(point, f.gone, false), takes, premises, list)?;
-        let taken = Step::TakenBy {
-            taker,
-            there: 0,
-            gone: 0,
-        };
-        let other = self.add_taking(in_order(f.gone, point, false), taken, premises, list)?;
+        let other = self.add_new(edge)?;
         Ok(one || other)
     }
 
     // Applies the rule of a file that was installed. Returns whether an order was added.
-    fn land(&mut self, window: &Window, f: &FilePoints) -> Result<bool, NoMemory> {
+    fn land(&mut self, window: &Window<'_>, f: &FilePoints) -> Result<bool, NoMemory> {
         let new = in_order(f.put, f.gone, true);
         if self.graph.holds(new) {
             return Ok(false);
@@ -252,11 +231,7 @@ impl Problem {
     }
 
     /// Applies the rules of files that leave their slots. Returns whether an order was added.
-    pub(crate) fn take_all(
-        &mut self,
-        log: &Reading<'_>,
-        window: &Window,
-    ) -> Result<bool, NoMemory> {
+    pub(crate) fn take_all(&mut self, window: &Window<'_>) -> Result<bool, NoMemory> {
         let mut is_new = false;
         for i in 0..self.files.len() {
             let Some(f) = self.files.get(i).copied() else {
@@ -267,8 +242,8 @@ impl Problem {
             }
             is_new |= self.land(window, &f)?;
             if let Some(since) = self.last_before(window, &f) {
-                is_new |= self.stay(log, window, &f, since)?;
-                is_new |= self.take(log, window, &f, since)?;
+                is_new |= self.stay(window, &f, since)?;
+                is_new |= self.take(window, &f, since)?;
             }
         }
         Ok(is_new)

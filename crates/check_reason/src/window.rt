@@ -6,7 +6,6 @@ use crate::shown::{Shown, ShownAccess, left_by, slot_of};
 use fx_base::{Closed as File, NoMemory};
 use fx_chain::{Intent, Place, intent_of};
 use fx_flight::LogEvent;
-use std::alloc::Global;
 
 /// A file, and what the log says of it.
 #[derive(Clone, Copy, Debug)]
@@ -25,7 +24,9 @@ pub(crate) struct WindowFile {
 
 /// The part of a log.
 #[derive(Drop)]
-pub(crate) struct Window {
+pub(crate) struct Window<'a> {
+    /// The log.
+    pub(crate) log: &'a Reading<'a>,
     /// The first position of the window. The window ends with the log.
     pub(crate) from: usize,
     /// The accesses, except those that install files.
@@ -51,11 +52,12 @@ fn note(list: &mut Vec<u32>, value: u32) -> Result<(), NoMemory> {
     Ok(())
 }
 
-impl Window {
+impl<'a> Window<'a> {
     /// Returns the window from a position on.
-    pub(crate) fn of(log: &Reading<'_>, from: usize) -> Result<Window, NoMemory> {
-        let alloc: Global = log.alloc;
+    pub(crate) fn of(log: &'a Reading<'a>, from: usize) -> Result<Window<'a>, NoMemory> {
+        let alloc = log.alloc;
         let mut window = Window {
+            log,
             from,
             accesses: Vec::new(alloc),
             files: Vec::new(alloc),
@@ -70,16 +72,17 @@ impl Window {
                 note(&mut window.calls, id)?;
             }
         }
-        window.take_calls(log)?;
-        window.take_closed(log)?;
-        window.take_present(log)?;
+        window.take_calls()?;
+        window.take_closed()?;
+        window.take_present()?;
         window.positions.sort_unstable();
         window.positions.dedup();
         Ok(window)
     }
 
     // Adds the accesses of the calls, and their files.
-    fn take_calls(&mut self, log: &Reading<'_>) -> Result<(), NoMemory> {
+    fn take_calls(&mut self) -> Result<(), NoMemory> {
+        let log = self.log;
         for i in 0..self.calls.len() {
             let Some(id) = self.calls.get(i).copied() else {
                 break;
@@ -92,17 +95,18 @@ impl Window {
                 self.positions.push(*answer)?;
                 for access in 0..log.accesses_at(*answer) {
                     if let Some(shown) = log.shown_at(*answer, access) {
-                        self.take_access(log, shown)?;
+                        self.take_access(shown)?;
                     }
                 }
             }
-            self.take_open_members(log, id)?;
+            self.take_open_members(id)?;
         }
         Ok(())
     }
 
     // Adds the files that members of a call without an answer may have installed.
-    fn take_open_members(&mut self, log: &Reading<'_>, id: u32) -> Result<(), NoMemory> {
+    fn take_open_members(&mut self, id: u32) -> Result<(), NoMemory> {
+        let log = self.log;
         let Some(call) = log.call(id) else {
             return Ok(());
         };
@@ -120,8 +124,8 @@ impl Window {
             };
             for access in 0..request.accesses() {
                 match intent_of(log.catalogue, log.size, place, request, access) {
-                    Some(Intent::Put(slot, file)) => self.take_file(log, file, Some(slot))?,
-                    Some(Intent::Allocate(file)) => self.take_file(log, file, None)?,
+                    Some(Intent::Put(slot, file)) => self.take_file(file, Some(slot))?,
+                    Some(Intent::Allocate(file)) => self.take_file(file, None)?,
                     _ => {}
                 }
             }
@@ -130,17 +134,17 @@ impl Window {
     }
 
     // Adds an access, and its file.
-    fn take_access(&mut self, log: &Reading<'_>, shown: ShownAccess) -> Result<(), NoMemory> {
+    fn take_access(&mut self, shown: ShownAccess) -> Result<(), NoMemory> {
         if let Some(slot) = slot_of(shown.shown) {
             note(&mut self.slots, slot)?;
         }
-        if shown.shown == Shown::Full && log.size <= MOST_SLOTS {
-            for slot in 0..log.size {
+        if shown.shown == Shown::Full && self.log.size <= MOST_SLOTS {
+            for slot in 0..self.log.size {
                 note(&mut self.slots, slot)?;
             }
         }
         if let Some((slot, Some(file))) = left_by(shown.shown) {
-            self.take_file(log, file, Some(slot))?;
+            self.take_file(file, Some(slot))?;
         }
         if !matches!(shown.shown, Shown::Installs(_, _)) {
             self.accesses.push(shown)?;
@@ -149,12 +153,8 @@ impl Window {
     }
 
     // Adds a file, unless it is there. `slot` is one at which it was found.
-    fn take_file(
-        &mut self,
-        log: &Reading<'_>,
-        file: File,
-        slot: Option<u32>,
-    ) -> Result<(), NoMemory> {
+    fn take_file(&mut self, file: File, slot: Option<u32>) -> Result<(), NoMemory> {
+        let log = self.log;
         if self.files.iter().any(|other| other.file == file) {
             return Ok(());
         }
@@ -162,10 +162,7 @@ impl Window {
             return Ok(());
         };
         let install = log.install_of(file);
-        let mut slot = match slot {
-            Some(slot) => Some(slot),
-            None => log.slot_of(file),
-        };
+        let mut slot = slot.or(log.slot_of(file));
         if let Some(shown) = install {
             slot = slot_of(shown.shown);
             self.positions.push(shown.answer)?;
@@ -186,10 +183,11 @@ impl Window {
     }
 
     // Adds the files that are closed in the window.
-    fn take_closed(&mut self, log: &Reading<'_>) -> Result<(), NoMemory> {
+    fn take_closed(&mut self) -> Result<(), NoMemory> {
+        let log = self.log;
         for at in self.from..log.events.len() {
             if let LogEvent::Closed(file) = &log.events[at] {
-                self.take_file(log, *file, None)?;
+                self.take_file(*file, None)?;
             }
         }
         Ok(())
@@ -197,7 +195,8 @@ impl Window {
 
     // Adds the files that may still be at the window's slots when it begins: each one that no
     // answered call is known to have followed there.
-    fn take_present(&mut self, log: &Reading<'_>) -> Result<(), NoMemory> {
+    fn take_present(&mut self) -> Result<(), NoMemory> {
+        let log = self.log;
         for i in 0..self.slots.len() {
             let Some(slot) = self.slots.get(i).copied() else {
                 break;
@@ -218,7 +217,7 @@ impl Window {
                 }
                 latest = latest.max(shown.call);
                 if let Shown::Installs(slot, file) = shown.shown {
-                    self.take_file(log, file, Some(slot))?;
+                    self.take_file(file, Some(slot))?;
                 }
             }
         }
