@@ -1,1 +1,3 @@
+pub mod Lends
+pub mod Moves
 pub mod Walking

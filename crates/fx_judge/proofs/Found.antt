@@ -1,10 +1,11 @@
 -- The texts that were found, as they are written.
-use Rattle.fx_judge.proofs.Words.{◌≡◌, ℕ, Bool, false, IsTrue, List, [], ◌∷◌, All, Contains, length, map, take, ap, ◌∙◌, string_bytes, string_eq}
+use Rattle.fx_judge.proofs.Words.{◌≡◌, ℕ, Bool, true, false, arith, IsTrue, List, [], ◌∷◌, All, Contains, length, map, take, ap, ◌∙◌, string_bytes, string_eq}
 use Rattle.fx_judge.proofs.Words.{String, Global, AllByRecursion, length-map, All-map, IsScript, Meaning, joined, lengths_in, ◌+◌, ◌<◌}
 use Rattle.std.specs.List.{IsDistinct}
 use Rattle.fx_judge.proofs.Words.{◌++◌, sym, slice_index_or, concat, map-append, map_more, append-nil}
 use Rattle.check_texts.specs.Texts.{IsTextFound}
-use Rattle.fx_judge.specs.Outcomes.{AreOutcomes, AreWritten, same_bytes}
+use Rattle.fx_judge.specs.Outcomes.{AreOutcomes, AreWritten, IsTextList, same_bytes}
+use Rattle.fx_judge.specs.declared.codes.TheConstants.{ALL, SOME}
 use Rattle.fx_judge.specs.declared.outcomes.YachtTexts.{YachtTexts}
 use Rattle.std.proofs.lemmas.List.Folds.{concat-append}
 
@@ -33,7 +34,7 @@ distinct_bytes [] once = once
 distinct_bytes (x ∷ xs) (others, once) = (each_of_map (λ b. same_bytes (string_bytes x) b ≡ false) xs others, distinct_bytes xs once)
 
 module _ (xs : List (String Global)) (told : YachtTexts) (texts lens : List ℕ) where
-  pub written : {bytes counts : List ℕ} → bytes ≡ joined (map string_bytes xs) → counts ≡ lengths_in (map string_bytes xs)
+  written : {bytes counts : List ℕ} → bytes ≡ joined (map string_bytes xs) → counts ≡ lengths_in (map string_bytes xs)
       → told.bytes ≡ length bytes → told.count ≡ length counts → take (length bytes) texts ≡ bytes → take (length counts) lens ≡ counts
       → AreWritten (map string_bytes xs) told texts lens
   written is are bytes_told count_told front others = record {
@@ -43,16 +44,28 @@ module _ (xs : List (String Global)) (told : YachtTexts) (texts lens : List ℕ)
     each_length = ap (λ n. take n lens) count_told ∙ (others ∙ are);
   }
 
-  pub outcomes : {script : List ℕ} {meaning : Meaning} (are_all : Bool) → IsScript script meaning
-      → All (λ x. IsTextFound meaning (string_bytes x)) xs → IsDistinct string_eq xs
-      → (IsTrue are_all → (text : List ℕ) → IsTextFound meaning text → Contains (map string_bytes xs) text)
-      → AreWritten (map string_bytes xs) told texts lens → AreOutcomes script are_all told texts lens
-  outcomes {meaning = meaning} are_all read each once all done = record {
-    meaning = meaning;
-    read = read;
-    found = map string_bytes xs;
-    written = done;
-    each = All-map (IsTextFound meaning) string_bytes xs each;
-    once = distinct_bytes xs once;
-    all = all;
-  }
+  module _ {script : List ℕ} {meaning : Meaning} (read : IsScript script meaning) (each : All (λ x. IsTextFound meaning (string_bytes x)) xs) (once : IsDistinct string_eq xs)
+      {bytes counts : List ℕ} (is : bytes ≡ joined (map string_bytes xs)) (are : counts ≡ lengths_in (map string_bytes xs)) (bytes_told : told.bytes ≡ length bytes)
+      (count_told : told.count ≡ length counts) (front : take (length bytes) texts ≡ bytes) (others : take (length counts) lens ≡ counts) where
+    outcomes : (are_all : Bool) → (IsTrue are_all → (text : List ℕ) → IsTextFound meaning text → Contains (map string_bytes xs) text) → AreOutcomes script are_all told texts lens
+    outcomes are_all all = record {
+      meaning = meaning;
+      read = read;
+      found = map string_bytes xs;
+      written = written is are bytes_told count_told front others;
+      each = All-map (IsTextFound meaning) string_bytes xs each;
+      once = distinct_bytes xs once;
+      all = all;
+    }
+
+    -- all texts are written, or some
+    pub all_listed : ((text : List ℕ) → IsTextFound meaning text → Contains (map string_bytes xs) text) → IsTextList script ALL told texts lens
+    all_listed all = record { known = omega arith; all = λ _. outcomes true (λ _. all); some = λ bad. absurd (omega (arith, bad)); bad_script = λ bad. absurd (omega (arith, bad)) }
+
+    pub some_listed : IsTextList script SOME told texts lens
+    some_listed = record {
+      known = omega arith;
+      all = λ bad. absurd (omega (arith, bad));
+      some = λ _. outcomes false (λ so. let bad : false ≡ true = so in cc bad);
+      bad_script = λ bad. absurd (omega (arith, bad));
+    }

@@ -1,10 +1,11 @@
 -- The meaning of a verdict's number, for a log that C passes.
-use Rattle.std.specs.Prelude.{◌≡◌, ◌↔◌, ℕ, ◌+◌, Bool, List, [], ℤ, take, Some, None}
+use Rattle.std.specs.Prelude.{◌≡◌, ◌≢◌, ◌↔◌, ◌≤◌, ◌<◌, ℕ, ◌+◌, Bool, List, [], ℤ, take, Some, None}
 use Rattle.fx_base.specs.Catalogue.{FileEntry}
 use Rattle.fx_language.specs.Script.{IsScript, Meaning}
+use Rattle.fx_order.specs.Slots.{table_of_slots}
 use Rattle.fx_ring.specs.Registration.{registered_sparse}
 use Rattle.fx_ring.specs.Ring.{RingState, new_ring}
-use Rattle.fx_flight.specs.Events.{Happening}
+use Rattle.fx_flight.specs.Events.{Happening, all_happenings}
 use Rattle.fx_flight.specs.Faults.{IsFaultless, fault_of_log}
 use Rattle.fx_flight.specs.Flight.{IsLegalLog}
 use Rattle.fx_flight.specs.Whole.{IsLegalBy}
@@ -19,7 +20,10 @@ use Rattle.check_flight.specs.declared.verdict.FlightVerdict.TheVariants.{Faulty
 use Rattle.check_flight.specs.declared.verdict.FlightVerdict.TheVariants.{Undecided}
 use Rattle.fx_judge.specs.Arrays.{Arrays, log_passed}
 use Rattle.fx_judge.specs.Flaws.{flaw_of_log}
+use Rattle.fx_judge.specs.Verdicts.{HasFaultOnLine}
 use Rattle.fx_judge.specs.declared.codes.TheConstants.{LEGAL, NOT_LEGAL, UNDECIDED, FAULTY}
+use Rattle.fx_judge.specs.declared.codes.TheConstants.{BAD_SCRIPT, MALFORMED, MOST_LOG_SLOTS}
+use Rattle.fx_judge.specs.declared.codes.TheConstants.{TOO_MANY_SLOTS}
 use Rattle.fx_judge.specs.declared.codes.TheConstants.{FAULT_WRONG_NUMBER, FAULT_NOT_ONE_CHAIN}
 use Rattle.fx_judge.specs.declared.codes.TheConstants.{FAULT_NOT_CALLED, FAULT_OUT_OF_TURN}
 use Rattle.fx_judge.specs.declared.codes.TheConstants.{FAULT_ANSWERED_TWICE, FAULT_NOT_HELD}
@@ -27,6 +31,9 @@ use Rattle.fx_judge.specs.declared.codes.TheConstants.{FAULT_STILL_OPEN}
 use Rattle.fx_judge.specs.declared.events.YachtEvent.{YachtEvent}
 use Rattle.fx_judge.specs.declared.events.YachtRequest.{YachtRequest}
 use Rattle.fx_judge.specs.declared.flights.YachtJudgement.{YachtJudgement}
+use Rattle.fx_judge.specs.declared.logs.CallLog.{CallLog}
+use Rattle.fx_judge.specs.declared.logs.ReadLog.{ReadLog}
+use Rattle.fx_judge.specs.declared.reasons.YachtReason.{YachtReason}
 
 -- a log as C passes it: a script, whose files are the catalogue, the number of slots of the table,
 -- and the arrays
@@ -47,6 +54,10 @@ passed script slots requests entries bytes events = record {
   bytes = bytes;
   events = events;
 }
+
+abbrev pub log_in : CallLog → PassedLog
+log_in log =
+    passed log.script.now log.slots log.requests.now log.entries.now log.bytes.now log.events.now
 
 abbrev pub arrays_of : PassedLog → List FileEntry → Arrays
 arrays_of p catalogue = record {
@@ -77,6 +88,14 @@ pub record HasFlaw (p : PassedLog) (at flaw : ℕ) : Type 0 where
   pub read : IsScript p.script meaning
   pub first : flaw_of_log 0 (arrays_of p meaning.catalogue) p.events
       ≡ Some (record { at = at; flaw = flaw })
+
+-- the log was read: its table has no files, and these events are what its events say
+pub record IsReadLog (p : PassedLog) (read : ReadLog) : Type 0 where
+  pub readable : IsReadable p read.script.catalogue
+  pub few : p.slots ≤ MOST_LOG_SLOTS
+  pub slots : table_of_slots read.slots
+      ≡ record { size = p.slots; range = (0, p.slots); at = λ _. None }
+  pub events : all_happenings read.events.items ≡ events_passed p read.script.catalogue
 
 -- the number of a fault
 abbrev pub number_of_fault : EventFault → ℕ
@@ -147,3 +166,28 @@ IsNumberOf (Faulty fault) code judgement =
 IsNumberOf (NotLegal at) code judgement = (code ≡ NOT_LEGAL) × (judgement.at ≡ at)
 IsNumberOf Legal code judgement = code ≡ LEGAL
 IsNumberOf Undecided code judgement = code ≡ UNDECIDED
+
+-- a number that says why the log wasn't read, and its details
+pub record IsLogRefusal (p : PassedLog) (number at flaw line : ℕ) : Type 0 where
+  pub known : number ≤ TOO_MANY_SLOTS
+  pub malformed : number ≡ MALFORMED → HasFlaw p at flaw
+  pub bad_script : number ≡ BAD_SCRIPT → HasFaultOnLine p.script line
+  pub too_many : number ≡ TOO_MANY_SLOTS → MOST_LOG_SLOTS < p.slots
+
+-- a number and the details of a log that was judged, where `happens` says that it may have
+-- happened, and `fails` that up to and with an event it has not
+pub record IsLogVerdict (happens : PassedLog → Type 0) (fails : PassedLog → ℕ → Type 0)
+    (p : PassedLog) (number : ℕ) (details : YachtJudgement) : Type 0 where
+  pub refused : IsLogRefusal p number details.at details.fault details.line
+  pub legal : number ≡ LEGAL → happens p
+  pub not_legal : number ≡ NOT_LEGAL → fails p details.at
+  pub judged : number ≤ UNDECIDED → AreLogEvents p
+  pub faulty : number ≡ FAULTY → HasLogFault p details.at details.fault
+
+-- a number and the details of a reason why the log up to and with the event at this position has
+-- not happened
+pub record IsLogReason (p : PassedLog) (at number : ℕ) (details : YachtReason) : Type 0 where
+  pub refused : IsLogRefusal p number details.at details.fault details.line
+  pub no_verdict : number ≢ LEGAL
+  pub no_fault : number ≢ FAULTY
+  pub not_legal : number ≡ NOT_LEGAL → HasNotHappened p at

@@ -1,9 +1,12 @@
 -- The texts of a script one after another, and the written list of them.
-use Rattle.std.specs.Prelude.{◌≡◌, ℕ, Bool, IsTrue, List, length, take, All, Contains, nat_eq, map}
+use Rattle.std.specs.Prelude.{◌≡◌, ◌≤◌, ℕ, Bool, true, false, IsTrue, List, length, take, All}
+use Rattle.std.specs.Prelude.{Contains, nat_eq, map}
 use lib.Pointwise.{pointwise}
 use Rattle.std.specs.List.{IsDistinct, concat}
 use Rattle.fx_language.specs.Script.{IsScript, Meaning}
 use Rattle.check_texts.specs.Texts.{IsTextFound}
+use Rattle.fx_judge.specs.Verdicts.{HasFaultOnLine}
+use Rattle.fx_judge.specs.declared.codes.TheConstants.{ALL, BAD_SCRIPT, NO_MEMORY, SOME}
 use Rattle.fx_judge.specs.declared.outcomes.YachtTexts.{YachtTexts}
 
 -- their bytes
@@ -37,3 +40,11 @@ pub record AreOutcomes (script : List ℕ) (are_all : Bool) (totals : YachtTexts
   pub each : All (IsTextFound meaning) found
   pub once : IsDistinct same_bytes found
   pub all : IsTrue are_all → (text : List ℕ) → IsTextFound meaning text → Contains found text
+
+-- a number, and what is written for it
+pub record IsTextList (script : List ℕ) (number : ℕ) (totals : YachtTexts)
+    (texts lengths_of : List ℕ) : Type 0 where
+  pub known : number ≤ NO_MEMORY
+  pub all : number ≡ ALL → AreOutcomes script true totals texts lengths_of
+  pub some : number ≡ SOME → AreOutcomes script false totals texts lengths_of
+  pub bad_script : number ≡ BAD_SCRIPT → HasFaultOnLine script totals.line

@@ -1,5 +1,5 @@
 -- The meaning of a verdict's number, for the bytes of a script and a text.
-use Rattle.std.specs.Prelude.{◌≡◌, ℕ, List}
+use Rattle.std.specs.Prelude.{◌≡◌, ◌≤◌, ℕ, List}
 use Rattle.fx_language.specs.Script.{HasFault, IsScript, Meaning}
 use Rattle.fx_language.specs.declared.fault.ScriptFault.{ScriptFault}
 use Rattle.fx_script.specs.Play.{IsText}
@@ -9,6 +9,7 @@ use Rattle.check_judge.specs.declared.judgement.Judgement.{Judgement}
 use Rattle.check_judge.specs.declared.judgement.Judgement.TheVariants.{Legal, NotLegal, Undecided}
 use Rattle.fx_judge.specs.declared.judge.YachtVerdict.{YachtVerdict}
 use Rattle.fx_judge.specs.declared.codes.TheConstants.{LEGAL, NOT_LEGAL, UNDECIDED}
+use Rattle.fx_judge.specs.declared.codes.TheConstants.{BAD_SCRIPT, NO_MEMORY}
 
 -- the bytes are a script that may print this
 pub record MayBePrinted (script text : List ℕ) : Type 0 where
@@ -35,3 +36,11 @@ IsConclusion (Legal orders) code verdict = code ≡ LEGAL
 IsConclusion (NotLegal broken) code verdict =
     (code ≡ NOT_LEGAL) × (verdict.commands ≡ broken.commands) × (verdict.at ≡ broken.at)
 IsConclusion (Undecided submission doubt) code verdict = code ≡ UNDECIDED
+
+-- a number and the details of a text that was judged
+pub record IsTextVerdict (script text : List ℕ) (number : ℕ) (details : YachtVerdict)
+    : Type 0 where
+  pub known : number ≤ NO_MEMORY
+  pub legal : number ≡ LEGAL → MayBePrinted script text
+  pub not_legal : number ≡ NOT_LEGAL → IsNotPrinted script text details.commands details.at
+  pub bad_script : number ≡ BAD_SCRIPT → HasFaultOnLine script details.line

@@ -1,30 +1,16 @@
 //! The verdict on a log of calls in flight.
-ghost use Rattle.std.specs.Prelude.{◌≡◌, ◌≤◌, ◌<◌, IfOk, None, true};
-ghost use Rattle.fx_base.specs.Catalogue.{IsCatalogue};
-ghost use Rattle.fx_order.specs.Slots.{table_of_slots};
-ghost use Rattle.fx_ring.specs.Registration.{registered_sparse};
-ghost use Rattle.fx_ring.specs.Ring.{new_ring};
-ghost use Rattle.fx_judge.specs.Arrays.{arrays_in, log_passed};
-ghost use Rattle.fx_judge.specs.Logs.{HasFlaw, HasLogFault, MayHaveHappened, AreLogEvents, HasNotHappened, IsNumberOf};
-ghost use Rattle.fx_judge.specs.Logs.{HasNotHappenedBy, MayHaveHappenedBy};
-ghost use Rattle.fx_judge.specs.Logs.{IsFlightVerdict, number_of_fault, passed};
-ghost use Rattle.fx_judge.specs.Verdicts.{HasFaultOnLine};
+ghost use Rattle.std.specs.Prelude.{◌≡◌, true};
+ghost use Rattle.fx_judge.specs.Logs.{HasNotHappened, HasNotHappenedBy, IsLogVerdict, IsNumberOf};
+ghost use Rattle.fx_judge.specs.Logs.{MayHaveHappened, MayHaveHappenedBy, log_in, number_of_fault};
 
-use crate::arrays::LogArrays;
 use crate::codes::{
-    BAD_SCRIPT, FAULT_ANSWERED_TWICE, FAULT_NOT_CALLED, FAULT_NOT_HELD, FAULT_NOT_ONE_CHAIN,
-    FAULT_OUT_OF_TURN, FAULT_STILL_OPEN, FAULT_WRONG_NUMBER, FAULTY, LEGAL, MALFORMED,
-    MOST_LOG_SLOTS, NO_MEMORY, NOT_LEGAL, TOO_MANY_SLOTS, UNDECIDED,
+    FAULT_ANSWERED_TWICE, FAULT_NOT_CALLED, FAULT_NOT_HELD, FAULT_NOT_ONE_CHAIN, FAULT_OUT_OF_TURN,
+    FAULT_STILL_OPEN, FAULT_WRONG_NUMBER, FAULTY, LEGAL, NO_MEMORY, NOT_LEGAL, UNDECIDED,
 };
-use crate::events::{YachtEvent, YachtRequest};
-use crate::flaws::flaw_of_log;
-use crate::limits::limits_of;
+use crate::logs::CallLog;
 use check_flight::{FlightVerdict, judge_events};
 use check_search::Limits;
-use fx_base::NoMemory;
 use fx_flight::EventFault;
-use fx_order::Slots;
-use fx_script::{Script, ScriptError};
 use std::alloc::Global;
 
 /// The details of a verdict on a log. A field that the number doesn't speak of is 0.
@@ -75,172 +61,52 @@ fn number(verdict: FlightVerdict, judgement: &mut YachtJudgement) -> u32
     }
 }
 
-/// Returns the slots of a table without files.
-pub fn empty_slots(alloc: Global, n: u32) -> Result<Slots, NoMemory>
-    ensures { IfOk result (λ slots. table_of_slots slots
-        ≡ record { size = n; range = (0, n); at = λ _. None }) }
-{
-    let at = vec![in alloc; None; n as usize]?;
-    Ok(Slots { range: (0, n), at })
-}
-
-// Judges a log whose events can be read; with `whole` each update is one step.
-fn verdict_on(
-    arrays: &LogArrays<'_>,
-    slots: u32,
-    events: &[YachtEvent],
-    whole: bool,
-    limits: Limits,
-) -> Result<FlightVerdict, NoMemory>
-    requires few { slots ≤ MOST_LOG_SLOTS }
-    requires catalogue { IsCatalogue arrays.now.catalogue.now }
-    ensures { IfOk result
-        (IsFlightVerdict whole (registered_sparse (new_ring arrays.now.catalogue.now) slots)
-        (log_passed (arrays_in arrays.now) events.now)) }
-{
-    let log = arrays.log(events)?;
-    let slots = empty_slots(arrays.alloc, slots)?;
-    let verdict = judge_events(arrays.alloc, arrays.catalogue, &slots, &log, whole, limits)?;
-    Ok(verdict)
-}
-
 // Judges a log of calls in flight; with `whole` each update is one step.
 fn judge_log_by(
     alloc: Global,
-    script: &[u8],
-    slots: u32,
-    requests: &[YachtRequest],
-    entries: &[i32],
-    bytes: &[u8],
-    events: &[YachtEvent],
+    log: &CallLog<'_>,
     whole: bool,
-    states: u32,
-    memory: u32,
+    limits: Limits,
     judgement: &mut YachtJudgement,
 ) -> u32
-    ensures known { result ≤ TOO_MANY_SLOTS }
-    ensures legal { result ≡ LEGAL
-        → MayHaveHappenedBy whole
-        (passed script.now slots requests.now entries.now bytes.now events.now) }
-    ensures not_legal { result ≡ NOT_LEGAL
-        → HasNotHappenedBy whole
-        (passed script.now slots requests.now entries.now bytes.now events.now) judgement.new.at }
-    ensures judged { result ≤ UNDECIDED
-        → AreLogEvents (passed script.now slots requests.now entries.now bytes.now events.now) }
-    ensures faulty { result ≡ FAULTY
-        → HasLogFault (passed script.now slots requests.now entries.now bytes.now events.now)
-        judgement.new.at judgement.new.fault }
-    ensures malformed { result ≡ MALFORMED
-        → HasFlaw (passed script.now slots requests.now entries.now bytes.now events.now)
-        judgement.new.at judgement.new.fault }
-    ensures bad_script { result ≡ BAD_SCRIPT → HasFaultOnLine script.now judgement.new.line }
-    ensures too_many { result ≡ TOO_MANY_SLOTS → MOST_LOG_SLOTS < slots }
+    ensures { IsLogVerdict (MayHaveHappenedBy whole) (HasNotHappenedBy whole) (log_in log.now)
+        result judgement.new }
 {
-    *judgement = YachtJudgement {
-        at: 0,
-        fault: 0,
-        line: 0,
-    };
-    if slots > MOST_LOG_SLOTS {
-        return TOO_MANY_SLOTS;
-    }
-    let read = match Script::read(alloc, script) {
+    let read = match log.read(alloc, judgement) {
         Ok(read) => read,
-        Err(ScriptError::NoMemory) => return NO_MEMORY,
-        Err(ScriptError::Fault { line, kind: _ }) => {
-            judgement.line = line;
-            return BAD_SCRIPT;
-        }
+        Err(number) => return number,
     };
-    let arrays = LogArrays {
-        alloc,
-        catalogue: read.catalogue(),
-        requests,
-        entries,
-        bytes,
-    };
-    if let Some(flaw) = flaw_of_log(&arrays, events) {
-        judgement.at = flaw.at as u64;
-        judgement.fault = flaw.flaw;
-        return MALFORMED;
-    }
-    let Ok(verdict) = verdict_on(&arrays, slots, events, whole, limits_of(states, memory)) else {
+    let catalogue = read.script.catalogue();
+    let slots = &read.slots;
+    let Ok(verdict) = judge_events(alloc, catalogue, slots, &read.events, whole, limits) else {
         return NO_MEMORY;
     };
     number(verdict, judgement)
 }
 
-/// Judges a log of calls in flight, by searches of at most `states` states and `memory` MiB. Its
-/// table has `slots` slots, which are empty at first. The files of `script` are the catalogue; its
-/// commands are not looked at. It returns `LEGAL`, `NOT_LEGAL`, `UNDECIDED`, `BAD_SCRIPT`,
-/// `NO_MEMORY`, `FAULTY`, `MALFORMED` or `TOO_MANY_SLOTS`.
+/// Judges a log of calls in flight, by searches within these limits. It returns `LEGAL`,
+/// `NOT_LEGAL`, `UNDECIDED`, `BAD_SCRIPT`, `NO_MEMORY`, `FAULTY`, `MALFORMED` or `TOO_MANY_SLOTS`.
 pub fn judge_log(
     alloc: Global,
-    script: &[u8],
-    slots: u32,
-    requests: &[YachtRequest],
-    entries: &[i32],
-    bytes: &[u8],
-    events: &[YachtEvent],
-    states: u32,
-    memory: u32,
+    log: &CallLog<'_>,
+    limits: Limits,
     judgement: &mut YachtJudgement,
 ) -> u32
-    ensures known { result ≤ TOO_MANY_SLOTS }
-    ensures legal { result ≡ LEGAL
-        → MayHaveHappened (passed script.now slots requests.now entries.now bytes.now events.now) }
-    ensures not_legal { result ≡ NOT_LEGAL
-        → HasNotHappened (passed script.now slots requests.now entries.now bytes.now events.now)
-        judgement.new.at }
-    ensures judged { result ≤ UNDECIDED
-        → AreLogEvents (passed script.now slots requests.now entries.now bytes.now events.now) }
-    ensures faulty { result ≡ FAULTY
-        → HasLogFault (passed script.now slots requests.now entries.now bytes.now events.now)
-        judgement.new.at judgement.new.fault }
-    ensures malformed { result ≡ MALFORMED
-        → HasFlaw (passed script.now slots requests.now entries.now bytes.now events.now)
-        judgement.new.at judgement.new.fault }
-    ensures bad_script { result ≡ BAD_SCRIPT → HasFaultOnLine script.now judgement.new.line }
-    ensures too_many { result ≡ TOO_MANY_SLOTS → MOST_LOG_SLOTS < slots }
+    ensures { IsLogVerdict MayHaveHappened HasNotHappened (log_in log.now) result judgement.new }
 {
-    judge_log_by(
-        alloc, script, slots, requests, entries, bytes, events, false, states, memory, judgement,
-    )
+    judge_log_by(alloc, log, false, limits, judgement)
 }
 
 /// Judges a log as `judge_log` does, by whole updates: each update is one step, not one for each
 /// entry.
 pub fn judge_whole_updates(
     alloc: Global,
-    script: &[u8],
-    slots: u32,
-    requests: &[YachtRequest],
-    entries: &[i32],
-    bytes: &[u8],
-    events: &[YachtEvent],
-    states: u32,
-    memory: u32,
+    log: &CallLog<'_>,
+    limits: Limits,
     judgement: &mut YachtJudgement,
 ) -> u32
-    ensures known { result ≤ TOO_MANY_SLOTS }
-    ensures legal { result ≡ LEGAL
-        → MayHaveHappenedBy true
-        (passed script.now slots requests.now entries.now bytes.now events.now) }
-    ensures not_legal { result ≡ NOT_LEGAL
-        → HasNotHappenedBy true
-        (passed script.now slots requests.now entries.now bytes.now events.now) judgement.new.at }
-    ensures judged { result ≤ UNDECIDED
-        → AreLogEvents (passed script.now slots requests.now entries.now bytes.now events.now) }
-    ensures faulty { result ≡ FAULTY
-        → HasLogFault (passed script.now slots requests.now entries.now bytes.now events.now)
-        judgement.new.at judgement.new.fault }
-    ensures malformed { result ≡ MALFORMED
-        → HasFlaw (passed script.now slots requests.now entries.now bytes.now events.now)
-        judgement.new.at judgement.new.fault }
-    ensures bad_script { result ≡ BAD_SCRIPT → HasFaultOnLine script.now judgement.new.line }
-    ensures too_many { result ≡ TOO_MANY_SLOTS → MOST_LOG_SLOTS < slots }
+    ensures { IsLogVerdict (MayHaveHappenedBy true) (HasNotHappenedBy true) (log_in log.now)
+        result judgement.new }
 {
-    judge_log_by(
-        alloc, script, slots, requests, entries, bytes, events, true, states, memory, judgement,
-    )
+    judge_log_by(alloc, log, true, limits, judgement)
 }

@@ -1,12 +1,10 @@
 //! The verdict on a text.
-ghost use Rattle.std.specs.Prelude.{◌≡◌, ◌≤◌};
-ghost use Rattle.fx_judge.specs.Verdicts.{HasFaultOnLine, IsConclusion, MayBePrinted};
-ghost use Rattle.fx_judge.specs.Verdicts.{IsNotPrinted};
+ghost use Rattle.fx_judge.specs.Verdicts.{IsConclusion, IsTextVerdict};
 
 use crate::codes::{BAD_SCRIPT, LEGAL, NO_MEMORY, NOT_LEGAL, UNDECIDED};
-use crate::limits::limits_of;
 use crate::note::{JudgedText, note_break, note_fault};
 use check_judge::{Judgement, judge};
+use check_search::Limits;
 use fx_script::{Script, ScriptError};
 use std::alloc::Global;
 
@@ -65,24 +63,19 @@ fn conclude(
     }
 }
 
-/// Decides whether a script may print a text, by a search of at most `states` states and `memory`
-/// MiB for each part of a submission that has slots of its own. It returns `LEGAL`, `NOT_LEGAL`,
-/// `UNDECIDED`, `BAD_SCRIPT` or `NO_MEMORY`. The note is what is expected at the break of a text
+/// Decides whether a script may print a text, by a search within these limits for each part of a
+/// submission that has slots of its own. It returns `LEGAL`, `NOT_LEGAL`, `UNDECIDED`,
+/// `BAD_SCRIPT` or `NO_MEMORY`. The note is what is expected at the break of a text
 /// that isn't legal, or the name of the script's fault.
 pub fn judge_text(
     alloc: Global,
     script: &[u8],
     text: &[u8],
-    states: u32,
-    memory: u32,
+    limits: Limits,
     note: &mut [u8],
     verdict: &mut YachtVerdict,
 ) -> u32
-    ensures known { result ≤ NO_MEMORY }
-    ensures legal { result ≡ LEGAL → MayBePrinted script.now text.now }
-    ensures not_legal { result ≡ NOT_LEGAL
-        → IsNotPrinted script.now text.now verdict.new.commands verdict.new.at }
-    ensures bad_script { result ≡ BAD_SCRIPT → HasFaultOnLine script.now verdict.new.line }
+    ensures { IsTextVerdict script.now text.now result verdict.new }
 {
     *verdict = no_details();
     let read = match Script::read(alloc, script) {
@@ -97,7 +90,6 @@ pub fn judge_text(
             return BAD_SCRIPT;
         }
     };
-    let limits = limits_of(states, memory);
     let Ok(judgement) = judge(alloc, &read, text, limits) else {
         return NO_MEMORY;
     };

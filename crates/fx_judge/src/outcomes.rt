@@ -1,10 +1,9 @@
 //! The list of the texts of a script, one after another, and their lengths.
-ghost use Rattle.std.specs.Prelude.{◌≡◌, ◌≤◌, IfOk, IsTrue, true, false, length, map, string_bytes, take};
-ghost use Rattle.fx_judge.specs.Outcomes.{AreOutcomes, joined, lengths_in};
-ghost use Rattle.fx_judge.specs.Verdicts.{HasFaultOnLine};
+ghost use Rattle.std.specs.Prelude.{◌≡◌, ◌≤◌, IfOk, IsTrue, length, map, string_bytes, take};
+ghost use Rattle.fx_judge.specs.Outcomes.{IsTextList, joined, lengths_in};
 
 use crate::codes::{ALL, BAD_SCRIPT, NO_MEMORY, NO_ROOM, SOME};
-use crate::limits::limits_of;
+use check_search::Limits;
 use check_texts::texts_of;
 use fx_script::{Script, ScriptError};
 use std::alloc::{AllocError, Global};
@@ -50,22 +49,13 @@ fn list(alloc: Global, texts: &[String]) -> Result<Listed, AllocError>
     Ok(listed)
 }
 
-// Copies bytes to the beginning of a buffer that has room for them.
-fn put_bytes(bytes: &[u8], into: &mut [u8])
-    requires { length bytes.now ≤ length into.old }
-    ensures { take (length bytes.now) into.new ≡ bytes.now }
+// Copies items to the beginning of a buffer that has room for them.
+fn put<T: Copy>(items: &[T], into: &mut [T])
+    requires { length items.now ≤ length into.old }
+    ensures { take (length items.now) into.new ≡ items.now }
 {
-    let count = bytes.len();
-    into[..count].copy_from_slice(bytes);
-}
-
-// Copies lengths to the beginning of a buffer that has room for them.
-fn put_lengths(lengths: &[u64], into: &mut [u64])
-    requires { length lengths.now ≤ length into.old }
-    ensures { take (length lengths.now) into.new ≡ lengths.now }
-{
-    let count = lengths.len();
-    into[..count].copy_from_slice(lengths);
+    let count = items.len();
+    into[..count].copy_from_slice(items);
 }
 
 // Writes the texts and their lengths, if there is room for all of them, and in any case their
@@ -83,29 +73,24 @@ fn hand_out(listed: &Listed, texts: &mut [u8], lengths: &mut [u64], found: &mut 
     if texts.len() < listed.bytes.len() || lengths.len() < listed.lengths.len() {
         return false;
     }
-    put_bytes(&listed.bytes, texts);
-    put_lengths(&listed.lengths, lengths);
+    put(&listed.bytes, texts);
+    put(&listed.lengths, lengths);
     true
 }
 
-/// Lists the texts that a script may print if no allocation fails, each once, by searches of at
-/// most `states` states and `memory` MiB in all. It returns `ALL`, `SOME`, `BAD_SCRIPT`, `NO_ROOM`
-/// or `NO_MEMORY`. The texts are written one after another, and the length of each. If they have no
-/// room, `found` says how much they need.
+/// Lists the texts that a script may print if no allocation fails, each once, by searches within
+/// these limits in all. It returns `ALL`, `SOME`, `BAD_SCRIPT`, `NO_ROOM` or `NO_MEMORY`. The texts
+/// are written one after another, and the length of each. If they have no room, `found` says how
+/// much they need.
 pub fn list_texts(
     alloc: Global,
     script: &[u8],
-    states: u32,
-    memory: u32,
+    limits: Limits,
     texts: &mut [u8],
     lengths: &mut [u64],
     found: &mut YachtTexts,
 ) -> u32
-    ensures known { result ≤ NO_MEMORY }
-    ensures all { result ≡ ALL → AreOutcomes script.now true found.new texts.new lengths.new }
-    ensures some { result ≡ SOME
-        → AreOutcomes script.now false found.new texts.new lengths.new }
-    ensures bad_script { result ≡ BAD_SCRIPT → HasFaultOnLine script.now found.new.line }
+    ensures { IsTextList script.now result found.new texts.new lengths.new }
 {
     *found = YachtTexts {
         count: 0,
@@ -120,7 +105,7 @@ pub fn list_texts(
             return BAD_SCRIPT;
         }
     };
-    let Ok(all) = texts_of(alloc, &read, limits_of(states, memory), usize::MAX) else {
+    let Ok(all) = texts_of(alloc, &read, limits, usize::MAX) else {
         return NO_MEMORY;
     };
     let Ok(listed) = list(alloc, all.texts.as_slice()) else {

@@ -1,21 +1,18 @@
 //! The functions that C calls. Each has the contract of the call of `fx_judge` that it makes.
-ghost use Rattle.std.specs.Prelude.{◌≡◌, ◌≤◌, ◌<◌, ◌≢◌, true, false};
-ghost use Rattle.fx_judge.specs.Logs.{AreLogEvents, HasFlaw, HasLogFault, HasNotHappened};
-ghost use Rattle.fx_judge.specs.Logs.{HasNotHappenedBy, MayHaveHappened, MayHaveHappenedBy, passed};
-ghost use Rattle.fx_judge.specs.Outcomes.{AreOutcomes};
-ghost use Rattle.fx_judge.specs.Verdicts.{HasFaultOnLine, IsNotPrinted, MayBePrinted};
-ghost use Rattle.fx_judge.specs.declared.codes.TheConstants.{ALL, BAD_SCRIPT, FAULTY, LEGAL};
-ghost use Rattle.fx_judge.specs.declared.codes.TheConstants.{MALFORMED, MOST_LOG_SLOTS};
-ghost use Rattle.fx_judge.specs.declared.codes.TheConstants.{NO_MEMORY, NOT_LEGAL, SOME};
-ghost use Rattle.fx_judge.specs.declared.codes.TheConstants.{TOO_MANY_SLOTS, UNDECIDED};
+ghost use Rattle.std.specs.Prelude.{true};
+ghost use Rattle.fx_judge.specs.Logs.{HasNotHappened, HasNotHappenedBy, IsLogReason, IsLogVerdict};
+ghost use Rattle.fx_judge.specs.Logs.{MayHaveHappened, MayHaveHappenedBy, passed};
+ghost use Rattle.fx_judge.specs.Outcomes.{IsTextList};
+ghost use Rattle.fx_judge.specs.Verdicts.{IsTextVerdict};
 
 use fx_judge::{
-    YachtEvent, YachtJudgement, YachtReason, YachtRequest, YachtStep, YachtTexts, YachtVerdict,
-    explain_log, judge_log, judge_text, judge_whole_updates, list_texts,
+    CallLog, YachtEvent, YachtJudgement, YachtReason, YachtRequest, YachtStep, YachtTexts,
+    YachtVerdict, explain_log, judge_log, judge_text, judge_whole_updates, limits_of, list_texts,
 };
 use std::alloc::Global;
 
-/// Decides whether a script may print a text: `fx_judge::judge_text`.
+/// Decides whether a script may print a text, by a search of at most `states` states and `memory`
+/// MiB for each part of a submission that has slots of its own: `fx_judge::judge_text`.
 #[unsafe(no_mangle)]
 pub extern "C" fn yacht_judge(
     alloc: Global,
@@ -26,16 +23,14 @@ pub extern "C" fn yacht_judge(
     note: &mut [u8],
     verdict: &mut YachtVerdict,
 ) -> u32
-    ensures known { result ≤ NO_MEMORY }
-    ensures legal { result ≡ LEGAL → MayBePrinted script.now text.now }
-    ensures not_legal { result ≡ NOT_LEGAL
-        → IsNotPrinted script.now text.now verdict.new.commands verdict.new.at }
-    ensures bad_script { result ≡ BAD_SCRIPT → HasFaultOnLine script.now verdict.new.line }
+    ensures { IsTextVerdict script.now text.now result verdict.new }
 {
-    judge_text(alloc, script, text, states, memory, note, verdict)
+    let limits = limits_of(states, memory);
+    judge_text(alloc, script, text, limits, note, verdict)
 }
 
-/// Lists the texts that a script may print: `fx_judge::list_texts`.
+/// Lists the texts that a script may print, by searches of at most `states` states and `memory` MiB
+/// in all: `fx_judge::list_texts`.
 #[unsafe(no_mangle)]
 pub extern "C" fn yacht_outcomes(
     alloc: Global,
@@ -46,16 +41,14 @@ pub extern "C" fn yacht_outcomes(
     lengths: &mut [u64],
     found: &mut YachtTexts,
 ) -> u32
-    ensures known { result ≤ NO_MEMORY }
-    ensures all { result ≡ ALL → AreOutcomes script.now true found.new texts.new lengths.new }
-    ensures some { result ≡ SOME
-        → AreOutcomes script.now false found.new texts.new lengths.new }
-    ensures bad_script { result ≡ BAD_SCRIPT → HasFaultOnLine script.now found.new.line }
+    ensures { IsTextList script.now result found.new texts.new lengths.new }
 {
-    list_texts(alloc, script, states, memory, texts, lengths, found)
+    let limits = limits_of(states, memory);
+    list_texts(alloc, script, limits, texts, lengths, found)
 }
 
-/// Judges a log of calls in flight: `fx_judge::judge_log`.
+/// Judges a log of calls in flight, by searches of at most `states` states and `memory` MiB:
+/// `fx_judge::judge_log`.
 #[unsafe(no_mangle)]
 pub extern "C" fn yacht_judge_events(
     alloc: Global,
@@ -69,29 +62,16 @@ pub extern "C" fn yacht_judge_events(
     memory: u32,
     judgement: &mut YachtJudgement,
 ) -> u32
-    ensures known { result ≤ TOO_MANY_SLOTS }
-    ensures legal { result ≡ LEGAL
-        → MayHaveHappened (passed script.now slots requests.now entries.now bytes.now events.now) }
-    ensures not_legal { result ≡ NOT_LEGAL
-        → HasNotHappened (passed script.now slots requests.now entries.now bytes.now events.now)
-        judgement.new.at }
-    ensures judged { result ≤ UNDECIDED
-        → AreLogEvents (passed script.now slots requests.now entries.now bytes.now events.now) }
-    ensures faulty { result ≡ FAULTY
-        → HasLogFault (passed script.now slots requests.now entries.now bytes.now events.now)
-        judgement.new.at judgement.new.fault }
-    ensures malformed { result ≡ MALFORMED
-        → HasFlaw (passed script.now slots requests.now entries.now bytes.now events.now)
-        judgement.new.at judgement.new.fault }
-    ensures bad_script { result ≡ BAD_SCRIPT → HasFaultOnLine script.now judgement.new.line }
-    ensures too_many { result ≡ TOO_MANY_SLOTS → MOST_LOG_SLOTS < slots }
+    ensures { IsLogVerdict MayHaveHappened HasNotHappened
+        (passed script.now slots requests.now entries.now bytes.now events.now) result
+        judgement.new }
 {
-    judge_log(
-        alloc, script, slots, requests, entries, bytes, events, states, memory, judgement,
-    )
+    let log = CallLog::of(script, slots, requests, entries, bytes, events);
+    judge_log(alloc, &log, limits_of(states, memory), judgement)
 }
 
-/// Judges a log of calls in flight by whole updates: `fx_judge::judge_whole_updates`.
+/// Judges a log of calls in flight by whole updates, as `yacht_judge_events` does:
+/// `fx_judge::judge_whole_updates`.
 #[unsafe(no_mangle)]
 pub extern "C" fn yacht_judge_whole_updates(
     alloc: Global,
@@ -105,27 +85,12 @@ pub extern "C" fn yacht_judge_whole_updates(
     memory: u32,
     judgement: &mut YachtJudgement,
 ) -> u32
-    ensures known { result ≤ TOO_MANY_SLOTS }
-    ensures legal { result ≡ LEGAL
-        → MayHaveHappenedBy true
-        (passed script.now slots requests.now entries.now bytes.now events.now) }
-    ensures not_legal { result ≡ NOT_LEGAL
-        → HasNotHappenedBy true
-        (passed script.now slots requests.now entries.now bytes.now events.now) judgement.new.at }
-    ensures judged { result ≤ UNDECIDED
-        → AreLogEvents (passed script.now slots requests.now entries.now bytes.now events.now) }
-    ensures faulty { result ≡ FAULTY
-        → HasLogFault (passed script.now slots requests.now entries.now bytes.now events.now)
-        judgement.new.at judgement.new.fault }
-    ensures malformed { result ≡ MALFORMED
-        → HasFlaw (passed script.now slots requests.now entries.now bytes.now events.now)
-        judgement.new.at judgement.new.fault }
-    ensures bad_script { result ≡ BAD_SCRIPT → HasFaultOnLine script.now judgement.new.line }
-    ensures too_many { result ≡ TOO_MANY_SLOTS → MOST_LOG_SLOTS < slots }
+    ensures { IsLogVerdict (MayHaveHappenedBy true) (HasNotHappenedBy true)
+        (passed script.now slots requests.now entries.now bytes.now events.now) result
+        judgement.new }
 {
-    judge_whole_updates(
-        alloc, script, slots, requests, entries, bytes, events, states, memory, judgement,
-    )
+    let log = CallLog::of(script, slots, requests, entries, bytes, events);
+    judge_whole_updates(alloc, &log, limits_of(states, memory), judgement)
 }
 
 /// Looks for the reason why a log of calls in flight is not legal: `fx_judge::explain_log`.
@@ -142,19 +107,10 @@ pub extern "C" fn yacht_explain_events(
     steps: &mut [YachtStep],
     reason: &mut YachtReason,
 ) -> u32
-    ensures known { result ≤ TOO_MANY_SLOTS }
-    ensures no_verdict { result ≢ LEGAL }
-    ensures no_fault { result ≢ FAULTY }
-    ensures not_legal { result ≡ NOT_LEGAL
-        → HasNotHappened (passed script.now slots requests.now entries.now bytes.now events.now)
-        at }
-    ensures malformed { result ≡ MALFORMED
-        → HasFlaw (passed script.now slots requests.now entries.now bytes.now events.now)
-        reason.new.at reason.new.fault }
-    ensures bad_script { result ≡ BAD_SCRIPT → HasFaultOnLine script.now reason.new.line }
-    ensures too_many { result ≡ TOO_MANY_SLOTS → MOST_LOG_SLOTS < slots }
+    ensures { IsLogReason
+        (passed script.now slots requests.now entries.now bytes.now events.now) at result
+        reason.new }
 {
-    explain_log(
-        alloc, script, slots, requests, entries, bytes, events, at, steps, reason,
-    )
+    let log = CallLog::of(script, slots, requests, entries, bytes, events);
+    explain_log(alloc, &log, at, steps, reason)
 }

@@ -45,17 +45,13 @@ module _ (w w' : TableWorker) (key : Key) (freed released : Option ℕ) where
   pub leaves_alone : (why : KeyFault) (refusal : ServerRefusal) → refusal ≡ key_refusal why → LeavesAlone w key why freed released w'
       → RemovesByKey w key (Err refusal) freed released w'
   leaves_alone NoSlot refusal is leaves = rw is leaves
-  leaves_alone Empty refusal is leaves = rw is leaves
-  leaves_alone Other refusal is leaves = rw is leaves
-  leaves_alone Again refusal is leaves = rw is leaves
+  leaves_alone _ refusal is leaves = rw is leaves
 
   -- a slot that the pass alone left as it was
   pub keeps_alone : (tag number : ℕ) (why : KeyFault) (refusal : ServerRefusal) → refusal ≡ key_refusal why → KeepsAlone w key tag number why freed released w'
       → ReplacesByKey w key tag number (Err refusal) freed released w'
   keeps_alone tag number NoSlot refusal is keeps = rw is keeps
-  keeps_alone tag number Empty refusal is keeps = rw is keeps
-  keeps_alone tag number Other refusal is keeps = rw is keeps
-  keeps_alone tag number Again refusal is keeps = rw is keeps
+  keeps_alone tag number _ refusal is keeps = rw is keeps
 
 -- a worker that drew a number after its replacement
 pub replaced_drawn : (w w' : TableWorker) (key : Key) (freed released : Option ℕ) (tag number drawn : ℕ) (removal : Removal) (numbers : FileNumbers) → drawn ≡ number

@@ -5,7 +5,7 @@ use Rattle.fx_plain.specs.Laws.{IsInstalled, IsStart, installed_by}
 use Rattle.fx_plain.specs.State.{State}
 use Rattle.fx_plain.specs.Step.{Allows, after, changed_at}
 use Rattle.fx_plain.specs.declared.event.Action.{Action}
-use Rattle.fx_plain.specs.declared.event.Action.TheVariants.{Allocate, Clear, Close, Full, Look, Put, Release, Take}
+use Rattle.fx_plain.specs.declared.event.Action.TheVariants.{Allocate, Clear, Look, Put, Take}
 use Rattle.fx_plain.specs.declared.event.Event.{Event}
 use Rattle.fx_plain.specs.declared.event.File.{File}
 use Rattle.fx_server.specs.EndsOfKeys.{KeysEndOnce, file_leaving}
@@ -22,14 +22,7 @@ pub record IsPast (n : ℕ) (st : State) : Type 0 where
 
 same_size : (st : State) (a : Action) → (after st a).size ≡ st.size
 same_size st (Look slot None) = refl
-same_size st (Look slot (Some f)) = refl
-same_size st (Release f) = refl
-same_size st (Put slot f replaced) = refl
-same_size st (Clear slot found) = refl
-same_size st (Take slot found) = refl
-same_size st (Allocate slot f) = refl
-same_size st Full = refl
-same_size st (Close f) = refl
+same_size st _ = refl
 
 -- a new file at a slot has a fresh number
 apart_with : (st : State) (slot : ℕ) (f : File) (removed : ℕ → Option File) → st.fresh f.number ≡ true → AreApart st
@@ -47,14 +40,11 @@ apart_without st slot removed apart = record {
 
 apart_after : (st : State) (a : Action) → Allows st a → AreApart st → AreApart (after st a)
 apart_after st (Look slot None) may apart = apart
-apart_after st (Look slot (Some f)) may apart = record { distinct = apart.distinct; used = apart.used }
-apart_after st (Release f) may apart = record { distinct = apart.distinct; used = apart.used }
 apart_after st (Put slot f replaced) may apart = apart_with st slot f _ may.1 apart
 apart_after st (Clear slot found) may apart = apart_without st slot _ apart
 apart_after st (Take slot found) may apart = apart_without st slot _ apart
 apart_after st (Allocate slot f) may apart = apart_with st slot f st.removed may.3 apart
-apart_after st Full may apart = apart
-apart_after st (Close f) may apart = record { distinct = apart.distinct; used = apart.used }
+apart_after st _ may apart = record { distinct = apart.distinct; used = apart.used }
 
 past_with : (n : ℕ) (st : State) (slot : ℕ) (f : File) (removed : ℕ → Option File) → st.fresh f.number ≡ true → IsPast n st
     → IsPast n (record st { at = changed_at st.at slot (Some f); fresh = changed_at st.fresh f.number false; removed = removed })
@@ -68,14 +58,11 @@ past_without n st slot removed past = record { used = past.used; nowhere = λ s 
 
 past_after : (n : ℕ) (st : State) (a : Action) → Allows st a → IsPast n st → IsPast n (after st a)
 past_after n st (Look slot None) may past = past
-past_after n st (Look slot (Some f)) may past = record { used = past.used; nowhere = past.nowhere }
-past_after n st (Release f) may past = record { used = past.used; nowhere = past.nowhere }
 past_after n st (Put slot f replaced) may past = past_with n st slot f _ may.1 past
 past_after n st (Clear slot found) may past = past_without n st slot _ past
 past_after n st (Take slot found) may past = past_without n st slot _ past
 past_after n st (Allocate slot f) may past = past_with n st slot f st.removed may.3 past
-past_after n st Full may past = past
-past_after n st (Close f) may past = record { used = past.used; nowhere = past.nowhere }
+past_after n st _ may past = record { used = past.used; nowhere = past.nowhere }
 
 past_all : (n : ℕ) (start : State) (h more : List Event) → AllowsAll start (map action_of (more ++ h)) → IsPast n (state_after start (map action_of h))
     → IsPast n (state_after start (map action_of (more ++ h)))
@@ -121,14 +108,11 @@ past_now st _ f may is apart = cc
 -- a file at a slot was there before, or is installed
 installed_step : (st : State) (a : Action) (slot : ℕ) (f : File) → (after st a).at slot ≡ Some f → (st.at slot ≡ Some f) ⊎ (installed_by a ≡ Some f)
 installed_step st (Look s None) slot f is = inl is
-installed_step st (Look s (Some g)) slot f is = inl is
-installed_step st (Release g) slot f is = inl is
 installed_step st (Put s new replaced) slot f is = grind arith
 installed_step st (Clear s found) slot f is = grind arith
 installed_step st (Take s found) slot f is = grind arith
 installed_step st (Allocate s new) slot f is = grind arith
-installed_step st Full slot f is = inl is
-installed_step st (Close g) slot f is = inl is
+installed_step st _ slot f is = inl is
 
 -- if the table was opened empty, it was installed
 installed_at : (start : State) (h : List Event) (slot : ℕ) (f : File) → ((s : ℕ) → start.at s ≡ None) → AllowsAll start (map action_of h)

@@ -27,7 +27,7 @@ use Rattle.fx_server.specs.declared.answers.Placed.{Placed}
 use Rattle.fx_server.specs.declared.answers.PlacedAt.{PlacedAt}
 use Rattle.fx_server.specs.declared.answers.Removal.{Removal}
 use Rattle.fx_server.specs.declared.answers.ServerRefusal.{ServerRefusal}
-use Rattle.fx_server.specs.declared.answers.ServerRefusal.TheVariants.{Again, BadArgument, Busy, Empty, Full as NoFree, Idle, NoMemory, NoSlot, Reader, Stale}
+use Rattle.fx_server.specs.declared.answers.ServerRefusal.TheVariants.{Again, Busy, Empty, Full as NoFree, Idle, NoSlot, Reader, Stale}
 use Rattle.fx_server.specs.declared.worker.TableWorker.{TableWorker}
 use Rattle.fx_server.proofs.DrawnByCalls.{AddsNone, AddsOne, added_after, added_none, added_one, none_then, both_none, held_none, installs, installs_kept, keeps, key_none, looked_none, number_of_new, one_then, released_none, retired_none, same_none, spends, stays}
 
@@ -43,13 +43,7 @@ finds_none w w' slot (Ok found) freed it = looked_none (its_opening w) (its_pass
 finds_none w w' slot (Err Empty) freed it = looked_none (its_opening w) (its_pass w) slot (Err EmptySlot) it.1.out (its_pass w') it.1.looked
 finds_none w w' slot (Err NoSlot) freed it = same w w' it.1.1
 finds_none w w' slot (Err Busy) freed it = same w w' it.1.1
-finds_none w w' slot (Err Idle) freed it = absurd it
-finds_none w w' slot (Err Reader) freed it = absurd it
-finds_none w w' slot (Err NoFree) freed it = absurd it
-finds_none w w' slot (Err Again) freed it = absurd it
-finds_none w w' slot (Err BadArgument) freed it = absurd it
-finds_none w w' slot (Err NoMemory) freed it = absurd it
-finds_none w w' slot (Err Stale) freed it = absurd it
+finds_none w w' slot (Err _) freed it = absurd it
 
 by_key_none : (w w' : TableWorker) (key : Key) (found : Result Hold KeyFault) (freed released : Option ℕ) → LooksKey w key found freed released w' → AddsNone (its w) (its w')
 by_key_none w w' key found freed released it = key_none (its_start w) (its_pass w) key found it.out it.back (its_pass w') it.looked
@@ -60,25 +54,12 @@ finds_key_none w w' key (Err NoSlot) freed released it = by_key_none w w' key (E
 finds_key_none w w' key (Err Empty) freed released it = by_key_none w w' key (Err fault.Empty) freed released it.1
 finds_key_none w w' key (Err Stale) freed released it = by_key_none w w' key (Err fault.Other) freed released it.1
 finds_key_none w w' key (Err Busy) freed released it = same w w' it.2.1
-finds_key_none w w' key (Err Idle) freed released it = absurd it
-finds_key_none w w' key (Err Reader) freed released it = absurd it
-finds_key_none w w' key (Err NoFree) freed released it = absurd it
-finds_key_none w w' key (Err Again) freed released it = absurd it
-finds_key_none w w' key (Err BadArgument) freed released it = absurd it
-finds_key_none w w' key (Err NoMemory) freed released it = absurd it
+finds_key_none w w' key (Err _) freed released it = absurd it
 
 release_none : (w w' : TableWorker) (result : Result (Option ℕ) ServerRefusal) → ReleasesHeld w result w' → AddsNone (its w) (its w')
 release_none w w' (Ok tag) it = released_none (its_opening w) (its_pass w) it.5.0 it.1 (its_pass w') it.5.2
 release_none w w' (Err Idle) it = same w w' it.1
-release_none w w' (Err Empty) it = absurd it
-release_none w w' (Err NoSlot) it = absurd it
-release_none w w' (Err Busy) it = absurd it
-release_none w w' (Err Reader) it = absurd it
-release_none w w' (Err NoFree) it = absurd it
-release_none w w' (Err Again) it = absurd it
-release_none w w' (Err BadArgument) it = absurd it
-release_none w w' (Err NoMemory) it = absurd it
-release_none w w' (Err Stale) it = absurd it
+release_none w w' (Err _) it = absurd it
 
 -- installations
 
@@ -95,24 +76,13 @@ insert_none w w' tag number NoFree it = added_none (its_opening w) (its_pass w) 
 insert_none w w' tag number Again it = added_none (its_opening w) (its_pass w) _ _ _ (its_pass w') it.0 tt
 insert_none w w' tag number Busy it = same w w' it.1
 insert_none w w' tag number Reader it = same w w' it.1
-insert_none w w' tag number Empty it = absurd it
-insert_none w w' tag number NoSlot it = absurd it
-insert_none w w' tag number Idle it = absurd it
-insert_none w w' tag number BadArgument it = absurd it
-insert_none w w' tag number NoMemory it = absurd it
-insert_none w w' tag number Stale it = absurd it
+insert_none w w' tag number _ it = absurd it
 
 replace_at_none : (w w' : TableWorker) (slot tag number : ℕ) (reason : ServerRefusal) → Puts w slot tag number (Err reason) w' → AddsNone (its w) (its w')
 replace_at_none w w' slot tag number Busy it = same w w' it.1
 replace_at_none w w' slot tag number NoSlot it = same w w' it.1
 replace_at_none w w' slot tag number Reader it = same w w' it.1
-replace_at_none w w' slot tag number Empty it = absurd it
-replace_at_none w w' slot tag number Idle it = absurd it
-replace_at_none w w' slot tag number NoFree it = absurd it
-replace_at_none w w' slot tag number Again it = absurd it
-replace_at_none w w' slot tag number BadArgument it = absurd it
-replace_at_none w w' slot tag number NoMemory it = absurd it
-replace_at_none w w' slot tag number Stale it = absurd it
+replace_at_none w w' slot tag number _ it = absurd it
 
 -- a pass alone that left the slot as it was
 alone_none : (k : Start) (p : LastingPass) (key : Key) (why : KeyFault) (out back : Option Identity) (p' : LastingPass) → TakesAlone k p key (Err why) out back p'
@@ -139,10 +109,7 @@ remove_none w w' key (Err Stale) freed released it = none_removed w w' key fault
 remove_none w w' key (Err Again) freed released it = none_removed w w' key fault.Again freed released it
 remove_none w w' key (Err Busy) freed released it = same w w' it.2.1
 remove_none w w' key (Err Reader) freed released it = same w w' it.2.1
-remove_none w w' key (Err Idle) freed released it = absurd it
-remove_none w w' key (Err NoFree) freed released it = absurd it
-remove_none w w' key (Err BadArgument) freed released it = absurd it
-remove_none w w' key (Err NoMemory) freed released it = absurd it
+remove_none w w' key (Err _) freed released it = absurd it
 
 none_replaced : (w w' : TableWorker) (key : Key) (tag number : ℕ) (why : KeyFault) (freed released : Option ℕ) → KeepsAlone w key tag number why freed released w' → AddsNone (its w) (its w')
 none_replaced w w' key tag number why freed released it =
@@ -156,10 +123,7 @@ replace_none w w' key tag number Stale freed released it = none_replaced w w' ke
 replace_none w w' key tag number Again freed released it = none_replaced w w' key tag number fault.Again freed released it
 replace_none w w' key tag number Busy freed released it = same w w' it.2.1
 replace_none w w' key tag number Reader freed released it = same w w' it.2.1
-replace_none w w' key tag number Idle freed released it = absurd it
-replace_none w w' key tag number NoFree freed released it = absurd it
-replace_none w w' key tag number BadArgument freed released it = absurd it
-replace_none w w' key tag number NoMemory freed released it = absurd it
+replace_none w w' key tag number _ freed released it = absurd it
 
 -- a replacement makes one file
 record Renewed (w w' : TableWorker) (tag number : ℕ) : Type 0 where
@@ -185,12 +149,7 @@ remove_at_none w w' slot (Err Empty) it = added_none (its_opening w) (its_pass w
 remove_at_none w w' slot (Err NoSlot) it = same w w' it.1
 remove_at_none w w' slot (Err Busy) it = same w w' it.1
 remove_at_none w w' slot (Err Reader) it = same w w' it.1
-remove_at_none w w' slot (Err Idle) it = absurd it
-remove_at_none w w' slot (Err NoFree) it = absurd it
-remove_at_none w w' slot (Err Again) it = absurd it
-remove_at_none w w' slot (Err BadArgument) it = absurd it
-remove_at_none w w' slot (Err NoMemory) it = absurd it
-remove_at_none w w' slot (Err Stale) it = absurd it
+remove_at_none w w' slot (Err _) it = absurd it
 
 put_empty_none : (w w' : TableWorker) (slot tag number : ℕ) (reason : ServerRefusal) → PutsEmpty w slot tag number (Err reason) w' → AddsNone (its w) (its w')
 put_empty_none w w' slot tag number Stale it = added_none (opening_of (its_start w)) (its_pass w) _ _ _ (its_pass w') it.1.adds tt
@@ -198,11 +157,7 @@ put_empty_none w w' slot tag number Again it = added_none (opening_of (its_start
 put_empty_none w w' slot tag number NoSlot it = same w w' it.1
 put_empty_none w w' slot tag number Reader it = same w w' it.1
 put_empty_none w w' slot tag number Busy it = same w w' it.1
-put_empty_none w w' slot tag number Empty it = absurd it
-put_empty_none w w' slot tag number Idle it = absurd it
-put_empty_none w w' slot tag number NoFree it = absurd it
-put_empty_none w w' slot tag number BadArgument it = absurd it
-put_empty_none w w' slot tag number NoMemory it = absurd it
+put_empty_none w w' slot tag number _ it = absurd it
 
 find_none : (w w' : TableWorker) (result : Result ℕ ServerRefusal) → FindsSlot w result w' → AddsNone (its w) (its w')
 find_none w w' (Ok slot) it = added_none (opening_of (its_start w)) (its_pass w) _ _ _ (its_pass w') it.1.adds tt
@@ -210,12 +165,7 @@ find_none w w' (Err NoFree) it = added_none (opening_of (its_start w)) (its_pass
 find_none w w' (Err Again) it = added_none (opening_of (its_start w)) (its_pass w) _ _ _ (its_pass w') it.0 tt
 find_none w w' (Err Busy) it = same w w' it.1
 find_none w w' (Err Reader) it = same w w' it.1
-find_none w w' (Err Empty) it = absurd it
-find_none w w' (Err NoSlot) it = absurd it
-find_none w w' (Err Idle) it = absurd it
-find_none w w' (Err BadArgument) it = absurd it
-find_none w w' (Err NoMemory) it = absurd it
-find_none w w' (Err Stale) it = absurd it
+find_none w w' (Err _) it = absurd it
 
 inserts : (w w' : TableWorker) (tag : ℕ) (result : Result PlacedAt ServerRefusal) → PutsAnyNext w tag result w' → KeepsItsNumbers w w'
 inserts w w' tag (Ok placed) it installing place some low d =

@@ -124,8 +124,9 @@ fn heat<H: Host>(rt: &H, table: &LastingTable, pass: &mut LastingPass)
     }
 }
 
-// Removes files by their keys, one after another, of which one is at a hot slot.
-fn remove_some<H: Host>(
+// Removes files by their keys, one after another, of which one is at a hot slot. Then replaces
+// files by their keys, of which three are at a hot slot.
+fn change_some<H: Host>(
     rt: &H,
     table: &LastingTable,
     reader: &mut LastingPass,
@@ -147,21 +148,6 @@ fn remove_some<H: Host>(
     assert!(rt; take(rt, table, pass, second) == Outcome::Missed(KeyFault::Empty));
     let third = put(rt, table, pass, 3);
     assert!(rt; take(rt, table, pass, third) == Outcome::Removed);
-    assert!(rt; table.is_idle(reader) && table.is_idle(pass));
-}
-
-// Replaces files by their keys, one after another, of which three are at a hot slot.
-fn replace_some<H: Host>(
-    rt: &H,
-    table: &LastingTable,
-    reader: &mut LastingPass,
-    pass: &mut LastingPass,
-)
-    requires reader { IsPassOfTable table.now reader.old × IsIdle (view_of reader.old) }
-    requires pass { IsPassOfTable table.now pass.old × IsIdle (view_of pass.old) }
-    ensures reader { IsPassOfTable table.now reader.new × IsIdle (view_of reader.new) }
-    ensures pass { IsPassOfTable table.now pass.new × IsIdle (view_of pass.new) }
-{
     let first = put(rt, table, pass, 4);
     let second = Key::new(0, Mark::Registered { k: 1, i: 5 });
     let third = Key::new(0, Mark::Registered { k: 1, i: 6 });
@@ -188,8 +174,7 @@ fn remove_between<H: Host>(rt: &H, table: &LastingTable, passes: &mut Vec<Lastin
 {
     let mut reader = passes.pop().unwrap();
     let mut pass = passes.pop().unwrap();
-    remove_some(rt, table, &mut reader, &mut pass);
-    replace_some(rt, table, &mut reader, &mut pass);
+    change_some(rt, table, &mut reader, &mut pass);
     passes.push_reserved(pass);
     passes.push_reserved(reader);
 }

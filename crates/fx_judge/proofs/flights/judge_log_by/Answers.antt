@@ -1,21 +1,12 @@
-use Rattle.fx_judge.proofs.Words.{◌∙◌, sym, passed}
-use Rattle.fx_judge.proofs.LogVerdicts.{a_log, faulty, is_readable, not_legal}
+use Rattle.fx_judge.proofs.LogVerdicts.{judged, not_read, of_judge}
 use Rattle.fx_judge.proofs.flights.judge_log_by.Goals as goal
 
-pub returns-clause-not_legal : goal.returns-clause-not_legal
-returns-clause-not_legal c =
-    let p = passed c.args.script.now c.args.slots c.args.requests.now c.args.entries.now c.args.bytes.now c.args.events.now in
-    let readable = is_readable p c.in-Ok.read c.catalogue.result.now c.in-Ok.ensures.script c.catalogue.ensures.value (sym c.flaw_of_log.ensures ∙ c.in_default.is) in
-    not_legal c.args.whole readable c.number.result c.number.new.judgement c.in-Ok-verdict_on.verdict c.in-Ok-verdict_on.ensures c.number.ensures
+pub returns : goal.returns
+returns c =
+    let is = c.in-Ok.ensures.read in let verdict = c.in-Ok-judge_events.ensures in
+    judged c.args.whole is.readable c.number.result c.number.new.judgement c.in-Ok-judge_events.verdict
+    (of_judge is c.deref.result.now c.deref.ensures.value c.args.whole verdict.fault (rw c.catalogue.ensures.value at verdict.legal)
+    (rw c.catalogue.ensures.value at verdict.not_legal)) c.number.ensures
 
-pub returns-clause-judged : goal.returns-clause-judged
-returns-clause-judged c =
-    let p = passed c.args.script.now c.args.slots c.args.requests.now c.args.entries.now c.args.bytes.now c.args.events.now in
-    let readable = is_readable p c.in-Ok.read c.catalogue.result.now c.in-Ok.ensures.script c.catalogue.ensures.value (sym c.flaw_of_log.ensures ∙ c.in_default.is) in
-    a_log c.args.whole readable c.number.result c.number.new.judgement c.in-Ok-verdict_on.verdict c.in-Ok-verdict_on.ensures c.number.ensures
-
-pub returns-clause-faulty : goal.returns-clause-faulty
-returns-clause-faulty c =
-    let p = passed c.args.script.now c.args.slots c.args.requests.now c.args.entries.now c.args.bytes.now c.args.events.now in
-    let readable = is_readable p c.in-Ok.read c.catalogue.result.now c.in-Ok.ensures.script c.catalogue.ensures.value (sym c.flaw_of_log.ensures ∙ c.in_default.is) in
-    faulty c.args.whole readable c.number.result c.number.new.judgement c.in-Ok-verdict_on.verdict c.in-Ok-verdict_on.ensures c.number.ensures
+pub returns-in_Err : goal.returns-in_Err
+returns-in_Err c = not_read c.in-Err.ensures.refused c.in-Err.ensures.no_verdict c.in-Err.ensures.no_fault

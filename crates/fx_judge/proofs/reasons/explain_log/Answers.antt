@@ -1,9 +1,20 @@
-use Rattle.fx_judge.proofs.Words.{◌+◌, ◌∙◌, arith, sym, passed}
-use Rattle.fx_judge.proofs.LogVerdicts.{is_readable, not_explained}
+use Rattle.fx_judge.proofs.Words.{arith}
+use Rattle.fx_judge.proofs.LogVerdicts.{not_explained}
 use Rattle.fx_judge.proofs.reasons.explain_log.Goals as goal
 
-pub returns-clause-not_legal : goal.returns-clause-not_legal
-returns-clause-not_legal c = λ is.
-    let p = passed c.args.script.now c.args.slots c.args.requests.now c.args.entries.now c.args.bytes.now c.args.events.now in
-    let readable = is_readable p c.in-Ok.read c.catalogue.result.now c.in-Ok.ensures.script c.catalogue.ensures.value (sym c.flaw_of_log.ensures ∙ c.in_default.is) in
-    not_explained c.args.at (c.args.at + 1) readable (omega arith) (rw c.in-Some-found.is at c.in-Ok-reason_of.ensures)
+pub returns : goal.returns
+returns c = record {
+  refused = record { known = omega arith; malformed = λ so. absurd (omega (arith, so)); bad_script = λ so. absurd (omega (arith, so)); too_many = λ so. absurd (omega (arith, so)) };
+  no_verdict = λ so. omega (arith, so);
+  no_fault = λ so. omega (arith, so);
+  not_legal = λ _. not_explained (rw c.in-Ok.is at c.read-read.ensures.read) c.deref.result.now c.deref.ensures.value c.args.at
+      (rw c.catalogue.ensures.value at (rw c.in-Some.is at c.in-Ok-explain.ensures.refuted));
+}
+
+pub returns-in_Err : goal.returns-in_Err
+returns-in_Err c = let high = rw c.in-Err.is at c.read-read.ensures.no_verdict in record {
+  refused = rw c.in-Err.is at c.read-read.ensures.refused;
+  no_verdict = λ so. omega (arith, high, so);
+  no_fault = rw c.in-Err.is at c.read-read.ensures.no_fault;
+  not_legal = λ so. absurd (omega (arith, high, so));
+}
