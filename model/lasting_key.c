@@ -121,7 +121,7 @@ static void announce(struct state *s, struct pass *it, int who) {
  * place of its own file. */
 static void confirm(struct state *s, struct pass *it, int who) {
     if (names(s, it->slot, it->named) && s->heat[it->slot]) {
-        want(s->hold[who] == it->named, "a confirmed hold is marked");
+        want(s->hold[who] == it->named, "a confirmed hold is charged");
         guard(s, it);
     } else if (wrong == vain_announcement_stays) {
         it->guards = IN_VAIN;
@@ -237,13 +237,13 @@ static void let_go(struct state *s, struct pass *it, int who) {
  * retirement is the next call. */
 static void step_down(struct state *s, struct pass *it, int who) {
     if (it->call == RETIREMENT) {
-        want(s->hold[who] == it->node, "a pass steps down, and its hold word is marked");
+        want(s->hold[who] == it->node, "a pass steps down, and its hold word is charged");
         s->hold[who] = it->guards = it->steps = 0;
         it->step = FINISH;
         if (wrong != stepped_down_after_the_visits) {
             go_on_with_round(it, who);
         }
-    } else if (s->hold[who] & MARK) {
+    } else if (s->hold[who] & CHARGE) {
         end_by_key(it);
     } else {
         it->named = it->holds;

@@ -85,12 +85,12 @@ static int takes_kept(const struct state *s, int node) {
     return kept;
 }
 
-/* The marks that passes owe to a node. */
-static int marks_owed(const struct state *s, int node) {
+/* The charges that passes owe to a node. */
+static int charges_owed(const struct state *s, int node) {
     int owed = 0;
     for (int who = 0; who < family->passes; who++) {
         const struct pass *it = &s->pass[who];
-        owed += s->hold[who] == (node | MARK);
+        owed += s->hold[who] == (node | CHARGE);
         owed += it->step == DROP && it->node == node;
     }
     return owed;
@@ -137,7 +137,7 @@ static int lost_of(const struct state *s, int node) {
 /* Returns whether a pass is about to rest the node of a closed file, or to keep it. */
 static bool is_to_rest(const struct state *s, int node) {
     const struct pass *it = worker_of(s, node, false);
-    bool was_finished = it != NULL && it->call == RETIREMENT && s->word[node] + it->takes + it->marks == BORN;
+    bool was_finished = it != NULL && it->call == RETIREMENT && s->word[node] + it->takes + it->charges == BORN;
     return was_finished || (it != NULL && s->word[node] == CLOSED);
 }
 
@@ -151,7 +151,7 @@ static int slot_of(const struct state *s, int node) {
 }
 
 static void check_node(const struct state *s, int node) {
-    int word = s->word[node], kept = takes_kept(s, node), owed = marks_owed(s, node), slot = slot_of(s, node);
+    int word = s->word[node], kept = takes_kept(s, node), owed = charges_owed(s, node), slot = slot_of(s, node);
     int keepers = keepers_of(s, node);
     const struct pass *retiring = worker_of(s, node, true);
     bool is_vacant = kept == 0 && owed == 0;
@@ -159,7 +159,7 @@ static void check_node(const struct state *s, int node) {
     want(keepers >= 0, "a pass keeps a node that isn't empty, wasn't born or isn't in its stock");
     switch (s->file[node]) {
     case NO_FILE:
-        want(is_vacant, "a take or a mark of a closed file is left");
+        want(is_vacant, "a take or a charge of a closed file is left");
         want(s->place[node] == WITH_PASS ? is_to_rest(s, node) : keepers || (word == FREE && s->place[node] == NOTHING),
              "a node without a file has a wrong word or place");
         break;
@@ -172,7 +172,7 @@ static void check_node(const struct state *s, int node) {
         break;
     default:
         if (retiring != NULL) {
-            want(word + retiring->takes + retiring->marks == BORN + kept + owed, "the word of a removed file's node is wrong");
+            want(word + retiring->takes + retiring->charges == BORN + kept + owed, "the word of a removed file's node is wrong");
         } else {
             want(word == CLOSED + kept + owed && !is_vacant, "a retired file is left behind, or its node's word is wrong");
         }
@@ -187,7 +187,7 @@ static void check_pass(const struct state *s, int who) {
     int most = it->call == LOOK_KEY ? 11 : it->call == TAKE_KEY ? 16 + TRIES : it->call == PUT_KEY ? 8 + TRIES : is_look ? 8 : it->call == RELEASE ? 3 : it->call == REMOVE ? 5 : is_put ? 3 : is_keyed ? 5 + TRIES
         : 2 * family->passes + words + 1;
     want(it->call == PUT_ANY || it->step == SEEK || it->steps + (is_look ? 1 : 0) < most || it->step == IDLE, "a call has too many steps");
-    int hold = s->hold[who] & ~MARK;
+    int hold = s->hold[who] & ~CHARGE;
     bool has_bit = s->list[who / PER_WORD] >> who % PER_WORD & 1;
     want(has_bit == it->is_listed, "the list has the wrong bit for a pass");
     want(hold == 0 || hold == node_of_hold(it), "a hold word names what its pass doesn't announce");

@@ -38,8 +38,8 @@ static void exchange(uint8_t *one, uint8_t *other) {
 
 /* Gives a name of one of two nodes, if it is one, the other's number. */
 static void rename_node(uint8_t *name, int one, int other) {
-    int node = *name & ~MARK;
-    *name = (*name & MARK) | (node == one ? other : node == other ? one : node);
+    int node = *name & ~CHARGE;
+    *name = (*name & CHARGE) | (node == one ? other : node == other ? one : node);
 }
 
 static void exchange_nodes(struct state *s, int one, int other) {
@@ -60,7 +60,7 @@ static uint64_t said_of(const struct state *s, int node) {
     uint64_t said = s->word[node] | s->place[node] << 8 | s->file[node] << 10;
     for (int who = 0; who < family->passes; who++) {
         const struct pass *it = &s->pass[who];
-        int hold = s->hold[who] & ~MARK;
+        int hold = s->hold[who] & ~CHARGE;
         int those = (it->node == node) | (it->holds == node) << 1 | (it->key == node) << 2 | (it->named == node) << 3
             | (hold == node) << 4 | (it->kept == node) << 5;
         said |= (uint64_t)those << (12 + 6 * who);
@@ -171,7 +171,7 @@ static void end_node(struct pass *it) {
     }
 }
 
-/* Drops a take or a mark from a node's word. If the word was 2, the file is closed. */
+/* Drops a take or a charge from a node's word. If the word was 2, the file is closed. */
 void drop(struct state *s, struct pass *it) {
     int last = wrong == free_word_of_a_closed_file ? LAST - 1 : wrong == closed_one_too_early ? LAST + 1
         : wrong == closed_one_too_late ? LAST - 1 : LAST;
@@ -269,7 +269,7 @@ static void confirm(struct state *s, struct pass *it, int who) {
     }
     hold_file(s, it, it->node);
     if (is_announced) {
-        want(s->hold[who] == it->node, "a confirmed hold is marked");
+        want(s->hold[who] == it->node, "a confirmed hold is charged");
         if (it->is_listed) {
             hold_until_release(it, GUARDED);
         } else {
@@ -280,12 +280,12 @@ static void confirm(struct state *s, struct pass *it, int who) {
     }
 }
 
-/* Empties the hold word of the pass, and returns whether it was marked. */
+/* Empties the hold word of the pass, and returns whether it was charged. */
 bool empty_hold(struct state *s, const struct pass *it, int who, enum wrong by_a_store) {
     int found = wrong == by_a_store ? it->node : s->hold[who];
     s->hold[who] = 0;
-    want((found & ~MARK) == it->node, "a hold word names another node");
-    return found & MARK;
+    want((found & ~CHARGE) == it->node, "a hold word names another node");
+    return found & CHARGE;
 }
 
 static void end_take(struct pass *it) {
@@ -364,7 +364,7 @@ void end_change(struct pass *it, int who) {
     begin_call(it, RETIREMENT, SKIM);
     it->slot = 0;
     it->takes = found.takes;
-    it->marks = found.marks;
+    it->charges = found.charges;
     it->words = found.words;
     it->last = found.last;
     it->next = found.heat && wrong != no_visits && wrong != scan_before_the_swap ? 0 : family->passes;
@@ -404,19 +404,19 @@ void swap(struct state *s, struct pass *it, int who) {
     }
 }
 
-/* A mark is an exchange: only a pass that still announces the node gets it. */
-static void mark_hold(struct state *s, struct pass *it, int who) {
-    bool marks = s->hold[it->next] == it->node || wrong == mark_by_a_store;
-    if (marks) {
-        s->hold[it->next] = it->node | MARK;
+/* A charge is an exchange: only a pass that still announces the node gets it. */
+static void charge_hold(struct state *s, struct pass *it, int who) {
+    bool charges = s->hold[it->next] == it->node || wrong == charge_by_a_store;
+    if (charges) {
+        s->hold[it->next] = it->node | CHARGE;
     }
-    it->marks += marks || wrong == failed_marks_counted;
+    it->charges += charges || wrong == failed_charges_counted;
     visit_next(it, who);
 }
 
 static void visit(struct state *s, struct pass *it, int who) {
     if (s->hold[it->next] == it->node) {
-        it->step = MARK_HOLD;
+        it->step = CHARGE_HOLD;
     } else {
         visit_next(it, who);
     }
@@ -430,10 +430,10 @@ static bool may_park(const struct pass *it, int who) {
     return !it->kept && (is_in_stock(who, it->node) || is_named || is_elsewhere);
 }
 
-/* Closes the file at a load, if all of its takes and marks were dropped, so that nobody else
+/* Closes the file at a load, if all of its takes and charges were dropped, so that nobody else
  * changes the node's word. */
 static void finish(struct state *s, struct pass *it, int who) {
-    int dropped = it->takes + (wrong == finish_ignores_marks ? 0 : it->marks);
+    int dropped = it->takes + (wrong == finish_ignores_charges ? 0 : it->charges);
     if (s->word[it->node] + dropped == BORN) {
         close_file(s, it->node);
         it->step = may_park(it, who) ? PARK : REST;
@@ -446,7 +446,7 @@ static void finish(struct state *s, struct pass *it, int who) {
 
 static void retire(struct state *s, struct pass *it) {
     int closed = wrong == free_word_of_a_closed_file ? FREE : CLOSED;
-    int amount = BORN - closed - it->marks - (wrong == takes_left_out_of_a_retirement ? 0 : it->takes);
+    int amount = BORN - closed - it->charges - (wrong == takes_left_out_of_a_retirement ? 0 : it->takes);
     want(s->word[it->node] >= amount, "a node word falls below 0");
     s->word[it->node] -= amount;
     if (s->word[it->node] != closed) {
@@ -714,7 +714,7 @@ static void take_other_step(struct state *s, struct pass *it, int who) {
         break;
     case SKIM: skim(s, it, who); break;
     case VISIT: visit(s, it, who); break;
-    case MARK_HOLD: mark_hold(s, it, who); break;
+    case CHARGE_HOLD: charge_hold(s, it, who); break;
     case FINISH: finish(s, it, who); break;
     case RETIRE: retire(s, it); break;
     case PEEK: peek(s, it, who); break;

@@ -6,8 +6,8 @@
  * words. */
 enum { MOST_SLOTS = 4, MOST_GROUPS = 3, MOST_NODES = 12, PER_WORD = 2, MOST_WORDS = (MOST_PASSES + PER_WORD - 1) / PER_WORD };
 
-/* The words of a node, where 64 is 2^32 + 1, and the mark of a hold word. */
-enum { FREE = 0, CLOSED = 1, LAST = 2, BORN = 64, MARK = 128 };
+/* The words of a node, where 64 is 2^32 + 1, and the charge of a hold word. */
+enum { FREE = 0, CLOSED = 1, LAST = 2, BORN = 64, CHARGE = 128 };
 
 /* What is in a node's place, and the model's view of the node's file. */
 enum { NOTHING, OPEN_FILE, WITH_PASS };
@@ -29,7 +29,7 @@ enum { MOST_CARRIED = 1 };
 /* The next step of a pass. */
 enum step {
     IDLE, LIST, ANNOUNCE, CONFIRM, WITHDRAW, DROP, TAKE, HEAT, GUARDED, COUNTED, REST, SEEK, BIRTH, LOWER, CHECK, BREAK,
-    SWAP, RAISE, SKIM, VISIT, MARK_HOLD, FINISH, RETIRE, PEEK, EXCHANGE, PEEK_GROUP, DECIDE_FIRST, BEGIN, ASK, COUNT,
+    SWAP, RAISE, SKIM, VISIT, CHARGE_HOLD, FINISH, RETIRE, PEEK, EXCHANGE, PEEK_GROUP, DECIDE_FIRST, BEGIN, ASK, COUNT,
     DECIDE, RAISE_EARLY, LOWER_LATE, PARK, RESUME, FINISH_EARLY, AIM, COMPARE, LET_GO, STEP_DOWN
 };
 
@@ -37,12 +37,12 @@ enum step {
 #define TABLES(X) \
     X(right) X(free_word_of_a_closed_file) X(rest_before_the_file_is_out) X(stock_one_node_too_small) \
     X(birth_from_another_stock) X(birth_without_a_search) X(node_goes_to_another_stock) \
-    X(scan_before_the_swap) X(mark_by_a_store) X(no_second_look) \
-    X(announced_after_the_second_look) X(withdrawal_by_a_store) X(release_by_a_store) X(failed_marks_counted) \
+    X(scan_before_the_swap) X(charge_by_a_store) X(no_second_look) \
+    X(announced_after_the_second_look) X(withdrawal_by_a_store) X(release_by_a_store) X(failed_charges_counted) \
     X(hot_not_asked_at_the_second_look) X(takes_left_out_of_a_retirement) X(last_pass_not_visited) X(no_visits) \
     X(closed_one_too_early) X(closed_one_too_late) X(slot_never_heated) X(listed_after_the_second_look) \
     X(skimmed_before_the_swap) X(listed_by_a_store) X(listed_at_each_look) X(heat_counts_two) \
-    X(finish_ignores_marks) X(finish_before_the_visits) X(removal_loses_the_old_name) X(removal_takes_a_node_of_another_pass) \
+    X(finish_ignores_charges) X(finish_before_the_visits) X(removal_loses_the_old_name) X(removal_takes_a_node_of_another_pass) \
     X(carry_is_forgotten) X(carry_without_its_limit) X(kept_without_a_stock) X(kept_by_a_load_before_the_swap) \
     X(kept_beside_a_search) X(kept_beside_a_removal) X(kept_node_is_not_settled) \
     X(kept_node_of_another_pass_is_resumed) \
@@ -77,7 +77,7 @@ struct family {
 
 struct pass {
     uint16_t call;
-    uint8_t step, slot, node, takes, next, marks;
+    uint8_t step, slot, node, takes, next, charges;
     /* The words of the list that a round has loaded, and the last word of them or the question. */
     uint8_t words, last;
     /* The pass is listed. */
@@ -165,8 +165,8 @@ void swap(struct state *s, struct pass *it, int who);
 void miss(struct pass *it);
 void hold_file(struct state *s, struct pass *it, int node);
 void hold_until_release(struct pass *it, enum step step);
-/* Lists the pass. Drops a take or a mark from a node's word. Empties the hold word of the pass, and
- * returns whether it was marked. Goes on with a round of visits. */
+/* Lists the pass. Drops a take or a charge from a node's word. Empties the hold word of the pass,
+ * and returns whether it was charged. Goes on with a round of visits. */
 void list(struct state *s, struct pass *it, int who);
 void drop(struct state *s, struct pass *it);
 bool empty_hold(struct state *s, const struct pass *it, int who, enum wrong by_a_store);

@@ -2,7 +2,7 @@
 use Rattle.fx_lasting.proofs.Words.{alone_in, Placement, Renewing, Nearing, Relieving, HoldsBesides}
 use Rattle.fx_lasting.proofs.Words.{◌≡◌, ◌≢◌, ℕ, ◌+◌, ◌<◌, ◌≤◌, List, set, sym, refl, ap, ◌∙◌, subst, arith, Option, Some, None, File, inl, inr, some}
 use Rattle.fx_lasting.proofs.Words.{some-injective, get_elem?, set_here, set_else, stands_at, ⊎_elim, ◌⊎◌, dite, ℕ_discrete, dec_le, SlotAgrees}
-use Rattle.fx_lasting.proofs.Words.{NodeAgrees, OwnerAgrees, WorkAgrees, LogAgrees, HoldAgrees, GuardAgrees, Does, GlanceAgrees, Heats, MayBeUnmarked}
+use Rattle.fx_lasting.proofs.Words.{NodeAgrees, OwnerAgrees, WorkAgrees, LogAgrees, HoldAgrees, GuardAgrees, Does, GlanceAgrees, Heats, MayBeUncharged}
 use Rattle.fx_lasting.proofs.Words.{in_stock, Contains, IsHot, HoldsAt, Home, IsFileOfNode, IsVacant, IsBorn, full_name_in, count_in, word_of}
 use Rattle.fx_lasting.proofs.Words.{hold_word_of, slots_of, nodes_of, state_after_all, held_in, Nodes, Start, tally, Phase, free, placed, seated}
 use Rattle.fx_lasting.proofs.Words.{leaving, retired, emptied, kept, owner, Glance, Log, View, Work, Idle, Announced, Counted, Guarded, Owing}
@@ -18,7 +18,7 @@ busy (Placing n w) = n + 1
 busy (Renewing f held n w) = n + 1
 busy (Nearing m n w) = n + 1
 busy (Relieving f held n w) = n + 1
-busy (Retiring f n takes next marks) = n + 1
+busy (Retiring f n takes next charges) = n + 1
 busy (Emptying n) = n + 1
 busy (Keeping n lost) = n + 1
 busy _ = 0
@@ -57,7 +57,7 @@ pub owner_map : (views others : List View) (n : ℕ)
     → ((j : ℕ) (d : Work) → busy d ≡ n + 1 → Does views j d → Does others j d) → (ph : Phase) → OwnerAgrees views n ph
     → OwnerAgrees others n ph
 owner_map views others n f (placed j l) o = f j (Placing n l) refl o
-owner_map views others n f (leaving j t next marks g) o = f j (Retiring g n t next marks) refl o
+owner_map views others n f (leaving j t next charges g) o = f j (Retiring g n t next charges) refl o
 owner_map views others n f (emptied j) o = f j (Emptying n) refl o
 owner_map views others n f (kept j lost) o = f j (Keeping n lost) refl o
 owner_map views others n f _ o = tt
@@ -132,7 +132,7 @@ module _ {at at' : ℕ → Option File} (size : ℕ) {takes_at takes_at' : ℕ �
     file = file_same later homed o.file;
     counts = omega arith;
     few_takes = o.few_takes;
-    few_marks = o.few_marks;
+    few_charges = o.few_charges;
     few_visits = o.few_visits;
     unowed = λ is. owed ∙ o.unowed is;
   }
@@ -228,7 +228,7 @@ module _ (turn : Turn) (a : After turn) where
     work_stays (Renewing f m own w) is at = (leaves.open_file j u f m other there (ap held_in is) at.0, (at.1.0, same_for at.1.1 refl))
     work_stays (Nearing m own w) is at = (at.0, (at.1.0, same_for at.1.1 refl))
     work_stays (Relieving f m own w) is at = (leaves.open_file j u f m other there (ap held_in is) at.0, (at.1.0, same_for at.1.1 refl))
-    work_stays (Retiring f m t next marks) is at = (at.0, same_for at.1 refl)
+    work_stays (Retiring f m t next charges) is at = (at.0, same_for at.1 refl)
     work_stays (Emptying m) is at = (at.0, same_for at.1 refl)
     work_stays (Keeping m lost) is at = (at.0, same_for at.1 refl)
     work_stays Idle is at = tt
@@ -247,7 +247,7 @@ module _ (turn : Turn) (a : After turn) where
 
   -- hold words and debts that are as they were
   pub guards_same : (q : ℕ) (d : Work) → word_at a.words (hold_word_of v.start q) ≡ word_at st.words (hold_word_of v.start q) → a.debt q ≡ r.debt q
-      → ((n : ℕ) → MayBeUnmarked (slot_word st.words) q (r.phase n) → MayBeUnmarked (slot_word a.words) q (a.phase n))
+      → ((n : ℕ) → MayBeUncharged (slot_word st.words) q (r.phase n) → MayBeUncharged (slot_word a.words) q (a.phase n))
       → HoldAgrees (word_at st.words (hold_word_of v.start q)) (r.debt q) d → GuardAgrees (slot_word st.words) r.phase q (r.debt q) d
       → HoldAgrees (word_at a.words (hold_word_of v.start q)) (a.debt q) d × GuardAgrees (slot_word a.words) a.phase q (a.debt q) d
   guards_same q d same owes covers hold guard = rw (same, owes) (hold, go d guard)
@@ -295,17 +295,17 @@ sees_same k {word} {word'} deed same (Hot s m) at =
 sees_same k deed same (Cold s) at = at
 sees_same k deed same (Heating s) at = at
 
--- who may be unmarked, where each hot slot stays hot
+-- who may be uncharged, where each hot slot stays hot
 module _ (turn : Turn) (words' : List ℕ) (hot : (s : ℕ) → s < slots_of turn.v.start → IsHot (slot_word turn.st.words s) → IsHot (slot_word words' s)) where
   open turn use {st, v, r, id, x, here, one}
 
-  pub covers_hot : (p n : ℕ) → MayBeUnmarked (slot_word st.words) p (r.phase n) → MayBeUnmarked (slot_word words') p (r.phase n)
+  pub covers_hot : (p n : ℕ) → MayBeUncharged (slot_word st.words) p (r.phase n) → MayBeUncharged (slot_word words') p (r.phase n)
   covers_hot p n = dite (dec_le (suc n) (nodes_of v.start)) (λ l. go (r.phase n) (r.nodes.each n (omega (arith, l))))
       (λ g m. let e = r.nodes.unborn n (omega (arith, g)) in absurd (rw e at m))
     where
       go : (ph : Phase) → NodeAgrees (state_after_all v.start r.history).at (slots_of v.start) (λ s. count_in (slot_word st.words s)) r.node_of
           r.nodes.next_number n (word_at st.words (word_of v.start n)) (sum_by (taken_of n) st.views) (owed r.debt v.start.passes n)
-          (get_elem? st.homes n) ph → MayBeUnmarked (slot_word st.words) p ph → MayBeUnmarked (slot_word words') p ph
+          (get_elem? st.homes n) ph → MayBeUncharged (slot_word st.words) p ph → MayBeUncharged (slot_word words') p ph
       go (seated i f) o is_hot = hot i o.inside is_hot
       go (leaving j t nx m f) o l = l
       go free o m = absurd m
@@ -316,5 +316,5 @@ module _ (turn : Turn) (words' : List ℕ) (hot : (s : ℕ) → s < slots_of tur
 
 -- where no slot's word has changed
 pub covers_same : (turn : Turn) (words' : List ℕ) → ((s : ℕ) → s < slots_of turn.v.start → slot_word words' s ≡ slot_word turn.st.words s) → (p n : ℕ)
-    → MayBeUnmarked (slot_word turn.st.words) p (turn.r.phase n) → MayBeUnmarked (slot_word words') p (turn.r.phase n)
+    → MayBeUncharged (slot_word turn.st.words) p (turn.r.phase n) → MayBeUncharged (slot_word words') p (turn.r.phase n)
 covers_same turn words' same = covers_hot turn words' (λ s l is. rw (same s l) is)

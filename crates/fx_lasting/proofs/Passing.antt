@@ -8,7 +8,7 @@ use Rattle.fx_lasting.proofs.Words.{pass_in, numbers_of_pass, doing_in, hold_at,
 use Rattle.fx_lasting.proofs.Words.{Release, Close, Look, File, Closed, numbered, full_name_in, count_in, LetsFileGo, option_map, Result, Ok, Err}
 use Rattle.fx_lasting.proofs.Words.{ok_or, is_err, is_some, not, ◌==◌, ◌≢◌, not-false, not-true, Use, no_use, one_number, one_look, Adds, IsNewFile}
 use Rattle.fx_lasting.proofs.Words.{Placed, Cleared, Taken, ReleasesFile, LookedAfter, LookedUp, adds_then, adds_nothing, Owing, Yielding, Placing}
-use Rattle.fx_lasting.proofs.Words.{Emptying, HoldsOn, new_round, LooksByTake, LetsMarkGo, Announced, first_visit, heat_in, cond, inl, inr, Opening}
+use Rattle.fx_lasting.proofs.Words.{Emptying, HoldsOn, new_round, LooksByTake, LetsChargeGo, Announced, first_visit, heat_in, cond, inl, inr, Opening}
 use Rattle.fx_lasting.proofs.Words.{PassView, IsIdle, IsFileRemoval, Doing, DoesNothing, Holding, Hold, Retired, dite, dec_le, lt-ltb, IsIdleSeatOf}
 use Rattle.fx_lasting.proofs.Words.{HasNoFile, Searching, is_in, account, uncounted, group_of, Allocate, Full, Allocated}
 use Rattle.fx_table.specs.declared.values.Doing.TheVariants.{Retiring as Retires}
@@ -391,22 +391,22 @@ frees_number o u v None before = before.number
 frees_number o u v (Some file) before = before.2.number
 
 -- a look-up after a withdrawal
-pub marks_then : {id : TableId} {k : Start} {p : LastingPass} (seated : IsSeatOf id k p) {m' : Sat} (w : PassView) (slot : ℕ) {n : ℕ}
+pub charges_then : {id : TableId} {k : Start} {p : LastingPass} (seated : IsSeatOf id k p) {m' : Sat} (w : PassView) (slot : ℕ) {n : ℕ}
     {g : Glance} (freed : Option Closed) (r : Result Hold LookFault) → r ≢ Err Spent
-    → Runs p.seat.me [] (Announced n) g p.seat.me.0.change 2 m' → (m'' : Sat) → LetsMarkGo m' 3 freed m''
+    → Runs p.seat.me [] (Announced n) g p.seat.me.0.change 2 m' → (m'' : Sat) → LetsChargeGo m' 3 freed m''
     → LookedAfter (opening_of k) (pass_of m''.0) [] slot r w → LookedUp (opening_of k) (view_of p) slot r freed w
-marks_then {k = k} {p = p} seated w slot None r never before m'' lets looked =
+charges_then {k = k} {p = p} seated w slot None r never before m'' lets looked =
     after_then k (view_of p) (pass_of m''.0) w [] slot r never (adds_so seated (does_then before lets) no_use) looked
-marks_then {k = k} {p = p} seated w slot (Some file) r never before m'' lets looked = (
+charges_then {k = k} {p = p} seated w slot (Some file) r never before m'' lets looked = (
   lets.0,
   lets.1,
   after_then k (view_of p) (pass_of m''.0) w ([] ▷ Close lets.0) slot r never (adds_so seated (does_then before lets.2) no_use) looked,
 )
 
-pub marks_run : (m m' : Sat) (n : ℕ) (freed : Option Closed) → LetsMarkGo m n freed m'
+pub charges_run : (m m' : Sat) (n : ℕ) (freed : Option Closed) → LetsChargeGo m n freed m'
     → (xs : List Action) × Runs m xs Idle m.0.glance m.0.change n m'
-marks_run m m' n None lets = ([], lets)
-marks_run m m' n (Some file) lets = ([] ▷ Close lets.0, lets.2)
+charges_run m m' n None lets = ([], lets)
+charges_run m m' n (Some file) lets = ([] ▷ Close lets.0, lets.2)
 
 -- a removal, and a pass that knows of it
 pub knows_removed : (k : Start) (found : ℕ) (file : Option File) (removed : Option Retired) (idle guarded keeps : Bool) (visit entry : ℕ) (stock : List ℕ)

@@ -3,7 +3,7 @@ use Rattle.fx_lasting.proofs.Words.{TakesAs, HoldsBesides, HoldsOn, Placement, R
 use Rattle.fx_lasting.proofs.Words.{stands_at, get_elem?, some, some-injective, ◌≡◌, ◌≤◌, ℕ, ◌+◌, List, [], ◌++◌, map, sym, refl, ap, ◌∙◌, subst}
 use Rattle.fx_lasting.proofs.Words.{arith, ◌▷▷◌, Action, Event, Sat, Stepped, Goes, Runs, Change, IsAtWork, Log, first_log, ◌∷◌, ◌-◌, ◌<◌, ⊎_elim}
 use Rattle.fx_lasting.proofs.Words.{inl, dite, ℕ_discrete, eq-eqb, ne_eqb, Option, Some, None, Closed, File, ◌▷◌, Release, Close, Look, Idle, Owing}
-use Rattle.fx_lasting.proofs.Words.{Yielding, Counted, Cold, TakesOut, LettingGo, glance_after, LetsMarkGo, LetsFileGo, HasPlace, IsReleasing}
+use Rattle.fx_lasting.proofs.Words.{Yielding, Counted, Cold, TakesOut, LettingGo, glance_after, LetsChargeGo, LetsFileGo, HasPlace, IsReleasing}
 use Rattle.fx_lasting.proofs.Words.{HasToLetGo, nodes_of, full_name_in, file_node_in, At, Glance, Work, Start, IsHistory, pass_in, pass_event}
 use Rattle.fx_lasting.proofs.Words.{part_of_pass, IsInside, rested, append_assoc, map-append, seen_further}
 use Rattle.fx_lasting.proofs.Words.{Bool}
@@ -187,11 +187,11 @@ pub turns_then : {m m' m'' : Sat} {xs ys : List Action} {w : Work} {g : Glance} 
 turns_then {m' = m'} {m'' = m''} {ys = ys} {c' = c'} {n' = n'} a b =
     runs_then a (subst (λ (z : Work × Glance). Runs m' ys z.0 z.1 c' n' m'') (λ i. (a.work i, a.glance i)) b)
 
--- a pass that has let a mark go, or a file
-pub mark_then : {m m' : Sat} (m'' : Sat) {w : Work} {n : ℕ} (n' : ℕ) (r : Option Closed) → Runs m [] w m.0.glance m.0.change n m' → LetsMarkGo m' n' r m''
-    → LetsMarkGo m (n + n') r m''
-mark_then m'' n' None a b = does_then a b
-mark_then m'' n' (Some file) a b = (b.0, b.1, does_then a b.2)
+-- a pass that has let a charge go, or a file
+pub charge_then : {m m' : Sat} (m'' : Sat) {w : Work} {n : ℕ} (n' : ℕ) (r : Option Closed) → Runs m [] w m.0.glance m.0.change n m' → LetsChargeGo m' n' r m''
+    → LetsChargeGo m (n + n') r m''
+charge_then m'' n' None a b = does_then a b
+charge_then m'' n' (Some file) a b = (b.0, b.1, does_then a b.2)
 
 pub file_then : {m m' : Sat} (m'' : Sat) {w : Work} (f : File) {n : ℕ} (n' : ℕ) (r : Option Closed) → Runs m [] w m.0.glance m.0.change n m'
     → LetsFileGo m' f n' r m'' → LetsFileGo m f (n + n') r m''
@@ -210,7 +210,7 @@ pub out_and_home : {m m' m'' : Sat} {xs : List Action} {f : File} {n : ℕ} → 
 out_and_home {m' = m'} {m'' = m''} out home = does_then (runs_one out.stepped)
     (subst (λ (w : Work). Runs m' [] (rested w) m'.0.glance m'.0.change 1 m'') out.stepped.work home)
 
--- a pass lets a mark or a file go
+-- a pass lets a charge or a file go
 module _ {st : At} {m m' : Sat} {n found : ℕ} (did : LettingGo st m found m') where
   pub releases_out : {f : File} → IsReleasing m.0.work f n → found ≡ 2 → TakesOut m ([] ▷ Release f) f n m'
   releases_out {f} has is = ⊎_elim (λ (e : m.0.work ≡ Yielding f n). (did.yielded f n e).1 is)
@@ -223,7 +223,7 @@ module _ {st : At} {m m' : Sat} {n found : ℕ} (did : LettingGo st m found m') 
       (λ (y : (f : File) × (m.0.work ≡ Yielding f n)). ([] ▷ Release y.0, y.0, (did.yielded y.0 n y.1).1 is))
       (λ (y : (f : File) × (m.0.work ≡ Counted f n)). ([] ▷ Release y.0, y.0, (did.counted y.0 n y.1).1 is)) other) has
 
--- the node of the mark or the file that a pass drops is one of the table
+-- the node of the charge or the file that a pass drops is one of the table
 pub let_go_inside : {k : Start} {p n : ℕ} {m : Sat} → IsAtWork k p m → HasToLetGo m.0.work n → n < nodes_of k
 let_go_inside {n = n} {m = m} at has = ⊎_elim (λ (e : m.0.work ≡ Owing n). its_inside at e)
     (λ other. ⊎_elim (λ (y : (f : File) × (m.0.work ≡ Yielding f n)). its_inside at y.1)

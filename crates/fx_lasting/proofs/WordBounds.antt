@@ -31,10 +31,10 @@ module _ (k : Start) (s : Shared) (r : Agrees k s) where
     heat = λ slot inside. let a = (r.slots slot inside).heat in let b = tally_few (λ p. has_heated (r.deed slot p)) k.passes in omega arith;
     heat_room = omega (arith, r.shape.passes);
     named = λ slot node inside is. let a = r.slots slot inside in of_slot slot node inside _ a.names a.seat is;
-    leaving = λ seat node takes marks round v f there is.
+    leaving = λ seat node takes charges round v f there is.
         let work = subst (WorkAgrees k r.phase seat) is (r.holds.views seat v there).work in
         let o = subst (Node node) work.1 (r.nodes.each node work.0) in
-        let a = o.counts in let b = o.few_takes in let c = o.few_marks in let d = o.few_visits in omega arith;
+        let a = o.counts in let b = o.few_takes in let c = o.few_charges in let d = o.few_visits in omega arith;
     groups = λ g l. let a = (r.range.groups g l).counts in let b = owing_most k s r g in let c = few_slots (range_at_start k).1 g in
         let d = full_few (state_after_all k r.history).at (group_start (range_at_start k) g) (group_len (range_at_start k).1 g) in omega (arith, a, b, c, d);
   }

@@ -8,7 +8,7 @@ pub use Rattle.table_range.specs.Groups.{is_in, question_place, group_place, gro
 pub use Rattle.table_range.specs.Groups.{group_at, group_of, group_start, group_len}
 pub use Rattle.table_range.specs.Counts.{owing, uncounted, account, HasQuestionOf, HasVisitedFull, bit_of, lowered, raised, with_question}
 pub use Rattle.table_range.specs.declared.groups.TheConstants.{RANGE_END}
-pub use Rattle.fx_lasting.specs.holds.HoldsAgree.{IsIn, HoldAgrees, MayBeUnmarked, GuardAgrees, GlanceAgrees, Heats, LogAgrees, ViewAgrees, HoldsAt}
+pub use Rattle.fx_lasting.specs.holds.HoldsAgree.{IsIn, HoldAgrees, MayBeUncharged, GuardAgrees, GlanceAgrees, Heats, LogAgrees, ViewAgrees, HoldsAt}
 pub use Rattle.fx_lasting.specs.holds.HoldsAgree.{WorkAgrees, IsAllowed, IsIdleIn, IsToVisit, NamesNode, StillNames}
 pub use Rattle.fx_lasting.specs.Agrees.{Agrees}
 pub use Rattle.fx_lasting.specs.nodes.NodesAgree.{NodeAgrees, Does, OwnerAgrees, Nodes, Home, IsFileOfNode, IsVacant, IsBorn, Labels}
@@ -16,7 +16,7 @@ pub use Rattle.fx_lasting.specs.slots.SlotAgrees.{Names, IsSeated, SlotAgrees}
 pub use Rattle.fx_lasting.specs.AtWork.{IsAtWork, IsReleasing, HasPlace, MayPlace}
 pub use Rattle.fx_lasting.specs.range.Groups.{RangeCounts}
 pub use Rattle.fx_lasting.specs.Counts.{tally, owed}
-pub use Rattle.fx_lasting.specs.Ends.{LetsMarkGo, LetsFileGo, LooksByTake, Parked, TakenOut}
+pub use Rattle.fx_lasting.specs.Ends.{LetsChargeGo, LetsFileGo, LooksByTake, Parked, TakenOut}
 pub use Rattle.fx_lasting.specs.life.Cuts.{seats}
 pub use Rattle.table_seats.proofs.Gathered.{AreGathered}
 pub use Rattle.table_seats.proofs.Together.{HasLaws, Moves, find_pass, its_pass, its_range, not_there, of_one, total_same}
@@ -25,7 +25,7 @@ pub use Rattle.table_seats.specs.Together.{HasSeen, Together}
 pub use Rattle.fx_lasting.specs.Laws.{AimsKeep, TakesBesideKeep, ReplacesHeldKeep, HasToLetGo, IsOffCount, ClearsKeep, TakesOutKeep, ExchangesKeep, HasPass, GlancesKeep, AnnouncesKeep}
 pub use Rattle.fx_lasting.specs.Laws.{ConfirmsKeep, WithdrawsKeep, TakesOnceKeep, HeatsKeep, SplitsKeep, JoinsKeep, LowersKeep, RaisesKeep, AsksKeep}
 pub use Rattle.fx_lasting.specs.Laws.{ChecksKeep, BreaksKeep, BeginsKeep, CountsKeep, DecidesKeep, IsGroup, PeeksKeep, InstallsKeep, StepsDownKeep}
-pub use Rattle.fx_lasting.specs.Laws.{LettingGoKeeps, SeeksKeep, BirthsKeep, RestsKeep, VisitsKeep, MarksKeep, ParksKeep, ResumesKeep, SettlesKeep}
+pub use Rattle.fx_lasting.specs.Laws.{LettingGoKeeps, SeeksKeep, BirthsKeep, RestsKeep, VisitsKeep, ChargesKeep, ParksKeep, ResumesKeep, SettlesKeep}
 pub use Rattle.fx_lasting.specs.Laws.{HasItsPlace, RecallsTagKeep, TagsKeep, NumbersKeep, ReadsTagKeep, ReadsNumberKeep, RetiresKeep, IsInRange, ListsKeep, SkimsKeep}
 pub use Rattle.fx_lasting.specs.Laws.{IsPassed, SeesKeep, TakesIfKeep, SwapsIfKeep, ReplacesKeep, FinishesKeep, SwapsOutKeep}
 pub use Rattle.fx_lasting.specs.Laws.{MayAnnounce, EndsItsHoldKeep, SwapsHeldKeep, TakesHeldKeep}
@@ -37,7 +37,7 @@ pub use Rattle.fx_lasting.specs.life.Layout.{stocks_back, tag_place, number_plac
 pub use Rattle.fx_lasting.specs.life.Layout.{PlacesAreInside, PlacesAreApart, LabelsAreApart, NodesAreInOneLine, IsNoLabel, words_for, nodes_for}
 pub use Rattle.fx_lasting.specs.life.Opens.{word_for, node_for, home_for, first_file, OpensWith}
 pub use Rattle.fx_lasting.specs.slots.Deeds.{Deed, untouched, over, heated, has_acted, has_heated}
-pub use Rattle.fx_lasting.specs.Fields.{heat_unit, count_in, heat_in, IsHot, cold_takes, birth_word, retirement_amount, announced, mark}
+pub use Rattle.fx_lasting.specs.Fields.{heat_unit, count_in, heat_in, IsHot, cold_takes, birth_word, retirement_amount, announced, charge}
 pub use Rattle.fx_lasting.specs.Fields.{IsListedIn, full_name_in, file_node_in, file_word_of, empty_word_of, without_file, name_mask, most_carried}
 pub use Rattle.fx_lasting.specs.Fields.{MayCarry}
 pub use Rattle.fx_lasting.specs.Passes.{alone_in, node_of_number, HasNoFile, Shared, Sat, state_at_start, slots_of, range_at_start, nodes_of, first_stock}
@@ -59,7 +59,7 @@ pub use Rattle.fx_lasting.specs.declared.pass.LastingPass.{LastingPass}
 pub use Rattle.fx_lasting.specs.declared.table.LastingTable.{LastingTable}
 pub use Rattle.fx_lasting.specs.Effects.{TakesAs, At, rested, Lists, Skims, IsOnList, as_listed, round_at, round_from, new_round, Announces, Shows, Confirms}
 pub use Rattle.fx_lasting.specs.Effects.{Withdraws, glance_after, Takes, HeatsSlot, StepsDown, TakesOut, slot_of, pass_at, pass_event, pass_in}
-pub use Rattle.fx_lasting.specs.Effects.{IsInside, Stepped, Goes, Glances, Exchanges, LettingGo, Seeks, Births, Rests, Visits, Marks, Retires}
+pub use Rattle.fx_lasting.specs.Effects.{IsInside, Stepped, Goes, Glances, Exchanges, LettingGo, Seeks, Births, Rests, Visits, Charges, Retires}
 pub use Rattle.fx_lasting.specs.Effects.{first_visit, retiring_work, Found, Installs, Removes, Turns, Asks, Peeks, as_asked, as_stocked}
 pub use Rattle.fx_lasting.specs.Effects.{IsWatching, MeetsOne, IsOvertaken, HasGap, as_swapped, NamesANode, Lowers, Checks, Breaks, Raises, Begins, Counts, Decides, Sees, TakesIf, Replaces}
 pub use Rattle.fx_lasting.specs.Effects.{HasAnnounced, HasItsHold, EndsItsHold, announcing, guarded_round, guarding, leaving_work, removal_work}

@@ -22,7 +22,7 @@ pub record Agrees (k : Start) (s : Shared) : Type 0 where
   -- on which node a number is
   pub node_of : Nodes
   pub numbering : (number : ℕ) → node_of number ≡ node_of_number k number
-  -- which node a pass owes a mark to, plus 1, or 0
+  -- which node a pass owes a charge to, plus 1, or 0
   pub debt : ℕ → ℕ
   -- by slot and pass, what the pass did there since the slot's word was last swapped
   pub deed : ℕ → ℕ → Deed

@@ -38,8 +38,8 @@ pub record AreBounded (k : Start) (s : Shared) : Type 0 where
   pub named : (slot node : ℕ) → slot < slots_of k → full_name_in (slot_word_in s slot) ≡ node + 1
       → 2 < node_word_in k s node
   -- nor after its file's removal, until the file is retired
-  pub leaving : (seat node takes marks : ℕ) (round : Round) (v : View) (f : File)
-      → get_elem? s.views seat ≡ some v → v.work ≡ Retiring f node takes round marks
+  pub leaving : (seat node takes charges : ℕ) (round : Round) (v : View) (f : File)
+      → get_elem? s.views seat ≡ some v → v.work ≡ Retiring f node takes round charges
       → 2 < node_word_in k s node
   -- of at most 16,384 full slots, a group's word counts at most one too few for each pass
   pub groups : (group : ℕ) → group < groups_in (range_at_start k).1

@@ -77,7 +77,7 @@ IsInside k (Placing node placement) = node < nodes_of k
 IsInside k (Renewing f node own placement) = (node < nodes_of k) × (own < nodes_of k)
 IsInside k (Nearing node own placement) = (node < nodes_of k) × (own < nodes_of k)
 IsInside k (Relieving f node own placement) = (node < nodes_of k) × (own < nodes_of k)
-IsInside k (Retiring f node takes round marks) = node < nodes_of k
+IsInside k (Retiring f node takes round charges) = node < nodes_of k
 IsInside k (Emptying node) = node < nodes_of k
 IsInside k (Keeping node lost) = node < nodes_of k
 
@@ -202,11 +202,11 @@ pub record Confirms (st : At) (m : Sat) (found : ℕ) (m' : Sat) : Type 0 where
       → ((full_name_in found ≡ node + 1) × IsHot found → ⊥)
       → Goes m [] m.0.work (Cold slot) m'
 
--- Withdraw: a mark that was found is owed
+-- Withdraw: a charge that was found is owed
 pub record Withdraws (st : At) (m : Sat) (found : ℕ) (m' : Sat) : Type 0 where
   pub clean : (node : ℕ) → m.0.work ≡ Announced node → found ≡ announced node
       → Goes m [] Idle m.0.glance m'
-  pub marked : (node : ℕ) → m.0.work ≡ Announced node → found ≢ announced node
+  pub charged : (node : ℕ) → m.0.work ≡ Announced node → found ≢ announced node
       → Goes m [] (Owing node) m.0.glance m'
 
 -- how far a look-up is that took what a slot named, whose word it found so, in a table with these
@@ -234,11 +234,11 @@ Takes = TakesAs Idle Counted
 pub record HeatsSlot (st : At) (m : Sat) (found : ℕ) (m' : Sat) : Type 0 where
   pub goes : Goes m [] m.0.work Nothing m'
 
--- Step down: a hold by the hold word ends at once where it wasn't marked
+-- Step down: a hold by the hold word ends at once where it wasn't charged
 pub record StepsDown (st : At) (m : Sat) (found : ℕ) (m' : Sat) : Type 0 where
   pub clean : (f : File) (node : ℕ) → m.0.work ≡ Guarded f node → found ≡ announced node
       → Goes m ([] ▷ Release f) Idle m.0.glance m'
-  pub marked : (f : File) (node : ℕ) → m.0.work ≡ Guarded f node → found ≢ announced node
+  pub charged : (f : File) (node : ℕ) → m.0.work ≡ Guarded f node → found ≢ announced node
       → Goes m [] (Yielding f node) m.0.glance m'
 
 -- the file is closed, and with the pass
@@ -252,7 +252,7 @@ abbrev pub LetsGo : Sat → List Action → ℕ → ℕ → Sat → Type 0
 LetsGo m actions node found m' = (found ≢ 2 → Goes m actions Idle m.0.glance m')
     × (found ≡ 2 → (f : File) × TakesOut m actions f node m')
 
--- Drop, of a mark or of a take
+-- Drop, of a charge or of a take
 pub record LettingGo (st : At) (m : Sat) (found : ℕ) (m' : Sat) : Type 0 where
   pub owed : (node : ℕ) → m.0.work ≡ Owing node → LetsGo m [] node found m'
   pub yielded : (f : File) (node : ℕ) → m.0.work ≡ Yielding f node
@@ -306,52 +306,52 @@ round_from place found = record {
 
 -- End of a hold: the hold word of a pass that removed the file it held names no node any more
 pub record EndsItsHold (st : At) (m : Sat) (found : ℕ) (m' : Sat) : Type 0 where
-  pub goes : (f : File) (node takes : ℕ) (round : Round) (marks : ℕ)
-      → m.0.work ≡ Retiring f node takes round marks
-      → Goes m [] (Retiring f node takes (record round { guarded = false }) marks) m.0.glance m'
+  pub goes : (f : File) (node takes : ℕ) (round : Round) (charges : ℕ)
+      → m.0.work ≡ Retiring f node takes round charges
+      → Goes m [] (Retiring f node takes (record round { guarded = false }) charges) m.0.glance m'
 
 -- Skim, of a word of the list: of its passes, those without their bits need no visit
 pub record Skims (st : At) (m : Sat) (found : ℕ) (m' : Sat) : Type 0 where
-  pub goes : (f : File) (node takes : ℕ) (round : Round) (marks : ℕ)
-      → m.0.work ≡ Retiring f node takes round marks
-      → Goes m [] (Retiring f node takes (round_from st.word found) marks) m.0.glance m'
+  pub goes : (f : File) (node takes : ℕ) (round : Round) (charges : ℕ)
+      → m.0.work ≡ Retiring f node takes round charges
+      → Goes m [] (Retiring f node takes (round_from st.word found) charges) m.0.glance m'
   -- the others are passes of the table
   pub inside : (p : ℕ) → 0 < p → p ≤ 1024 → list_place p ≡ st.word → IsListedIn found p
       → p ≤ m.0.start.passes
 
--- Visit, of a hold word: one that doesn't name the node isn't marked
+-- Visit, of a hold word: one that doesn't name the node isn't charged
 pub record Visits (st : At) (m : Sat) (found : ℕ) (m' : Sat) : Type 0 where
-  pub other : (f : File) (node takes : ℕ) (round : Round) (marks : ℕ)
-      → m.0.work ≡ Retiring f node takes round marks
+  pub other : (f : File) (node takes : ℕ) (round : Round) (charges : ℕ)
+      → m.0.work ≡ Retiring f node takes round charges
       → found ≢ announced node
-      → Goes m [] (Retiring f node takes (round_at round (pass_at m.0.start st.word)) marks)
+      → Goes m [] (Retiring f node takes (round_at round (pass_at m.0.start st.word)) charges)
       m.0.glance m'
-  pub names : (f : File) (node takes : ℕ) (round : Round) (marks : ℕ)
-      → m.0.work ≡ Retiring f node takes round marks
-      → found ≡ announced node → Goes m [] (Retiring f node takes round marks) m.0.glance m'
+  pub names : (f : File) (node takes : ℕ) (round : Round) (charges : ℕ)
+      → m.0.work ≡ Retiring f node takes round charges
+      → found ≡ announced node → Goes m [] (Retiring f node takes round charges) m.0.glance m'
 
--- Mark: it is counted where it was made
-pub record Marks (st : At) (m : Sat) (found : ℕ) (m' : Sat) : Type 0 where
-  pub made : (f : File) (node takes : ℕ) (round : Round) (marks : ℕ)
-      → m.0.work ≡ Retiring f node takes round marks
+-- Charge: it is counted where it was made
+pub record Charges (st : At) (m : Sat) (found : ℕ) (m' : Sat) : Type 0 where
+  pub made : (f : File) (node takes : ℕ) (round : Round) (charges : ℕ)
+      → m.0.work ≡ Retiring f node takes round charges
       → found ≡ announced node
-      → Goes m [] (Retiring f node takes (round_at round (pass_at m.0.start st.word)) (marks + 1))
+      → Goes m [] (Retiring f node takes (round_at round (pass_at m.0.start st.word)) (charges + 1))
       m.0.glance m'
-  pub missed : (f : File) (node takes : ℕ) (round : Round) (marks : ℕ)
-      → m.0.work ≡ Retiring f node takes round marks
+  pub missed : (f : File) (node takes : ℕ) (round : Round) (charges : ℕ)
+      → m.0.work ≡ Retiring f node takes round charges
       → found ≢ announced node
-      → Goes m [] (Retiring f node takes (round_at round (pass_at m.0.start st.word)) marks)
+      → Goes m [] (Retiring f node takes (round_at round (pass_at m.0.start st.word)) charges)
       m.0.glance m'
 
 -- Retire: where the word was 1 more than what was subtracted, nobody has still to let the file go
 pub record Retires (st : At) (m : Sat) (found : ℕ) (m' : Sat) : Type 0 where
-  pub waits : (f : File) (node takes : ℕ) (round : Round) (marks : ℕ)
-      → m.0.work ≡ Retiring f node takes round marks
+  pub waits : (f : File) (node takes : ℕ) (round : Round) (charges : ℕ)
+      → m.0.work ≡ Retiring f node takes round charges
       → found ≢ st.first + 1
       → Goes m [] Idle m.0.glance m'
       × ((state_after_all m.0.start (pass_in m').front).removed f.number ≡ Some f)
-  pub closes : (f : File) (node takes : ℕ) (round : Round) (marks : ℕ)
-      → m.0.work ≡ Retiring f node takes round marks
+  pub closes : (f : File) (node takes : ℕ) (round : Round) (charges : ℕ)
+      → m.0.work ≡ Retiring f node takes round charges
       → found ≡ st.first + 1 → TakesOut m [] f node m'
 
 -- where the visits of a retirement begin: a file of a slot that wasn't hot is held by takes alone

@@ -24,10 +24,10 @@ use Rattle.fx_lasting.specs.declared.view.Work.TheVariants.{Emptying, Keeping}
 abbrev pub Does : Sat → List Action → Work → ℕ → Sat → Type 0
 Does m actions w most m' = Runs m actions w m.0.glance m.0.change most m'
 
--- a pass that dropped a mark: it is idle, and got the file if that is closed now
-abbrev pub LetsMarkGo : Sat → ℕ → Option Identity → Sat → Type 0
-LetsMarkGo m most None m' = Does m [] Idle most m'
-LetsMarkGo m most (Some file) m' =
+-- a pass that dropped a charge: it is idle, and got the file if that is closed now
+abbrev pub LetsChargeGo : Sat → ℕ → Option Identity → Sat → Type 0
+LetsChargeGo m most None m' = Does m [] Idle most m'
+LetsChargeGo m most (Some file) m' =
     (f : File) × (file ≡ f.identity) × Does m ([] ▷ Close f) Idle most m'
 
 -- a pass that released the file: it is idle, and got the file if that is closed now

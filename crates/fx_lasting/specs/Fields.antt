@@ -73,13 +73,13 @@ MayCarry word = (word ≤ birth_word) × (birth_word ≤ word + most_carried)
 abbrev pub closed_word : ℕ
 closed_word = 1
 
--- the number that a retirement subtracts, from the takes and the marks
+-- the number that a retirement subtracts, from the takes and the charges
 abbrev pub retirement_amount : ℕ → ℕ → ℕ
-retirement_amount takes marks = 2 ^ 32 - (takes + marks)
+retirement_amount takes charges = 2 ^ 32 - (takes + charges)
 
 -- the hold word of a pass that announces a node, and what a retirement adds to it
 abbrev pub announced : ℕ → ℕ
 announced node = node + 1
 
-abbrev pub mark : ℕ
-mark = 2 ^ 32
+abbrev pub charge : ℕ
+charge = 2 ^ 32

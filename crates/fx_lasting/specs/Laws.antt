@@ -13,7 +13,7 @@ use Rattle.table_range.specs.Groups.{is_in, question_place, group_place, groups_
 use Rattle.table_range.specs.Counts.{uncounted, bit_of, lowered, raised, with_question}
 use Rattle.fx_lasting.specs.nodes.Labels.{label_of, as_written}
 use Rattle.fx_lasting.specs.life.Layout.{list_place, slot_place}
-use Rattle.fx_lasting.specs.Fields.{heat_unit, birth_word, announced, mark, retirement_amount}
+use Rattle.fx_lasting.specs.Fields.{heat_unit, birth_word, announced, charge, retirement_amount}
 use Rattle.fx_lasting.specs.Fields.{full_name_in, file_word_of, without_file, name_mask}
 use Rattle.fx_lasting.specs.Fields.{empty_word_of}
 use Rattle.fx_lasting.specs.Passes.{Sat, HasNoFile, slots_of, range_at_start, word_of, alone_in}
@@ -125,7 +125,7 @@ StepsDownKeep tells = (k : Start) (slots id i node : ℕ) (f : File) (m : Sat) (
     → HasPass k m x → m.0.work ≡ Guarded f node → i ≡ hold_word_of k x.number
     → Allows (Agrees k) slots id m i (λ _. 0) (tells (step slots i 0 0 none) m)
 
--- a pass subtracts the mark that it owes, or the take by which it holds a file
+-- a pass subtracts the charge that it owes, or the take by which it holds a file
 abbrev pub LettingGoKeeps : Kind → Type 0
 LettingGoKeeps tells = (k : Start) (slots id i node : ℕ) (m : Sat) (x : Log) → HasPass k m x
     → HasToLetGo m.0.work node → i ≡ word_of k node
@@ -208,8 +208,8 @@ SettlesKeep tells = (k : Start) (slots id i n lost : ℕ) (m : Sat) (x : Log) �
 
 -- a pass stores 0 in its hold word, which names the node whose file it has removed
 abbrev pub EndsItsHoldKeep : Kind → Type 0
-EndsItsHoldKeep tells = (k : Start) (slots id i node takes marks : ℕ) (round : Round) (f : File)
-    (m : Sat) (x : Log) → HasPass k m x → m.0.work ≡ Retiring f node takes round marks
+EndsItsHoldKeep tells = (k : Start) (slots id i node takes charges : ℕ) (round : Round) (f : File)
+    (m : Sat) (x : Log) → HasPass k m x → m.0.work ≡ Retiring f node takes round charges
     → round.guarded ≡ true → i ≡ hold_word_of k x.number
     → Allows (Agrees k) slots id m i (λ _. 0) (λ _. tells (step slots i 0 0 none) m 0)
 
@@ -220,45 +220,45 @@ IsPassed number round pass = (pass ≡ number) ⊎ IsIdleIn round pass
 -- a pass that removed a hot file loads a word of the list, after it has visited the passes of the
 -- words before it
 abbrev pub SkimsKeep : Kind → Type 0
-SkimsKeep tells = (k : Start) (slots id i node takes marks index : ℕ) (round : Round) (f : File)
-    (m : Sat) (x : Log) → HasPass k m x → m.0.work ≡ Retiring f node takes round marks
+SkimsKeep tells = (k : Start) (slots id i node takes charges index : ℕ) (round : Round) (f : File)
+    (m : Sat) (x : Log) → HasPass k m x → m.0.work ≡ Retiring f node takes round charges
     → round.guarded ≡ false → index < 16 → round.next ≤ 64 * index + 1
     → ((p : ℕ) → round.next ≤ p → p ≤ 64 * index → IsPassed x.number round p) → i ≡ 6 + index
     → Allows (Agrees k) slots id m i (λ word. word) (tells (step slots i 0 0 none) m)
 
 -- a pass that removed a hot file loads the hold word of the next pass that it has to visit
 abbrev pub VisitsKeep : Kind → Type 0
-VisitsKeep tells = (k : Start) (slots id i node takes marks pass : ℕ) (round : Round) (f : File)
-    (m : Sat) (x : Log) → HasPass k m x → m.0.work ≡ Retiring f node takes round marks
+VisitsKeep tells = (k : Start) (slots id i node takes charges pass : ℕ) (round : Round) (f : File)
+    (m : Sat) (x : Log) → HasPass k m x → m.0.work ≡ Retiring f node takes round charges
     → round.guarded ≡ false → round.next ≤ pass → pass ≤ k.passes → pass ≢ x.number
     → ((p : ℕ) → round.next ≤ p → p < pass → IsPassed x.number round p) → i ≡ hold_word_of k pass
     → Allows (Agrees k) slots id m i (λ word. word) (tells (step slots i 0 0 none) m)
 
--- it marks the hold word of that pass, if it names the node still
-abbrev pub MarksKeep : Kind → Type 0
-MarksKeep tells = (k : Start) (slots id i node takes marks pass : ℕ) (round : Round) (f : File)
-    (m : Sat) (x : Log) → HasPass k m x → m.0.work ≡ Retiring f node takes round marks
+-- it charges the hold word of that pass, if it names the node still
+abbrev pub ChargesKeep : Kind → Type 0
+ChargesKeep tells = (k : Start) (slots id i node takes charges pass : ℕ) (round : Round) (f : File)
+    (m : Sat) (x : Log) → HasPass k m x → m.0.work ≡ Retiring f node takes round charges
     → round.guarded ≡ false → round.next ≤ pass → pass ≤ k.passes → pass ≢ x.number
     → ((p : ℕ) → round.next ≤ p → p < pass → IsPassed x.number round p) → i ≡ hold_word_of k pass
     → Allows (Agrees k) slots id m i
-    (λ word. either (word == announced node) (announced node + mark) word)
-    (tells (step slots i (announced node) (announced node + mark) none) m)
+    (λ word. either (word == announced node) (announced node + charge) word)
+    (tells (step slots i (announced node) (announced node + charge) none) m)
 
 -- it loads the node's word, when it has visited all passes that it has to
 abbrev pub FinishesKeep : Kind → Type 0
-FinishesKeep tells = (k : Start) (slots id i node takes marks : ℕ) (round : Round) (f : File)
-    (m : Sat) (x : Log) → HasPass k m x → m.0.work ≡ Retiring f node takes round marks
+FinishesKeep tells = (k : Start) (slots id i node takes charges : ℕ) (round : Round) (f : File)
+    (m : Sat) (x : Log) → HasPass k m x → m.0.work ≡ Retiring f node takes round charges
     → round.guarded ≡ false
     → ((p : ℕ) → round.next ≤ p → p ≤ k.passes → IsPassed x.number round p) → i ≡ word_of k node
     → Allows (Agrees k) slots id m i (λ word. word) (tells (step slots i 0 0 none) m)
 
--- it subtracts 2^32 less the takes and the marks, when it has visited all passes that it has to
+-- it subtracts 2^32 less the takes and the charges, when it has visited all passes that it has to
 abbrev pub RetiresKeep : Kind → Type 0
-RetiresKeep tells = (k : Start) (slots id i node takes marks amount : ℕ) (round : Round) (f : File)
-    (m : Sat) (x : Log) → HasPass k m x → m.0.work ≡ Retiring f node takes round marks
+RetiresKeep tells = (k : Start) (slots id i node takes charges amount : ℕ) (round : Round) (f : File)
+    (m : Sat) (x : Log) → HasPass k m x → m.0.work ≡ Retiring f node takes round charges
     → round.guarded ≡ false
     → ((p : ℕ) → round.next ≤ p → p ≤ k.passes → IsPassed x.number round p) → i ≡ word_of k node
-    → amount ≡ retirement_amount takes marks
+    → amount ≡ retirement_amount takes charges
     → Allows (Agrees k) slots id m i (λ word. (word + (2 ^ 64 - amount)) % 2 ^ 64)
     (tells (step slots i amount 0 none) m)
 

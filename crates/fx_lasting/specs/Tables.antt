@@ -42,7 +42,7 @@ doing_in (Counted f node) = Holding f (hold_at f node)
 doing_in (Guarded f node) = Holding f (hold_at f node)
 doing_in (Renewing f node own placement) = Holding f (hold_at f node)
 doing_in (Relieving f node own placement) = Holding f (hold_at f node)
-doing_in (Retiring f node takes round marks) = Retires f (retired_at f node takes)
+doing_in (Retiring f node takes round charges) = Retires f (retired_at f node takes)
 doing_in _ = DoesNothing
 
 -- the files that a pass can install, if those from 1 to `installing` install: none, or always as
@@ -97,8 +97,8 @@ module _ (passes : ℕ) (idle guarded keeps : Bool) (visit : ℕ) (stock : List 
       (idle ≡ true) × (keeps ≡ true) × (get_elem? stock entry ≡ some node)
   IsBetweenCalls (Counted f node) = (idle ≡ false) × (keeps ≡ false) × (guarded ≡ false)
   IsBetweenCalls (Guarded f node) = (idle ≡ false) × (keeps ≡ false) × (guarded ≡ true)
-  IsBetweenCalls (Retiring f node takes round marks) = (idle ≡ false) × (keeps ≡ false)
-      × (round ≡ new_round visit) × (marks ≡ 0) × (takes < 2 ^ 20)
+  IsBetweenCalls (Retiring f node takes round charges) = (idle ≡ false) × (keeps ≡ false)
+      × (round ≡ new_round visit) × (charges ≡ 0) × (takes < 2 ^ 20)
       × ((visit ≡ 1) ⊎ (visit ≡ passes + 1))
   IsBetweenCalls _ = ⊥
 

@@ -51,7 +51,7 @@ HasOneHistory = (k : Start) (s : Shared) (r : Agrees k s) → IsOfAllPasses k s 
 -- a pass with this work retires the file of the node, holds it, or is within a look-up that
 -- announced the node
 abbrev pub Uses : File → ℕ → Work → Type 0
-Uses f node (Retiring other n takes round marks) = other ≡ f
+Uses f node (Retiring other n takes round charges) = other ≡ f
 Uses f node (Counted other n) = other ≡ f
 Uses f node (Guarded other n) = other ≡ f
 Uses f node (Yielding other n) = other ≡ f

@@ -287,9 +287,9 @@ impl LastingTable {
             entry: _,
             takes,
         } = retired;
-        let marks = self.mark_all(&mut pass.seat, pass.number, node, pass.next_visit);
+        let charges = self.charge_all(&mut pass.seat, pass.number, node, pass.next_visit);
         let place = self.node_place(node);
-        let amount = retire_amount(takes, marks);
+        let amount = retire_amount(takes, charges);
         let shared = &self.table.shared;
         pass.idle = true;
         let left = shared.load::<Finishing>(&mut pass.seat, place);

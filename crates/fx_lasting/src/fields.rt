@@ -5,7 +5,7 @@ ghost use Rattle.std.specs.Prelude.{IsTrue, None, true, false};
 ghost use Rattle.fx_words.specs.Words.{last_node, name_in};
 ghost use Rattle.fx_lasting.specs.Fields.{full_name_in, file_node_in, file_word_of, empty_word_of};
 ghost use Rattle.fx_lasting.specs.Fields.{without_file, name_mask, count_in, IsHot};
-ghost use Rattle.fx_lasting.specs.Fields.{announced, mark, retirement_amount, cold_takes, MayCarry};
+ghost use Rattle.fx_lasting.specs.Fields.{announced, charge, retirement_amount, cold_takes, MayCarry};
 
 use fx_words::{node_of, slot_word};
 
@@ -119,18 +119,18 @@ pub(crate) fn announced(node: u32) -> u64
     u64::from(node) + 1
 }
 
-// Returns that word once a retirement has marked it.
-pub(crate) fn marked(node: u32) -> u64
-    ensures { result ≡ announced node + mark }
+// Returns that word once a retirement has charged it.
+pub(crate) fn charged(node: u32) -> u64
+    ensures { result ≡ announced node + charge }
 {
     u64::from(node) + 1 + (1 << 32)
 }
 
-// Returns the amount that the retirement of a file with these takes and marks subtracts from its
+// Returns the amount that the retirement of a file with these takes and charges subtracts from its
 // node's word.
-pub(crate) fn retire_amount(takes: u32, marks: u32) -> u64
-    requires { takes + marks ≤ 2 ^ 32 }
-    ensures { result ≡ retirement_amount takes marks }
+pub(crate) fn retire_amount(takes: u32, charges: u32) -> u64
+    requires { takes + charges ≤ 2 ^ 32 }
+    ensures { result ≡ retirement_amount takes charges }
 {
-    (1 << 32) - (u64::from(takes) + u64::from(marks))
+    (1 << 32) - (u64::from(takes) + u64::from(charges))
 }

@@ -5,7 +5,7 @@ ghost use Rattle.table_seats.specs.Seats.{shown_view};
 ghost use Rattle.fx_lasting.specs.life.Cuts.{seats};
 ghost use Rattle.fx_lasting.specs.Effects.{Glances, Lists, Announces, Confirms, Withdraws, Takes};
 ghost use Rattle.fx_lasting.specs.Effects.{HeatsSlot, StepsDown, LettingGo, Seeks, Births, Rests};
-ghost use Rattle.fx_lasting.specs.Effects.{EndsItsHold, Skims, Visits, Marks, Retires, Installs};
+ghost use Rattle.fx_lasting.specs.Effects.{EndsItsHold, Skims, Visits, Charges, Retires, Installs};
 ghost use Rattle.fx_lasting.specs.Effects.{Exchanges, Removes, Peeks, Sees, TakesIf, Replaces, Lowers};
 ghost use Rattle.fx_lasting.specs.Effects.{Checks, Breaks, Raises, Begins, Asks, Counts, Decides};
 ghost use Rattle.fx_lasting.specs.nodes.LabelSteps.{RecallsTag, Tags, Numbers, ReadsTag};
@@ -78,7 +78,7 @@ impl Play<Option<OpenFile>, View> for Confirming {
     ghost then = { Confirms };
 }
 
-/// Withdraw: an announcement ends, and a mark that it got is owed.
+/// Withdraw: an announcement ends, and a charge that it got is owed.
 pub struct Withdrawing;
 
 impl Play<Option<OpenFile>, View> for Withdrawing {
@@ -100,14 +100,14 @@ impl Play<Option<OpenFile>, View> for HeatingUp {
     ghost then = { HeatsSlot };
 }
 
-/// Step down: a hold by the hold word ends, or its mark is owed.
+/// Step down: a hold by the hold word ends, or its charge is owed.
 pub struct SteppingDown;
 
 impl Play<Option<OpenFile>, View> for SteppingDown {
     ghost then = { StepsDown };
 }
 
-/// Drop: a mark or a take less in the word of a node. Where none is left of a retired file, the
+/// Drop: a charge or a take less in the word of a node. Where none is left of a retired file, the
 /// file goes to the pass.
 pub struct Letting;
 
@@ -217,14 +217,14 @@ impl Play<Option<OpenFile>, View> for Visiting {
     ghost then = { Visits };
 }
 
-/// Mark: the announcement of another pass is counted, and that pass owes it.
-pub struct Marking;
+/// Charge: the announcement of another pass is counted, and that pass owes it.
+pub struct Charging;
 
-impl Play<Option<OpenFile>, View> for Marking {
-    ghost then = { Marks };
+impl Play<Option<OpenFile>, View> for Charging {
+    ghost then = { Charges };
 }
 
-/// Finish: a pass that removed a file reads whether all its takes and marks were dropped. If so,
+/// Finish: a pass that removed a file reads whether all its takes and charges were dropped. If so,
 /// the file goes to the pass.
 pub struct Finishing;
 
@@ -232,8 +232,8 @@ impl Play<Option<OpenFile>, View> for Finishing {
     ghost then = { Finishes };
 }
 
-/// Retire: takes and marks turn the word of a removed file's node into what is still to be dropped.
-/// Where nothing is left, the file goes to the pass.
+/// Retire: takes and charges turn the word of a removed file's node into what is still to be
+/// dropped. Where nothing is left, the file goes to the pass.
 pub struct Retire;
 
 impl Play<Option<OpenFile>, View> for Retire {

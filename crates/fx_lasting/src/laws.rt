@@ -14,7 +14,7 @@ ghost use Rattle.fx_lasting.specs.Laws.{WithdrawsKeep, TakesOnceKeep, HeatsKeep,
 ghost use Rattle.fx_lasting.specs.Laws.{LettingGoKeeps, SeeksKeep, BirthsKeep, RecallsTagKeep, TagsKeep};
 ghost use Rattle.fx_lasting.specs.Laws.{NumbersKeep, ReadsTagKeep, ReadsNumberKeep, RestsKeep};
 ghost use Rattle.fx_lasting.specs.Laws.{ParksKeep, ResumesKeep, SettlesKeep, SkimsKeep, VisitsKeep};
-ghost use Rattle.fx_lasting.specs.Laws.{MarksKeep, FinishesKeep, RetiresKeep, LowersKeep};
+ghost use Rattle.fx_lasting.specs.Laws.{ChargesKeep, FinishesKeep, RetiresKeep, LowersKeep};
 ghost use Rattle.fx_lasting.specs.Laws.{ChecksKeep, BreaksKeep, RaisesKeep, BeginsKeep, AsksKeep};
 ghost use Rattle.fx_lasting.specs.Laws.{CountsKeep, DecidesKeep, PeeksKeep, SplitsKeep, JoinsKeep};
 ghost use Rattle.fx_lasting.specs.Laws.{ClearsKeep, TakesOutKeep, SwapsOutKeep, InstallsKeep};
@@ -23,9 +23,9 @@ ghost use Rattle.fx_lasting.specs.Laws.{SwapsHeldKeep, TakesHeldKeep, ReplacesKe
 ghost use Rattle.fx_lasting.specs.Laws.{TakesBesideKeep, ReplacesHeldKeep, EndsItsHoldKeep};
 
 use crate::kinds::{
-    Aiming, Announcing, Asking, Beginning, Birth, Breaking, ByClose, ByUpdate, Checking, Clearing,
-    Confirming, Counting, Deal, Deciding, EndingHold, Exchanging, Finishing, Gather, Glancing,
-    HeatingUp, Installing, Letting, Listing, Lowering, Marking, Numbering, OneHistory, Parking,
+    Aiming, Announcing, Asking, Beginning, Birth, Breaking, ByClose, ByUpdate, Charging, Checking,
+    Clearing, Confirming, Counting, Deal, Deciding, EndingHold, Exchanging, Finishing, Gather,
+    Glancing, HeatingUp, Installing, Letting, Listing, Lowering, Numbering, OneHistory, Parking,
     Peeking, Raising, ReadingNumber, ReadingTag, RecallingTag, Replacing, ReplacingHeld, Resting,
     Resuming, Retire, Seeing, Seeking, Settling, Skimming, SteppingDown, Swapping, SwappingHeld,
     SwappingIf, Tagging, Taking, TakingBeside, TakingHeld, TakingIf, Visiting, Withdrawing,
@@ -72,7 +72,7 @@ pub fn confirm_keeps_rule()
     ensures { ConfirmsKeep ⟦<Confirming as Play<Option<OpenFile>, View>>⟧.then }
 {}
 
-/// A pass that swaps its announcement for 0 keeps the rule, and owes the mark that it found.
+/// A pass that swaps its announcement for 0 keeps the rule, and owes the charge that it found.
 pub fn withdraw_keeps_rule()
     ensures { WithdrawsKeep ⟦<Withdrawing as Play<Option<OpenFile>, View>>⟧.then }
 {}
@@ -94,8 +94,8 @@ pub fn step_down_keeps_rule()
     ensures { StepsDownKeep ⟦<SteppingDown as Play<Option<OpenFile>, View>>⟧.then }
 {}
 
-/// A pass that subtracts a mark or a take from the word of a node keeps the rule. Where it finds 2,
-/// the file is closed and with the pass.
+/// A pass that subtracts a charge or a take from the word of a node keeps the rule. Where it finds
+/// 2, the file is closed and with the pass.
 pub fn let_go_keeps_rule()
     ensures { LettingGoKeeps ⟦<Letting as Play<Option<OpenFile>, View>>⟧.then }
 {}
@@ -179,20 +179,20 @@ pub fn visit_keeps_rule()
     ensures { VisitsKeep ⟦<Visiting as Play<Option<OpenFile>, View>>⟧.then }
 {}
 
-/// A pass that removed a hot file and marks an announcement of its node keeps the rule.
-pub fn mark_keeps_rule()
-    ensures { MarksKeep ⟦<Marking as Play<Option<OpenFile>, View>>⟧.then }
+/// A pass that removed a hot file and charges an announcement of its node keeps the rule.
+pub fn charge_keeps_rule()
+    ensures { ChargesKeep ⟦<Charging as Play<Option<OpenFile>, View>>⟧.then }
 {}
 
 /// A pass that removed a file, has visited all passes that it has to, and loads the word of the
-/// file's node keeps the rule. If all takes and marks of the file were dropped, it is closed and
+/// file's node keeps the rule. If all takes and charges of the file were dropped, it is closed and
 /// with the pass.
 pub fn finish_keeps_rule()
     ensures { FinishesKeep ⟦<Finishing as Play<Option<OpenFile>, View>>⟧.then }
 {}
 
-/// A pass that subtracts 2^32 less the takes and marks of the file that it removed keeps the rule.
-/// Where 1 is left nobody has still to let the file go: it is closed and with the pass.
+/// A pass that subtracts 2^32 less the takes and charges of the file that it removed keeps the
+/// rule. Where 1 is left nobody has still to let the file go: it is closed and with the pass.
 pub fn retire_keeps_rule()
     ensures { RetiresKeep ⟦<Retire as Play<Option<OpenFile>, View>>⟧.then }
 {}

@@ -102,11 +102,11 @@ pub enum Work {
     Counted(File, u32),
     /// It holds the file of the node by its hold word.
     Guarded(File, u32),
-    /// Its announcement of the node was marked and withdrawn, and it has still to subtract the
-    /// mark.
+    /// Its announcement of the node was charged and withdrawn, and it has still to subtract the
+    /// charge.
     Owing(u32),
-    /// Its hold of the file of the node was marked, and it has still to subtract the mark, which is
-    /// its release.
+    /// Its hold of the file of the node was charged, and it has still to subtract the charge, which
+    /// is its release.
     Yielding(File, u32),
     /// It looks for a free node of its stock, and this one is free.
     Searching(u32),
@@ -122,7 +122,7 @@ pub enum Work {
     /// whose file it is about to install in place of the held file, and has come so far.
     Relieving(File, u32, u32, Placement),
     /// It removed the file of the node with this many takes, has come so far on its round through
-    /// the other passes, and made this many marks.
+    /// the other passes, and made this many charges.
     Retiring(File, u32, u32, Round, u32),
     /// It has the place of the node, whose file is closed.
     Emptying(u32),

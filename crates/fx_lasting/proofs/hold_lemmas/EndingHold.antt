@@ -1,6 +1,6 @@
--- A pass that removed the file that it held by its hold word stores 0 there: nobody has marked the
+-- A pass that removed the file that it held by its hold word stores 0 there: nobody has charged the
 -- word, since it alone visits the node's passes.
-use Rattle.fx_lasting.proofs.Words.{Round, IsToVisit, NamesNode, StillNames, EndsItsHold, EndsItsHoldKeep, MayBeUnmarked}
+use Rattle.fx_lasting.proofs.Words.{Round, IsToVisit, NamesNode, StillNames, EndsItsHold, EndsItsHoldKeep, MayBeUncharged}
 use Rattle.fx_lasting.proofs.Words.{◌≡◌, ℕ, ◌+◌, ◌<◌, ◌≤◌, List, [], refl, subst, arith, Option, none, keeps, Closed, File, Bool, true, false}
 use Rattle.fx_lasting.proofs.Words.{slots_of, hold_word_of, leaving}
 use Rattle.fx_lasting.proofs.Words.{Work, Retiring, step, ⊎_elim, Goes, Agrees}
@@ -49,12 +49,12 @@ module _ (turn : Turn) (f : File) (n t : ℕ) (nx : Round) (m : ℕ) (works : tu
     own = (hold_here turn x.number low high 0, no_debt);
     owed_else = λ k other. refl;
     owed_more = refl;
-    few_marks = now.few_marks;
+    few_charges = now.few_charges;
     few_visits = now.few_visits;
     still_down = refl;
     guards = λ p e ne range. guards_else turn n (its turn f n t nx m works).0 (leaving id t nx' m f) r.history words' st.homes r.debt (Retiring f n t nx' m) v.glance
         same_slots p e (hold_else turn x.number low high 0 p ne) refl
-        (λ may. let z : IsToVisit nx p = subst (MayBeUnmarked (slot_word st.words) p) (its turn f n t nx m works).1 may in z);
+        (λ may. let z : IsToVisit nx p = subst (MayBeUncharged (slot_word st.words) p) (its turn f n t nx m works).1 may in z);
   }
 
   pub end_hold : (slots : ℕ) (carried : List (ℕ × Option Closed)) → Made turn carried (hold_word_of v.start x.number) (λ _. 0)

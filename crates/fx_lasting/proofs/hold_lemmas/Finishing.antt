@@ -15,13 +15,13 @@ module _ (turn : Turn) (f : File) (n t : ℕ) (nx : Round) (m : ℕ) (works : tu
   abbrev found : ℕ
   found = word_at st.words (word_of v.start n)
 
-  -- the takes and the marks are the file's
+  -- the takes and the charges are the file's
   amount_same : {g : File} {i a : ℕ} {b : Round} {c : ℕ} → v.work ≡ Retiring g i a b c → retirement_amount t m ≡ retirement_amount a c
   amount_same {a = a} {c = c} is = let p : t ≡ a = cc (sym works ∙ is) in let q : m ≡ c = cc (sym works ∙ is) in λ j. retirement_amount (p j) (q j)
 
   pub finishes_either : (slots : ℕ) (carried : List (ℕ × Option Closed))
       → Made turn carried (word_of v.start n) (λ word. word) (Finishes (step slots (word_of v.start n) 0 0 none) (v, carried))
-  finishes_either slots carried = let o = node turn f n t nx m works down done in let a = o.counts in let b = o.few_takes in let c = o.few_marks in
+  finishes_either slots carried = let o = node turn f n t nx m works down done in let a = o.counts in let b = o.few_takes in let c = o.few_charges in
       let e = o.few_visits in let idle = ap (taking n) works in let l = lets turn f n t nx m works down done in
       let at = (its turn f n t nx m works down done).1 in
       dite (ℕ_discrete found (retirement_amount t m + 1))
@@ -29,7 +29,7 @@ module _ (turn : Turn) (f : File) (n t : ℕ) (nx : Round) (m : ℕ) (works : tu
         gone = λ k. ap (removed_in k) at;
         not_seated = λ s h bad. cc (sym at ∙ bad);
         may = inr (ap owner at);
-        marked = nobody turn f n t nx m works down done;
+        charged = nobody turn f n t nx m works down done;
         home = o.file.at_home;
         left = omega arith;
         none_taken = omega arith;

@@ -90,7 +90,7 @@ module _ (turn : Turn) (carried : List (ℕ × Option Closed)) where
         own_kept turn 0 Idle (quiet 0 Idle (calm Idle) taken holds (refl, none_owed) tt tt tt),
         record {
           clean = λ k is' _. goes_quiet 0 Idle tt;
-          marked = λ k is' not_so. absurd (not_so (clean ∙ (let at : n ≡ k = cc (sym is ∙ is') in ap announced at)));
+          charged = λ k is' not_so. absurd (not_so (clean ∙ (let at : n ≡ k = cc (sym is ∙ is') in ap announced at)));
         },
       ))
       (λ not_so. let owes : r.debt x.number ≡ n + 1 = ⊎_elim (λ (c : (word ≡ n + 1) × (r.debt x.number ≡ 0)). absurd (not_so c.0))
@@ -102,7 +102,7 @@ module _ (turn : Turn) (carried : List (ℕ × Option Closed)) where
         own_kept turn 0 (Owing n) (quiet 0 (Owing n) (calm (Owing n)) taken holds (refl, owes) tt inside tt),
         record {
           clean = λ k is' clean. absurd (not_so (clean ∙ sym (let at : n ≡ k = cc (sym is ∙ is') in ap announced at)));
-          marked = λ k is' _. let at : n ≡ k = cc (sym is ∙ is') in rw (← at) (goes_quiet 0 (Owing n) inside);
+          charged = λ k is' _. let at : n ≡ k = cc (sym is ∙ is') in rw (← at) (goes_quiet 0 (Owing n) inside);
         },
       ))
 
@@ -145,7 +145,7 @@ module _ (turn : Turn) (carried : List (ℕ × Option Closed)) where
               stepped = tells turn (own_after turn 0 Idle h₁) refl carried carried ([] ▷ Release f) own.files.grows own.files.legal (part_mine r.history refl) tt;
               carried = refl;
             };
-            marked = λ h k is' not_so. absurd (not_so (clean ∙ (let at : n ≡ k = cc (sym is ∙ is') in ap announced at)));
+            charged = λ h k is' not_so. absurd (not_so (clean ∙ (let at : n ≡ k = cc (sym is ∙ is') in ap announced at)));
           },
         ))
         (λ not_so. let owes : r.debt x.number ≡ n + 1 = ⊎_elim (λ (c : (word ≡ n + 1) × (r.debt x.number ≡ 0)). absurd (not_so c.0))
@@ -157,7 +157,7 @@ module _ (turn : Turn) (carried : List (ℕ × Option Closed)) where
           own_kept turn 0 (Yielding f n) (quiet 0 (Yielding f n) (calm (Yielding f n)) taken holds (refl, owes) tt its tt),
           record {
             clean = λ h k is' clean. absurd (not_so (clean ∙ sym (let at : n ≡ k = cc (sym is ∙ is') in ap announced at)));
-            marked = λ h k is' _. let same : f ≡ h = cc (sym is ∙ is') in let at : n ≡ k = cc (sym is ∙ is') in
+            charged = λ h k is' _. let same : f ≡ h = cc (sym is ∙ is') in let at : n ≡ k = cc (sym is ∙ is') in
                 rw (← same, ← at) (goes_quiet 0 (Yielding f n) its.0);
           },
         ))

@@ -44,7 +44,7 @@ module _ (k : Start) (s : Shared) (r : Agrees k s) where
   pub of_phase : (n : ℕ) (f : File) (ph : Phase) → file_in ph ≡ Some f → Node n ph → node_word_in k s n ≢ 0
   of_phase n f (seated slot g) e o = let a = o.counts in let b = few_takes k s r slot o.inside in
       let c = few_cold k.passes in let p = r.shape.passes in λ zero. omega arith
-  of_phase n f (leaving seat takes next marks g) e o = let a = o.counts in let b = o.few_takes in let c = o.few_marks in
+  of_phase n f (leaving seat takes next charges g) e o = let a = o.counts in let b = o.few_takes in let c = o.few_charges in
       let d = o.few_visits in λ zero. omega arith
   of_phase n f (retired g) e o = let a = o.counts in λ zero. omega arith
   of_phase n f _ e o = absurd (cc e)
@@ -55,7 +55,7 @@ module _ (k : Start) (s : Shared) (r : Agrees k s) where
     where
       go : (ph : Phase) → file_in ph ≡ Some f → Node n ph → r.node_of f.number ≡ n
       go (seated slot g) e o = let same : g ≡ f = cc e in rw (← same) o.file.its_node
-      go (leaving seat takes next marks g) e o = let same : g ≡ f = cc e in rw (← same) o.file.its_node
+      go (leaving seat takes next charges g) e o = let same : g ≡ f = cc e in rw (← same) o.file.its_node
       go (retired g) e o = let same : g ≡ f = cc e in rw (← same) o.file.its_node
       go _ e o = absurd (cc e)
 
@@ -70,7 +70,7 @@ module _ (k : Start) (s : Shared) (r : Agrees k s) where
   -- the file that a pass has to retire is open, on its node
   is_removed : {f : File} {x : Retired} (seat : ℕ) (d : Work) → doing_in d ≡ Retires f x → WorkAgrees k r.phase seat d
       → file_in (r.phase x.node) ≡ Some f
-  is_removed {f} {x} seat (Retiring g n takes round marks) e w = let same : g ≡ f = cc e in let its : n ≡ x.node = cc e in
+  is_removed {f} {x} seat (Retiring g n takes round charges) e w = let same : g ≡ f = cc e in let its : n ≡ x.node = cc e in
       rw (← its, ← same) (ap file_in w.1)
   is_removed seat _ e w = absurd (cc e)
 

@@ -1,7 +1,7 @@
--- A pass that subtracts a mark or a take from the word of a node keeps the rule.
+-- A pass that subtracts a charge or a take from the word of a node keeps the rule.
 use Rattle.fx_lasting.proofs.Words.{◌≡◌, ◌≢◌, ℕ, ◌+◌, ◌-◌, ◌%◌, ◌^◌, ◌<◌, ◌≤◌, List, [], ◌∷◌, set, sym, refl, ap, ◌∙◌, subst, arith, Option, Some}
 use Rattle.fx_lasting.proofs.Words.{none, some, keeps, takes, Closed, ◌▷◌, File, Event, Release, Action, pass_event, NodeAgrees, OwnerAgrees}
-use Rattle.fx_lasting.proofs.Words.{MayBeUnmarked, HoldsAt, WorkAgrees, state_after_all, slots_of, nodes_of, word_of, hold_word_of, held_in, held_of}
+use Rattle.fx_lasting.proofs.Words.{MayBeUncharged, HoldsAt, WorkAgrees, state_after_all, slots_of, nodes_of, word_of, hold_word_of, held_in, held_of}
 use Rattle.fx_lasting.proofs.Words.{taken_of, taking, if_file, owed, count_in, Phase, free, placed, seated, leaving, retired, emptied, kept, owner}
 use Rattle.fx_lasting.proofs.Words.{file_in, removed_in, changed_at, changed_here, changed_else, Work, Idle, Counted, Owing, Yielding, Goes, TakesOut}
 use Rattle.fx_lasting.proofs.Words.{Sat, LettingGo, LettingGoKeeps, step, inl, inr, ⊎_elim, ◌⊎◌, dite, ℕ_discrete, eqb, one_if, sum_by, sum_at}
@@ -46,7 +46,7 @@ module _ {turn : Turn} {n : ℕ} {f : File} {h₁ : List Event} {debt' : ℕ →
     ph,
     stays_open g carried less ph (sym (ap file_in is) ∙ g.its.1) (λ m. ap (removed_in m) (sym is))
         (inl (sym is)) (λ s h e. sym is ∙ e)
-        (λ p other range may. subst (MayBeUnmarked (slot_word (words₁ g carried less)) p) is (covers_same turn (words₁ g carried less) (same_slots g carried less) p n may))
+        (λ p other range may. subst (MayBeUncharged (slot_word (words₁ g carried less)) p) is (covers_same turn (words₁ g carried less) (same_slots g carried less) p n may))
         node (owner_stays st.views id v (w turn (open_after g carried less ph)) here n (λ bad. omega arith) ph
         (subst (OwnerAgrees st.views n) is (r.nodes.owners n g.its.0))),
     goes_open g carried less ph,
@@ -66,14 +66,14 @@ module _ {turn : Turn} {n : ℕ} {f : File} {h₁ : List Event} {debt' : ℕ →
         there = o.there;
       }
   outcome calm (leaving j t nx m h) is has = let o = in_phase turn g.its.0 is in let a = o.counts in let b = o.few_takes in
-      let d = o.few_marks in let k = o.few_visits in let c = taking_few n v.work in let q = sum_at (taken_of n) st.views id v here in
+      let d = o.few_charges in let k = o.few_visits in let c = taking_few n v.work in let q = sum_at (taken_of n) st.views id v here in
       let e : less ≡ found - 1 = sub_wraps (omega arith) fits (omega arith) in
       let now = taken_now g carried less (w turn (open_after g carried less (leaving j t nx m h))) refl in
       stays (leaving j t nx m h) is (λ last. omega arith) calm record {
         file = o.file;
         counts = omega arith;
         few_takes = o.few_takes;
-        few_marks = o.few_marks;
+        few_charges = o.few_charges;
         few_visits = o.few_visits;
         unowed = λ is. let z = o.unowed is in omega arith;
       }
@@ -87,7 +87,7 @@ module _ {turn : Turn} {n : ℕ} {f : File} {h₁ : List Event} {debt' : ℕ →
         gone = λ m. ap (removed_in m) is ∙ ap (λ (z : File). removed_in m (retired z)) same;
         not_seated = λ s z bad. cc (sym is ∙ bad);
         may = inl (ap owner is);
-        marked = λ p other range may. subst (MayBeUnmarked (slot_word st.words) p) is may;
+        charged = λ p other range may. subst (MayBeUncharged (slot_word st.words) p) is may;
         home = rw same at o.file.at_home;
         left = omega arith;
         none_taken = omega arith;
@@ -100,7 +100,7 @@ module _ {turn : Turn} {n : ℕ} {f : File} {h₁ : List Event} {debt' : ℕ →
 module _ (turn : Turn) (n : ℕ) where
   open turn use {st, v, r, id, x, here, one}
 
-  -- a node to which a mark is owed has a file
+  -- a node to which a charge is owed has a file
   owed_file : n < nodes_of v.start → 1 ≤ owed r.debt v.start.passes n → (f : File) × HoldsAt v.start r.phase f n
   owed_file l some_owed = go (r.phase n) refl (r.nodes.each n l)
     where
@@ -121,10 +121,10 @@ module _ (turn : Turn) (n : ℕ) where
   paid_for is m = let a = owed_changed r.debt v.start.passes x.number 0 (in_range turn).0 (in_range turn).1 m in
       let b = ap (λ (d : ℕ). one_if (eqb d (m + 1))) is in let c : one_if (eqb 0 (m + 1)) ≡ 0 = bit_else (m + 1) 0 (λ e. omega arith) in omega arith
 
-  -- a mark that was owed for nothing
-  mark_lets : v.work ≡ Owing n → {f : File} → HoldsAt v.start r.phase f n → r.debt x.number ≡ n + 1
+  -- a charge that was owed for nothing
+  charge_lets : v.work ≡ Owing n → {f : File} → HoldsAt v.start r.phase f n → r.debt x.number ≡ n + 1
       → word_at st.words (hold_word_of v.start x.number) ≡ 0 → IsLetGo turn n f r.history paid []
-  mark_lets is its owes empty = record {
+  charge_lets is its owes empty = record {
     its = its;
     files = none_added turn;
     own = refl;
@@ -201,7 +201,7 @@ module _ (turn : Turn) (slots n : ℕ) (carried : List (ℕ × Option Closed))
   owing : v.work ≡ Owing n → Goal
   owing is = let o = rw is at (its_log turn).hold in let l = subst (WorkAgrees v.start r.phase id) is (its_work turn) in
       let range = in_range turn in let file = owed_file turn n l (owed_at r.debt v.start.passes x.number n range.0 range.1 o.1) in
-      by_outcome (mark_lets turn n is file.1 o.1 o.0)
+      by_outcome (charge_lets turn n is file.1 o.1 o.0)
       (let a = paid_for turn n o.1 n in let b = bit_here (n + 1) (n + 1) refl in let c = ap (taking n) is in omega arith) (ap busy is)
       (λ m goes. record {
         owed = λ i is'. let same : n ≡ i = cc (sym is ∙ is') in rw (← same) (goes.0, λ last. (file.0, goes.1 last));

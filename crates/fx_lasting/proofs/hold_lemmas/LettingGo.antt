@@ -1,8 +1,8 @@
--- A pass lets a file go: it subtracts a take or a mark from the word of the file's node, or it
+-- A pass lets a file go: it subtracts a take or a charge from the word of the file's node, or it
 -- retires the file.
 use Rattle.fx_lasting.proofs.Words.{Renewing, ◌≡◌, ◌≢◌, ℕ, ◌+◌, ◌-◌, ◌%◌, ◌^◌, ◌<◌, ◌≤◌, List, ◌∷◌, ◌++◌, map, set, sym, refl, ap, ◌∙◌, arith, Option}
 use Rattle.fx_lasting.proofs.Words.{Some, None, none, some, set_here, set_else, Closed, ◌▷◌, File, Event, Close, Action, pass_event, held_by}
-use Rattle.fx_lasting.proofs.Words.{part_of_pass, NodeAgrees, OwnerAgrees, MayBeUnmarked, HoldsAt, state_after_all, slots_of, hold_word_of, held_of}
+use Rattle.fx_lasting.proofs.Words.{part_of_pass, NodeAgrees, OwnerAgrees, MayBeUncharged, HoldsAt, state_after_all, slots_of, hold_word_of, held_of}
 use Rattle.fx_lasting.proofs.Words.{taken_of, taking, if_file, owed, count_in, IsHistory, Phase, free, seated, emptied, owner, file_in, removed_in}
 use Rattle.fx_lasting.proofs.Words.{file_if_numbered, changed_at, changed_here, changed_else, View, Work, Idle, Counted, Emptying, Goes, TakesOut}
 use Rattle.fx_lasting.proofs.Words.{length-set, inr, ◌⊎◌, dite, ℕ_discrete, eq-eqb, ne_eqb, one_if, sum_by, by_equality, sum_set, Agrees, get_elem?}
@@ -76,8 +76,8 @@ module _ {turn : Turn} {n : ℕ} {f : File} {h₁ : List Event} {debt' : ℕ →
     pub stays_open : file_in ph ≡ Some f → ((m : ℕ) → removed_in m ph ≡ removed_in m (r.phase n))
         → (ph ≡ r.phase n) ⊎ ((owner (r.phase n) ≡ 0) ⊎ (owner (r.phase n) ≡ id + 1))
         → ((s : ℕ) (h : File) → r.phase n ≡ seated s h → ph ≡ seated s h)
-        → ((p : ℕ) → p ≢ x.number → (0 < p) × (p ≤ v.start.passes) → MayBeUnmarked (slot_word st.words) p (r.phase n)
-        → MayBeUnmarked (slot_word words₁) p ph)
+        → ((p : ℕ) → p ≢ x.number → (0 < p) × (p ≤ v.start.passes) → MayBeUncharged (slot_word st.words) p (r.phase n)
+        → MayBeUncharged (slot_word words₁) p ph)
         → NodeAgrees (state_after_all v.start r.history).at (slots_of v.start) (λ s. count_in (slot_word st.words s)) r.node_of r.nodes.next_number n
         less (sum_by (taken_of n) (set st.views id (w turn open_after))) (owed debt' v.start.passes n) (get_elem? st.homes n) ph
         → OwnerAgrees (set st.views id (w turn open_after)) n ph → Agrees v.start (end turn open_after)
@@ -128,7 +128,7 @@ module _ {turn : Turn} {n : ℕ} {f : File} {h₁ : List Event} {debt' : ℕ →
     pub gone : (m : ℕ) → removed_in m (r.phase n) ≡ file_if_numbered m f
     pub not_seated : (s : ℕ) (h : File) → r.phase n ≢ seated s h
     pub may : (owner (r.phase n) ≡ 0) ⊎ (owner (r.phase n) ≡ id + 1)
-    pub marked : (q : ℕ) → q ≢ x.number → (0 < q) × (q ≤ v.start.passes) → MayBeUnmarked (slot_word st.words) q (r.phase n) → ⊥
+    pub charged : (q : ℕ) → q ≢ x.number → (0 < q) × (q ≤ v.start.passes) → MayBeUncharged (slot_word st.words) q (r.phase n) → ⊥
     pub home : get_elem? st.homes n ≡ some (some (Some f.identity))
     pub left : 0 < less
     pub none_taken : total ≡ taking n v.work
@@ -137,7 +137,7 @@ module _ {turn : Turn} {n : ℕ} {f : File} {h₁ : List Event} {debt' : ℕ →
   module _ (o : IsGone) where
     unheld : (state_after_all v.start h₁).holds f.number ≡ 0
     unheld = let a = g.holds f.number in
-        let b = held_alone turn g.its debt' g.debts o.none_taken o.none_owed o.marked in omega arith
+        let b = held_alone turn g.its debt' g.debts o.none_taken o.none_owed o.charged in omega arith
 
     was_removed : (state_after_all v.start h₁).removed f.number ≡ Some f
     was_removed = ap (λ (z : ℕ → Option File). z f.number) g.files.removed ∙ (r.nodes.removed f.number
@@ -177,11 +177,11 @@ module _ {turn : Turn} {n : ℕ} {f : File} {h₁ : List Event} {debt' : ℕ →
       its_stock = λ is. absurd (not_free free is refl);
       at_slot = λ s h is. absurd (o.not_seated s h is);
       open_file = λ j u h other there holds is. absurd (let e : h ≡ f = cc (sym is ∙ g.its.1) in
-          let a = held_not turn g.its debt' g.debts o.none_taken o.none_owed o.marked j u other there in
+          let a = held_not turn g.its debt' g.debts o.none_taken o.none_owed o.charged j u other there in
           let b : held_of f.number u ≡ 1 = ap (if_file f.number) holds ∙ rw (eq-eqb h.number f.number (ap (λ (z : File). z.number) e)) refl in
           omega arith);
       guards = λ p e other range. guards_else turn n g.its.0 (emptied id) h₂ words₁ homes₂ debt' (Emptying n) v.glance same_slots p e
-          (node_hold turn n g.its.0 less p range.1) (g.debts p other) (λ may. absurd (o.marked p other range may));
+          (node_hold turn n g.its.0 less p range.1) (g.debts p other) (λ may. absurd (o.charged p other range may));
       node = rw (node_here turn n g.its.0 less) record {
         counts = o.left;
         at_home = set_here st.homes n none (let a = r.shape.homes in let b = g.its.0 in omega arith);

@@ -265,27 +265,27 @@ module _ (turn : Turn) (s : ℕ) (inside : s < slots_of turn.v.start) where
 
       found_alone : v.work ≡ Announced n → Reads turn (Guarded f n) Nothing h₁
       found_alone only = let guarded : GuardAgrees (slot_word st.words) r.phase x.number (r.debt x.number) (Guarded f n) = λ _. rw at hot in
-          let unmarked : NamesNode (word_at st.words (hold_word_of v.start x.number)) (r.debt x.number) n = rw only at (its_log turn).hold in record {
+          let uncharged : NamesNode (word_at st.words (hold_word_of v.start x.number)) (r.debt x.number) n = rw only at (its_log turn).hold in record {
             files = looks;
             taken = λ k. sym (ap (taking k) only);
             owners = inr (ap busy only);
             held = held_mine (pass_event x (Look s (Some f))) r.history refl;
             allowed = subst (IsAllowed x.stock x.listed) only (its_log turn).allowed;
-            its = record { hold = unmarked; guarded = guarded; sees = tt; heats = heats_all calm_hot Nothing; work = (l, ap file_in at) };
+            its = record { hold = uncharged; guarded = guarded; sees = tt; heats = heats_all calm_hot Nothing; work = (l, ap file_in at) };
             holds = λ m. let a = one_more_at (state_after_all v.start r.history).holds f.number m in
                 let b = ap (λ (e : Work). if_file m (held_in e)) only in omega arith;
           }
 
       found_beside : (own : ℕ) (z : Placement) → v.work ≡ Nearing n own z → Reads turn (Relieving f n own z) Nothing h₁
       found_beside own z near = let guarded : GuardAgrees (slot_word st.words) r.phase x.number (r.debt x.number) (Relieving f n own z) = λ _. rw at hot in
-          let unmarked : NamesNode (word_at st.words (hold_word_of v.start x.number)) (r.debt x.number) n = rw near at (its_log turn).hold in
+          let uncharged : NamesNode (word_at st.words (hold_word_of v.start x.number)) (r.debt x.number) n = rw near at (its_log turn).hold in
           let its : (n < nodes_of v.start) × IsIn v.start r.phase own (placed id z) = subst (WorkAgrees v.start r.phase id) near (its_work turn) in record {
             files = looks;
             taken = λ k. sym (ap (taking k) near);
             owners = inl (sym (ap alone_in near));
             held = held_mine (pass_event x (Look s (Some f))) r.history refl;
             allowed = subst (IsAllowed x.stock x.listed) near (its_log turn).allowed;
-            its = record { hold = unmarked; guarded = guarded; sees = tt; heats = heats_all calm_hot Nothing; work = ((l, ap file_in at), its.1) };
+            its = record { hold = uncharged; guarded = guarded; sees = tt; heats = heats_all calm_hot Nothing; work = ((l, ap file_in at), its.1) };
             holds = λ m. let a = one_more_at (state_after_all v.start r.history).holds f.number m in
                 let b = ap (λ (e : Work). if_file m (held_in e)) near in omega arith;
           }

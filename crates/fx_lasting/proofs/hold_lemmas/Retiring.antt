@@ -1,6 +1,6 @@
 -- A retirement keeps the rule, when all hold words were visited.
 use Rattle.fx_lasting.proofs.Words.{Bool, StillNames, false, hold_word_of, Round, IsPassed, ⊎_elim, ◌≢◌, ◌≡◌, ℕ, ◌+◌, ◌-◌, ◌%◌, ◌^◌, ◌<◌, ◌≤◌, List, [], sym, refl, ap, ◌∙◌, subst, arith}
-use Rattle.fx_lasting.proofs.Words.{Option, Some, none, keeps, takes, Closed, File, WorkAgrees, MayBeUnmarked, state_after_all, nodes_of, word_of}
+use Rattle.fx_lasting.proofs.Words.{Option, Some, none, keeps, takes, Closed, File, WorkAgrees, MayBeUncharged, state_after_all, nodes_of, word_of}
 use Rattle.fx_lasting.proofs.Words.{held_in, if_file, taken_of, taking, owed, leaving, retired, owner, file_in, removed_in, Work, Retiring, Retires}
 use Rattle.fx_lasting.proofs.Words.{RetiresKeep, retirement_amount, step, inr, dite, ℕ_discrete, eq-eqb, sum_by}
 use Rattle.fx_lasting.proofs.Frames.{busy}
@@ -54,13 +54,13 @@ module _ (turn : Turn) (f : File) (n t : ℕ) (nx : Round) (m : ℕ) (works : tu
       ∙ (ap (removed_in f.number) its.1 ∙ rw (eq-eqb f.number f.number refl) refl))
 
   -- nobody has still to be visited
-  pub nobody : (q : ℕ) → q ≢ x.number → (0 < q) × (q ≤ v.start.passes) → MayBeUnmarked (slot_word st.words) q (r.phase n) → ⊥
-  nobody q other range may = let z = subst (MayBeUnmarked (slot_word st.words) q) its.1 may in ⊎_elim other z.1 (done q z.0 range.1)
+  pub nobody : (q : ℕ) → q ≢ x.number → (0 < q) × (q ≤ v.start.passes) → MayBeUncharged (slot_word st.words) q (r.phase n) → ⊥
+  nobody q other range may = let z = subst (MayBeUncharged (slot_word st.words) q) its.1 may in ⊎_elim other z.1 (done q z.0 range.1)
 
   pub retires_either : (slots : ℕ) (carried : List (ℕ × Option Closed)) → found < 18446744073709551616
       → Made turn carried (word_of v.start n) (λ word. (word + (2 ^ 64 - amount)) % 2 ^ 64)
       (Retires (step slots (word_of v.start n) amount 0 none) (v, carried))
-  retires_either slots carried fits = let a = node.counts in let b = node.few_takes in let c = node.few_marks in let e = node.few_visits in
+  retires_either slots carried fits = let a = node.counts in let b = node.few_takes in let c = node.few_charges in let e = node.few_visits in
       let small : less ≡ found - amount = sub_wraps (omega arith) fits (omega arith) in
       let left : less ≡ 1 + (total + owed r.debt v.start.passes n) = omega arith in
       let idle = ap (taking n) works in
@@ -69,7 +69,7 @@ module _ (turn : Turn) (f : File) (n t : ℕ) (nx : Round) (m : ℕ) (works : tu
         gone = λ k. ap (removed_in k) its.1;
         not_seated = λ s h bad. cc (sym its.1 ∙ bad);
         may = inr (ap owner its.1);
-        marked = nobody;
+        charged = nobody;
         home = node.file.at_home;
         left = omega arith;
         none_taken = omega arith;

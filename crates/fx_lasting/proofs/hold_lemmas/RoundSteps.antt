@@ -22,7 +22,7 @@ module _ (turn : Turn) (f : File) (n t : ℕ) (nx : Round) (m : ℕ) (works : tu
   pub retiring_same : {g : File} {i a : ℕ} {b : Round} {c : ℕ} → v.work ≡ Retiring g i a b c → Retiring f n t nx m ≡ Retiring g i a b c
   retiring_same its' = sym works ∙ its'
 
-  -- the round is at nx' now, with m' marks
+  -- the round is at nx' now, with m' charges
   module _ (words' : List ℕ) (debt' : ℕ → ℕ) (nx' : Round) (m' : ℕ) where
     abbrev ph : Phase
     ph = leaving id t nx' m' f
@@ -38,7 +38,7 @@ module _ (turn : Turn) (f : File) (n t : ℕ) (nx : Round) (m : ℕ) (works : tu
       pub own : (word_at words' (hold_word_of v.start x.number) ≡ 0) × (debt' x.number ≡ 0)
       pub owed_else : (k : ℕ) → k ≢ n → owed debt' v.start.passes k ≡ owed r.debt v.start.passes k
       pub owed_more : owed debt' v.start.passes n + m ≡ owed r.debt v.start.passes n + m'
-      pub few_marks : m' < nx'.next
+      pub few_charges : m' < nx'.next
       pub few_visits : nx'.next ≤ 2 ^ 16
       pub still_down : nx'.guarded ≡ false
       pub guards : (p : ℕ) (e : Work) → p ≢ x.number → (0 < p) × (p ≤ v.start.passes)
@@ -72,7 +72,7 @@ module _ (turn : Turn) (f : File) (n t : ℕ) (nx : Round) (m : ℕ) (works : tu
                 file = node.file;
                 counts = omega arith;
                 few_takes = node.few_takes;
-                few_marks = s.few_marks;
+                few_charges = s.few_charges;
                 few_visits = s.few_visits;
                 unowed = λ bad. absurd (up bad);
               };
@@ -95,14 +95,14 @@ module _ (turn : Turn) (f : File) (n t : ℕ) (nx : Round) (m : ℕ) (works : tu
       → GuardAgrees (slot_word st.words) r.phase p (r.debt p) e
       → GuardAgrees (slot_word st.words) (changed_at r.phase n (leaving id t nx' m f)) p (r.debt p) e)
       → RoundStep st.words r.debt nx' m
-  reads nx' own few_marks few_visits down guards = record {
+  reads nx' own few_charges few_visits down guards = record {
     leaves_else = leaves_all turn n;
     same_word = refl;
     same_label = (refl, refl);
     own = own;
     owed_else = λ k ne. refl;
     owed_more = refl;
-    few_marks = few_marks;
+    few_charges = few_charges;
     few_visits = few_visits;
     still_down = down;
     guards = λ p e ne range hold guard. (hold, guards p e ne range hold guard);

@@ -9,12 +9,12 @@ use Rattle.fx_lasting.proofs.Running.{does_then, runs_goes, placed_none}
 pub passed_by : (round : Round) {number other p : ℕ} → number ≡ other → IsPassed number round p → IsPassed other round p
 passed_by round {p = p} same passed = subst (λ (n : ℕ). IsPassed n round p) same passed
 
--- another pass was visited, and marked or not
-pub visited_more : {passes number node takes first words last pass : ℕ} (marks r : ℕ) {f : File} {m m' m'' : Sat} → pass ≤ passes → pass ≢ number
-    → (h : HasVisited passes number node f takes first words last pass marks m m')
-    → Runs m' [] (Retiring f node takes (round_at (round_to h.next words last) pass) (marks + r)) m'.0.glance m'.0.change 2 m''
-    → HasVisited passes number node f takes first words last (pass + 1) (marks + r) m m''
-visited_more {passes} {number} {node} {takes} {first} {words} {last} {pass} marks r inside other h did = let few = h.few in let near = h.near in record {
+-- another pass was visited, and charged or not
+pub visited_more : {passes number node takes first words last pass : ℕ} (charges r : ℕ) {f : File} {m m' m'' : Sat} → pass ≤ passes → pass ≢ number
+    → (h : HasVisited passes number node f takes first words last pass charges m m')
+    → Runs m' [] (Retiring f node takes (round_at (round_to h.next words last) pass) (charges + r)) m'.0.glance m'.0.change 2 m''
+    → HasVisited passes number node f takes first words last (pass + 1) (charges + r) m m''
+visited_more {passes} {number} {node} {takes} {first} {words} {last} {pass} charges r inside other h did = let few = h.few in let near = h.near in record {
   next = pass + 1;
   near = omega arith;
   inside = omega (arith, inside);
@@ -27,9 +27,9 @@ visited_more {passes} {number} {node} {takes} {first} {words} {last} {pass} mark
 }
 
 -- the round goes past passes that it need not visit
-pub goes_past : {passes number node takes first words last pass to marks : ℕ} {f : File} {m m' : Sat} → pass ≤ to
+pub goes_past : {passes number node takes first words last pass to charges : ℕ} {f : File} {m m' : Sat} → pass ≤ to
     → ((p : ℕ) → pass ≤ p → p < to → IsIdleIn (round_to pass words last) p)
-    → HasVisited passes number node f takes first words last pass marks m m' → HasVisited passes number node f takes first words last to marks m m'
+    → HasVisited passes number node f takes first words last pass charges m m' → HasVisited passes number node f takes first words last to charges m m'
 goes_past {pass = pass} more idle h = let near = h.near in record {
   next = h.next;
   near = omega (arith, more);
@@ -46,10 +46,10 @@ abbrev pub words_at : ℕ → ℕ
 words_at pass = (pass - 1) / 64 + 1
 
 -- a word of the list was loaded
-pub loads_more : {passes number node takes first words last pass marks : ℕ} {f : File} {m m' m'' : Sat} {st : At} {found : ℕ} → pass ≡ 64 * words + 1
-    → pass ≤ passes → st.word ≡ list_place pass → (h : HasVisited passes number node f takes first words last pass marks m m') → Skims st m' found m''
-    → HasVisited passes number node f takes first (words_at pass) found pass marks m m''
-loads_more {number = number} {node} {takes} {words = words} {last} {pass} {marks} {f} {m' = m'} {m'' = m''} {st = st} {found = found} at inside place h did =
+pub loads_more : {passes number node takes first words last pass charges : ℕ} {f : File} {m m' m'' : Sat} {st : At} {found : ℕ} → pass ≡ 64 * words + 1
+    → pass ≤ passes → st.word ≡ list_place pass → (h : HasVisited passes number node f takes first words last pass charges m m') → Skims st m' found m''
+    → HasVisited passes number node f takes first (words_at pass) found pass charges m m''
+loads_more {number = number} {node} {takes} {words = words} {last} {pass} {charges} {f} {m' = m'} {m'' = m''} {st = st} {found = found} at inside place h did =
     let few = h.few in let near = h.near in
     let next_is : 64 * (st.word - 6) + 1 ≡ pass = omega (arith, at, place) in
     let words_are : st.word - 5 ≡ words_at pass = omega (arith, at, place) in
@@ -62,14 +62,14 @@ loads_more {number = number} {node} {takes} {words = words} {last} {pass} {marks
       few = omega (arith, at);
       fewer = λ low high. dite (dec_le (number + 1) h.next) (λ before. let e = h.fewer low (omega (arith, before)) in omega (arith, at))
           (λ after. omega (arith, after, high, at));
-      does = does_then h.does (subst (λ (z : Round). Runs m' [] (Retiring f node takes z marks) m'.0.glance m'.0.change 1 m'') round
-          (runs_goes (did.goes f node takes (round_to h.next words last) marks h.does.work)));
+      does = does_then h.does (subst (λ (z : Round). Runs m' [] (Retiring f node takes z charges) m'.0.glance m'.0.change 1 m'') round
+          (runs_goes (did.goes f node takes (round_to h.next words last) charges h.does.work)));
     }
 
 -- the round so far, as one that begins here
-pub from_here : {passes number node takes first words last pass marks : ℕ} {f : File} {m m' : Sat} {k : Start} {p : ℕ}
-    → HasVisited passes number node f takes first words last pass marks m m' → IsAtWork k p m'
-    → (begin : ℕ) × HasVisited passes number node f takes begin words last pass marks m' m'
+pub from_here : {passes number node takes first words last pass charges : ℕ} {f : File} {m m' : Sat} {k : Start} {p : ℕ}
+    → HasVisited passes number node f takes first words last pass charges m m' → IsAtWork k p m'
+    → (begin : ℕ) × HasVisited passes number node f takes begin words last pass charges m' m'
 from_here h at = (
   h.next,
   record {

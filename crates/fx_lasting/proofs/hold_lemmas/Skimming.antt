@@ -1,7 +1,7 @@
 -- A pass that removed a hot file loads a word of the list: the passes without their bits hold
--- nothing of the node that isn't marked.
+-- nothing of the node that isn't charged.
 use Rattle.fx_lasting.proofs.Words.{Renewing, Nearing, Relieving, StillNames, false, ◌≡◌, ◌≢◌, ℕ, ◌+◌, ◌*◌, ◌<◌, ◌≤◌, List, [], sym, refl, ap, ◌∙◌}
-use Rattle.fx_lasting.proofs.Words.{subst, arith, Option, none, keeps, Closed, File, HoldAgrees, GuardAgrees, MayBeUnmarked, hold_word_of, leaving}
+use Rattle.fx_lasting.proofs.Words.{subst, arith, Option, none, keeps, Closed, File, HoldAgrees, GuardAgrees, MayBeUncharged, hold_word_of, leaving}
 use Rattle.fx_lasting.proofs.Words.{Work, Idle, Announced, Counted, Guarded, Owing, Yielding, Searching, Placing, Retiring, Emptying, Keeping, step}
 use Rattle.fx_lasting.proofs.Words.{dite, dec_le, ⊎_elim, set-get_or, Round, round_from, IsToVisit, IsPassed, IsListedIn, list_place, Skims}
 use Rattle.fx_lasting.proofs.Words.{SkimsKeep, Goes, changed_at, true, Bool, IsAllowed}
@@ -59,22 +59,22 @@ module _ (turn : Turn) (f : File) (n t : ℕ) (nx : Round) (m : ℕ) (works : tu
   guard_on : (p : ℕ) (e : Work) → p ≢ x.number → (0 < p) × (p ≤ v.start.passes) → HoldAgrees (word_at st.words (hold_word_of v.start p)) (r.debt p) e
       → GuardAgrees (slot_word st.words) r.phase p (r.debt p) e
       → GuardAgrees (slot_word st.words) (changed_at r.phase n (leaving id t nx' m f)) p (r.debt p) e
-  guard_on p (Guarded h k) ne range hold guard = λ clean. each_changed (λ i z. MayBeUnmarked (slot_word st.words) p z) r.phase
+  guard_on p (Guarded h k) ne range hold guard = λ clean. each_changed (λ i z. MayBeUncharged (slot_word st.words) p z) r.phase
       (λ is. still p ne range
       (⊎_elim (λ (c : (word_at st.words (hold_word_of v.start p) ≡ k + 1) × (r.debt p ≡ 0)). λ none. let a = c.0 in omega (arith, none))
       (λ (c : (word_at st.words (hold_word_of v.start p) ≡ k + 1 + 4294967296) × (r.debt p ≡ k + 1)). λ none. let a = c.0 in omega (arith, none)) hold)
-      (subst (MayBeUnmarked (slot_word st.words) p) (ap r.phase is ∙ (its turn f n t nx m works).1) (guard clean)))
+      (subst (MayBeUncharged (slot_word st.words) p) (ap r.phase is ∙ (its turn f n t nx m works).1) (guard clean)))
       (λ _. guard clean)
-  guard_on p (Relieving h k own l) ne range hold guard = λ clean. each_changed (λ i z. MayBeUnmarked (slot_word st.words) p z) r.phase
+  guard_on p (Relieving h k own l) ne range hold guard = λ clean. each_changed (λ i z. MayBeUncharged (slot_word st.words) p z) r.phase
       (λ is. still p ne range
       (⊎_elim (λ (c : (word_at st.words (hold_word_of v.start p) ≡ k + 1) × (r.debt p ≡ 0)). λ none. let a = c.0 in omega (arith, none))
       (λ (c : (word_at st.words (hold_word_of v.start p) ≡ k + 1 + 4294967296) × (r.debt p ≡ k + 1)). λ none. let a = c.0 in omega (arith, none)) hold)
-      (subst (MayBeUnmarked (slot_word st.words) p) (ap r.phase is ∙ (its turn f n t nx m works).1) (guard clean)))
+      (subst (MayBeUncharged (slot_word st.words) p) (ap r.phase is ∙ (its turn f n t nx m works).1) (guard clean)))
       (λ _. guard clean)
   guard_on p _ ne range hold guard = tt
 
   skimmed : RoundStep turn f n t nx m works st.words r.debt nx' m
-  skimmed = let a = (node turn f n t nx m works).few_marks in let o = rw works at (its_log turn).hold in
+  skimmed = let a = (node turn f n t nx m works).few_charges in let o = rw works at (its_log turn).hold in
       let own = subst (λ (b : Bool). StillNames b (word_at st.words (hold_word_of v.start x.number)) (r.debt x.number) n) down o in
       reads turn f n t nx m works nx' (own.0, own.1) (omega arith) (omega arith) refl guard_on
 

@@ -1,7 +1,7 @@
 -- When nothing is counted and nothing is owed to a node any more, nobody holds its file.
 use Rattle.fx_lasting.proofs.Words.{Renewing, Relieving, Contains, contains_head, ◌≡◌, ◌≢◌, ℕ, ◌+◌, ◌<◌, ◌≤◌, List, [], ◌∷◌, sym, refl, ap, ◌∙◌, subst, arith, Some, File}
 use Rattle.fx_lasting.proofs.Words.{some, get_elem?, ⊎_elim, dite, ℕ_discrete, eq-eqb, ne_eqb, sum_by, sum_two, sum_only, NodeAgrees, WorkAgrees}
-use Rattle.fx_lasting.proofs.Words.{HoldAgrees, GuardAgrees, MayBeUnmarked, HoldsAt, slots_of, nodes_of, word_of, hold_word_of, state_after_all}
+use Rattle.fx_lasting.proofs.Words.{HoldAgrees, GuardAgrees, MayBeUncharged, HoldsAt, slots_of, nodes_of, word_of, hold_word_of, state_after_all}
 use Rattle.fx_lasting.proofs.Words.{held_in, held_of, taken_of, taking, if_file, owed, count_in, Phase, seated, leaving, retired, file_in, Log, View}
 use Rattle.fx_lasting.proofs.Words.{Work, Counted, Guarded, Yielding}
 use Rattle.fx_lasting.proofs.Counts.{owed_at}
@@ -35,7 +35,7 @@ module _ (turn : Turn) where
 
   module _ {n : ℕ} {f : File} (its : HoldsAt v.start r.phase f n) (debt' : ℕ → ℕ) (debts : (q : ℕ) → q ≢ x.number → debt' q ≡ r.debt q)
       (untaken : sum_by (taken_of n) st.views ≡ taking n v.work) (unowed : owed debt' v.start.passes n ≡ 0)
-      (marked : (q : ℕ) → q ≢ x.number → (0 < q) × (q ≤ v.start.passes) → MayBeUnmarked (slot_word st.words) q (r.phase n) → ⊥) where
+      (charged : (q : ℕ) → q ≢ x.number → (0 < q) × (q ≤ v.start.passes) → MayBeUncharged (slot_word st.words) q (r.phase n) → ⊥) where
     module _ (j : ℕ) (u : View) (other : j ≢ id) (there : get_elem? st.views j ≡ some u) where
       -- a pass of the seat has no debt to the node
       owes_not : (z : Log) → Contains u.logs z → r.debt z.number ≡ n + 1 → ⊥
@@ -59,14 +59,14 @@ module _ (turn : Turn) where
       by_log (Guarded g m) z at is w h gd = dite (ℕ_discrete g.number f.number)
           (λ same. let e = one_node its w same in absurd (⊎_elim
           (λ (clean : (word_at st.words (hold_word_of v.start z.number) ≡ m + 1) × (r.debt z.number ≡ 0)).
-          marked z.number (not_there r.life here one other there z at) (its_range r.life j there at) (rw e at (gd clean.1)))
+          charged z.number (not_there r.life here one other there z at) (its_range r.life j there at) (rw e at (gd clean.1)))
           (λ (full : (word_at st.words (hold_word_of v.start z.number) ≡ m + 1 + 4294967296) × (r.debt z.number ≡ m + 1)).
           owes_not z at (full.1 ∙ ap (λ (i : ℕ). i + 1) e)) h))
           (λ ne. rw (ne_eqb g.number f.number ne) refl)
       by_log (Relieving g m own l) z at is w h gd = dite (ℕ_discrete g.number f.number)
           (λ same. let e = one_node its w.0 same in absurd (⊎_elim
           (λ (clean : (word_at st.words (hold_word_of v.start z.number) ≡ m + 1) × (r.debt z.number ≡ 0)).
-          marked z.number (not_there r.life here one other there z at) (its_range r.life j there at) (rw e at (gd clean.1)))
+          charged z.number (not_there r.life here one other there z at) (its_range r.life j there at) (rw e at (gd clean.1)))
           (λ (full : (word_at st.words (hold_word_of v.start z.number) ≡ m + 1 + 4294967296) × (r.debt z.number ≡ m + 1)).
           owes_not z at (full.1 ∙ ap (λ (i : ℕ). i + 1) e)) h))
           (λ ne. rw (ne_eqb g.number f.number ne) refl)

@@ -1,11 +1,11 @@
 -- A pass that removed a hot file visits the hold words of the others: where one names the node, the
--- pass marks it.
+-- pass charges it.
 use Rattle.fx_lasting.proofs.Words.{Nearing, Relieving, StillNames, Bool, true, false, Round, round_at, IsToVisit, IsPassed, ◌≡◌, ◌≢◌, ℕ, ◌+◌}
 use Rattle.fx_lasting.proofs.Words.{◌<◌, ◌≤◌, List, [], set, sym, refl, ap, ◌∙◌, subst, arith, Option, none, keeps, Closed, File}
-use Rattle.fx_lasting.proofs.Words.{HoldAgrees, GuardAgrees, MayBeUnmarked, slots_of, hold_word_of}
+use Rattle.fx_lasting.proofs.Words.{HoldAgrees, GuardAgrees, MayBeUncharged, slots_of, hold_word_of}
 use Rattle.fx_lasting.proofs.Words.{owed, Phase, leaving, changed_at, changed_here, changed_else, Work, Announced}
-use Rattle.fx_lasting.proofs.Words.{Guarded, Owing, Yielding, Retiring, Visits, Marks, VisitsKeep, MarksKeep, step, inr, ⊎_elim, dite, ℕ_discrete}
-use Rattle.fx_lasting.proofs.Words.{eqb, one_if, announced, mark, set-get_or, exchanged, bit_here, bit_else, NamesNode, Goes, Start, dec_le}
+use Rattle.fx_lasting.proofs.Words.{Guarded, Owing, Yielding, Retiring, Visits, Charges, VisitsKeep, ChargesKeep, step, inr, ⊎_elim, dite, ℕ_discrete}
+use Rattle.fx_lasting.proofs.Words.{eqb, one_if, announced, charge, set-get_or, exchanged, bit_here, bit_else, NamesNode, Goes, Start, dec_le}
 use Rattle.fx_lasting.proofs.Words.{Agrees, either}
 use Rattle.fx_lasting.proofs.Counts.{owed_changed}
 use Rattle.fx_lasting.proofs.Histories.{each_changed}
@@ -39,10 +39,10 @@ module _ (turn : Turn) (f : File) (n t : ℕ) (nx : Round) (m : ℕ) (works : tu
         (λ l. absurd (⊎_elim ne may.1 (between p may.0 (omega (arith, l, not_pass)))))
 
     cover : (words' : List ℕ) (m' : ℕ) → ((s : ℕ) → s < slots_of v.start → slot_word words' s ≡ slot_word st.words s) → (p : ℕ)
-        → p ≢ x.number → p ≢ pass → (k : ℕ) → MayBeUnmarked (slot_word st.words) p (r.phase k)
-        → MayBeUnmarked (slot_word words') p (changed_at r.phase n (leaving id t (round_at nx pass) m' f) k)
-    cover words' m' same p ne not_pass k may = each_changed (λ i z. MayBeUnmarked (slot_word words') p z) r.phase
-        (λ is. past p (subst (MayBeUnmarked (slot_word st.words) p) (ap r.phase is ∙ (its turn f n t nx m works).1) may) ne not_pass)
+        → p ≢ x.number → p ≢ pass → (k : ℕ) → MayBeUncharged (slot_word st.words) p (r.phase k)
+        → MayBeUncharged (slot_word words') p (changed_at r.phase n (leaving id t (round_at nx pass) m' f) k)
+    cover words' m' same p ne not_pass k may = each_changed (λ i z. MayBeUncharged (slot_word words') p z) r.phase
+        (λ is. past p (subst (MayBeUncharged (slot_word st.words) p) (ap r.phase is ∙ (its turn f n t nx m works).1) may) ne not_pass)
         (λ _. covers_same turn words' same p k may)
 
     -- what a file held by a hold word needs, of a pass that isn't this one
@@ -53,21 +53,21 @@ module _ (turn : Turn) (f : File) (n t : ℕ) (nx : Round) (m : ℕ) (works : tu
     guard_else words' m' same p (Relieving h k own l) ne not_pass guard = λ none. cover words' m' same p ne not_pass k (guard none)
     guard_else words' m' same p _ ne not_pass guard = tt
 
-    -- this pass holds nothing of the node that isn't marked, if its word doesn't name it
+    -- this pass holds nothing of the node that isn't charged, if its word doesn't name it
     guard_here : word ≢ announced n → (e : Work) → HoldAgrees word (r.debt pass) e → GuardAgrees (slot_word st.words) r.phase pass (r.debt pass) e
         → GuardAgrees (slot_word st.words) (changed_at r.phase n (leaving id t (round_at nx pass) m f)) pass (r.debt pass) e
-    guard_here not_so (Guarded h k) hold guard = λ none. each_changed (λ i z. MayBeUnmarked (slot_word st.words) pass z) r.phase
+    guard_here not_so (Guarded h k) hold guard = λ none. each_changed (λ i z. MayBeUncharged (slot_word st.words) pass z) r.phase
         (λ is. absurd (⊎_elim (λ (clean : (word ≡ k + 1) × (r.debt pass ≡ 0)). not_so (clean.0 ∙ ap (λ (i : ℕ). i + 1) is))
         (λ (full : (word ≡ k + 1 + 4294967296) × (r.debt pass ≡ k + 1)). let a = full.1 in omega arith) hold))
         (λ _. guard none)
-    guard_here not_so (Relieving h k own l) hold guard = λ none. each_changed (λ i z. MayBeUnmarked (slot_word st.words) pass z) r.phase
+    guard_here not_so (Relieving h k own l) hold guard = λ none. each_changed (λ i z. MayBeUncharged (slot_word st.words) pass z) r.phase
         (λ is. absurd (⊎_elim (λ (clean : (word ≡ k + 1) × (r.debt pass ≡ 0)). not_so (clean.0 ∙ ap (λ (i : ℕ). i + 1) is))
         (λ (full : (word ≡ k + 1 + 4294967296) × (r.debt pass ≡ k + 1)). let a = full.1 in omega arith) hold))
         (λ _. guard none)
     guard_here not_so _ hold guard = tt
 
     unnamed : word ≢ announced n → RoundStep turn f n t nx m works st.words r.debt (round_at nx pass) m
-    unnamed not_so = let a = (node turn f n t nx m works).few_marks in let b = r.shape.passes in
+    unnamed not_so = let a = (node turn f n t nx m works).few_charges in let b = r.shape.passes in
         reads turn f n t nx m works (round_at nx pass) own_none (omega arith) (omega arith) down
         (λ p e ne range hold guard. dite (ℕ_discrete p pass)
         (λ same. subst (λ (p : ℕ). HoldAgrees (word_at st.words (hold_word_of v.start p)) (r.debt p) e
@@ -75,12 +75,12 @@ module _ (turn : Turn) (f : File) (n t : ℕ) (nx : Round) (m : ℕ) (works : tu
         → GuardAgrees (slot_word st.words) (changed_at r.phase n (leaving id t (round_at nx pass) m f)) p (r.debt p) e) (sym same) (guard_here not_so e) hold guard)
         (λ apart. guard_else st.words m (λ s l. refl) p e ne apart guard))
 
-    -- of a word that names a node: it isn't marked, and its pass owes nothing
+    -- of a word that names a node: it isn't charged, and its pass owes nothing
     named_clean : (k : ℕ) → NamesNode word (r.debt pass) k → word ≡ announced n → (r.debt pass ≡ 0) × (k ≡ n)
     named_clean k hold is = let small = r.shape.nodes in let l = (its turn f n t nx m works).0 in ⊎_elim (λ (c : (word ≡ k + 1) × (r.debt pass ≡ 0)). (c.1, let a = c.0 in omega arith))
         (λ (c : (word ≡ k + 1 + 4294967296) × (r.debt pass ≡ k + 1)). absurd (let a = c.0 in omega arith)) hold
 
-    -- a hold word that names the node isn't marked, and its pass owes nothing
+    -- a hold word that names the node isn't charged, and its pass owes nothing
     clean_debt : (e : Work) → HoldAgrees word (r.debt pass) e → word ≡ announced n → r.debt pass ≡ 0
     clean_debt (Announced k) hold is = (named_clean k hold is).0
     clean_debt (Guarded h k) hold is = (named_clean k hold is).0
@@ -95,21 +95,21 @@ module _ (turn : Turn) (f : File) (n t : ℕ) (nx : Round) (m : ℕ) (works : tu
     clean_debt (Yielding h k) hold is = absurd (let a = hold.0 in omega arith)
     clean_debt _ hold is = hold.1
 
-    -- the marked word, and the debt
-    marks_name : (k : ℕ) → NamesNode word (r.debt pass) k → word ≡ announced n → NamesNode (announced n + mark) (n + 1) k
-    marks_name k hold is = let same = (named_clean k hold is).1 in inr (omega arith, omega arith)
+    -- the charged word, and the debt
+    charges_name : (k : ℕ) → NamesNode word (r.debt pass) k → word ≡ announced n → NamesNode (announced n + charge) (n + 1) k
+    charges_name k hold is = let same = (named_clean k hold is).1 in inr (omega arith, omega arith)
 
-    now_marked : (e : Work) → HoldAgrees word (r.debt pass) e → word ≡ announced n → HoldAgrees (announced n + mark) (n + 1) e
-    now_marked (Announced k) hold is = marks_name k hold is
-    now_marked (Guarded h k) hold is = marks_name k hold is
-    now_marked (Nearing k own l) hold is = marks_name k hold is
-    now_marked (Relieving h k own l) hold is = marks_name k hold is
-    now_marked (Retiring h k a b c) hold is = still b.guarded hold
+    now_charged : (e : Work) → HoldAgrees word (r.debt pass) e → word ≡ announced n → HoldAgrees (announced n + charge) (n + 1) e
+    now_charged (Announced k) hold is = charges_name k hold is
+    now_charged (Guarded h k) hold is = charges_name k hold is
+    now_charged (Nearing k own l) hold is = charges_name k hold is
+    now_charged (Relieving h k own l) hold is = charges_name k hold is
+    now_charged (Retiring h k a b c) hold is = still b.guarded hold
       where
-        still : (z : Bool) → StillNames z word (r.debt pass) k → StillNames z (announced n + mark) (n + 1) k
-        still true names = marks_name k names is
+        still : (z : Bool) → StillNames z word (r.debt pass) k → StillNames z (announced n + charge) (n + 1) k
+        still true names = charges_name k names is
         still false unnamed = absurd (let a = unnamed.0 in omega arith)
-    now_marked _ hold is = absurd (let a = hold.0 in omega arith)
+    now_charged _ hold is = absurd (let a = hold.0 in omega arith)
 
     -- a pass that owes is excused
     excused : (slot_word' : ℕ → ℕ) (phase' : ℕ → Phase) (e : Work) → GuardAgrees slot_word' phase' pass (n + 1) e
@@ -122,7 +122,7 @@ module _ (turn : Turn) (f : File) (n t : ℕ) (nx : Round) (m : ℕ) (works : tu
 
     module _ (more : 0 < pass) (is : word ≡ announced n) where
       abbrev words₁ : List ℕ
-      words₁ = hold_words turn pass more high (announced n + mark)
+      words₁ = hold_words turn pass more high (announced n + charge)
 
       no_debt : r.debt pass ≡ 0
       no_debt = let a = find_pass r.life more high in
@@ -134,7 +134,7 @@ module _ (turn : Turn) (f : File) (n t : ℕ) (nx : Round) (m : ℕ) (works : tu
           let b = ap (λ (d : ℕ). one_if (eqb d (k + 1))) no_debt in let c : one_if (eqb 0 (k + 1)) ≡ 0 = bit_else (k + 1) 0 (λ e. omega arith) in omega arith
 
       made : RoundStep turn f n t nx m works words₁ debt₁ (round_at nx pass) (m + 1)
-      made = let same = hold_slot turn pass more high (announced n + mark) in
+      made = let same = hold_slot turn pass more high (announced n + charge) in
           let guards : (p : ℕ) (e : Work) → p ≢ x.number → (0 < p) × (p ≤ v.start.passes)
           → HoldAgrees (word_at st.words (hold_word_of v.start p)) (r.debt p) e → GuardAgrees (slot_word st.words) r.phase p (r.debt p) e
           → HoldAgrees (word_at words₁ (hold_word_of v.start p)) (debt₁ p) e
@@ -143,21 +143,21 @@ module _ (turn : Turn) (f : File) (n t : ℕ) (nx : Round) (m : ℕ) (works : tu
           (λ at. subst (λ (p : ℕ). HoldAgrees (word_at st.words (hold_word_of v.start p)) (r.debt p) e
           → HoldAgrees (word_at words₁ (hold_word_of v.start p)) (debt₁ p) e
           × GuardAgrees (slot_word words₁) (changed_at r.phase n (leaving id t (round_at nx pass) (m + 1) f)) p (debt₁ p) e) (sym at)
-          (λ h. rw (hold_here turn pass more high (announced n + mark), changed_here r.debt pass (n + 1) pass refl)
-          (now_marked e h is, excused (slot_word words₁) (changed_at r.phase n (leaving id t (round_at nx pass) (m + 1) f)) e)) hold)
-          (λ apart. rw (hold_else turn pass more high (announced n + mark) p apart, changed_else r.debt pass (n + 1) p apart)
+          (λ h. rw (hold_here turn pass more high (announced n + charge), changed_here r.debt pass (n + 1) pass refl)
+          (now_charged e h is, excused (slot_word words₁) (changed_at r.phase n (leaving id t (round_at nx pass) (m + 1) f)) e)) hold)
+          (λ apart. rw (hold_else turn pass more high (announced n + charge) p apart, changed_else r.debt pass (n + 1) p apart)
           (hold, guard_else words₁ (m + 1) same p e ne apart guard)) in
-          let a = (node turn f n t nx m works).few_marks in let b = r.shape.passes in let c = owes n in let d = bit_here (n + 1) (n + 1) refl in record {
-            leaves_else = hold_leaves turn pass more high (announced n + mark) n;
-            same_word = hold_node turn pass more high (announced n + mark) n;
-            same_label = hold_label turn pass more high (announced n + mark) n;
+          let a = (node turn f n t nx m works).few_charges in let b = r.shape.passes in let c = owes n in let d = bit_here (n + 1) (n + 1) refl in record {
+            leaves_else = hold_leaves turn pass more high (announced n + charge) n;
+            same_word = hold_node turn pass more high (announced n + charge) n;
+            same_label = hold_label turn pass more high (announced n + charge) n;
             own = (
-              hold_else turn pass more high (announced n + mark) x.number (λ e. other (sym e)) ∙ own_none.0,
+              hold_else turn pass more high (announced n + charge) x.number (λ e. other (sym e)) ∙ own_none.0,
               changed_else r.debt pass (n + 1) x.number (λ e. other (sym e)) ∙ own_none.1,
             );
             owed_else = λ k ne. let o = owes k in let z = bit_else (k + 1) (n + 1) (λ e. ne (omega arith)) in omega arith;
             owed_more = omega arith;
-            few_marks = omega arith;
+            few_charges = omega arith;
             few_visits = omega arith;
             still_down = down;
             guards = guards;
@@ -200,17 +200,17 @@ module _ (turn : Turn) (f : File) (n t : ℕ) (nx : Round) (m : ℕ) (works : tu
         names {i = i} its' = let same : n ≡ i = cc (retiring_same turn f n t nx m works its') in ap announced same
 
         still : RoundStep turn f n t nx m works st.words r.debt nx m
-        still = let now = node turn f n t nx m works in reads turn f n t nx m works nx own_none now.few_marks now.few_visits down
+        still = let now = node turn f n t nx m works in reads turn f n t nx m works nx own_none now.few_charges now.few_visits down
             (λ p e ne range hold guard. (guards_else turn n (its turn f n t nx m works).0 (leaving id t nx m f) r.history st.words st.homes r.debt
             (Retiring f n t nx m) v.glance (λ s l. refl) p e refl refl
-            (λ may. subst (MayBeUnmarked (slot_word st.words) p) (its turn f n t nx m works).1 may) hold guard).1)
+            (λ may. subst (MayBeUncharged (slot_word st.words) p) (its turn f n t nx m works).1 may) hold guard).1)
 
     abbrev Goal : ℕ → ℕ → Type 0
     Goal slots y = (carried : List (ℕ × Option Closed)) → Made turn carried (hold_word_of v.start pass) (λ _. y)
-        (Marks (step slots (hold_word_of v.start pass) (announced n) (announced n + mark) none) (v, carried))
+        (Charges (step slots (hold_word_of v.start pass) (announced n) (announced n + charge) none) (v, carried))
 
-    marks_won : (slots : ℕ) → 0 < pass → word ≡ announced n → Goal slots (announced n + mark)
-    marks_won slots more is carried = (
+    charges_won : (slots : ℕ) → 0 < pass → word ≡ announced n → Goal slots (announced n + charge)
+    charges_won slots more is carried = (
       w turn (round_after turn f n t nx m works (words₁ more is) debt₁ (round_at nx pass) (m + 1)),
       keeps,
       tt,
@@ -224,8 +224,8 @@ module _ (turn : Turn) (f : File) (n t : ℕ) (nx : Round) (m : ℕ) (works : tu
       },
     )
 
-    marks_lost : (slots : ℕ) → word ≢ announced n → Goal slots word
-    marks_lost slots not_so carried = (
+    charges_lost : (slots : ℕ) → word ≢ announced n → Goal slots word
+    charges_lost slots not_so carried = (
       w turn (round_after turn f n t nx m works st.words r.debt (round_at nx pass) m),
       keeps,
       tt,
@@ -239,22 +239,22 @@ module _ (turn : Turn) (f : File) (n t : ℕ) (nx : Round) (m : ℕ) (works : tu
       },
     )
 
--- the number of a pass that is visited isn't 0, since marks were counted before it
+-- the number of a pass that is visited isn't 0, since charges were counted before it
 more_than_none : (turn : Turn) (f : File) (n t : ℕ) (nx : Round) (m : ℕ) → turn.v.work ≡ Retiring f n t nx m → nx.guarded ≡ false → {pass : ℕ} → nx.next ≤ pass
     → 0 < pass
-more_than_none turn f n t nx m works down low = let a = (node turn f n t nx m works).few_marks in omega arith
+more_than_none turn f n t nx m works down low = let a = (node turn f n t nx m works).few_charges in omega arith
 
 pub visits_keep : VisitsKeep Visits
 visits_keep k slots id i n t m pass nx f s x has works down low high other between place = by_turn slots (λ (k : Start). pass ≤ k.passes)
     (λ k. hold_word_of k pass) (λ word. word) (λ i. Visits (step slots i 0 0 none) s) has high place
     (λ st r here high fits. visits_either (turn_of s x has.1 id st r here) f n t nx m works down pass low high other between slots s.1)
 
-pub marks_keep : MarksKeep Marks
-marks_keep k slots id i n t m pass nx f s x has works down low high other between place = by_turn slots (λ (k : Start). pass ≤ k.passes)
-    (λ k. hold_word_of k pass) (λ word. either (eqb word (announced n)) (announced n + mark) word)
-    (λ i. Marks (step slots i (announced n) (announced n + mark) none) s) has high place
+pub charges_keep : ChargesKeep Charges
+charges_keep k slots id i n t m pass nx f s x has works down low high other between place = by_turn slots (λ (k : Start). pass ≤ k.passes)
+    (λ k. hold_word_of k pass) (λ word. either (eqb word (announced n)) (announced n + charge) word)
+    (λ i. Charges (step slots i (announced n) (announced n + charge) none) s) has high place
     (λ st r here high fits. let turn = turn_of s x has.1 id st r here in
-    exchanged (word_at st.words (hold_word_of s.0.start pass)) (announced n) (announced n + mark)
+    exchanged (word_at st.words (hold_word_of s.0.start pass)) (announced n) (announced n + charge)
     (λ y. Goal turn f n t nx m works down pass low high other between slots y)
-    (λ is. marks_won turn f n t nx m works down pass low high other between slots (more_than_none turn f n t nx m works down low) is)
-    (λ not_so. marks_lost turn f n t nx m works down pass low high other between slots not_so) s.1)
+    (λ is. charges_won turn f n t nx m works down pass low high other between slots (more_than_none turn f n t nx m works down low) is)
+    (λ not_so. charges_lost turn f n t nx m works down pass low high other between slots not_so) s.1)

@@ -1,6 +1,6 @@
 -- A pass finds a free node of its stock, takes its place, and lays a node to rest.
 use Rattle.fx_lasting.proofs.Words.{◌⊎◌, HoldsAt, Renewing, File, IsIn, changed_else, ◌≡◌, ◌≢◌, ℕ, ◌+◌, ◌<◌, ◌≤◌, List, [], ◌∷◌, set, sym, refl, ap, ◌∙◌, subst, arith, Option, Some, None, none, some}
-use Rattle.fx_lasting.proofs.Words.{keeps, takes, gives, rest, set_here, set_else, Closed, WorkAgrees, MayBeUnmarked, nodes_of, word_of, hold_word_of}
+use Rattle.fx_lasting.proofs.Words.{keeps, takes, gives, rest, set_here, set_else, Closed, WorkAgrees, MayBeUncharged, nodes_of, word_of, hold_word_of}
 use Rattle.fx_lasting.proofs.Words.{held_in, if_file, taken_of, taking, owed, Phase, free, placed, seated, leaving, retired, emptied, kept, owner}
 use Rattle.fx_lasting.proofs.Words.{file_in, changed_here, Log, Work, Idle, Searching, Placing, Emptying, Seeks, Births, Rests, SeeksKeep}
 use Rattle.fx_lasting.proofs.Words.{BirthsKeep, RestsKeep, birth_word, step, inl, inr, ⊎_elim, dite, ℕ_discrete, sum_by, sum_set, length-set, Start}
@@ -33,7 +33,7 @@ module _ (turn : Turn) where
       go free at o = at
       go (placed j l) at o = let a = o.counts in absurd (omega arith)
       go (seated s f) at o = let a = o.counts in absurd (omega arith)
-      go (leaving j t nx m f) at o = let a = o.counts in let b = o.few_takes in let c = o.few_marks in let d = o.few_visits in absurd (omega arith)
+      go (leaving j t nx m f) at o = let a = o.counts in let b = o.few_takes in let c = o.few_charges in let d = o.few_visits in absurd (omega arith)
       go (retired f) at o = let a = o.counts in absurd (omega arith)
       go (emptied j) at o = let a = o.counts in absurd (omega arith)
       go (kept j lost) at o = let a = o.counts in absurd (omega arith)
@@ -260,7 +260,7 @@ module _ (turn : Turn) where
         → GuardAgrees (slot_word words₀) (changed_at r.phase n free) x.number (r.debt x.number) e) (λ a g. tt) (λ l a g. tt)
         (λ f held l. (
           λ a g. tt,
-          λ a g none. subst (MayBeUnmarked (slot_word words₀) x.number) (sym (changed_else r.phase n free held (apart f held a.0)))
+          λ a g none. subst (MayBeUncharged (slot_word words₀) x.number) (sym (changed_else r.phase n free held (apart f held a.0)))
               (covers_same turn words₀ (node_slot turn n its_node.0 0) x.number held (g none)),
         )) (λ m l a g. tt) (its_work turn) (its_log turn).guarded
 

@@ -12,6 +12,6 @@ module _ {w : Work} (free_of : HasNoFile w) where
   pub not_busy : busy w ≡ 0
   not_busy = ⊎_elim (λ i. ap busy i) (λ s. ap busy s.1) free_of
 
-  -- its hold word names no node, and it owes no mark
+  -- its hold word names no node, and it owes no charge
   pub holds_none : {word debt : ℕ} → HoldAgrees word debt w → (word ≡ 0) × (debt ≡ 0)
   holds_none h = ⊎_elim (λ (i : w ≡ Idle). rw i at h) (λ (s : (n : ℕ) × (w ≡ Searching n)). rw s.1 at h) free_of

@@ -4,7 +4,7 @@ use Rattle.fx_lasting.proofs.Words.{◌≡◌, ◌≢◌, ℕ, ◌+◌, ◌<◌,
 use Rattle.fx_lasting.proofs.Words.{get_elem?, held_by, changed_at, File, Event, NodeAgrees, OwnerAgrees, WorkAgrees, IsAllowed, Agrees, slots_of}
 use Rattle.fx_lasting.proofs.Words.{nodes_of, IsHistory, state_after_all, held_in, held_of, taken_of, taking, owed, Phase, free, seated, owner}
 use Rattle.fx_lasting.proofs.Words.{file_in, removed_in, View, Work, ⊎_elim, ◌⊎◌, inr, word_of, hold_word_of, count_in, name_in, full_name_in}
-use Rattle.fx_lasting.proofs.Words.{IsInStock, in_stock, sum_by, sum_set, HoldAgrees, GuardAgrees, MayBeUnmarked, Glance, inl, IsSeenBy, part_of_pass}
+use Rattle.fx_lasting.proofs.Words.{IsInStock, in_stock, sum_by, sum_set, HoldAgrees, GuardAgrees, MayBeUncharged, Glance, inl, IsSeenBy, part_of_pass}
 use Rattle.fx_lasting.proofs.Words.{Labels, written_in, None, if_file, leaving, retired}
 use Rattle.fx_lasting.proofs.Histories.{Grows, grows_none, each_changed}
 use Rattle.fx_lasting.proofs.Frames.{busy, owner_stays, slot_same, node_same, Leaves, keeps_other, sees_same, covers_same, guards_same}
@@ -83,11 +83,11 @@ module _ (turn : Turn) (q : ℕ) (its : q < nodes_of turn.v.start) (ph : Phase) 
   -- another pass, whose hold word and debt have not changed
   pub guards_else_seen : ((s : ℕ) → s < slots_of v.start → slot_word words' s ≡ slot_word st.words s) → (p : ℕ) (e : Work)
       → word_at words' (hold_word_of v.start p) ≡ word_at st.words (hold_word_of v.start p) → debt' p ≡ r.debt p
-      → (MayBeUnmarked (slot_word st.words) p (r.phase q) → MayBeUnmarked (slot_word words') p ph)
+      → (MayBeUncharged (slot_word st.words) p (r.phase q) → MayBeUncharged (slot_word words') p ph)
       → HoldAgrees (word_at st.words (hold_word_of v.start p)) (r.debt p) e → GuardAgrees (slot_word st.words) r.phase p (r.debt p) e
       → HoldAgrees (word_at words' (hold_word_of v.start p)) (debt' p) e × GuardAgrees (slot_word words') (changed_at r.phase q ph) p (debt' p) e
   guards_else_seen same p e held owes here = guards_same turn after_seen p e held owes (λ n. each_changed
-      (λ m z. MayBeUnmarked (slot_word st.words) p (r.phase m) → MayBeUnmarked (slot_word words') p z) r.phase
+      (λ m z. MayBeUncharged (slot_word st.words) p (r.phase m) → MayBeUncharged (slot_word words') p z) r.phase
       (λ is may. here (rw is at may)) (λ _. covers_same turn words' same p n))
 
   module _ (s : NodeStepSeen) where
@@ -190,7 +190,7 @@ module _ (turn : Turn) (q : ℕ) (its : q < nodes_of turn.v.start) (ph : Phase) 
 
   pub guards_else : ((s : ℕ) → s < slots_of v.start → slot_word words' s ≡ slot_word st.words s) → (p : ℕ) (e : Work)
       → word_at words' (hold_word_of v.start p) ≡ word_at st.words (hold_word_of v.start p) → debt' p ≡ r.debt p
-      → (MayBeUnmarked (slot_word st.words) p (r.phase q) → MayBeUnmarked (slot_word words') p ph)
+      → (MayBeUncharged (slot_word st.words) p (r.phase q) → MayBeUncharged (slot_word words') p ph)
       → HoldAgrees (word_at st.words (hold_word_of v.start p)) (r.debt p) e → GuardAgrees (slot_word st.words) r.phase p (r.debt p) e
       → HoldAgrees (word_at words' (hold_word_of v.start p)) (debt' p) e × GuardAgrees (slot_word words') (changed_at r.phase q ph) p (debt' p) e
   guards_else = guards_else_seen turn q its ph h' h' words' homes' debt' d g
@@ -204,10 +204,10 @@ unremoved (leaving j t nx n f) is m = absurd (cc is)
 unremoved (retired f) is m = absurd (cc is)
 unremoved _ is m = refl
 
-unmarked_none : (sw : ℕ → ℕ) (p : ℕ) (ph : Phase) → file_in ph ≡ None → MayBeUnmarked sw p ph → ⊥
-unmarked_none sw p (seated i f) is may = cc is
-unmarked_none sw p (leaving j t nx n f) is may = cc is
-unmarked_none sw p _ is may = may
+uncharged_none : (sw : ℕ → ℕ) (p : ℕ) (ph : Phase) → file_in ph ≡ None → MayBeUncharged sw p ph → ⊥
+uncharged_none sw p (seated i f) is may = cc is
+uncharged_none sw p (leaving j t nx n f) is may = cc is
+uncharged_none sw p _ is may = may
 
 -- A step of a pass on a node that no other pass knows: it works with the node, or takes it from its
 -- stock. The node has no file before and after, and the history stays.
@@ -260,7 +260,7 @@ module _ (turn : Turn) (q : ℕ) (its : q < nodes_of turn.v.start) (ph : Phase) 
     at_slot = λ i f is. let bad : None ≡ Some f = sym s.empty ∙ ap file_in is in absurd (cc bad);
     open_file = λ j u f other there holds is. let bad : None ≡ Some f = sym s.empty ∙ is in absurd (cc bad);
     guards = λ p e other range. guards_else_seen turn q its ph r.history front words' homes' r.debt d v.glance s.leaves_else.slots p e
-        (s.hold_words p range.1) refl (λ may. absurd (unmarked_none (slot_word st.words) p (r.phase q) s.empty may));
+        (s.hold_words p range.1) refl (λ may. absurd (uncharged_none (slot_word st.words) p (r.phase q) s.empty may));
     node = s.node;
     known = s.known;
     label = s.label;

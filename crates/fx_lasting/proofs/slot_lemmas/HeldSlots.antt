@@ -4,7 +4,7 @@
 use Rattle.fx_lasting.proofs.Words.{◌≡◌, ◌≢◌, ℕ, ◌+◌, ◌-◌, ◌<◌, List, ◌∷◌, sym, refl, ap, ◌∙◌, arith, subst, Option, Some, None, Bool, true, false}
 use Rattle.fx_lasting.proofs.Words.{File, Event, Release, State, pass_event, HoldsAt, IsHistory, node_of_number, state_after_all, slots_of, count_in}
 use Rattle.fx_lasting.proofs.Words.{heat_in, hold_word_of, full_name_in, entry_in, Names, seated, file_in, taken_of, taking, held_of, if_file}
-use Rattle.fx_lasting.proofs.Words.{held_in, sum_at, bit_here, one_less_at, Round, StillNames, NamesNode, MayBeUnmarked, HasItsHold, ⊎_elim}
+use Rattle.fx_lasting.proofs.Words.{held_in, sum_at, bit_here, one_less_at, Round, StillNames, NamesNode, MayBeUncharged, HasItsHold, ⊎_elim}
 use Rattle.fx_lasting.proofs.Words.{guarded_round, first_visit, new_round, removal_work, leaving_work, is_guarding, one_less}
 use Rattle.fx_lasting.proofs.Words.{[], ◌▷◌, ◌++◌, map, part_of_pass, held_after, Action, changed_at, with_removed, ActsAt}
 use Rattle.fx_lasting.proofs.Counts.{owed_at}
@@ -96,9 +96,9 @@ module _ (turn : Turn) (s : ℕ) (inside : s < slots_of turn.v.start) (f : File)
       leaves = refl;
     }
 
-  -- by its hold word, which nobody has marked
+  -- by its hold word, which nobody has charged
   pub by_guard : is_guarding v.work ≡ true → ((m : ℕ) → taking m v.work ≡ 0) → NamesNode (word_at st.words (hold_word_of v.start x.number)) (r.debt x.number) n
-      → (r.debt x.number ≡ 0 → MayBeUnmarked (slot_word st.words) x.number (r.phase n)) → x.listed ≡ true → IsHeld true word guarded_round
+      → (r.debt x.number ≡ 0 → MayBeUncharged (slot_word st.words) x.number (r.phase n)) → x.listed ≡ true → IsHeld true word guarded_round
   by_guard guarding untaken names guards listed = record {
     alike = (refl, refl);
     taken = let a = untaken n in omega arith;
@@ -111,12 +111,12 @@ module _ (turn : Turn) (s : ℕ) (inside : s < slots_of turn.v.start) (f : File)
     };
     hold = names;
     guarding = guarding;
-    own = subst (MayBeUnmarked (slot_word st.words) x.number) sits (guards unmarked);
+    own = subst (MayBeUncharged (slot_word st.words) x.number) sits (guards uncharged);
     leaves = refl;
   }
     where
-      unmarked : r.debt x.number ≡ 0
-      unmarked = let o = in_phase turn its.0 sits in let a = o.unowed in let range = in_range turn in ⊎_elim (λ clean. clean.1)
+      uncharged : r.debt x.number ≡ 0
+      uncharged = let o = in_phase turn its.0 sits in let a = o.unowed in let range = in_range turn in ⊎_elim (λ clean. clean.1)
           (λ full. absurd (let b = owed_at r.debt v.start.passes x.number n range.0 range.1 full.1 in omega arith)) names
 
   -- the work of the pass afterwards, by how it held the file

@@ -13,7 +13,7 @@ use Rattle.fx_lasting.proofs.slot_lemmas.Renewals.{held_besides}
 use Rattle.fx_lasting.specs.slots.Alone.{LeftAlone}
 use Rattle.fx_lasting.specs.slots.ByKey.{HoldsAtKey, IsKeyOf}
 use Rattle.fx_lasting.specs.slots.PutAlone.{FreesFirst, TakesOn, TriedRenewal, RenewsAlone, PutsAlone}
-use Rattle.fx_lasting.proofs.Words.{Change, Close, Doing, Holding, LetsMarkGo, Work}
+use Rattle.fx_lasting.proofs.Words.{Change, Close, Doing, Holding, LetsChargeGo, Work}
 use Rattle.fx_lasting.specs.declared.answers.Miss.TheVariants as reason
 use Rattle.fx_table.specs.declared.values.LookFault.TheVariants.{Empty as EmptySlot}
 use Rattle.fx_lasting.specs.declared.key.Key.{Key}
@@ -219,6 +219,6 @@ frees_later k u v w (Some file) first frees =
 
 -- an announcement in vain
 pub frees_so : {id : TableId} {k : Start} {p : LastingPass} → IsSeatOf id k p → {m : Sat} {w : Work} {g : Glance} {c : Change} {n : ℕ}
-    → Runs p.seat.me [] w g c n m → (m' : Sat) (freed : Option Closed) → LetsMarkGo m 3 freed m' → FreesFirst (opening_of k) (view_of p) freed (pass_of m'.0)
+    → Runs p.seat.me [] w g c n m → (m' : Sat) (freed : Option Closed) → LetsChargeGo m 3 freed m' → FreesFirst (opening_of k) (view_of p) freed (pass_of m'.0)
 frees_so seated before m' None lets = adds_so seated (does_then before lets) no_use
 frees_so seated before m' (Some file) lets = (lets.0, lets.1, adds_so seated (does_then before lets.2) no_use)

@@ -4,7 +4,7 @@ use Rattle.fx_lasting.proofs.Words.{sym, refl, ap, ◌∙◌, subst, arith, Opti
 use Rattle.fx_lasting.proofs.Words.{SlotAgrees, Names, Agrees, slots_of, nodes_of, state_after_all, held_in, held_of, taken_of, taking, Phase, free}
 use Rattle.fx_lasting.proofs.Words.{placed, seated, leaving, retired, emptied, kept, Work, Glance, ⊎_elim, ◌⊎◌, inr, dite, ℕ_discrete, slot_place}
 use Rattle.fx_lasting.proofs.Words.{word_of, count_in, name_in, full_name_in, entry_in, IsHot, cold_takes, tally, birth_word, owed, sum_set, sum_by}
-use Rattle.fx_lasting.proofs.Words.{get_elem?, length-set, MayBeUnmarked, MOST_SLOTS, without_slot}
+use Rattle.fx_lasting.proofs.Words.{get_elem?, length-set, MayBeUncharged, MOST_SLOTS, without_slot}
 use Rattle.fx_lasting.proofs.Frames.{busy, nodes_untouched, slot_same, node_same, Leaves, keeps_other, guards_same, covers_hot}
 use Rattle.fx_lasting.proofs.Keeping.{Turn, After, as_it_was, Keeps, word_at, slot_word, sees_all, stocks_untouched, step_kept, w, end, its_log}
 use Rattle.fx_lasting.proofs.Keeping.{range_left, LeavesFiles}
@@ -68,7 +68,7 @@ module _ (turn : Turn) (s : ℕ) (inside : s < slots_of turn.v.start) (new : ℕ
   hot_on hot = slot_by turn s inside new (λ i word. IsHot (slot_word st.words i) → IsHot word) hot (λ i other h. h)
 
   -- a guard of a file at a hot slot
-  pub covers_slot : (IsHot old → IsHot new) → (p n : ℕ) → MayBeUnmarked (slot_word st.words) p (r.phase n) → MayBeUnmarked (slot_word words') p (r.phase n)
+  pub covers_slot : (IsHot old → IsHot new) → (p n : ℕ) → MayBeUncharged (slot_word st.words) p (r.phase n) → MayBeUncharged (slot_word words') p (r.phase n)
   covers_slot hot = covers_hot turn words' (λ i l. hot_on hot i)
 
   module _ (p : SlotStep) where

@@ -4,7 +4,7 @@ use Rattle.fx_lasting.proofs.Words.{Round, StillNames, removal_work, alone_in, I
 use Rattle.fx_lasting.proofs.Words.{IsInside, NamesItsNode, ◌≡◌, ◌≢◌, ℕ, suc, ◌+◌, ◌-◌, ◌^◌, ◌<◌, ◌≤◌, List, [], set, length, sym, refl}
 use Rattle.fx_lasting.proofs.Words.{ap, ◌∙◌, subst, arith, Option, Some, None, get_elem?, Bool, false, inr, ⊎_elim, ◌⊎◌, dite, ℕ_discrete, dec_le}
 use Rattle.fx_lasting.proofs.Words.{eq-eqb, ne_eqb, File, Event, State, held_by, with_removed, changed_at, changed_here, changed_else, Agrees}
-use Rattle.fx_lasting.proofs.Words.{NodeAgrees, OwnerAgrees, WorkAgrees, SlotAgrees, Names, IsSeated, HoldAgrees, GuardAgrees, MayBeUnmarked}
+use Rattle.fx_lasting.proofs.Words.{NodeAgrees, OwnerAgrees, WorkAgrees, SlotAgrees, Names, IsSeated, HoldAgrees, GuardAgrees, MayBeUncharged}
 use Rattle.fx_lasting.proofs.Words.{IsAllowed, RangeCounts, Nodes, IsHistory, state_after_all, slots_of, nodes_of, range_at_start, slot_place}
 use Rattle.fx_lasting.proofs.Words.{word_of, hold_word_of, count_in, full_name_in, heat_in, IsHot, cold_takes, Deed, untouched, has_heated, owed}
 use Rattle.fx_lasting.proofs.Words.{taken_of, taking, held_in, held_of, if_file, sum_by, sum_set, Phase, free, placed, seated, leaving, owner}
@@ -229,7 +229,7 @@ module _ (turn : Turn) (s : ℕ) (inside : s < slots_of turn.v.start) where
               file = file_same p.later (p.old_home f is) o.file;
               counts = omega arith;
               few_takes = omega arith;
-              few_marks = p.ends.begins.some_next;
+              few_charges = p.ends.begins.some_next;
               few_visits = p.ends.begins.few_next;
               unowed = λ up. b;
             }
@@ -239,11 +239,11 @@ module _ (turn : Turn) (s : ℕ) (inside : s < slots_of turn.v.start) where
         old_label {f} is = let its = old_at old was is in labels_same v.start _ _ _ (label_of f.identity) (slot_label turn s inside new_word (r.node_of f.number))
             (subst (λ (ph : Phase). Labels v.start st.words (r.node_of f.number) (written_in ph)) its.1 (r.nodes.labels (r.node_of f.number) its.0))
 
-        covers : (q : ℕ) → (0 < q) × (q ≤ v.start.passes) → (n : ℕ) → MayBeUnmarked (slot_word st.words) q (r.phase n)
-            → MayBeUnmarked (slot_word (slot_words turn s inside new_word)) q (phase' n)
-        covers q range n may = by_old r.node_of old {n = n} (MayBeUnmarked (slot_word (slot_words turn s inside new_word)) q (phase' n))
-            (λ f is same. let hot = subst (MayBeUnmarked (slot_word st.words) q) (ap r.phase same ∙ (old_at old was is).1) may in
-            subst (MayBeUnmarked (slot_word (slot_words turn s inside new_word)) q) (sym (ap phase' same ∙ out_here is))
+        covers : (q : ℕ) → (0 < q) × (q ≤ v.start.passes) → (n : ℕ) → MayBeUncharged (slot_word st.words) q (r.phase n)
+            → MayBeUncharged (slot_word (slot_words turn s inside new_word)) q (phase' n)
+        covers q range n may = by_old r.node_of old {n = n} (MayBeUncharged (slot_word (slot_words turn s inside new_word)) q (phase' n))
+            (λ f is same. let hot = subst (MayBeUncharged (slot_word st.words) q) (ap r.phase same ∙ (old_at old was is).1) may in
+            subst (MayBeUncharged (slot_word (slot_words turn s inside new_word)) q) (sym (ap phase' same ∙ out_here is))
             (p.ends.begins.visits q range.0 hot))
             (λ apart. go apart (r.phase n) refl may)
           where
@@ -254,11 +254,11 @@ module _ (turn : Turn) (s : ℕ) (inside : s < slots_of turn.v.start) where
                 apart f (sym was ∙ (ap state.at (sym same) ∙ o.there)) (sym o.file.its_node))
                 (λ g. let e = r.nodes.unborn n (omega (arith, g)) in let bad : free ≡ seated i f = sym e ∙ is in cc bad)
 
-            go : NotOf r.node_of n old → (ph : Phase) → r.phase n ≡ ph → MayBeUnmarked (slot_word st.words) q ph
-                → MayBeUnmarked (slot_word (slot_words turn s inside new_word)) q (phase' n)
-            go apart (seated i f) is hot = subst (MayBeUnmarked (slot_word (slot_words turn s inside new_word)) q)
+            go : NotOf r.node_of n old → (ph : Phase) → r.phase n ≡ ph → MayBeUncharged (slot_word st.words) q ph
+                → MayBeUncharged (slot_word (slot_words turn s inside new_word)) q (phase' n)
+            go apart (seated i f) is hot = subst (MayBeUncharged (slot_word (slot_words turn s inside new_word)) q)
                 (sym (same_phase is apart (λ l bad. cc bad))) (rw (slot_else turn s inside new_word i (λ same. at_slot apart i f is same)) hot)
-            go apart (leaving j t nx m f) is l = subst (MayBeUnmarked (slot_word (slot_words turn s inside new_word)) q)
+            go apart (leaving j t nx m f) is l = subst (MayBeUncharged (slot_word (slot_words turn s inside new_word)) q)
                 (sym (same_phase is apart (λ l bad. cc bad))) l
             go apart _ is m = absurd m
 

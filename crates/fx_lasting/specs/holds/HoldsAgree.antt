@@ -11,7 +11,7 @@ use Rattle.fx_plain.specs.declared.event.File.{File}
 use Rattle.fx_lasting.specs.slots.Deeds.{Deed, untouched, over, heated}
 use Rattle.fx_lasting.specs.life.Layout.{list_place, slot_place}
 use Rattle.table_range.specs.Counts.{bit_of}
-use Rattle.fx_lasting.specs.Fields.{full_name_in, IsHot, announced, mark, IsListedIn}
+use Rattle.fx_lasting.specs.Fields.{full_name_in, IsHot, announced, charge, IsListedIn}
 use Rattle.fx_lasting.specs.Passes.{Shared, slots_of, nodes_of, hold_word_of, state_after_all}
 use Rattle.fx_lasting.specs.Passes.{held_in, held_of}
 use Rattle.fx_lasting.specs.nodes.Phases.{Phase, free, placed, seated, leaving, emptied, kept}
@@ -54,8 +54,8 @@ WorkAgrees k phase seat (Nearing node own placement) =
     (node < nodes_of k) × IsIn k phase own (placed seat placement)
 WorkAgrees k phase seat (Relieving f node own placement) =
     HoldsAt k phase f node × IsIn k phase own (placed seat placement)
-WorkAgrees k phase seat (Retiring f node takes round marks) =
-    IsIn k phase node (leaving seat takes round marks f)
+WorkAgrees k phase seat (Retiring f node takes round charges) =
+    IsIn k phase node (leaving seat takes round charges f)
 WorkAgrees k phase seat (Emptying node) = IsIn k phase node (emptied seat)
 WorkAgrees k phase seat (Keeping node lost) = IsIn k phase node (kept seat lost)
 
@@ -70,13 +70,13 @@ IsAllowed stock listed (Announced node) = listed ≡ true
 IsAllowed stock listed (Guarded f node) = listed ≡ true
 IsAllowed stock listed (Nearing node own placement) = IsInStock stock own × (listed ≡ true)
 IsAllowed stock listed (Relieving f node own placement) = IsInStock stock own × (listed ≡ true)
-IsAllowed stock listed (Retiring f node takes round marks) = round.guarded ≡ true → listed ≡ true
+IsAllowed stock listed (Retiring f node takes round charges) = round.guarded ≡ true → listed ≡ true
 IsAllowed stock listed _ = Unit {0}
 
--- a hold word names the node, and nothing is owed; or it is marked, and so much is owed
+-- a hold word names the node, and nothing is owed; or it is charged, and so much is owed
 abbrev pub NamesNode : ℕ → ℕ → ℕ → Type 0
 NamesNode word debt node = ((word ≡ announced node) × (debt ≡ 0))
-    ⊎ ((word ≡ announced node + mark) × (debt ≡ node + 1))
+    ⊎ ((word ≡ announced node + charge) × (debt ≡ node + 1))
 
 -- the hold word of a pass that removed the node's file: it names the node still, or none
 abbrev pub StillNames : Bool → ℕ → ℕ → ℕ → Type 0
@@ -89,7 +89,7 @@ HoldAgrees word debt (Announced node) = NamesNode word debt node
 HoldAgrees word debt (Guarded f node) = NamesNode word debt node
 HoldAgrees word debt (Nearing node own placement) = NamesNode word debt node
 HoldAgrees word debt (Relieving f node own placement) = NamesNode word debt node
-HoldAgrees word debt (Retiring f node takes round marks) = StillNames round.guarded word debt node
+HoldAgrees word debt (Retiring f node takes round charges) = StillNames round.guarded word debt node
 HoldAgrees word debt (Owing node) = (word ≡ 0) × (debt ≡ node + 1)
 HoldAgrees word debt (Yielding f node) = (word ≡ 0) × (debt ≡ node + 1)
 HoldAgrees word debt _ = (word ≡ 0) × (debt ≡ 0)
@@ -103,17 +103,17 @@ IsIdleIn round pass = ((pass - 1) / 64 + 1 ≡ round.words) × (bit_at round.las
 abbrev pub IsToVisit : Round → ℕ → Type 0
 IsToVisit round pass = (round.next ≤ pass) × (IsIdleIn round pass → ⊥)
 
--- a file may be held by a hold word that isn't marked at a hot slot, or until the pass is visited
-abbrev pub MayBeUnmarked : (ℕ → ℕ) → ℕ → Phase → Type 0
-MayBeUnmarked slot_word pass (seated slot f) = IsHot (slot_word slot)
-MayBeUnmarked slot_word pass (leaving seat takes round marks f) = IsToVisit round pass
-MayBeUnmarked slot_word pass _ = ⊥
+-- a file may be held by a hold word that isn't charged at a hot slot, or until the pass is visited
+abbrev pub MayBeUncharged : (ℕ → ℕ) → ℕ → Phase → Type 0
+MayBeUncharged slot_word pass (seated slot f) = IsHot (slot_word slot)
+MayBeUncharged slot_word pass (leaving seat takes round charges f) = IsToVisit round pass
+MayBeUncharged slot_word pass _ = ⊥
 
 abbrev pub GuardAgrees : (ℕ → ℕ) → (ℕ → Phase) → ℕ → ℕ → Work → Type 0
 GuardAgrees slot_word phase pass debt (Guarded f node) =
-    debt ≡ 0 → MayBeUnmarked slot_word pass (phase node)
+    debt ≡ 0 → MayBeUncharged slot_word pass (phase node)
 GuardAgrees slot_word phase pass debt (Relieving f node own placement) =
-    debt ≡ 0 → MayBeUnmarked slot_word pass (phase node)
+    debt ≡ 0 → MayBeUncharged slot_word pass (phase node)
 GuardAgrees slot_word phase pass debt _ = Unit {0}
 
 -- the progress of a look-up: the slot has still what it saw, or the pass has done nothing there

@@ -14,8 +14,8 @@ abbrev pub round_to : ℕ → ℕ → ℕ → Round
 round_to next words last = record { next = next; words = words; last = last; guarded = false }
 
 -- The pass retires the file of the node, which had these takes. From `first` on it has visited each
--- pass before `pass` that it has to, and made this many marks
-pub record HasVisited (passes number node : ℕ) (f : File) (takes first words last pass marks : ℕ)
+-- pass before `pass` that it has to, and made this many charges
+pub record HasVisited (passes number node : ℕ) (f : File) (takes first words last pass charges : ℕ)
     (m m' : Sat) : Type 0 where
   pub next : ℕ
   pub near : next ≤ pass
@@ -25,17 +25,17 @@ pub record HasVisited (passes number node : ℕ) (f : File) (takes first words l
   pub most : ℕ
   pub few : most + 2 * first ≤ 2 * next + words
   pub fewer : first ≤ number → number < next → most + 2 * first + 2 ≤ 2 * next + words
-  pub does : Does m [] (Retiring f node takes (round_to next words last) marks) most m'
+  pub does : Does m [] (Retiring f node takes (round_to next words last) charges) most m'
 
--- a visit to the pass: it was marked, or it doesn't announce the node
+-- a visit to the pass: it was charged, or it doesn't announce the node
 abbrev pub Visited : ℕ → ℕ → Sat → Bool → Sat → Type 0
-Visited node pass m is_marked m' = (f : File) (takes : ℕ) (round : Round) (marks : ℕ)
-    → m.0.work ≡ Retiring f node takes round marks
-    → Does m [] (Retiring f node takes (round_at round pass) (marks + (if is_marked then 1 else 0)))
+Visited node pass m is_charged m' = (f : File) (takes : ℕ) (round : Round) (charges : ℕ)
+    → m.0.work ≡ Retiring f node takes round charges
+    → Does m [] (Retiring f node takes (round_at round pass) (charges + (if is_charged then 1 else 0)))
     2 m'
 
--- all passes that it has to visit were visited, with this many marks
-abbrev pub HasMarked : ℕ → ℕ → File → ℕ → ℕ → Sat → ℕ → Sat → Type 0
-HasMarked passes number f node takes m marks m' = (round : Round) × (round.guarded ≡ false)
+-- all passes that it has to visit were visited, with this many charges
+abbrev pub HasCharged : ℕ → ℕ → File → ℕ → ℕ → Sat → ℕ → Sat → Type 0
+HasCharged passes number f node takes m charges m' = (round : Round) × (round.guarded ≡ false)
     × ((p : ℕ) → round.next ≤ p → p ≤ passes → IsPassed number round p)
-    × Does m [] (Retiring f node takes round marks) (2 * (passes - 1) + (passes + 63) / 64) m'
+    × Does m [] (Retiring f node takes round charges) (2 * (passes - 1) + (passes + 63) / 64) m'

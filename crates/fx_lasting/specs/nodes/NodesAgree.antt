@@ -40,7 +40,7 @@ pub record IsFileOfNode (node_of : Nodes) (next_number node : ℕ) (home : Home)
   pub its_node : node_of f.number ≡ node
   pub used : f.number < next_number
 
--- One node: its word, what lies in its place, the takes that it counts, and the marks owed to it
+-- One node: its word, what lies in its place, the takes that it counts, and the charges owed to it
 module _ (at : ℕ → Option File) (size : ℕ) (takes_at : ℕ → ℕ) (node_of : Nodes)
     (next_number node word taken owing : ℕ) (home : Home) where
   -- it has no file
@@ -67,12 +67,12 @@ module _ (at : ℕ → Option File) (size : ℕ) (takes_at : ℕ → ℕ) (node_
     pub inside : slot < size
     pub there : at slot ≡ Some f
 
-  -- its file was removed: the takes that were found, and the marks that were made
-  pub record IsLeaving (takes : ℕ) (round : Round) (marks : ℕ) (f : File) : Type 0 where
+  -- its file was removed: the takes that were found, and the charges that were made
+  pub record IsLeaving (takes : ℕ) (round : Round) (charges : ℕ) (f : File) : Type 0 where
     pub file : IsFileOfNode node_of next_number node home f
-    pub counts : word + takes + marks ≡ birth_word + taken + owing
+    pub counts : word + takes + charges ≡ birth_word + taken + owing
     pub few_takes : takes < 2 ^ 20
-    pub few_marks : marks < round.next
+    pub few_charges : charges < round.next
     pub few_visits : round.next ≤ 2 ^ 16
     -- no pass visits before the pass that removed the file has ended its hold
     pub unowed : round.guarded ≡ true → owing ≡ 0
@@ -95,7 +95,7 @@ module _ (at : ℕ → Option File) (size : ℕ) (takes_at : ℕ → ℕ) (node_
   NodeAgrees free = IsVacant 0 (some (some None))
   NodeAgrees (placed seat placement) = IsBorn placement.lost (some none)
   NodeAgrees (seated slot f) = IsAtSlot slot f
-  NodeAgrees (leaving seat takes round marks f) = IsLeaving takes round marks f
+  NodeAgrees (leaving seat takes round charges f) = IsLeaving takes round charges f
   NodeAgrees (retired f) = IsRetired f
   NodeAgrees (emptied seat) = IsEmptied
   NodeAgrees (kept seat lost) = IsBorn lost (some (some None))
@@ -113,8 +113,8 @@ Does views seat work = (v : View) × (get_elem? views seat ≡ some v) × (alone
 -- a node that a pass works with alone is known to the pass
 abbrev pub OwnerAgrees : List View → ℕ → Phase → Type 0
 OwnerAgrees views node (placed seat placement) = Does views seat (Placing node placement)
-OwnerAgrees views node (leaving seat takes round marks f) =
-    Does views seat (Retiring f node takes round marks)
+OwnerAgrees views node (leaving seat takes round charges f) =
+    Does views seat (Retiring f node takes round charges)
 OwnerAgrees views node (emptied seat) = Does views seat (Emptying node)
 OwnerAgrees views node (kept seat lost) = Does views seat (Keeping node lost)
 OwnerAgrees views node _ = Unit {0}

@@ -16,8 +16,8 @@ pub data Phase : Type 0 where
   -- its file is at the slot
   seated : ℕ → File → Phase
   -- its file was removed by the pass at the seat, which found `takes` takes, has come so far on its
-  -- round through the other passes, and made `marks` marks
-  leaving : (seat takes : ℕ) → Round → (marks : ℕ) → File → Phase
+  -- round through the other passes, and made `charges` charges
+  leaving : (seat takes : ℕ) → Round → (charges : ℕ) → File → Phase
   -- its file was removed and retired, and somebody has still to let it go
   retired : File → Phase
   -- its file is closed, and the pass at the seat is about to take it out
@@ -29,7 +29,7 @@ pub data Phase : Type 0 where
 -- the seat that alone may go on with it, plus 1, or 0
 abbrev pub owner : Phase → ℕ
 owner (placed seat placement) = seat + 1
-owner (leaving seat takes round marks f) = seat + 1
+owner (leaving seat takes round charges f) = seat + 1
 owner (emptied seat) = seat + 1
 owner (kept seat lost) = seat + 1
 owner _ = 0
@@ -37,7 +37,7 @@ owner _ = 0
 -- its file, while it is open
 abbrev pub file_in : Phase → Option File
 file_in (seated slot f) = Some f
-file_in (leaving seat takes round marks f) = Some f
+file_in (leaving seat takes round charges f) = Some f
 file_in (retired f) = Some f
 file_in _ = None
 
@@ -45,7 +45,7 @@ file_in _ = None
 abbrev pub written_in : Phase → Written
 written_in (placed seat placement) = placement.written
 written_in (seated slot f) = label_of f.identity
-written_in (leaving seat takes round marks f) = label_of f.identity
+written_in (leaving seat takes round charges f) = label_of f.identity
 written_in (retired f) = label_of f.identity
 written_in _ = Nothing
 
@@ -55,6 +55,6 @@ file_if_numbered number f = if f.number == number then Some f else None
 
 -- its file, if it was removed and has the number
 abbrev pub removed_in : ℕ → Phase → Option File
-removed_in number (leaving seat takes round marks f) = file_if_numbered number f
+removed_in number (leaving seat takes round charges f) = file_if_numbered number f
 removed_in number (retired f) = file_if_numbered number f
 removed_in number _ = None

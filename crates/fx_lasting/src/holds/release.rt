@@ -1,8 +1,8 @@
-//! Letting a file go: the mark of an announcement that came too late, and the hold of a file.
+//! Letting a file go: the charge of an announcement that came too late, and the hold of a file.
 ghost use Rattle.std.specs.Prelude.{◌≡◌, ℕ, []};
 ghost use Rattle.fx_plain.specs.declared.event.File.{File};
 ghost use Rattle.fx_lasting.specs.AtWork.{IsAtWork, IsReleasing};
-ghost use Rattle.fx_lasting.specs.Ends.{LetsMarkGo, LetsFileGo};
+ghost use Rattle.fx_lasting.specs.Ends.{LetsChargeGo, LetsFileGo};
 ghost use Rattle.fx_lasting.specs.Laws.{HasToLetGo};
 ghost use Rattle.fx_lasting.specs.declared.view.Work.TheVariants.{Announced, Guarded, Owing, Counted};
 
@@ -15,8 +15,8 @@ use atomic_table::Seat;
 use fx_base::OpenFile;
 
 impl LastingTable {
-    // Subtracts the mark that the pass owes, or the hold that it releases, from the node's word, in
-    // at most two steps. Returns the file if it was retired and no other pass uses it.
+    // Subtracts the charge that the pass owes, or the hold that it releases, from the node's word,
+    // in at most two steps. Returns the file if it was retired and no other pass uses it.
     #[inline(always)]
     pub(crate) fn let_go(
         &self,
@@ -29,7 +29,7 @@ impl LastingTable {
         requires places { seat.old.me.1 ≡ [] }
         ensures table { seat.new.table_id ≡ seat.old.table_id }
         ensures owed { seat.old.me.0.work ≡ Owing node
-            → LetsMarkGo seat.old.me 2 result seat.new.me }
+            → LetsChargeGo seat.old.me 2 result seat.new.me }
         ensures held { (f : File) → IsReleasing seat.old.me.0.work f node
             → LetsFileGo seat.old.me f 2 result seat.new.me }
         ensures places { seat.new.me.1 ≡ [] }
@@ -56,7 +56,7 @@ impl LastingTable {
         requires announced { seat.old.me.0.work ≡ Announced node }
         requires places { seat.old.me.1 ≡ [] }
         ensures table { seat.new.table_id ≡ seat.old.table_id }
-        ensures withdraws { LetsMarkGo seat.old.me 3 result seat.new.me }
+        ensures withdraws { LetsChargeGo seat.old.me 3 result seat.new.me }
         ensures places { seat.new.me.1 ≡ [] }
     {
         let place = hold_place(self.size, number);

@@ -1,5 +1,5 @@
 //! The round of a retirement through the other passes: each announcement of the removed file is
-//! marked. A pass that isn't listed announces nothing, and isn't visited.
+//! charged. A pass that isn't listed announces nothing, and isn't visited.
 ghost use Rattle.std.specs.Prelude.{◌≡◌, ◌≢◌, ◌+◌, ◌*◌, ◌-◌, ◌<◌, ◌≤◌, ℕ};
 ghost use Rattle.std.specs.Prelude.{◌⊎◌, false};
 ghost use Rattle.fx_plain.specs.declared.event.File.{File};
@@ -7,12 +7,12 @@ ghost use Rattle.fx_lasting.specs.AtWork.{IsAtWork};
 ghost use Rattle.fx_lasting.specs.Laws.{IsPassed};
 ghost use Rattle.fx_lasting.specs.Passes.{Sat};
 ghost use Rattle.fx_lasting.specs.Effects.{new_round};
-ghost use Rattle.fx_lasting.specs.holds.Visits.{HasVisited, Visited, HasMarked};
+ghost use Rattle.fx_lasting.specs.holds.Visits.{HasVisited, Visited, HasCharged};
 ghost use Rattle.fx_lasting.specs.declared.view.Round.{Round};
 ghost use Rattle.fx_lasting.specs.declared.view.Work.TheVariants.{Retiring};
 
-use crate::fields::{announced, marked};
-use crate::kinds::{Marking, Skimming, Visiting};
+use crate::fields::{announced, charged};
+use crate::kinds::{Charging, Skimming, Visiting};
 use crate::life::layout::{hold_place, list_place};
 use crate::table::LastingTable;
 use crate::view::View;
@@ -20,10 +20,10 @@ use atomic_table::Seat;
 use fx_base::OpenFile;
 
 impl LastingTable {
-    // Marks the announcements of the node by other passes, from `first` on, in at most two steps
-    // for each, and one for each 64 passes. Returns the number of marks.
+    // Charges the announcements of the node by other passes, from `first` on, in at most two steps
+    // for each, and one for each 64 passes. Returns the number of charges.
     #[inline(always)]
-    pub(crate) fn mark_all(
+    pub(crate) fn charge_all(
         &self,
         seat: &mut Seat<Option<OpenFile>, View>,
         number: u32,
@@ -38,23 +38,23 @@ impl LastingTable {
         ensures table { seat.new.table_id ≡ seat.old.table_id }
         ensures places { seat.new.me.1 ≡ seat.old.me.1 }
         ensures few { result ≤ self.now.passes + 63 }
-        ensures marked { (f : File) (takes : ℕ)
+        ensures charged { (f : File) (takes : ℕ)
             → seat.old.me.0.work ≡ Retiring f node takes (new_round first) 0
-            → HasMarked self.now.passes number f node takes seat.old.me result seat.new.me }
+            → HasCharged self.now.passes number f node takes seat.old.me result seat.new.me }
     {
-        let mut marks = 0;
+        let mut charges = 0;
         let mut pass = first;
         while pass <= self.passes {
-            marks += self.mark_listed(seat, number, node, pass);
+            charges += self.charge_listed(seat, number, node, pass);
             pass += 64;
         }
-        marks
+        charges
     }
 
     // Visits the listed ones of the 64 passes from `first` on, in at most two steps for each, and
-    // one. Returns the number of marks that it made.
+    // one. Returns the number of charges that it made.
     #[inline(never)]
-    fn mark_listed(
+    fn charge_listed(
         &self,
         seat: &mut Seat<Option<OpenFile>, View>,
         number: u32,
@@ -65,33 +65,33 @@ impl LastingTable {
         requires at { IsAtWork self.now.table.shared.key number seat.old.me }
         requires low { first ≤ self.now.passes }
         requires visited { (m : Sat) × (f : File) × (takes : ℕ) × (begin : ℕ) × (words : ℕ)
-            × (last : ℕ) × (marks : ℕ) × (first ≡ 64 * words + 1)
-            × HasVisited self.now.passes number node f takes begin words last first marks m
+            × (last : ℕ) × (charges : ℕ) × (first ≡ 64 * words + 1)
+            × HasVisited self.now.passes number node f takes begin words last first charges m
             seat.old.me }
         ensures table { seat.new.table_id ≡ seat.old.table_id }
         ensures places { seat.new.me.1 ≡ seat.old.me.1 }
         ensures few { result ≤ 64 }
-        ensures visited { (found : ℕ) × ((m : Sat) (f : File) (takes begin words last marks : ℕ)
+        ensures visited { (found : ℕ) × ((m : Sat) (f : File) (takes begin words last charges : ℕ)
             → first ≡ 64 * words + 1
-            → HasVisited self.now.passes number node f takes begin words last first marks m
+            → HasVisited self.now.passes number node f takes begin words last first charges m
             seat.old.me
             → HasVisited self.now.passes number node f takes begin (words + 1) found (first + 64)
-            (marks + result) m seat.new.me) }
+            (charges + result) m seat.new.me) }
     {
         let mut rest = self.table.shared.load::<Skimming>(seat, list_place(first));
         let mut pass = first;
-        let mut marks = 0;
+        let mut charges = 0;
         while rest != 0 {
             let idle = rest.trailing_zeros();
             pass += idle;
-            marks += self.visit(seat, number, node, pass);
+            charges += self.visit(seat, number, node, pass);
             rest = rest >> idle >> 1;
             pass += 1;
         }
-        marks
+        charges
     }
 
-    // Visits the pass, unless it is this one, in at most two steps. Returns the number of marks
+    // Visits the pass, unless it is this one, in at most two steps. Returns the number of charges
     // that it made.
     fn visit(
         &self,
@@ -104,31 +104,31 @@ impl LastingTable {
         requires at { IsAtWork self.now.table.shared.key number seat.old.me }
         requires pass { pass ≤ self.now.passes }
         requires visited { (m : Sat) × (f : File) × (takes : ℕ) × (first : ℕ) × (words : ℕ)
-            × (last : ℕ) × (marks : ℕ)
-            × HasVisited self.now.passes number node f takes first words last pass marks m
+            × (last : ℕ) × (charges : ℕ)
+            × HasVisited self.now.passes number node f takes first words last pass charges m
             seat.old.me }
         ensures table { seat.new.table_id ≡ seat.old.table_id }
         ensures places { seat.new.me.1 ≡ seat.old.me.1 }
         ensures one { result ≤ 1 }
-        ensures visited { (m : Sat) (f : File) (takes first words last marks : ℕ)
-            → HasVisited self.now.passes number node f takes first words last pass marks m
+        ensures visited { (m : Sat) (f : File) (takes first words last charges : ℕ)
+            → HasVisited self.now.passes number node f takes first words last pass charges m
             seat.old.me
             → HasVisited self.now.passes number node f takes first words last (pass + 1)
-            (marks + result) m seat.new.me }
+            (charges + result) m seat.new.me }
     {
         if pass == number {
             return 0;
         }
-        if self.mark(seat, number, node, pass) {
+        if self.charge(seat, number, node, pass) {
             1
         } else {
             0
         }
     }
 
-    // Marks the announcement of another pass, if it announces the node, in at most two steps.
+    // Charges the announcement of another pass, if it announces the node, in at most two steps.
     // Returns whether it did.
-    fn mark(
+    fn charge(
         &self,
         seat: &mut Seat<Option<OpenFile>, View>,
         number: u32,
@@ -137,8 +137,8 @@ impl LastingTable {
     ) -> bool
         requires table { seat.old.table_id ≡ self.now.table.shared.table_id }
         requires at { IsAtWork self.now.table.shared.key number seat.old.me }
-        requires visiting { (f : File) × (takes : ℕ) × (round : Round) × (marks : ℕ)
-            × (seat.old.me.0.work ≡ Retiring f node takes round marks) × (round.next ≤ pass)
+        requires visiting { (f : File) × (takes : ℕ) × (round : Round) × (charges : ℕ)
+            × (seat.old.me.0.work ≡ Retiring f node takes round charges) × (round.next ≤ pass)
             × ((p : ℕ) → round.next ≤ p → p < pass → IsPassed number round p)
             × (round.guarded ≡ false) }
         requires other { pass ≢ number }
@@ -154,6 +154,6 @@ impl LastingTable {
         if word != named {
             return false;
         }
-        shared.compare_exchange::<Marking>(seat, place, named, marked(node)) == named
+        shared.compare_exchange::<Charging>(seat, place, named, charged(node)) == named
     }
 }

@@ -1,10 +1,10 @@
-//! The node that a pass keeps for its next file. If all takes and marks of a file were dropped when
-//! the pass that retires it loads its node's word, the file is closed at that load, and the word is
-//! that of a birth, less the takes and marks. Where they are few, that pass keeps the node, if the
-//! node is at the entry of its stock where the next search begins. The next installation then needs
-//! neither a search nor a birth: the slot's word begins with as many takes as the node's word has
-//! lost, as if the next file had had them too. A call that needs a pass without a node settles
-//! first: it frees the node.
+//! The node that a pass keeps for its next file. If all takes and charges of a file were dropped
+//! when the pass that retires it loads its node's word, the file is closed at that load, and the
+//! word is that of a birth, less the takes and charges. Where they are few, that pass keeps the
+//! node, if the node is at the entry of its stock where the next search begins. The next
+//! installation then needs neither a search nor a birth: the slot's word begins with as many takes
+//! as the node's word has lost, as if the next file had had them too. A call that needs a pass
+//! without a node settles first: it frees the node.
 ghost use Rattle.std.specs.Prelude.{◌≡◌, ◌+◌, ◌<◌, ◌≤◌, ℕ, ◌∷◌, [], true, false, Some};
 ghost use Rattle.std.specs.Prelude.{None, Bool};
 ghost use mathlib.Core.Option.{some};

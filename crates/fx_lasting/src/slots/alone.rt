@@ -1,7 +1,7 @@
 //! The removal by key. The pass holds the file of the key, so no other file is on its node. Its
 //! hold ends with the step that empties the slot. If it held the file by a take, the retirement
 //! counts one take less, and nothing is dropped. If it held it by its hold word, the next step
-//! stores 0 there: a retirement visits the other passes only, so nobody has marked it. So the pass
+//! stores 0 there: a retirement visits the other passes only, so nobody has charged it. So the pass
 //! keeps the node, as after a removal by slot.
 ghost use Rattle.std.specs.Prelude.{◌≡◌, ℕ, ◌+◌, ◌<◌, ◌≤◌, [], Some};
 ghost use Rattle.fx_plain.specs.declared.event.File.{File};

@@ -4,7 +4,7 @@ use super::super::sync::SeqCst;
 use super::range::Emptied;
 use super::words::{
     announced, bit_of, empty_word, file_word, is_hot, named_in, node_in, Table, BORN, FREE, HEAT,
-    MARK, TAKES,
+    CHARGE, TAKES,
 };
 
 /// A pass: its number, from 1; its stock of nodes; the entry of the stock where its next search
@@ -136,7 +136,7 @@ impl Table {
         Some((node_in(word)?, word))
     }
 
-    // Ends an announcement, or a hold by the hold word. A mark that it got is a take to drop.
+    // Ends an announcement, or a hold by the hold word. A charge that it got is a take to drop.
     fn empty_hold(&self, pass: &Pass, node: usize) -> Option<u64> {
         let found = self.hold(pass.number).swap(0, SeqCst);
         if found == announced(node) {
@@ -145,7 +145,7 @@ impl Table {
         self.let_go(node)
     }
 
-    // Drops a take or a mark. Returns the tag of the file if nobody uses it any more.
+    // Drops a take or a charge. Returns the tag of the file if nobody uses it any more.
     fn let_go(&self, node: usize) -> Option<u64> {
         let found = self.node(node).fetch_sub(1, SeqCst);
         (found == 2).then(|| self.take_out(node))
@@ -309,7 +309,7 @@ impl Table {
     }
 
     // Ends the hold of the file that the pass has just taken off its slot. Returns the word of the
-    // slot without the pass's own take. Nobody has marked its hold word, since a retirement visits
+    // slot without the pass's own take. Nobody has charged its hold word, since a retirement visits
     // the other passes only.
     fn end_hold(&self, pass: &Pass, word: u64) -> u64 {
         if pass.guarded {
@@ -334,29 +334,29 @@ impl Table {
         Err(Miss::Again)
     }
 
-    // Marks the hold word of a pass, if it announces the node.
-    fn mark(&self, pass: usize, node: usize) -> bool {
+    // Charges the hold word of a pass, if it announces the node.
+    fn charge(&self, pass: usize, node: usize) -> bool {
         let (hold, name) = (self.hold(pass), announced(node));
         hold.load(SeqCst) == name
             && hold
-                .compare_exchange(name, name | MARK, SeqCst, SeqCst)
+                .compare_exchange(name, name | CHARGE, SeqCst, SeqCst)
                 .is_ok()
     }
 
-    // Marks the hold words of the other listed passes that announce the node. Returns the number of
-    // marks.
+    // Charges the hold words of the other listed passes that announce the node. Returns the number
+    // of charges.
     #[inline(never)]
-    fn mark_all(&self, number: usize, node: usize) -> u64 {
-        let mut marks = 0;
+    fn charge_all(&self, number: usize, node: usize) -> u64 {
+        let mut charges = 0;
         for first in (1..=self.passes).step_by(64) {
             let mut rest = self.list(first).load(SeqCst);
             while rest != 0 {
                 let pass = first + rest.trailing_zeros() as usize;
-                marks += u64::from(pass != number && self.mark(pass, node));
+                charges += u64::from(pass != number && self.charge(pass, node));
                 rest &= rest - 1;
             }
         }
-        marks
+        charges
     }
 
     /// Retires the file of a slot that had this word, if it was full. Returns the tag of the file
@@ -366,7 +366,7 @@ impl Table {
         let node = node_in(word)?;
         let mut left = word & TAKES;
         if is_hot(word) {
-            left += self.mark_all(pass.number, node);
+            left += self.charge_all(pass.number, node);
         }
         let amount = BORN - 1 - left;
         if self.node(node).load(SeqCst) == amount + 1 {

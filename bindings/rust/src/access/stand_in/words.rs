@@ -13,8 +13,8 @@ pub(crate) const HEAT: u64 = 1 << 21;
 const FULL: u64 = 1 << 20;
 /// The takes in a slot's word.
 pub(crate) const TAKES: u64 = FULL - 1;
-/// The mark in a hold word.
-pub(crate) const MARK: u64 = 1 << 32;
+/// The charge in a hold word.
+pub(crate) const CHARGE: u64 = 1 << 32;
 /// The number of slots and that of nodes whose words have a line of their own.
 const OWN_LINES: usize = 4096;
 

@@ -1,7 +1,7 @@
 use Rattle.fx_lasting.proofs.Words.{◌≡◌, Sat, Work, Idle, Announced, Runs, Cold, Nothing, announcing, guarding, inl}
 use Rattle.fx_lasting.proofs.Words.{refl, ◌∙◌, arith, sym, Some, ℕ, subst, opening_of, view_of, pass_of, Look, ◌▷◌, [], Adds, one_look, Holding}
 use Rattle.fx_lasting.proofs.Running.{still_at_work, does_then}
-use Rattle.fx_lasting.proofs.Passing.{adds_so, at_ease, still_pass, still_seat, marks_then, marks_run}
+use Rattle.fx_lasting.proofs.Passing.{adds_so, at_ease, still_pass, still_seat, charges_then, charges_run}
 use Rattle.fx_lasting.proofs.table.LastingTable.look_hot.Goals as goal
 
 -- an idle pass may announce a node
@@ -46,29 +46,29 @@ withdraw-freed-requires-clause-places c = c.guard.ensures.places ∙ c.requires.
 pub look_cold-found-requires-clause-seated : goal.look_cold-found-requires-clause-seated
 look_cold-found-requires-clause-seated c =
     let s = c.requires.seated in
-    let lets = marks_run c.guard.new.seat.me c.withdraw-freed.new.seat.me 3 c.withdraw-freed.result c.withdraw-freed.ensures.withdraws in
+    let lets = charges_run c.guard.new.seat.me c.withdraw-freed.new.seat.me 3 c.withdraw-freed.result c.withdraw-freed.ensures.withdraws in
     still_seat s _ (at_ease s (does_then (vain c.requires.idle c.in-None.ensures.guards) lets.1)) (refl, refl) (c.withdraw-freed.ensures.table ∙ c.guard.ensures.table)
     c.withdraw-freed.ensures.places (refl, s.next)
 
 pub look_cold-found-requires-clause-listed : goal.look_cold-found-requires-clause-listed
-look_cold-found-requires-clause-listed c = (marks_run c.guard.new.seat.me c.withdraw-freed.new.seat.me 3 c.withdraw-freed.result c.withdraw-freed.ensures.withdraws).1.listed
+look_cold-found-requires-clause-listed c = (charges_run c.guard.new.seat.me c.withdraw-freed.new.seat.me 3 c.withdraw-freed.result c.withdraw-freed.ensures.withdraws).1.listed
     ∙ ((vain c.requires.idle c.in-None.ensures.guards).listed ∙ c.requires.listed)
 
 pub look_cold-found-requires-clause-idle : goal.look_cold-found-requires-clause-idle
-look_cold-found-requires-clause-idle c = (marks_run c.guard.new.seat.me c.withdraw-freed.new.seat.me 3 c.withdraw-freed.result c.withdraw-freed.ensures.withdraws).1.work
+look_cold-found-requires-clause-idle c = (charges_run c.guard.new.seat.me c.withdraw-freed.new.seat.me 3 c.withdraw-freed.result c.withdraw-freed.ensures.withdraws).1.work
 
 pub look_cold-found-requires-clause-cold : goal.look_cold-found-requires-clause-cold
-look_cold-found-requires-clause-cold c = (marks_run c.guard.new.seat.me c.withdraw-freed.new.seat.me 3 c.withdraw-freed.result c.withdraw-freed.ensures.withdraws).1.glance
+look_cold-found-requires-clause-cold c = (charges_run c.guard.new.seat.me c.withdraw-freed.new.seat.me 3 c.withdraw-freed.result c.withdraw-freed.ensures.withdraws).1.glance
     ∙ (vain c.requires.idle c.in-None.ensures.guards).glance
 
 pub returns-in-None : goal.returns-in-None
 returns-in-None c =
     let s = c.requires.seated in
     let cold = c.look_cold-found.ensures in
-    let lets = marks_run c.guard.new.seat.me c.withdraw-freed.new.seat.me 3 c.withdraw-freed.result c.withdraw-freed.ensures.withdraws in
+    let lets = charges_run c.guard.new.seat.me c.withdraw-freed.new.seat.me 3 c.withdraw-freed.result c.withdraw-freed.ensures.withdraws in
     record {
       fits = cold.fits;
-      looked = marks_then s (view_of c.look_cold-found.new.pass) c.args.slot c.withdraw-freed.result c.look_cold-found.result cold.never_spent
+      looked = charges_then s (view_of c.look_cold-found.new.pass) c.args.slot c.withdraw-freed.result c.look_cold-found.result cold.never_spent
           (vain c.requires.idle c.in-None.ensures.guards) c.withdraw-freed.new.seat.me c.withdraw-freed.ensures.withdraws cold.looked;
       never_spent = cold.never_spent;
       steps = let a = cold.steps in let b = lets.1.steps in let d = (vain c.requires.idle c.in-None.ensures.guards).steps in omega arith;

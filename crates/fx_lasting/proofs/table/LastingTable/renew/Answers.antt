@@ -4,7 +4,7 @@ use Rattle.std.specs.Vec.{with_item}
 use Rattle.fx_lasting.proofs.Calling.{slot_low}
 use Rattle.fx_lasting.proofs.Words.{◌≡◌, ℕ, sym, File, HoldsBesides, Placement, is_some}
 use Rattle.fx_lasting.proofs.slot_lemmas.Renewals.{held_besides}
-use Rattle.fx_lasting.proofs.Passing.{adds_so, at_ease, marks_run, still_seat, still_pass, swapped_pass, knows_removed, first_by, lets_run}
+use Rattle.fx_lasting.proofs.Passing.{adds_so, at_ease, charges_run, still_seat, still_pass, swapped_pass, knows_removed, first_by, lets_run}
 use Rattle.fx_lasting.proofs.Running.{looks_then, does_then, file_then, still_at_work}
 use Rattle.fx_lasting.proofs.range_lemmas.Trying.{stocked_at}
 use Rattle.fx_lasting.proofs.slot_lemmas.RenewalEnds.{frees_so, was_other, left, renews, swaps}
@@ -216,7 +216,7 @@ returns-in-Moved c =
     let end = c.take_out-file-in-Moved.ensures in
     let rests = subst (λ (z : Work). Runs m₂ [] (rested z) m₂.0.glance m₂.0.change 1 m₃) h.1.work end.rests in
     let vain = does_then (looks_then placed h.1) rests in
-    let lets = marks_run m₃ m₄ 3 c.withdraw.result c.withdraw.ensures.withdraws in
+    let lets = charges_run m₃ m₄ 3 c.withdraw.result c.withdraw.ensures.withdraws in
     let run = does_then vain lets.1 in
     let place : HasPlace c.place-entry.result.1 (Some c.args.file) m₂ = record {
       work = inr (as_written c.place-entry.result.2 (label_of c.args.file), ap alone_in h.1.work);

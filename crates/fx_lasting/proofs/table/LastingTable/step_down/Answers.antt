@@ -16,11 +16,11 @@ swap-found-requires c =
 
 pub let_go-requires-clause-at : goal.let_go-requires-clause-at
 let_go-requires-clause-at c =
-    let marked : c.swap-found.result ≢ announced c.args.node = search rules in let g = c.requires.guarded in
-    (c.args.number, still_at_work c.requires.at (runs_goes (c.swap-found.ensures.2.marked g.0 c.args.node g.1 marked)))
+    let charged : c.swap-found.result ≢ announced c.args.node = search rules in let g = c.requires.guarded in
+    (c.args.number, still_at_work c.requires.at (runs_goes (c.swap-found.ensures.2.charged g.0 c.args.node g.1 charged)))
 
 pub returns-clause-releases : goal.returns-clause-releases
 returns-clause-releases c f works =
-    let marked : c.swap-found.result ≢ announced c.args.node = search rules in
-    let goes = c.swap-found.ensures.2.marked f c.args.node works marked in
+    let charged : c.swap-found.result ≢ announced c.args.node = search rules in
+    let goes = c.swap-found.ensures.2.charged f c.args.node works charged in
     file_then _ f _ _ (runs_goes goes) (c.let_go.ensures.held f (inl goes.stepped.work))

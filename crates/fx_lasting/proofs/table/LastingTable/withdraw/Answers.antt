@@ -1,7 +1,7 @@
 use Rattle.fx_lasting.proofs.Words.{◌≢◌, rules, announced}
 use Rattle.fx_lasting.proofs.Calling.{hold_inside, hold_word}
 use Rattle.fx_lasting.proofs.hold_lemmas.HoldWords.{withdraws_keep}
-use Rattle.fx_lasting.proofs.Running.{still_at_work, runs_goes, mark_then}
+use Rattle.fx_lasting.proofs.Running.{still_at_work, runs_goes, charge_then}
 use Rattle.fx_lasting.proofs.table.LastingTable.withdraw.Goals as goal
 
 pub swap-found-requires : goal.swap-found-requires
@@ -15,11 +15,11 @@ swap-found-requires c =
 
 pub let_go-requires-clause-at : goal.let_go-requires-clause-at
 let_go-requires-clause-at c =
-    let marked : c.swap-found.result ≢ announced c.args.node = search rules in
-    (c.args.number, still_at_work c.requires.at (runs_goes (c.swap-found.ensures.2.marked c.args.node c.requires.announced marked)))
+    let charged : c.swap-found.result ≢ announced c.args.node = search rules in
+    (c.args.number, still_at_work c.requires.at (runs_goes (c.swap-found.ensures.2.charged c.args.node c.requires.announced charged)))
 
 pub returns-clause-withdraws : goal.returns-clause-withdraws
 returns-clause-withdraws c =
-    let marked : c.swap-found.result ≢ announced c.args.node = search rules in
-    let goes = c.swap-found.ensures.2.marked c.args.node c.requires.announced marked in
-    mark_then _ _ _ (runs_goes goes) (c.let_go.ensures.owed goes.stepped.work)
+    let charged : c.swap-found.result ≢ announced c.args.node = search rules in
+    let goes = c.swap-found.ensures.2.charged c.args.node c.requires.announced charged in
+    charge_then _ _ _ (runs_goes goes) (c.let_go.ensures.owed goes.stepped.work)

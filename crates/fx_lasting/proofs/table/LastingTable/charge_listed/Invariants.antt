@@ -1,6 +1,6 @@
 use Rattle.fx_lasting.proofs.Words.{◌≡◌, ℕ, ◌+◌, ◌-◌, ◌/◌, ◌^◌, ◌≤◌, File, HasVisited, Sat}
 use Rattle.fx_lasting.proofs.hold_lemmas.Rounds.{words_at}
-use Rattle.fx_lasting.proofs.table.LastingTable.mark_listed.Given as goal
+use Rattle.fx_lasting.proofs.table.LastingTable.charge_listed.Given as goal
 
 -- the listed passes so far were visited, and the bits of the others are left
 abbrev pub invariant-loop-rest : goal.invariant-loop-rest
@@ -9,11 +9,11 @@ invariant-loop-rest l = record {
   places : l.seat.me.1 ≡ l.initial.seat.me.1;
   low : l.first ≤ l.pass;
   high : l.pass ≤ l.first + 64;
-  few : l.marks + l.first ≤ l.pass;
+  few : l.charges + l.first ≤ l.pass;
   left : l.rest ≡ l.initial.rest / 2 ^ (l.pass - l.first);
-  visited : (m : Sat) (f : File) (takes begin marks : ℕ)
-      → HasVisited l.self.passes l.number l.node f takes begin (words_at l.first) l.initial.rest l.first marks m l.initial.seat.me
-      → HasVisited l.self.passes l.number l.node f takes begin (words_at l.first) l.initial.rest l.pass (marks + l.marks) m l.seat.me;
+  visited : (m : Sat) (f : File) (takes begin charges : ℕ)
+      → HasVisited l.self.passes l.number l.node f takes begin (words_at l.first) l.initial.rest l.first charges m l.initial.seat.me
+      → HasVisited l.self.passes l.number l.node f takes begin (words_at l.first) l.initial.rest l.pass (charges + l.charges) m l.seat.me;
 }
 
 abbrev pub decreases-loop-rest : goal.decreases-loop-rest

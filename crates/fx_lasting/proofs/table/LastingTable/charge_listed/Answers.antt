@@ -4,8 +4,8 @@ use Rattle.fx_lasting.proofs.Calling.{list_inside}
 use Rattle.fx_lasting.proofs.hold_lemmas.Rounds.{words_at, loads_more, from_here, goes_past, idle_at, lowest, none_left, shifted, passed_by}
 use Rattle.fx_lasting.proofs.Running.{still_at_work, runs_goes}
 use Rattle.fx_lasting.proofs.hold_lemmas.Skimming.{skims_keep}
-use Rattle.fx_lasting.proofs.table.LastingTable.mark_listed.Goals.{After-load-rest}
-use Rattle.fx_lasting.proofs.table.LastingTable.mark_listed.Goals as goal
+use Rattle.fx_lasting.proofs.table.LastingTable.charge_listed.Goals.{After-load-rest}
+use Rattle.fx_lasting.proofs.table.LastingTable.charge_listed.Goals as goal
 
 pub list_place-requires : goal.list_place-requires
 list_place-requires c = let at = c.requires.visited.7 in let b = c.args.self.now.bounds in
@@ -38,19 +38,19 @@ module _ (c : After-load-rest) where
   first_is : c.args.first ≡ 64 * c.requires.visited.4 + 1
   first_is = c.requires.visited.7
 
-  loaded : (m : Sat) (f : File) (takes begin words last marks : ℕ) → c.args.first ≡ 64 * words + 1
-      → HasVisited c.args.self.now.passes c.args.number c.args.node f takes begin words last c.args.first marks m c.args.seat.now.me
-      → HasVisited c.args.self.now.passes c.args.number c.args.node f takes begin (words_at c.args.first) word c.args.first marks m c.load-rest.new.seat.me
-  loaded m f takes begin words last marks is h = loads_more is c.requires.low c.list_place.ensures h c.load-rest.ensures.2
+  loaded : (m : Sat) (f : File) (takes begin words last charges : ℕ) → c.args.first ≡ 64 * words + 1
+      → HasVisited c.args.self.now.passes c.args.number c.args.node f takes begin words last c.args.first charges m c.args.seat.now.me
+      → HasVisited c.args.self.now.passes c.args.number c.args.node f takes begin (words_at c.args.first) word c.args.first charges m c.load-rest.new.seat.me
+  loaded m f takes begin words last charges is h = loads_more is c.requires.low c.list_place.ensures h c.load-rest.ensures.2
 
   -- the round, as one that begins here
   here : (begin : ℕ) × HasVisited c.args.self.now.passes c.args.number c.args.node c.requires.visited.1 c.requires.visited.2 begin (words_at c.args.first) word
       c.args.first c.requires.visited.6 c.load-rest.new.seat.me c.load-rest.new.seat.me
   here = let v = c.requires.visited in from_here (loaded v.0 v.1 v.2 v.3 v.4 v.5 v.6 v.7 v.8) at
 
-pub visit-marks-requires-clause-at : goal.visit-marks-requires-clause-at
-visit-marks-requires-clause-at c =
-    let a = (goal.at.visit-marks-requires-clause-at c).After-load-rest in
+pub visit-charges-requires-clause-at : goal.visit-charges-requires-clause-at
+visit-charges-requires-clause-at c =
+    let a = (goal.at.visit-charges-requires-clause-at c).After-load-rest in
     let v = c.requires.visited in
     still_at_work (at a) (c.loop-rest.invariant.visited c.load-rest.new.seat.me v.1 v.2 (here a).0 v.6 (here a).1).does
 
@@ -87,16 +87,16 @@ module _ (a : After-load-rest) (pass rest : ℕ) (low : a.args.first ≤ pass) (
   idle_on : rest ≡ 0 → (n p : ℕ) → pass ≤ p → p < a.args.first + 64 → IsIdleIn (round_to n (words_at a.args.first) (word a)) p
   idle_on none n = idle_at n a.requires.visited.4 (word a) (first_is a) low (omega arith) (λ i from before. none_left (word a) (pass - a.args.first) fits (sym left ∙ none) i from)
 
-pub visit-marks-requires-clause-pass : goal.visit-marks-requires-clause-pass
-visit-marks-requires-clause-pass c =
-    let a = (goal.at.visit-marks-requires-clause-pass c).After-load-rest in
+pub visit-charges-requires-clause-pass : goal.visit-charges-requires-clause-pass
+visit-charges-requires-clause-pass c =
+    let a = (goal.at.visit-charges-requires-clause-pass c).After-load-rest in
     let i = c.loop-rest.invariant in
     let some : 0 < c.loop-rest.rest = omega (arith, c.loop-rest-test.true) in
     inside a c.loop-rest.pass c.loop-rest.rest i.low i.high i.left some
 
-pub visit-marks-requires-clause-visited : goal.visit-marks-requires-clause-visited
-visit-marks-requires-clause-visited c =
-    let a = (goal.at.visit-marks-requires-clause-visited c).After-load-rest in
+pub visit-charges-requires-clause-visited : goal.visit-charges-requires-clause-visited
+visit-charges-requires-clause-visited c =
+    let a = (goal.at.visit-charges-requires-clause-visited c).After-load-rest in
     let i = c.loop-rest.invariant in
     let v = c.requires.visited in
     let some : 0 < c.loop-rest.rest = omega (arith, c.loop-rest-test.true) in (
@@ -106,7 +106,7 @@ visit-marks-requires-clause-visited c =
       (here a).0,
       words_at c.args.first,
       word a,
-      v.6 + c.loop-rest.marks,
+      v.6 + c.loop-rest.charges,
       goes_past (omega arith)
           (idle a c.loop-rest.pass c.loop-rest.rest i.low i.high i.left some c.loop-rest.pass)
           (i.visited c.load-rest.new.seat.me v.1 v.2 (here a).0 v.6 (here a).1),
@@ -120,7 +120,7 @@ loop-rest-preserved c =
     let pass = c.loop-rest.pass in
     let rest = c.loop-rest.rest in
     let bit = found a pass rest i.low i.high i.left some in
-    let did = c.visit-marks.ensures in
+    let did = c.visit-charges.ensures in
     record {
       table = did.table ∙ i.table;
       places = did.places ∙ i.places;
@@ -130,12 +130,12 @@ loop-rest-preserved c =
       left = let l = i.low in ap (λ (z : ℕ). z / 2 ^ trailing_zeros w64 rest / 2) i.left
           ∙ (shifted (word a) (pass - c.args.first) (fits a pass rest i.low i.high i.left) (trailing_zeros w64 rest)
           ∙ ap (λ (z : ℕ). word a / 2 ^ z) (omega (arith, l)));
-      visited = λ m f takes begin marks h.
-          let past = goes_past (omega arith) (idle a pass rest i.low i.high i.left some pass) (i.visited m f takes begin marks h) in
-          let sum : (marks + c.loop-rest.marks) + c.visit-marks.result ≡ marks + (c.loop-rest.marks + c.visit-marks.result) = omega arith in
+      visited = λ m f takes begin charges h.
+          let past = goes_past (omega arith) (idle a pass rest i.low i.high i.left some pass) (i.visited m f takes begin charges h) in
+          let sum : (charges + c.loop-rest.charges) + c.visit-charges.result ≡ charges + (c.loop-rest.charges + c.visit-charges.result) = omega arith in
           subst (λ (z : ℕ). HasVisited c.args.self.now.passes c.args.number c.args.node f takes begin (words_at c.args.first) (word a)
-          (pass + trailing_zeros w64 rest + 1) z m c.visit-marks.new.seat.me) sum
-          (did.visited m f takes begin (words_at c.args.first) (word a) (marks + c.loop-rest.marks) past);
+          (pass + trailing_zeros w64 rest + 1) z m c.visit-charges.new.seat.me) sum
+          (did.visited m f takes begin (words_at c.args.first) (word a) (charges + c.loop-rest.charges) past);
     }
 
 pub returns-clause-visited : goal.returns-clause-visited
@@ -144,10 +144,10 @@ returns-clause-visited c =
     let i = c.loop-rest.invariant in
     let none : c.loop-rest.rest ≡ 0 = omega (arith, c.loop-rest-test.false) in (
       word a,
-      λ m f takes begin words last marks is h.
+      λ m f takes begin words last charges is h.
           let count : words_at c.args.first ≡ words + 1 = omega (arith, is) in
           subst (λ (z : ℕ). HasVisited c.args.self.now.passes c.args.number c.args.node f takes begin z (word a) (c.args.first + 64)
-          (marks + c.loop-rest.marks) m c.loop-rest.seat.me) count
+          (charges + c.loop-rest.charges) m c.loop-rest.seat.me) count
           (goes_past i.high (idle_on a c.loop-rest.pass c.loop-rest.rest i.low i.high i.left none c.loop-rest.pass)
-          (i.visited m f takes begin marks (loaded a m f takes begin words last marks is h))),
+          (i.visited m f takes begin charges (loaded a m f takes begin words last charges is h))),
     )

@@ -1,6 +1,6 @@
 use Rattle.fx_lasting.proofs.Words.{◌≡◌, ℕ, ◌+◌, ◌*◌, ◌≤◌, ◌⊎◌, ◌∙◌, arith, refl, ⊎_elim, dite, dec_le, round_to}
 use Rattle.fx_lasting.proofs.Running.{still_at_work, runs_within, placed_none}
-use Rattle.fx_lasting.proofs.table.LastingTable.mark_all.Goals as goal
+use Rattle.fx_lasting.proofs.table.LastingTable.charge_all.Goals as goal
 
 pub loop-pass-init : goal.loop-pass-init
 loop-pass-init c = record {
@@ -29,16 +29,16 @@ loop-pass-init c = record {
 begins_low : {first passes pass : ℕ} (words : ℕ) → (first ≡ 1) ⊎ (first ≡ passes + 1) → pass ≡ first + 64 * words → pass ≤ passes → first ≡ 1
 begins_low words either at low = ⊎_elim (λ one. one) (λ all. absurd (omega (arith, all, at, low))) either
 
-pub mark_listed-marks-requires-clause-at : goal.mark_listed-marks-requires-clause-at
-mark_listed-marks-requires-clause-at c = let r = c.requires.retiring in
+pub charge_listed-charges-requires-clause-at : goal.charge_listed-charges-requires-clause-at
+charge_listed-charges-requires-clause-at c = let r = c.requires.retiring in
     still_at_work c.requires.at (c.loop-pass.invariant.visited.3 r.0 r.1 r.2).does
 
-pub mark_listed-marks-requires-clause-visited : goal.mark_listed-marks-requires-clause-visited
-mark_listed-marks-requires-clause-visited c =
+pub charge_listed-charges-requires-clause-visited : goal.charge_listed-charges-requires-clause-visited
+charge_listed-charges-requires-clause-visited c =
     let r = c.requires.retiring in
     let v = c.loop-pass.invariant.visited in
     let one = begins_low v.0 c.requires.first v.2 c.loop-pass-test.true in
-    (c.args.seat.now.me, r.0, r.1, c.args.first, v.0, v.1, c.loop-pass.marks, omega (arith, one, v.2), v.3 r.0 r.1 r.2)
+    (c.args.seat.now.me, r.0, r.1, c.args.first, v.0, v.1, c.loop-pass.charges, omega (arith, one, v.2), v.3 r.0 r.1 r.2)
 
 pub loop-pass-preserved : goal.loop-pass-preserved
 loop-pass-preserved c =
@@ -46,7 +46,7 @@ loop-pass-preserved c =
     let v = i.visited in
     let test = c.loop-pass-test.true in
     let one = begins_low v.0 c.requires.first v.2 test in
-    let did = c.mark_listed-marks.ensures in
+    let did = c.charge_listed-charges.ensures in
     record {
       table = did.table ∙ i.table;
       places = did.places ∙ i.places;
@@ -56,7 +56,7 @@ loop-pass-preserved c =
         v.0 + 1,
         did.visited.0,
         omega (arith, v.2),
-        λ f takes works. did.visited.1 _ f takes c.args.first v.0 v.1 c.loop-pass.marks (omega (arith, one, v.2)) (v.3 f takes works),
+        λ f takes works. did.visited.1 _ f takes c.args.first v.0 v.1 c.loop-pass.charges (omega (arith, one, v.2)) (v.3 f takes works),
       );
     }
 
@@ -64,8 +64,8 @@ pub returns-clause-few : goal.returns-clause-few
 returns-clause-few c = let i = c.loop-pass.invariant in let a = i.few in let b = i.near in
     ⊎_elim (λ one. omega (arith, one)) (λ all. omega (arith, all)) c.requires.first
 
-pub returns-clause-marked : goal.returns-clause-marked
-returns-clause-marked c f takes works =
+pub returns-clause-charged : goal.returns-clause-charged
+returns-clause-charged c f takes works =
     let t = c.args.self.now in
     let i = c.loop-pass.invariant in
     let v = i.visited in
