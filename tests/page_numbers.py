@@ -10,8 +10,8 @@ has no other number, but those that the expression has, as in the name of a kept
 `-- REASON`, which says why the number is neither computed nor held to a file.
 
 Some rows are of several lines of the page's indented blocks. {NAME~PATTERN} stands for what fits the pattern, and the expressions have it by
-its name: a row with it is one for each line that fits. {N lines of FILE} is one for each of the N lines that the file has, in its order. {samples SUM}
-is one for all lines with a number that has no other row: their checksum."""
+its name: a row with it is one for each line that fits. {N lines of FILE} is one for each of the N lines that the file has, in its order.
+{samples SUM} is one for all lines with a number that has no other row: their checksum."""
 import functools
 import glob
 import os
@@ -51,12 +51,17 @@ def is_long(number):
     return len(re.sub(r"\D", "", number)) > 1 or number.startswith("-")
 
 
+def is_status(number):
+    """Checks whether a number is named as an exit status."""
+    return re.search(r"\bstatus(es)?( is)? $", number.string[max(number.start() - 20, 0) : number.start()])
+
+
 def places_of(part, text):
     """Yields where a text has a part as whole words: its begin and its end."""
     at = -1
     while (at := text.find(part, at + 1)) >= 0:
         end = at + len(part)
-        if not re.match(r"[\w.,]", text[at - 1 : at]) and not re.compile(r"[.,]?\w").match(text, end):
+        if not re.match(r"[\w.,]", text[at - 1 : at]) and not re.match(r"[.,]?\w", text[end : end + 2]):
             yield at, end
 
 
@@ -78,7 +83,8 @@ class Page:
         self.set(" ".join(lines))
 
     def set(self, text):
-        self.text, self.numbers = text, [it for it in NUMBER.finditer(text) if is_long(it[0]) or re.search(r"\bstatus(es)?( is)? $", text[max(it.start() - 20, 0) : it.start()])]
+        """Takes a text of these words in place of the page's."""
+        self.text, self.numbers = text, [it for it in NUMBER.finditer(text) if is_long(it[0]) or is_status(it)]
 
     def change(self, at, digit):
         """Changes a digit of the page."""
@@ -102,8 +108,9 @@ class Page:
         """Yields a part of the page around each number: its line in an indented block, or some words; those that meet are one."""
         spans = []
         for it in numbers:
-            words = re.search(rf"(\S+ ){{0,{AROUND}}}\S*$", self.text[max(it.start() - 99, 0) : it.start()]), re.match(rf"\S*( \S+){{0,{AROUND}}}", self.text[it.end() :])
-            begin, end = self.line_of(it) or (it.start() - len(words[0][0]), it.end() + len(words[1][0]))
+            before = re.search(rf"(\S+ ){{0,{AROUND}}}\S*$", self.text[max(it.start() - 99, 0) : it.start()])[0]
+            after = re.match(rf"\S*( \S+){{0,{AROUND}}}", self.text[it.end() :])[0]
+            begin, end = self.line_of(it) or (it.start() - len(before), it.end() + len(after))
             if spans and begin <= spans[-1][1]:
                 begin = spans.pop()[0]
             spans.append((begin, end))
@@ -140,7 +147,10 @@ def parts_of_row(row, page):
         return parts
     if not NAMED.search(row):
         return [rendered(row)]
-    form = "".join(f"(?P<{named[1]}>{named[2]})" if (named := NAMED.fullmatch(it)) else ".+?" if EXPRESSION.fullmatch(it) else re.escape(it) for it in MARKS.split(row))
+    form = ""
+    for it in MARKS.split(row):
+        named = NAMED.fullmatch(it)
+        form += f"(?P<{named[1]}>{named[2]})" if named else ".+?" if EXPRESSION.fullmatch(it) else re.escape(it)
     return [rendered(row, **it.groupdict()) for line in page.lines() if (it := re.fullmatch(form, line))]
 
 
