@@ -25,27 +25,27 @@ impl SharedTable for CountedTable {
     ghost view = { view_of };
 
     fn size(&self) -> u32 {
-        self.size()
+        self.size
     }
 
     fn range(&self) -> (u32, u32) {
-        self.range()
+        (self.range_start, self.range_len)
     }
 
     fn passes(&self) -> u32 {
-        self.passes()
+        self.passes
     }
 
     fn is_idle(&self, pass: &CountedPass) -> bool {
-        self.is_idle(pass)
+        pass.idle
     }
 
     fn looks_left(&self, pass: &CountedPass) -> u32 {
-        self.looks_left(pass)
+        pass.looks_left
     }
 
     fn numbers_left(&self, pass: &CountedPass) -> u32 {
-        self.numbers_left(pass)
+        pass.numbers_left
     }
 
     // A look-up returns no file but the one that it found.
@@ -70,13 +70,24 @@ impl SharedTable for CountedTable {
         self.put(pass, slot, file)
     }
 
+    // Scans the range in rounds until it finds an empty slot, or every slot was full at one moment,
+    // and yields its thread between two rounds.
     fn put_any(
         &self,
         rt: &impl Wait,
         pass: &mut CountedPass,
         file: OpenFile,
     ) -> Result<u32, OpenFile> {
-        self.put_any(rt, pass, file)
+        let number = self.next_number(pass);
+        let identity = file.identity();
+        self.put_in(&mut pass.seat, number, file);
+        match self.rounds(rt, &mut pass.seat, number, identity) {
+            Some(slot) => {
+                pass.numbers_left -= 1;
+                Ok(slot)
+            }
+            None => Err(self.take_out(&mut pass.seat, number)),
+        }
     }
 
     fn clear(&self, _rt: &impl Wait, pass: &mut CountedPass, slot: u32) -> Option<Retired> {

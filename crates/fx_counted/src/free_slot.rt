@@ -1,16 +1,12 @@
 //! The search for an empty slot of the allocation range.
 ghost use Rattle.std.specs.Prelude.{◌≡◌, ◌<◌, true, IfSome, None};
-ghost use Rattle.fx_table.specs.Calls.{Allocated};
-ghost use Rattle.fx_table.specs.Pass.{IsIdle};
 ghost use Rattle.fx_counted.specs.Changing.{InRange};
 ghost use Rattle.fx_counted.specs.Searching.{IsPlacing, Tries, HasAllocated, StillPlaces};
 ghost use Rattle.fx_counted.specs.Searching.{HasFoundAllFull, RoundEnds};
-ghost use Rattle.fx_counted.specs.Tables.{view_of, opening_of_table, IsPassOfTable};
 ghost use Rattle.fx_counted.specs.declared.view.Change.TheVariants.{Outside, Same, More};
 
 use crate::kinds::{Answer, Begin, Exchange, Load};
 use crate::layout::{CONTROL, slot_place};
-use crate::pass::CountedPass;
 use crate::round::Round;
 use crate::table::CountedTable;
 use crate::view::View;
@@ -100,41 +96,8 @@ impl CountedTable {
         }
     }
 
-    /// Installs a file at an empty slot of the allocation range, under the next number of an idle
-    /// pass (`is_idle`) that has one left (`numbers_left`), and returns the slot
-    /// (io_uring_prep_openat(3), "IORING_FILE_INDEX_ALLOC"). It scans the range in rounds until it
-    /// finds an empty slot, or every slot was full at one moment, and yields its thread between two
-    /// rounds.
-    ///
-    /// # Errors
-    /// Returns the file if every slot of the range has a file (ENFILE). No number is used.
-    pub fn put_any<R: Wait>(
-        &self,
-        rt: &R,
-        pass: &mut CountedPass,
-        file: OpenFile,
-    ) -> Result<u32, OpenFile>
-        requires fits { IsPassOfTable self.now pass.old }
-        requires idle { IsIdle (view_of pass.old) }
-        requires numbers { 0 < (view_of pass.old).numbers_left }
-        ensures fits { IsPassOfTable self.now pass.new }
-        ensures allocated { Allocated (opening_of_table self.now) (view_of pass.old) file result
-            (view_of pass.new) }
-    {
-        let number = self.next_number(pass);
-        let identity = file.identity();
-        self.put_in(&mut pass.seat, number, file);
-        match self.rounds(rt, &mut pass.seat, number, identity) {
-            Some(slot) => {
-                pass.numbers_left -= 1;
-                Ok(slot)
-            }
-            None => Err(self.take_out(&mut pass.seat, number)),
-        }
-    }
-
     // Makes rounds until one has a result.
-    fn rounds<R: Wait>(
+    pub(crate) fn rounds<R: Wait>(
         &self,
         rt: &R,
         seat: &mut Seat<Option<OpenFile>, View>,

@@ -18,7 +18,6 @@ mod layout;
 mod moves;
 mod open;
 mod pass;
-mod queries;
 mod round;
 mod shown;
 mod table;
