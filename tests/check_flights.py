@@ -24,7 +24,7 @@ import shutil
 import tempfile
 from unittest import mock
 
-from scripts.checks import Counted, arguments, status_of
+from scripts.checks import Counted, arguments
 from model import flight_states
 from kernel import conform, flights
 from kernel.kernels import NO_KERNEL, built_player
@@ -338,7 +338,8 @@ class Checks(Counted):
         return any(flights.complaint_of(yachtlog, it)[0] for it in logs)
 
 
-def main(given):
+def command():
+    given = arguments(__doc__, numbers={"count": COUNT, "seed": SEED})
     checks = Checks("flights")
     checks.lines()
     found = checks.compare(given.count, given.seed)
@@ -348,7 +349,3 @@ def main(given):
     checks.conform()
     checks.kernel()
     return checks.end()
-
-
-def command():
-    return status_of("flights", main, arguments(__doc__, numbers={"count": COUNT, "seed": SEED}))
