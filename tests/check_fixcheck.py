@@ -25,17 +25,15 @@ import zlib
 
 from bench import measure_fixcheck
 from scripts.checks import Counted, arguments
-from model import contradictions
-from tests import fixcheck_rows
+from model import contradictions, orders
+from tests import fixcheck_rows, spoiled_lines
 from tests.fixcheck_rows import LEGAL_SIZES, PARTS
 from model.model import Player, play
-from model import orders
 from model.orders import TooManyOrders, ending_of
 from scripts.programs import LEGAL, NOT_LEGAL, UNDECIDED, in_parallel, in_processes, run, verdict
 from model.random_scripts import random_scripts
 from model.replay import replayed
 from scripts.repository import keep, scripts_of, text_beside
-from tests import spoiled_lines
 from tests.spoiled_lines import parsed
 from model.told_history import complaint_of
 from model.illegal import Illegal

@@ -25,15 +25,12 @@ import tempfile
 from unittest import mock
 
 from scripts.checks import Counted, arguments
-from model import flight_states
+from model import flight_states, tiny_flights
 from kernel import conform, flights
 from kernel.kernels import NO_KERNEL, built_player
-from tests import log_lines
+from tests import log_lines, reason_rows, reasons
 from scripts.programs import given_time, in_parallel, run
-from tests import reason_rows
-from tests import reasons
 from scripts.repository import ROOT, read, write
-from model import tiny_flights
 import yachtlog
 
 HEAD = "".join(f"file {name} {content}\n" for name, content in tiny_flights.NAMES.items())
