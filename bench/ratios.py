@@ -29,15 +29,13 @@ def read_rounds(lines):
     """Yields each row with its rounds. A line has the row's name, the number of threads, and each table with its time, between tabs."""
     split = (line.rstrip("\n").split("\t") for line in lines)
     for (name, threads), cells in itertools.groupby(split, lambda it: tuple(it[:2])):
-        yield title(name, int(threads)), [{table: float(time) for table, time in (it.rsplit(" ", 1) for it in line[2:])} for line in cells]
+        yield name, int(threads), [{table: float(time) for table, time in (it.rsplit(" ", 1) for it in line[2:])} for line in cells]
 
 
 def keep(lines, tables):
     """Prints a line for each row: its name, the number of threads, and each of the tables with its time in each round."""
-    split = (line.rstrip("\n").split("\t") for line in lines)
-    for (name, threads), cells in itertools.groupby(split, lambda it: tuple(it[:2])):
-        times = [dict(it.rsplit(" ", 1) for it in line[2:]) for line in cells]
-        kept = [f"{table} {' '.join(f'{float(it[table]):.4g}' for it in times)}" for table in tables if table in times[0]]
+    for name, threads, rounds in read_rounds(lines):
+        kept = [f"{table} {' '.join(f'{it[table]:.4g}' for it in rounds)}" for table in tables if table in rounds[0]]
         print(name, threads, *kept, sep="\t")
 
 
@@ -53,5 +51,5 @@ def command():
     if sys.argv[1:2] == ["--keep"]:
         keep(sys.stdin, sys.argv[2].split(","))
     else:
-        for what, rounds in read_rounds(sys.stdin):
-            tell("bench-rust", what, rounds, 5)
+        for name, threads, rounds in read_rounds(sys.stdin):
+            tell("bench-rust", title(name, threads), rounds, 5)

@@ -20,11 +20,10 @@ from typing import NamedTuple
 
 from kernel import kernels
 from kernel.kernels import PLAYER
-from scripts import listing
 from scripts.listing import MOST
 from model.model import Script, requests_of
 from model import orders
-from scripts import programs
+from scripts import listing, programs
 from scripts.programs import LEGAL, NOT_LEGAL, UNDECIDED, in_parallel, run
 from scripts.progress import Progress
 from scripts.repository import ROOT, read_bytes

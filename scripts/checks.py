@@ -1,4 +1,4 @@
-"""Counts results, parses arguments, and reports timeouts, for all checks.
+"""Counts results and parses arguments, for all checks.
 
 A check ends with its cases in the Test Anything Protocol, which prove(1) reads: the plan, which is the number of cases in
 tests/cases.txt, and a line for each case. Complaints, and the last line, which is for people, are comments of that protocol.
@@ -7,7 +7,6 @@ checks NAME SEEN WRONG [NUMBER:TOOL..]: ends a check that is written in bash. NU
 import argparse
 import os
 import re
-import subprocess
 import sys
 
 from scripts.repository import read
@@ -118,21 +117,7 @@ def arguments(usage, paths="", flags="", numbers=None, options=None, words=()):
     return parser.parse_args()
 
 
-def status_of(name, main, *given):
-    """Returns the status of main, or prints a line and returns 1 if a program that it ran exceeded its time."""
-    try:
-        return main(*given)
-    except subprocess.TimeoutExpired as hang:
-        command = [hang.cmd] if isinstance(hang.cmd, str) else hang.cmd
-        shown = " ".join([os.path.basename(command[0]), *map(str, command[1:])])
-        print(f"# {name}: {shown} didn't end within {hang.timeout:g} s")
-        return 1
-
-
-def main(name, seen, wrong, *left_out):
+def command():
+    name, seen, wrong, *left_out = sys.argv[1:]
     pairs = [it.partition(":") for it in left_out]
     return last_line(name, int(seen), int(wrong), left_out=[(int(count), tool) for count, _, tool in pairs])
-
-
-def command():
-    return main(*sys.argv[1:])

@@ -166,14 +166,6 @@ def spoil(revision, crates):
     return checks.end()
 
 
-def main(revision, crates, names):
-    old = renamed(of_revision(revision, crates), names)
-    new = items(crates, read, files_of("*", "src", "specs"))
-    wrong = compare(old, new)
-    print(f"clauses: {len(old)} items of {revision}, {len(new)} now, {wrong} gone or different")
-    return 1 if wrong else 0
-
-
 def command():
     parser = argparse.ArgumentParser(usage=__doc__)
     parser.add_argument("--names", nargs="*", default=[])
@@ -181,4 +173,10 @@ def command():
     parser.add_argument("revision")
     parser.add_argument("crates", nargs="*")
     options = parser.parse_args()
-    return spoil(options.revision, options.crates) if options.spoil else main(options.revision, options.crates, dict(it.split("=") for it in options.names))
+    if options.spoil:
+        return spoil(options.revision, options.crates)
+    old = renamed(of_revision(options.revision, options.crates), dict(it.split("=") for it in options.names))
+    new = items(options.crates, read, files_of("*", "src", "specs"))
+    wrong = compare(old, new)
+    print(f"clauses: {len(old)} items of {options.revision}, {len(new)} now, {wrong} gone or different")
+    return 1 if wrong else 0

@@ -14,7 +14,7 @@ import subprocess
 import sys
 import tempfile
 
-from scripts.checks import Counted, status_of
+from scripts.checks import Counted
 from kernel.conform import RULES, SCHEDULE, kept_scripts
 from kernel.kernels import AGREES, NO_KERNEL, PLAYER, UNSAID, built_player, found_of_kernel, listed, of_older_kernels
 from tests.litmus_rows import complaints_of_litmus
@@ -258,7 +258,8 @@ def check_kernel(checks, room):
         checks.fails(changed_player(room, f"player{nth}", WRONG_SOURCES[what]), what, rule, words)
 
 
-def main(fixcheck):
+def command():
+    fixcheck = os.path.abspath(sys.argv[1])
     checks = Checks(fixcheck)
     checks.rules()
     check_differences(checks)
@@ -270,7 +271,3 @@ def main(fixcheck):
         check_players(checks, room)
         check_kernel(checks, room)
     return checks.end()
-
-
-def command():
-    return status_of("conform", main, os.path.abspath(sys.argv[1]))

@@ -24,18 +24,16 @@ import re
 import zlib
 
 from bench import measure_fixcheck
-from scripts.checks import Counted, arguments, status_of
-from model import contradictions
-from tests import fixcheck_rows
+from scripts.checks import Counted, arguments
+from model import contradictions, orders
+from tests import fixcheck_rows, spoiled_lines
 from tests.fixcheck_rows import LEGAL_SIZES, PARTS
 from model.model import Player, play
-from model import orders
 from model.orders import TooManyOrders, ending_of
 from scripts.programs import LEGAL, NOT_LEGAL, UNDECIDED, in_parallel, in_processes, run, verdict
 from model.random_scripts import random_scripts
 from model.replay import replayed
 from scripts.repository import keep, scripts_of, text_beside
-from tests import spoiled_lines
 from tests.spoiled_lines import parsed
 from model.told_history import complaint_of
 from model.illegal import Illegal
@@ -321,7 +319,8 @@ def want_enough(counts, count, is_few):
     counts.want(of["undecided"] * DECIDED_OF <= counts.seen, f"{of['undecided']} of {counts.seen} are undecided, which are many")
 
 
-def main(given):
+def command():
+    given = arguments(__doc__, "program fixfiles", "few", {"count": 500, "seed": 1})
     orders.LARGEST_SEARCH = LARGEST_SEARCH
     fixcheck, fixfiles, count, is_few = given.program, given.fixfiles, given.count, given.few
     counts = Counts()
@@ -340,8 +339,3 @@ def main(given):
     print(f"fixcheck: {examples} examples, sizes and parts; {of['texts']} texts of {count} random scripts are legal, and so are their orders and histories; of the spoiled texts {counts.total(LEGAL)} "
           f"are legal and {counts.total(NOT_LEGAL)} aren't, {of['left out']} have too many orders to look at; of {of['unordered']} the lines that have no order were looked at, and of {of['contradicting']} those that contradict each other; {of['broken']} have several breaks; {of['undecided']} undecided")
     return counts.end()
-
-
-def command():
-    numbers = {"count": 500, "seed": 1}
-    return status_of("fixcheck", main, arguments(__doc__, "program fixfiles", "few", numbers))

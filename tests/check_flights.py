@@ -24,16 +24,13 @@ import shutil
 import tempfile
 from unittest import mock
 
-from scripts.checks import Counted, arguments, status_of
-from model import flight_states
+from scripts.checks import Counted, arguments
+from model import flight_states, tiny_flights
 from kernel import conform, flights
 from kernel.kernels import NO_KERNEL, built_player
-from tests import log_lines
+from tests import log_lines, reason_rows, reasons
 from scripts.programs import given_time, in_parallel, run
-from tests import reason_rows
-from tests import reasons
 from scripts.repository import ROOT, read, write
-from model import tiny_flights
 import yachtlog
 
 HEAD = "".join(f"file {name} {content}\n" for name, content in tiny_flights.NAMES.items())
@@ -338,7 +335,8 @@ class Checks(Counted):
         return any(flights.complaint_of(yachtlog, it)[0] for it in logs)
 
 
-def main(given):
+def command():
+    given = arguments(__doc__, numbers={"count": COUNT, "seed": SEED})
     checks = Checks("flights")
     checks.lines()
     found = checks.compare(given.count, given.seed)
@@ -348,7 +346,3 @@ def main(given):
     checks.conform()
     checks.kernel()
     return checks.end()
-
-
-def command():
-    return status_of("flights", main, arguments(__doc__, numbers={"count": COUNT, "seed": SEED}))

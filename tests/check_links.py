@@ -105,7 +105,8 @@ class Links(Counted):
         return "/" not in name and any(name in kept_under(it) for it in crates)
 
 
-def main(root):
+def command():
+    root = os.path.abspath(sys.argv[1]) if sys.argv[1:] else ROOT
     links = Links(root)
     for page in pages(root):
         links.page(page)
@@ -114,7 +115,3 @@ def main(root):
         links.want_on("Makefile", target in rules and (target in told or target == "help"), f"hasn't {target}, or doesn't list it")
     key = "links" if root == ROOT else "links --elsewhere"
     return last_line(key, links.seen, links.wrong, f"looked at on {len(pages(root))} pages")
-
-
-def command():
-    return main(os.path.abspath(sys.argv[1]) if sys.argv[1:] else ROOT)

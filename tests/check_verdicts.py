@@ -16,7 +16,7 @@ import pty
 import re
 import tempfile
 
-from scripts.checks import Counted, arguments, status_of
+from scripts.checks import Counted, arguments
 from tests.limits import BYTES, lines
 from scripts import listing
 from scripts.programs import limited, run_bytes
@@ -350,9 +350,10 @@ class Verdicts(Counted):
         self.want((ended, message) == (status, b"") and re.fullmatch(line, told[nth]), f"{what}: status {ended}, {told[nth]!r}, {message}")
 
 
-def main(program, is_few):
+def command():
+    given = arguments(__doc__, "program", "few")
     with tempfile.TemporaryDirectory() as folder:
-        verdicts = Verdicts(program, folder)
+        verdicts = Verdicts(given.program, folder)
         verdicts.files()
         verdicts.odd_lines()
         verdicts.arguments()
@@ -361,12 +362,7 @@ def main(program, is_few):
         verdicts.fewer_lines()
         verdicts.progress()
         verdicts.lists()
-        if not is_few:
+        if not given.few:
             verdicts.many_texts()
             verdicts.writes()
     return verdicts.end()
-
-
-def command():
-    given = arguments(__doc__, "program", "few")
-    return status_of("verdicts", main, given.program, given.few)
