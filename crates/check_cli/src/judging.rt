@@ -62,7 +62,7 @@ pub fn judged(
             && passed.as_secs() >= QUIET_SECONDS
         {
             let most = limits.states;
-            // What can't be printed is left out.
+            // A line that can't be printed is left out.
             let _ = eprintln!(rt;
                 "fixcheck: submission {submission} has more than {states} states; the limit is {most}"
             );

@@ -244,7 +244,7 @@ impl<'a> Contradiction<'a> {
 
     // Appends the reason that some lines have no order together.
     fn why(&self, lines: &[usize], slot: Option<u32>, why: &mut Words) {
-        let (gives, concerns, unsure) = if lines.len() == 1 {
+        let (none, concerns, unsure) = if lines.len() == 1 {
             (
                 "no order of the requests gives this one",
                 ", which concerns slot ",
@@ -257,7 +257,7 @@ impl<'a> Contradiction<'a> {
                 "; fewer of them may contradict each other",
             )
         };
-        why.say(gives);
+        why.say(none);
         if let Some(slot) = slot {
             why.count(concerns, u64::from(slot), "");
         }

@@ -39,7 +39,7 @@ pub struct ReadLog {
     pub script: Script,
     /// The slots of the table before the log.
     pub slots: Slots,
-    /// What the events say.
+    /// The events of the log, in order.
     pub events: Vec<LogEvent>,
 }
 

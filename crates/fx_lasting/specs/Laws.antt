@@ -254,8 +254,8 @@ FinishesKeep tells = (k : Start) (slots id i node takes charges : ℕ) (round : 
 
 -- it subtracts 2^32 less the takes and the charges, when it has visited all passes that it has to
 abbrev pub RetiresKeep : Kind → Type 0
-RetiresKeep tells = (k : Start) (slots id i node takes charges amount : ℕ) (round : Round) (f : File)
-    (m : Sat) (x : Log) → HasPass k m x → m.0.work ≡ Retiring f node takes round charges
+RetiresKeep tells = (k : Start) (slots id i node takes charges amount : ℕ) (round : Round)
+    (f : File) (m : Sat) (x : Log) → HasPass k m x → m.0.work ≡ Retiring f node takes round charges
     → round.guarded ≡ false
     → ((p : ℕ) → round.next ≤ p → p ≤ k.passes → IsPassed x.number round p) → i ≡ word_of k node
     → amount ≡ retirement_amount takes charges

@@ -3,8 +3,8 @@
 //! any slot may wait.
 //!
 //! Begin reading at `calls.rt`, then `specs/Agrees.antt` (the rule that every step keeps) and
-//! `life/layout.rt` (the places of the words). `table_range` has the words that count the allocation
-//! range.
+//! `life/layout.rt` (the places of the words). `table_range` has the words that count the
+//! allocation range.
 #![tactic(auto)]
 
 mod answers;

@@ -1,5 +1,5 @@
--- The slots that passes owe to a group's word: each pass owes one at most. So a word that counts all
--- slots of its group says that they are full.
+-- The slots that passes owe to a group's word: each pass owes one at most. So a word that counts
+-- all slots of its group says that they are full.
 use Rattle.table_range.proofs.Words.{◌≡◌, ◌≢◌, ℕ, ◌+◌, ◌%◌, ◌^◌, ◌<◌, ◌≤◌, List, [], ◌∷◌, length, set, get_or, refl, ap, subst, arith, ⊎_elim}
 use Rattle.table_range.proofs.Words.{Option, IsSome, None, dite, ℕ_discrete, File, sum_by, get_elem?, some, at_set, sum_set, sum_at, sum_le_at, bit_is, bit_here}
 use Rattle.table_range.proofs.Words.{full_in, full_few, full_all, owing, RangeCounts, AreFull, group_place, group_start, group_len, group_of, groups_in}

@@ -31,8 +31,8 @@ pub record HasVisited (passes number node : ℕ) (f : File) (takes first words l
 abbrev pub Visited : ℕ → ℕ → Sat → Bool → Sat → Type 0
 Visited node pass m is_charged m' = (f : File) (takes : ℕ) (round : Round) (charges : ℕ)
     → m.0.work ≡ Retiring f node takes round charges
-    → Does m [] (Retiring f node takes (round_at round pass) (charges + (if is_charged then 1 else 0)))
-    2 m'
+    → Does m [] (Retiring f node takes (round_at round pass)
+    (charges + (if is_charged then 1 else 0))) 2 m'
 
 -- all passes that it has to visit were visited, with this many charges
 abbrev pub HasCharged : ℕ → ℕ → File → ℕ → ℕ → Sat → ℕ → Sat → Type 0
