@@ -8,8 +8,8 @@ import re
 from scripts.checks import Counted
 from scripts.repository import files_of, read
 
-# crates whose parts have the same names
-TABLES = "fx_baton", "fx_counted", "fx_lasting"
+# crates whose parts have the same names: the tables, and those that have parts of them
+TABLES = "fx_baton", "fx_counted", "fx_lasting", "table_range", "table_seats"
 # names for the same thing in several crates: at most five
 GENERIC = {"IsInRange", "Settings", "Spacing", "limits_are_numbers", "settings_in"}
 KINDS = "type", "exported function", "definition"

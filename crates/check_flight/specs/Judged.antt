@@ -178,14 +178,14 @@ HaveNoFlight log slots count = (submissions registrations : ℕ)
     (ring_of_slots (catalogue_in log) slots submissions registrations) (take count (log_in log))
 
 -- the log has a flight from these slots on, by whole updates if these are required
-abbrev pub HasFlight : JudgedLog → Slots → Type 0
-HasFlight log slots = (submissions registrations : ℕ)
+abbrev pub HaveFlight : JudgedLog → Slots → Type 0
+HaveFlight log slots = (submissions registrations : ℕ)
     → IsLegalBy log.whole
     (ring_of_slots (catalogue_in log) slots submissions registrations) (log_in log)
 
 -- the decision is right
 abbrev pub IsRight : JudgedLog → Slots → Decision → Type 0
-IsRight log slots Flight = HasFlight log slots
+IsRight log slots Flight = HaveFlight log slots
 IsRight log slots (Wrong count) = HaveNoFlight log slots count
 IsRight log slots Neither = Unit {0}
 

@@ -9,7 +9,7 @@ ghost use Rattle.fx_flight.specs.Events.{Answered, FileClosed, AllSettled, Happe
 ghost use Rattle.fx_flight.specs.Events.{happening_of};
 ghost use Rattle.fx_order.specs.Access.{file_removed_by};
 ghost use Rattle.fx_order.specs.Slots.{table_of_slots};
-ghost use Rattle.check_flight.specs.Judged.{HasFlight, log_in};
+ghost use Rattle.check_flight.specs.Judged.{HaveFlight, log_in};
 ghost use Rattle.check_flight.specs.Player.{Follows, IsLookAnswered, IsMarked, MovesOn, begun_by};
 ghost use Rattle.check_flight.specs.declared.judged.JudgedLog.{JudgedLog as TheLog};
 ghost use Rattle.check_flight.specs.declared.plan.CallPlan.{CallPlan as Plan};
@@ -356,7 +356,7 @@ pub(crate) fn is_flight(
     plan: &FlightPlan,
 ) -> Result<bool, NoMemory>
     requires { log.now.setting.size ≡ length slots.now.at.items }
-    ensures { IfOk result (λ yes. IsTrue yes → HasFlight log.now slots.now) }
+    ensures { IfOk result (λ yes. IsTrue yes → HaveFlight log.now slots.now) }
 {
     let mut player = FlightPlayer::new(log.setting.alloc, slots)?;
     player.play(log, plan)

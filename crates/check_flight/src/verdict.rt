@@ -6,7 +6,7 @@ ghost use Rattle.fx_order.specs.Slots.{ring_of_slots};
 ghost use Rattle.fx_flight.specs.Events.{all_happenings};
 ghost use Rattle.fx_flight.specs.Faults.{fault_of_log};
 ghost use Rattle.fx_flight.specs.Whole.{IsLegalBy};
-ghost use Rattle.check_flight.specs.Judged.{log_in, HasFlight, HaveNoFlight, IsReachedFrom, IsRight, IsTableOf};
+ghost use Rattle.check_flight.specs.Judged.{log_in, HaveFlight, HaveNoFlight, IsReachedFrom, IsRight, IsTableOf};
 ghost use Rattle.check_flight.specs.States.{HasNoFlightBy};
 ghost use Rattle.check_flight.specs.declared.verdict.FlightVerdict.TheVariants.{Faulty, Legal, NotLegal};
 
@@ -194,7 +194,7 @@ fn has_flight(
     search: &mut Search,
 ) -> Result<bool, NoMemory>
     requires { log.now.setting.size ≡ length slots.now.at.items }
-    ensures { IfOk result (λ yes. IsTrue yes → HasFlight log.now slots.now) }
+    ensures { IfOk result (λ yes. IsTrue yes → HaveFlight log.now slots.now) }
 {
     if !propose(log, slots, most, search)? {
         return Ok(false);

@@ -55,8 +55,8 @@ passed script slots requests entries bytes events = record {
   events = events;
 }
 
-abbrev pub log_in : CallLog → PassedLog
-log_in log =
+abbrev pub passed_log : CallLog → PassedLog
+passed_log log =
     passed log.script.now log.slots log.requests.now log.entries.now log.bytes.now log.events.now
 
 abbrev pub arrays_of : PassedLog → List FileEntry → Arrays

@@ -1,7 +1,7 @@
 //! The verdict on a log of calls in flight.
 ghost use Rattle.std.specs.Prelude.{◌≡◌, true};
 ghost use Rattle.fx_judge.specs.Logs.{HasNotHappened, HasNotHappenedBy, IsLogVerdict, IsNumberOf};
-ghost use Rattle.fx_judge.specs.Logs.{MayHaveHappened, MayHaveHappenedBy, log_in, number_of_fault};
+ghost use Rattle.fx_judge.specs.Logs.{MayHaveHappened, MayHaveHappenedBy, passed_log, number_of_fault};
 
 use crate::codes::{
     FAULT_ANSWERED_TWICE, FAULT_NOT_CALLED, FAULT_NOT_HELD, FAULT_NOT_ONE_CHAIN, FAULT_OUT_OF_TURN,
@@ -69,7 +69,7 @@ fn judge_log_by(
     limits: Limits,
     judgement: &mut YachtJudgement,
 ) -> u32
-    ensures { IsLogVerdict (MayHaveHappenedBy whole) (HasNotHappenedBy whole) (log_in log.now)
+    ensures { IsLogVerdict (MayHaveHappenedBy whole) (HasNotHappenedBy whole) (passed_log log.now)
         result judgement.new }
 {
     let read = match log.read(alloc, judgement) {
@@ -92,7 +92,7 @@ pub fn judge_log(
     limits: Limits,
     judgement: &mut YachtJudgement,
 ) -> u32
-    ensures { IsLogVerdict MayHaveHappened HasNotHappened (log_in log.now) result judgement.new }
+    ensures { IsLogVerdict MayHaveHappened HasNotHappened (passed_log log.now) result judgement.new }
 {
     judge_log_by(alloc, log, false, limits, judgement)
 }
@@ -105,7 +105,7 @@ pub fn judge_whole_updates(
     limits: Limits,
     judgement: &mut YachtJudgement,
 ) -> u32
-    ensures { IsLogVerdict (MayHaveHappenedBy true) (HasNotHappenedBy true) (log_in log.now)
+    ensures { IsLogVerdict (MayHaveHappenedBy true) (HasNotHappenedBy true) (passed_log log.now)
         result judgement.new }
 {
     judge_log_by(alloc, log, true, limits, judgement)

@@ -1,7 +1,7 @@
 //! A log as C passes it, and how it is read.
 ghost use Rattle.std.specs.Prelude.{◌≡◌, ◌≢◌, ◌<◌, IfErr, IfOk, None};
 ghost use Rattle.fx_order.specs.Slots.{table_of_slots};
-ghost use Rattle.fx_judge.specs.Logs.{IsLogRefusal, IsReadLog, log_in, passed};
+ghost use Rattle.fx_judge.specs.Logs.{IsLogRefusal, IsReadLog, passed_log, passed};
 ghost use Rattle.fx_judge.specs.declared.codes.TheConstants.{FAULTY, UNDECIDED};
 
 use crate::arrays::LogArrays;
@@ -62,7 +62,7 @@ impl<'a> CallLog<'a> {
         bytes: &'a [u8],
         events: &'a [YachtEvent],
     ) -> CallLog<'a>
-        ensures { log_in result
+        ensures { passed_log result
             ≡ passed script.now slots requests.now entries.now bytes.now events.now }
     {
         CallLog {
@@ -78,8 +78,8 @@ impl<'a> CallLog<'a> {
     /// Reads the log. Returns a number instead if there are too many slots, the bytes aren't a
     /// script, an event has a flaw or an allocation fails. Writes the details of that number.
     pub fn read(&self, alloc: Global, details: &mut YachtJudgement) -> Result<ReadLog, u32>
-        ensures read { IfOk result (IsReadLog (log_in self.now)) }
-        ensures refused { IfErr result (λ number. IsLogRefusal (log_in self.now) number
+        ensures read { IfOk result (IsReadLog (passed_log self.now)) }
+        ensures refused { IfErr result (λ number. IsLogRefusal (passed_log self.now) number
             details.new.at details.new.fault details.new.line) }
         ensures no_verdict { IfErr result (λ number. UNDECIDED < number) }
         ensures no_fault { IfErr result (λ number. number ≢ FAULTY) }

@@ -1,5 +1,5 @@
 //! The reason why a log of calls in flight is not legal.
-ghost use Rattle.fx_judge.specs.Logs.{IsLogReason, log_in};
+ghost use Rattle.fx_judge.specs.Logs.{IsLogReason, passed_log};
 
 use crate::codes::{NO_MEMORY, NOT_LEGAL, UNDECIDED};
 use crate::flights::YachtJudgement;
@@ -33,7 +33,7 @@ pub fn explain_log(
     steps: &mut [YachtStep],
     reason: &mut YachtReason,
 ) -> u32
-    ensures { IsLogReason (log_in log.now) at result reason.new }
+    ensures { IsLogReason (passed_log log.now) at result reason.new }
 {
     let mut details = YachtJudgement {
         at: 0,
