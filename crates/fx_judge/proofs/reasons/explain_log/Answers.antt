@@ -8,11 +8,11 @@ returns c = record {
   no_verdict = λ so. omega (arith, so);
   no_fault = λ so. omega (arith, so);
   not_legal = λ _. not_explained (rw c.in-Ok.is at c.read-read.ensures.read) c.deref.result.now c.deref.ensures.value c.args.at
-      (rw c.catalogue.ensures.value at (rw c.in-Some.is at c.in-Ok-explain.ensures.refuted));
+      (rw c.catalogue-catalogue.ensures.value at (rw c.in-Some.is at c.in-Ok-explain.ensures.refuted));
 }
 
-pub returns-in_Err : goal.returns-in_Err
-returns-in_Err c = let high = rw c.in-Err.is at c.read-read.ensures.no_verdict in record {
+pub returns-in-Err : goal.returns-in-Err
+returns-in-Err c = let high = rw c.in-Err.is at c.read-read.ensures.no_verdict in record {
   refused = rw c.in-Err.is at c.read-read.ensures.refused;
   no_verdict = λ so. omega (arith, high, so);
   no_fault = rw c.in-Err.is at c.read-read.ensures.no_fault;
