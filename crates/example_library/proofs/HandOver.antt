@@ -199,14 +199,7 @@ finds_then slot entry found h more f seen = record {
   finds = f.finds;
 }
 
-released_then : (o : Opening) (v w : PassView) (hold : Hold) (result : Option Identity) (slot entry : ℕ) (found : Option ℕ)
+pub released_then : (o : Opening) (v w : PassView) (hold : Hold) (result : Option Identity) (slot entry : ℕ) (found : Option ℕ)
     → Released o v hold result w → FindsThePut slot entry found v.front → FindsThePut slot entry found w.front
 released_then o v w hold None slot entry found r f = finds_then slot entry found v.front w.front f r.2.seen
 released_then o v w hold (Some file) slot entry found r f = finds_then slot entry found v.front w.front f r.2.1.seen
-
--- also once the file is released
-pub found_and_released : (o : Opening) (shown : List Event) (v u w : PassView) (slot entry : ℕ) (look : LookUp) (hold : Hold) (result : Option Identity)
-    → LooksUpAfter o shown v slot look.found look.freed u → 0 < v.looks_left → HasPut slot entry shown → look.found ≡ Ok hold → Released o u hold result w
-    → FindsThePut slot entry (Some hold.entry) w.front
-found_and_released o shown v u w slot entry look hold result l left put is released =
-    released_then o u w hold result slot entry (Some hold.entry) released (finds_the_put o shown v slot entry look (Some hold.entry) u l left put (ap entry_in is))

@@ -15,16 +15,6 @@ use std::alloc::Global;
 use std::sync::Wait;
 use std::thread::{Threads, join_mut};
 
-// Closes the file that a call returned, if it returned one.
-fn close_some(closes: &mut CloseList, file: Option<OpenFile>)
-    requires room { 0 < closes.old.room }
-    ensures room { closes.old.room ≤ closes.new.room + 1 }
-{
-    if let Some(file) = file {
-        closes.close(file);
-    }
-}
-
 // Puts a file at a slot, and shows what the pass has seen by then. Returns the file that was
 // replaced, if nobody uses it.
 fn put_and_show<T: RealTime, R: Wait>(
@@ -72,12 +62,16 @@ fn find<T: RealTime, R: Wait>(
     ensures found { FindsThePut slot entry result (T.view pass.new).front }
 {
     let LookUp { found, freed } = table.look_up_after(rt, pass, slot, seen);
-    close_some(closes, freed);
+    if let Some(file) = freed {
+        closes.close(file);
+    }
     let Ok(hold) = found else {
         return None;
     };
     let entry = hold.entry;
-    close_some(closes, table.release(rt, pass, hold));
+    if let Some(file) = table.release(rt, pass, hold) {
+        closes.close(file);
+    }
     Some(entry)
 }
 
@@ -116,7 +110,9 @@ pub fn hand_over<T: RealTime, R: Threads + Wait + Sync>(
         { put_and_show(rt, catalogue, table, first, slot, entry) },
         &mut || (),
     );
-    close_some(closes, replaced);
+    if let Some(file) = replaced {
+        closes.close(file);
+    }
     find(rt, table, second, slot, entry, &seen, closes)
 }
 
