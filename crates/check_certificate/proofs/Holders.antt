@@ -4,7 +4,7 @@ use Rattle.check_certificate.proofs.Words.{⊎_elim, append_assoc, Option, Some,
 use Rattle.check_certificate.proofs.Words.{Access, IsAccessAt, IsPut, Identity, Table, table_with, table_left_by, Happening, Completed}
 use Rattle.check_certificate.proofs.Words.{Answered, made_by, Permits}
 use Rattle.check_certificate.proofs.Words.{Looks, Takes, FindsFull, Puts, Allocates, Clears, Submitted, true, cases_Bool, Has, placed}
-use Rattle.check_certificate.proofs.Forcing.{apart, loose_order, not_after, strict_from, strict_order, weaker}
+use Rattle.check_certificate.proofs.Forcing.{loose_order, not_after, strict_from, strict_order}
 use Rattle.check_certificate.proofs.Intended.{chain_number, may_install}
 use Rattle.check_certificate.proofs.Leaving.{same_access, same_slot}
 use Rattle.check_certificate.proofs.Life.{put_here, was_put}
@@ -14,13 +14,12 @@ use Rattle.check_certificate.proofs.Parts.{access_of_part, before_end, part_leng
 use Rattle.check_certificate.specs.Evidence.{IsAccessMade, IsEventAt, IsEvident}
 use Rattle.check_certificate.specs.Forced.{IsForced, IsOfCall, TimedFlight}
 use Rattle.check_certificate.proofs.Called.{answer_is, of_log}
-use Rattle.check_certificate.specs.Absent.{FindsFile, IsOnlyFile, is_negative, IsAbsent, IsEmptyAtFirst}
+use Rattle.check_certificate.specs.Absent.{FindsFile, IsOnlyFile, is_negative, IsEmptyAtFirst}
 use Rattle.check_certificate.specs.Walked.{IsWalked}
 use Rattle.check_certificate.specs.declared.certificate.OnlyFile.TheVariants.{GoneAfter, Nothing, PutBefore}
 use Rattle.check_certificate.specs.declared.walk.WalkAim.TheVariants.{Finds as Aimed}
 use Rattle.check_certificate.specs.declared.beginning.LogBeginning.{LogBeginning}
 use Rattle.check_certificate.specs.declared.certificate.Holding.{Holding}
-use Rattle.check_certificate.specs.declared.certificate.PointOrder.{PointOrder}
 use Rattle.check_certificate.specs.declared.certificate.Point.TheVariants.{Event, Gone, Put}
 use Rattle.check_certificate.specs.declared.certificate.Point.TheVariants.{Access as At}
 use Rattle.check_certificate.specs.declared.evidence.Evidence.{Evidence}
@@ -139,13 +138,6 @@ module _ (b : LogBeginning) where
 
     pub none_forced : h.found ≡ Nothing → IsForced b (strict_from (At h.answer h.access) (At h.answer h.access))
     none_forced is f = absurd (no_holder f h evidence made finds first walks (rw is (λ file held. held)))
-
-  -- an order by which the file isn't there
-  pub later_absent : (h : Holding) (file : Identity) (o : PointOrder) → o.from ≡ At h.answer h.access → o.to ≡ Put file → IsForced b o → IsAbsent b h file
-  later_absent h file o from to known f early late = let low = rw (from, to) at (weaker f.at o (known f)) in omega arith
-
-  pub gone_absent : (h : Holding) (file : Identity) → IsForced b (strict_from (Gone file h.slot) (At h.answer h.access)) → IsAbsent b h file
-  gone_absent h file known f early late = let low = apart f.at (Gone file h.slot) (At h.answer h.access) (known f) in omega arith
 
   -- a file that is installed at another slot
   pub elsewhere_forced : (call answer k own slot id event : ℕ) (file : Identity) → IsAccessMade b call answer k (Installs own file) → IsOfCall id file

@@ -1,24 +1,20 @@
 -- Answers that a request can't have.
 use Rattle.check_certificate.proofs.Words.{◌≡◌, ◌⊎◌, ℕ, zero, suc, ◌+◌, ◌<◌, List, [], ◌∷◌, refl, sym, ap, ◌∙◌, inl, inr, subst}
 use Rattle.check_certificate.proofs.Words.{Some, None, Option, ⊎_elim, slice_get, Access, Asked, Place, Completed, FileEntry, refusal, ECANCELED}
-use Rattle.check_certificate.proofs.Words.{Puts, Allocates, Looks, Takes, FindsFull, either_option, false}
+use Rattle.check_certificate.proofs.Words.{Looks, Takes}
 use Rattle.check_certificate.specs.Answers.{IsImpossible, MayHaveAnswer}
-use Rattle.fx_base.specs.Catalogue.{IsCatalogue}
 use Rattle.fx_base.specs.Identity.{Identity}
-use Rattle.fx_base.specs.declared.errno.Errno.{Errno}
 use Rattle.fx_base.specs.declared.errno.Errno.TheVariants.{ENOMEM}
 use Rattle.fx_chain.proofs.Cases.{both_options}
-use Rattle.fx_chain.specs.Intents.{IsIntent, IsOpened, answer_at_table, intents_of, is_read, list_intents}
-use Rattle.fx_chain.specs.Operation.{Operation, Opens, Reads, Closes, Updates}
+use Rattle.fx_chain.specs.Intents.{IsIntent, IsOpened, answer_at_table, intents_of, list_intents}
+use Rattle.fx_chain.specs.Operation.{Operation, Reads, Closes, Updates}
 use Rattle.fx_chain.specs.Refusal.{refusal_of}
 use Rattle.fx_chain.specs.declared.intent.Finding.{Finding}
-use Rattle.fx_chain.specs.declared.intent.Finding.TheVariants.{At, Free, Full as AllFull}
 use Rattle.fx_chain.specs.declared.intent.Intent.{Intent}
 use Rattle.fx_chain.specs.declared.intent.Intent.TheVariants.{Look, Put, Clear, Take, Allocate}
-use Rattle.fx_chain.specs.declared.request.Target.TheVariants.{Any, Slot}
 use Rattle.fx_order.proofs.Intents.{by_intents}
-use Rattle.fx_order.proofs.Words.{AllZip, IsOf, ℤ, false≢true, pos, negsuc, installed, last_finding}
-use Rattle.fx_order.specs.Requests.{IsDoneAtTable, IsRefused}
+use Rattle.fx_order.proofs.Words.{AllZip, IsOf, ℤ, pos, negsuc, installed, last_finding}
+use Rattle.fx_order.specs.Requests.{IsDoneAtTable}
 
 module _ (catalogue : List FileEntry) (place : Place) where
   -- an answer at the table is one that the first intent may have
@@ -59,37 +55,9 @@ module _ (catalogue : List FileEntry) (place : Place) where
       operation own x
 
 module _ (catalogue : List FileEntry) (size : ℕ) (c : Completed) (request : Asked) where
-  -- only a read answers bytes
-  no_bytes : (place : Place) (operation : Operation) (found : Option Finding) → is_read operation ≡ false
-      → (answer_at_table catalogue place operation found).got ≡ []
-  no_bytes place (Opens name (Slot slot)) found other = refl
-  no_bytes place (Opens name Any) None other = refl
-  no_bytes place (Opens name Any) (Some (At file)) other = refl
-  no_bytes place (Opens name Any) (Some (Free slot)) other = refl
-  no_bytes place (Opens name Any) (Some AllFull) other = refl
-  no_bytes place (Reads slot off len) found other = absurd (false≢true (sym other))
-  no_bytes place (Closes slot) None other = refl
-  no_bytes place (Closes slot) (Some (At None)) other = refl
-  no_bytes place (Closes slot) (Some (At (Some file))) other = refl
-  no_bytes place (Closes slot) (Some (Free slot_found)) other = refl
-  no_bytes place (Closes slot) (Some AllFull) other = refl
-  no_bytes place (Updates off list) found other = refl
-
-  pub not_of_bytes : is_read request.operation ≡ false → (c.got ≡ [] → ⊥) → IsImpossible catalogue size c request
-  not_of_bytes other bytes accesses (inl canceled) = bytes (ap (λ (d : Completed). d.got) canceled.0)
-  not_of_bytes other bytes accesses (inr done) = either_option {R = ⊥} (refusal_of catalogue size request.operation)
-      (λ _ at_table. ⊎_elim (λ lacks. bytes (ap (λ (d : Completed). d.got) lacks.1.1))
-      (λ made. bytes (ap (λ (d : Completed). d.got) made.1 ∙ no_bytes c.place request.operation (last_finding accesses) other)) at_table)
-      (λ errno refused. bytes (ap (λ (d : Completed). d.got) refused.1)) done
 
 module _ (catalogue : List FileEntry) (size : ℕ) (c : Completed) (request : Asked)
     (running : (1 < c.place.member) → (c ≡ refusal c.place ECANCELED) → ⊥) where
-  -- another answer than the request's error
-  pub not_refused : (errno : Errno) → refusal_of catalogue size request.operation ≡ Some errno → (c ≡ refusal c.place errno → ⊥)
-      → IsImpossible catalogue size c request
-  not_refused errno refused other accesses (inl canceled) = running canceled.1 canceled.0
-  not_refused errno refused other accesses (inr done) =
-      let own : IsRefused c.place errno accesses c = rw refused at done in other own.1
 
   module _ (fed : c ≡ refusal c.place ENOMEM → ⊥) where
     -- another number than that of the request

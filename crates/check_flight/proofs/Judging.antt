@@ -10,7 +10,7 @@ use Rattle.check_flight.proofs.Words.{not_begun, table_of_slots, drop, file_Deci
 use Rattle.check_flight.proofs.Words.{first_of_call, Happening, same_file, IsAccessFollowed, IsCallFollowed, IsFrontOf, IsWhollyFollowed}
 use Rattle.check_flight.proofs.Words.{catalogue_in, flight_view, flight_views, log_in, rest_of, runs_of_calls, IsOneDenied, IsStateFollowed, AreFewer}
 use Rattle.check_flight.proofs.Words.{AreWith, AreWithout, FlightView, LeadsByCall, StepsByAccess, ChainCall, JudgedLog, WaitingLook, IsMarked}
-use Rattle.check_flight.proofs.Words.{file_number, IndexSet, Updates, FlightState, IsInTurnIf, IsTrue, length-drop, Place, moved}
+use Rattle.check_flight.proofs.Words.{file_number, IndexSet, Updates, FlightState, IsInTurnIf, length-drop, Place, moved}
 use Rattle.check_outcomes.specs.Stands.{HasEachNext, StepsChain, rest_for, rest_in}
 use Rattle.fx_table.proofs.SumLemmas.{contains_map, contains_tail}
 use Rattle.std.proofs.lemmas.Bool.{cases_lt, le-leb, leb-false, lt-leb}
@@ -87,12 +87,6 @@ amid_rest runs state j {progress} here few =
     ∙ (ap (λ (p : Progress). (rest_in (first_of_call (state.base + j + 1)) run p).made) here
     ∙ left_made (moved (first_of_call (state.base + j + 1)) progress.done) (drop progress.done run) progress.made
     (omega (arith, few, length-drop progress.done run)))
-
--- no other call is in turn while one is amid its update
-pub not_in_turn : (log : JudgedLog) (runs : List (List Asked)) (state : FlightState) (amid id : ℕ) → 1 ≤ amid → amid ≤ length runs
-    → (amid ≡ id → ⊥) → ((rest_of runs state amid).made ≡ 0 → ⊥) → IsTrue log.whole
-    → IsInTurnIf log.whole (length runs) (flight_view runs state) id → ⊥
-not_in_turn log runs state amid id low high apart begun whole turn = begun (turn whole amid low high apart)
 
 -- another call is where it was
 same_other : (runs : List (List Asked)) (base j : ℕ) (chains : List Progress) (after : Progress) (other : ℕ) → 1 ≤ other

@@ -4,7 +4,7 @@ use Rattle.check_flight.proofs.Words.{contains_head, Contains, inl, inr, ⊎_eli
 use Rattle.check_flight.proofs.Words.{AllSettled, ring_of_slots, Slots, WaitingLook, IsFrontOf, catalogue_in, flight_view, flight_views, log_in}
 use Rattle.check_flight.proofs.Words.{requests_of, rules_of_log, runs_of_calls, IsInitialState, IsNextFront, IsReached, IsReachedBy, IsReachedFrom, ReachedStates, event_at, rules_of}
 use Rattle.check_flight.proofs.Words.{AreFollowed, ArePassed, FlightView, GoesOnTo, HasNoFlightBy, IsNumbered, runs_with, ChainCall, JudgedLog, FlightState}
-use Rattle.check_flight.proofs.Words.{take-append-drop, Contains-append_left, IsTableOf, nil_from_length, take_all, AreReached, AreCalls}
+use Rattle.check_flight.proofs.Words.{take-append-drop, Contains-append_left, IsTableOf, nil_from_length, take_all, AreCalls}
 use Rattle.check_flight.proofs.Fronts.{all_next, calls_with, from_start, no_calls, none_left}
 use Rattle.check_flight.proofs.Judging.{copied, views_more}
 use Rattle.check_flight.proofs.Steps.{only_one}
@@ -131,16 +131,6 @@ views_copied runs states copies after items i state copy same few is own pushed 
     ap (flight_views runs) pushed ∙ (map-append (flight_view runs) copies (copy ∷ [])
     ∙ ((λ k. before k ++ copied runs state copy own k ∷ [])
     ∙ (sym (map-append (flight_view runs) (take i states) (state ∷ [])) ∙ ap (flight_views runs) (sym more))))
-
--- the same states and calls are reached
-pub reached_copied : (whole : Bool) (old : RingState) (log : List Happening) (at : ℕ) (calls others : List ChainCall) (states copies : List FlightState)
-    → others ≡ calls → ((runs : List (List Asked)) → flight_views runs copies ≡ flight_views runs states)
-    → IsReachedBy whole old log at calls states → IsReachedBy whole old log at others copies
-reached_copied whole old log at calls others states copies same views is = record {
-  within = is.within;
-  called = rw same is.called;
-  reached = rw same (subst (λ (l : List FlightView). AreReached whole old log (runs_of_calls calls) (take at log) l) (sym (views (runs_of_calls calls))) is.reached);
-}
 
 -- what was looked through follows
 pub next_front_is : (log : JudgedLog) (at known : ℕ) (calls more before all : List ChainCall) (states nexts final : List FlightState)

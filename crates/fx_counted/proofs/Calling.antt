@@ -1,8 +1,8 @@
 -- Several steps in a row, the pass after them, and the conditions of a call's steps.
 use Rattle.fx_counted.proofs.Words.{◌≡◌, ◌≤◌, ℕ, ◌+◌, ◌*◌, List, [], sym, ap, ◌∙◌, subst, arith, Some, TableId, ◌▷◌, Action, Close, Use, no_use, Adds}
-use Rattle.fx_counted.proofs.Words.{File, Goes, HasPlace, HasPass, Sat, opening_of, pass_of, doing_in, first_log, view_of, is_idle, IsPassOf, Stepped}
+use Rattle.fx_counted.proofs.Words.{File, Goes, HasPlace, HasPass, Sat, opening_of, pass_of, doing_in, view_of, is_idle, IsPassOf, Stepped}
 use Rattle.fx_counted.proofs.Words.{TakesOut, LetsGo, CountedPass, Change, Outside, Log, Start, Work, Idle, Holding, Retiring, refl, activity_of}
-use Rattle.fx_counted.proofs.Words.{◌▷▷◌, both_uses, IsAtWork, IsBetweenCalls, Between, steps_of, true, ◌<◌, range_of, full_word_of, InRange, HasNode}
+use Rattle.fx_counted.proofs.Words.{◌▷▷◌, both_uses, IsBetweenCalls, Between, steps_of, true, ◌<◌, range_of, full_word_of, InRange, HasNode}
 use Rattle.fx_counted.proofs.Words.{chain_numbers, slot_of, slot_place, node_place, IsNumber, opening_of_table, CountedTable, size_of, Option, None}
 use Rattle.fx_counted.proofs.Words.{number_of, name_in, node_in, Names, named, named_suc, Bool, none, Closed, retiring, IsPassOfTable, Removes, begun}
 use Rattle.fx_counted.proofs.Words.{Seat, View, Agrees, IsIdle, step, Allows, adds_then, hold_of, retired_of, Hold, Retired}
@@ -41,10 +41,6 @@ module _ {id : TableId} {k : Start} {p : CountedPass} (q : CountedPass) (fits : 
 
   abbrev new : Log
   new = goes.one.0
-
-  -- a property of the view is one of the log
-  new_is : first_log q.seat.me.0.logs ≡ new
-  new_is = ap first_log goes.one.1
 
   numbers : new.numbers_left + a.numbers ≡ old.numbers_left
   numbers = grind arith
@@ -96,11 +92,6 @@ out_and_home out home = rw out.stepped.change at (goes_then (goes_one out.steppe
 -- a pass outside a change that has done with its file
 pub let_go : {m m' : Sat} {xs : List Action} → m.0.change ≡ Outside → LetsGo m xs m' → Goes m xs no_use (Between Idle) Outside 1 m'
 let_go {m} {m'} {xs} outside went = subst (λ (c : Change). Goes m xs no_use (Between Idle) c 1 m') outside (goes_one went.stepped)
-
--- a pass is still at work after some steps
-pub still_at_work : {k : Start} {m m' : Sat} {x : Log} {xs : List Action} {a : Use} {w : Work} {c : Change} {n : ℕ} → HasPass k m x
-    → Goes m xs a w c n m' → IsAtWork k m'
-still_at_work {k} {m} {m'} its goes = grind arith
 
 use_alone : (a : Use) → both_uses (both_uses no_use a) no_use ≡ a
 use_alone a = grind arith

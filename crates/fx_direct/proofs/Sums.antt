@@ -1,25 +1,11 @@
 -- The counts of all slots, and one slot that is written.
-use Rattle.fx_direct.proofs.Words.{arith, ◌≡◌, ℕ, ◌+◌, ◌<◌, ◌≤◌, List, length, ap, LifeKey, Phase, Slot, unused, phase_at, with_phase}
+use Rattle.fx_direct.proofs.Words.{arith, ◌≡◌, ℕ, ◌<◌, ◌≤◌, List, length, ap, Phase, Slot, unused, phase_at}
 use Rattle.fx_direct.proofs.Words.{Free, calls_in, lives_in}
 use Rattle.fx_direct.specs.Phases.{calls_in_flight, lives_of}
 use Rattle.std.specs.Prelude.{◌*◌, ◌^◌}
-use Rattle.std.proofs.lemmas.List.Sums.{sum_by-set, sum_by-le, get_or-le-sum_by}
+use Rattle.std.proofs.lemmas.List.Sums.{sum_by-le}
 use Rattle.std.proofs.lemmas.List.{get_or_default}
 use Rattle.std.specs.Prelude.{slice_index_or}
-
-pub lives_step : (slots : List Slot) (k : LifeKey) (p : Phase) → k.slot < length slots
-    → lives_of (with_phase slots k p) + lives_in (phase_at slots k.slot) ≡ lives_of slots + lives_in p
-lives_step slots k p inside = sum_by-set (λ (s : Slot). lives_in s.phase) slots k.slot (record { number = k.number; phase = p }) unused inside
-
-pub calls_step : (slots : List Slot) (k : LifeKey) (p : Phase) → k.slot < length slots
-    → calls_in_flight (with_phase slots k p) + calls_in (phase_at slots k.slot) ≡ calls_in_flight slots + calls_in p
-calls_step slots k p inside = sum_by-set (λ (s : Slot). calls_in s.phase) slots k.slot (record { number = k.number; phase = p }) unused inside
-
-pub lives_low : (slots : List Slot) (slot : ℕ) → slot < length slots → lives_in (phase_at slots slot) ≤ lives_of slots
-lives_low slots slot inside = get_or-le-sum_by (λ (s : Slot). lives_in s.phase) slots slot unused inside
-
-pub calls_low : (slots : List Slot) (slot : ℕ) → slot < length slots → calls_in (phase_at slots slot) ≤ calls_in_flight slots
-calls_low slots slot inside = get_or-le-sum_by (λ (s : Slot). calls_in s.phase) slots slot unused inside
 
 pub one_life : (p : Phase) → lives_in p ≤ 1
 one_life Free = omega arith

@@ -1,14 +1,12 @@
 -- The keys that are written one after another.
-use Rattle.std.proofs.Common.{arith, ◌≡◌, inl, inr, ℕ, ◌+◌, ◌<◌, ◌≤◌, List, [], ◌∷◌, ◌++◌, length, refl, sym, ap, ◌∙◌, subst, map, take, slice_set}
+use Rattle.std.proofs.Common.{arith, ◌≡◌, ℕ, ◌+◌, ◌<◌, ◌≤◌, List, [], ◌∷◌, ◌++◌, length, refl, sym, ap, ◌∙◌, subst, map, take, slice_set}
 use Rattle.std.specs.Prelude.{slice_index}
 use Rattle.std.specs.List.{AllByRecursion}
-use Rattle.std.proofs.lemmas.List.{append-nil, append_assoc, length-append, length-set, get_or-set_other, take_more_set, map_push}
-use Rattle.std.proofs.Math.Seq.{take-append_seam, take-length}
+use Rattle.std.proofs.lemmas.List.{append_assoc, length-append, length-set, get_or-set_other, take_more_set, map_push}
 use Rattle.fx_direct.specs.Keys.{FitsBits, bits_of}
 use Rattle.fx_direct.specs.Living.{AreKeysOf}
 use Rattle.fx_direct.specs.declared.key.LifeKey.{LifeKey}
 use Rattle.fx_direct.specs.declared.phase.Slot.{Slot}
-use Rattle.fx_direct_c.specs.Answers.{WritesKeys}
 
 -- the first keys were written, and these are left
 pub record WritesSoFar (slots : List Slot) (old new : List ℕ) (count : ℕ) (left : List LifeKey) : Type 0 where
@@ -46,27 +44,4 @@ one_more slots old new count k left so_far room =
       written = take_more_set new count (bits_of k 0) (omega arith)
           ∙ ap (λ (xs : List ℕ). xs ++ bits_of k 0 ∷ []) so_far.written ∙ sym (map_push (λ (k : LifeKey). bits_of k 0) so_far.front k);
       rest = λ i above. get_or-set_other new count i (bits_of k 0) 0 (λ (e : i ≡ count). omega arith) ∙ so_far.rest i (omega arith);
-    }
-
-pub all_written : (slots : List Slot) (old new : List ℕ) (count : ℕ) → WritesSoFar slots old new count [] → WritesKeys slots count old new
-all_written slots old new count so_far =
-    let size = so_far.size in record {
-      keys = so_far.front;
-      are = subst (AreKeysOf slots) (append-nil so_far.front) so_far.are;
-      fits = (omega arith, so_far.inside);
-      whole = inl (sym size);
-      written = so_far.written ∙ ap (map (λ (k : LifeKey). bits_of k 0)) (sym (ap (λ (n : ℕ). take n so_far.front) (sym size) ∙ take-length so_far.front));
-      rest = so_far.rest;
-    }
-
-pub no_more_room : (slots : List Slot) (old new : List ℕ) (count : ℕ) (left : List LifeKey) → WritesSoFar slots old new count left → length new ≤ count
-    → WritesKeys slots count old new
-no_more_room slots old new count left so_far full =
-    let size = so_far.size in let same = so_far.same in let inside = so_far.inside in let more = length-append so_far.front left in record {
-      keys = so_far.front ++ left;
-      are = so_far.are;
-      fits = (omega arith, inside);
-      whole = inr (omega arith);
-      written = so_far.written ∙ ap (map (λ (k : LifeKey). bits_of k 0)) (sym (ap (λ (n : ℕ). take n (so_far.front ++ left)) (sym size) ∙ take-append_seam so_far.front left));
-      rest = so_far.rest;
     }

@@ -112,13 +112,6 @@ record IsFollowed (f : File) (st : State) (closed : List File) : Type 0 where
   only : IsOnly f st
   one_of : IsOneOf f (tally f.number st) closed
 
-moved_on : {f : File} {there : ℕ} (left : ℕ) {closed now : List File} → IsOneOf f there closed → left + length now ≡ there
-    → (now ≡ []) ⊎ (now ≡ f ∷ []) → IsOneOf f left (closed ++ now)
-moved_on left (inl open_still) count (inl none_now) = grind arith
-moved_on left (inl open_still) count (inr one_now) = grind arith
-moved_on left (inr gone) count (inl none_now) = grind arith
-moved_on left (inr gone) count (inr one_now) = let e = ap length one_now in absurd (omega (arith, gone.0))
-
 followed_after : {f : File} {st : State} {closed : List File} (a : Action) → IsFollowed f st closed → Allows st a
     → IsFollowed f (after st a) (closed ++ closed_of f.number a)
 followed_after {f} {st} a before may = grind (arith, tally_after)

@@ -1,7 +1,7 @@
 -- The machine value of a `Seen`, and what it owns. Assumes `Logic`.
-use Rattle.std.proofs.Common.{◌≡◌, ℕ, List, [], ◌∷◌, ◌++◌, refl, ap, ◌∙◌}
+use Rattle.std.proofs.Common.{ℕ, [], ◌∷◌, refl}
 use seplogic.Ra.Ura.{Ura}
-use mir.Val.{Val, of_list, vstruct, vcons, vnil}
+use mir.Val.{Val, vstruct, vcons, vnil}
 use base.Logic.{ent, emp, sep, wand, apply∗}
 use base.Fml.{Lft, Fml, fbor}
 use base.Stored.{Gv}
@@ -12,7 +12,6 @@ use denote.Sharing.{said}
 use denote.Struct.Lending.{Lends}
 use types.Keyed.{entry_keyless}
 use denote.RattleType.{RattleType}
-use denote.Laws.{Is}
 use denote.Shadow.{makes_shadow}
 use denote.Struct.Struct.{Struct}
 use denote.Struct.Owning.{shape}
@@ -26,9 +25,6 @@ token = vstruct (vcons (vstruct vnil) vnil)
 module _ (W : RattleType) where
   abbrev pub Token : RattleType
   Token = Struct (shape (seen.the_type W))
-
-  pub token_is : (vs : List Val) → Is Token (tt, tt) vs → vs ≡ token ∷ []
-  token_is vs is = is.1.0 ∙ ap (λ (ws : List Val). vstruct (of_list (ws ++ [])) ∷ []) is.1.1.0.1.0
 
   pub token_made : {M : Type 1} {𝓤 : Ura M} (𝓛 : Logic 𝓤) → ent 𝓤 (emp 𝓤) (sem 𝓛 (Token.own_val (tt, tt) (token ∷ [])))
   token_made 𝓛 = makes_shadow 𝓛 (Token.own_val (tt, tt) (token ∷ [])) (λ vss. (tt, ((λ uss. (tt, tt)), tt))) ((vstruct vnil ∷ [], tt), (refl, ((tt, (refl, tt)), tt)))

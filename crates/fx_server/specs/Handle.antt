@@ -1,12 +1,8 @@
 -- The memory of a worker that C has.
-use seplogic.Ra.Ura.{Ura}
 use base.Fml.{Fml, ftrue}
-use base.Logic.{SProp, sep, ex}
 use base.Stored.{Coded}
-use contract.Monad.{fact}
 use mir.Syntax.{Ty}
 use denote.RawPtr.{Ptr}
-use types.Logic.{Logic, sem}
 use Rattle.std.specs.Box.Ownership.{box_owns}
 use Rattle.std.specs.Prelude.{Option, Some, None}
 use Rattle.std.specs.Coded.{coded_option}
@@ -26,11 +22,6 @@ may_free = ghosts.dealloc_token heap
 -- the worker lies at the pointer, and who owns it may free its memory: what a box of it owns
 abbrev pub handle_owns : Ptr → TableWorker → Fml
 handle_owns = box_owns may_free the_row
-
--- a worker lies at the pointer, as `handle_owns` says, and it is as φ says
-abbrev pub HasWorker : {M : Type 1} {𝓤 : Ura M} → Logic 𝓤 → Ptr → (TableWorker → Type 0) → SProp 𝓤
-HasWorker {𝓤 = 𝓤} 𝓛 p φ =
-    ex 𝓤 (λ (w : TableWorker). sep 𝓤 (sem 𝓛 (handle_owns p w)) (fact 𝓤 (φ w)))
 
 -- a place for a worker owns nothing, or the worker that lies at its pointer
 abbrev pub place_owns : Ptr → Option TableWorker → Fml

@@ -11,9 +11,6 @@ use Rattle.fx_table.specs.declared.values.Task.{Task}
 use Rattle.fx_table.specs.declared.values.Task.TheVariants.{Idle, Holding, Retiring}
 use Rattle.std.proofs.Common.{arith}
 
-pub some_file : (f g : File) → Some f ≡ Some g → f ≡ g
-some_file f g e = cc
-
 pub none_file : (f : File) → None ≡ Some f → ⊥
 none_file f e = cc
 

@@ -1,7 +1,7 @@
 -- A table that is opened with empty slots: its contents, and its first words and places.
 use Rattle.fx_lasting.proofs.Words.{◌≡◌, ℕ, zero, suc, ◌+◌, List, sym, refl, ap, ◌∙◌, arith, Option, Some, None, slice_index, State, state_of, ◌≢◌}
-use Rattle.fx_lasting.proofs.Words.{◌<◌, subst, AreNamed, [], false, File, word_for, node_for, file_numbered, identity_of, full_in, if_full, first_at}
-use Rattle.fx_lasting.proofs.Words.{AreFirstWords, AreFirstHomes, group_place, group_start, group_len, slot_place, words_for, empty_slots, vacant}
+use Rattle.fx_lasting.proofs.Words.{◌<◌, subst, AreNamed, [], File, word_for, node_for, file_numbered, identity_of, full_in, if_full, first_at}
+use Rattle.fx_lasting.proofs.Words.{AreFirstWords, AreFirstHomes, group_place, group_start, group_len, slot_place, words_for, empty_slots}
 use Rattle.fx_lasting.proofs.Words.{read_default, length-replicate, replicate}
 use Rattle.fx_lasting.proofs.life_lemmas.Starting.{AreWordsSoFar, named_so_far}
 use Rattle.fx_plain.specs.Contents.{file_at}
@@ -15,16 +15,6 @@ module _ (size : ℕ) (range : ℕ × ℕ) where
 
   none_at : (slot : ℕ) → st.at slot ≡ None
   none_at slot = ap (λ (x : Option ℕ). file_at [] x) (read_default size slot None)
-
-  pub is_vacant : st ≡ record (vacant size) { range = range }
-  is_vacant = λ i. record {
-    size = same_size i;
-    range = range;
-    at = λ slot. none_at slot i;
-    removed = λ number. None;
-    holds = λ number. 0;
-    fresh = λ number. false;
-  }
 
   pub none_first : (slot : ℕ) → first_at st slot ≡ None
   none_first slot = ap (λ (x : Option File). file_numbered x slot) (none_at slot)

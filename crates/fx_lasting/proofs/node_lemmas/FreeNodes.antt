@@ -18,10 +18,6 @@ abbrev pub below : (ℕ → ℕ) → ℕ → ℕ
 below f zero = 0
 below f (suc n) = below f n + f n
 
-below_plus : (f g : ℕ → ℕ) (n : ℕ) → below (λ m. f m + g m) n ≡ below f n + below g n
-below_plus f g zero = refl
-below_plus f g (suc n) = let a = below_plus f g n in omega arith
-
 below_le : (f g : ℕ → ℕ) (n : ℕ) → ((m : ℕ) → m < n → f m ≤ g m) → below f n ≤ below g n
 below_le f g zero le = omega arith
 below_le f g (suc n) le = let a = below_le f g n (λ m l. le m (omega arith)) in let b = le n (omega arith) in omega arith
@@ -29,10 +25,6 @@ below_le f g (suc n) le = let a = below_le f g n (λ m l. le m (omega arith)) in
 below_ones : (n : ℕ) → below (λ m. 1) n ≡ n
 below_ones zero = refl
 below_ones (suc n) = let a = below_ones n in omega arith
-
-below_none : (n : ℕ) → below (λ m. 0) n ≡ 0
-below_none zero = refl
-below_none (suc n) = let a = below_none n in omega arith
 
 below_zero : (f : ℕ → ℕ) (n : ℕ) → ((m : ℕ) → m < n → f m ≡ 0) → below f n ≡ 0
 below_zero f zero none = refl

@@ -45,12 +45,6 @@ module _ {len start count entry e : ℕ} (high : start < len) (entry_high : entr
       ))
       (λ (w : (entry + len ≡ start + count) × (e < start) × (entry ≤ e)). inr (omega (arith, w.0), w.1, omega (arith, w.2, other))) a))
 
--- nothing is ahead once the whole stock was read
-pub none_ahead : {len start count entry e : ℕ} → len ≤ count → count ≤ len → entry < len → IsAhead start len count entry e → ⊥
-none_ahead {len} {start} {count} {entry} {e} all few high a = ⊎_elim
-    (λ (u : (entry ≡ start + count) × ((e < start) ⊎ (entry ≤ e))). omega (arith, u.0, all, high))
-    (λ (w : (entry + len ≡ start + count) × (e < start) × (entry ≤ e)). omega (arith, w.0, w.1, w.2, few)) a
-
 -- the seat of a pass that searches
 module _ {k : Start} {p len start count entry : ℕ} {stock : List ℕ} {m m' : Sat} (at : IsAtWork k p m) (idle : HasNoFile m.0.work)
     (its : stock ≡ (pass_in m).stock) (so_far : Sought stock len start count entry m m') where

@@ -2,8 +2,8 @@
 use Rattle.fx_lasting.proofs.Words.{◌≡◌, ℕ, ◌+◌, ◌*◌, ◌<◌, ◌≤◌, [], ◌∷◌, sym, ap, ◌∙◌, subst, arith, Some, none, step, rest, Closed, ◌▷◌, numbered}
 use Rattle.fx_lasting.proofs.Words.{Allocate, Sat, Work, Glance, Change, Placing, Idle, Outside, Inside, Runs, Goes, Exchanges, slot_of, Stepped}
 use Rattle.fx_lasting.proofs.Words.{LastingTable, IsInRange, List, Action, Start, group_of, range_at_start, node_of_number, ◌▷▷◌, ◌-◌, IsAtWork}
-use Rattle.fx_lasting.proofs.Words.{IsInStock, NamesANode, as_swapped, pass_in, name_in, nodes_of, get_elem?, some, label_of, as_written}
-use Rattle.fx_lasting.proofs.Words.{Option, None, IfSome, most_carried, IsPlacing, HasAllocated, StillPlaces, group_steps}
+use Rattle.fx_lasting.proofs.Words.{NamesANode, as_swapped, pass_in, name_in, nodes_of, get_elem?, some, label_of, as_written}
+use Rattle.fx_lasting.proofs.Words.{Option, None, IfSome, IsPlacing, HasAllocated, StillPlaces, group_steps}
 use Rattle.table_range.proofs.GroupSlots.{by_size}
 use Rattle.fx_lasting.proofs.Running.{runs_one, runs_goes, runs_within, turns_then, does_then, swapped_then, at_swapped, still_at_work}
 
@@ -108,9 +108,6 @@ pub found_then : {m m' : Sat} (m'' : Sat) {n lost : ℕ} (b : ℕ) (file : Close
 found_then {m} m'' {n} b file (Some (slot, named)) one two = allocated_within m m'' n slot named file (omega arith) (allocated_then named one two)
 found_then m'' b file None one two = tt
 
-pub still_placing : {m m' : Sat} {n lost a : ℕ} {file : Closed} → IsPlacing n lost file m → StillPlaces n lost file a m m' → IsPlacing n lost file m'
-still_placing {n = n} p s = record { work = s.0.work; few_lost = p.few_lost; place = s.1 ∙ p.place; stocked = subst (λ (l : List ℕ). IsInStock l n) (sym s.0.stock) p.stocked }
-
 -- a pass that goes on with another node in its stock
 pub swapped_does : {m m' m'' : Sat} {xs ys : List Action} {w w' : Work} {n n' : ℕ} (entry node : ℕ) → Runs m xs w m.0.glance m.0.change n m'
     → Runs (as_swapped entry node m') ys w' m'.0.glance m'.0.change n' m'' → Runs (as_swapped entry node m) (xs ▷▷ ys) w' m.0.glance m.0.change (n + n') m''
@@ -121,16 +118,6 @@ swapped_does {m' = m'} {m'' = m''} {ys = ys} {w' = w'} {n' = n'} entry node a b 
 pub stocked_at : (stock : List ℕ) (m m' : Sat) (e n : ℕ) → stock ≡ (pass_in m).stock → (pass_in m').stock ≡ (pass_in m).stock → get_elem? stock e ≡ some n
     → get_elem? (pass_in m').stock e ≡ some n
 stocked_at stock m m' e n its same at = ap (λ (l : List ℕ). get_elem? l e) (same ∙ sym its) ∙ at
-
--- a pass that has put a file into the place of a node of its stock
-pub is_placing : (stock : List ℕ) (m : Sat) {m' : Sat} {n lost most : ℕ} (e : ℕ) {file : Closed} → lost ≤ most_carried → Runs m [] (Placing n (as_written lost (label_of file))) m.0.glance m.0.change most m' → stock ≡ (pass_in m).stock
-    → get_elem? stock e ≡ some n → m'.1 ≡ (n, Some file) ∷ [] → IsPlacing n lost file m'
-is_placing stock m {n = n} e few run its at place = record {
-  work = run.work;
-  few_lost = few;
-  place = place;
-  stocked = (e, ap (λ (l : List ℕ). get_elem? l e) (run.stock ∙ sym its) ∙ at);
-}
 
 -- The steps of a search through some groups
 pub group_more : (len count most : ℕ) → most ≤ count * group_steps len → most + group_steps len ≤ (count + 1) * group_steps len
