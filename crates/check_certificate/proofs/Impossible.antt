@@ -58,7 +58,6 @@ module _ (catalogue : List FileEntry) (size : ℕ) (c : Completed) (request : As
 
 module _ (catalogue : List FileEntry) (size : ℕ) (c : Completed) (request : Asked)
     (running : (1 < c.place.member) → (c ≡ refusal c.place ECANCELED) → ⊥) where
-
   module _ (fed : c ≡ refusal c.place ENOMEM → ⊥) where
     -- another number than that of the request
     pub not_fixed : (res : ℤ) → refusal_of catalogue size request.operation ≡ None

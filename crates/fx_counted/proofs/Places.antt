@@ -4,7 +4,6 @@ use Rattle.fx_counted.proofs.Words.{◌≡◌, ℕ, ◌+◌, ◌-◌, ◌*◌, �
 use Rattle.fx_counted.proofs.Words.{HasNode, PlacesAreInside, PlacesAreApart, ◌⊎◌, refl, slot_place, words_for, homes_for, control_place, draw_place}
 
 module _ (size : ℕ) where
-
   pub high_node : (n : ℕ) → size ≤ n → node_place size n ≡ 16 + 8 * size + (n - 256)
   high_node n g = ap (λ (b : Bool). cond b (17 + 8 * n) (16 + 8 * size + (n - 256))) (le-ltb n size g)
 
