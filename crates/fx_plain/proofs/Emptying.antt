@@ -9,8 +9,8 @@ use Rattle.fx_plain.proofs.Cells.{each_set, inside_of-At}
 use Rattle.fx_plain.proofs.OwnNumbers.{IsLeft, left_without, named_same}
 
 module _ {X : Type 0} (rest : X) (len : ℕ) (xs : List X) where
-  pub length-with_rest : length xs ≤ len → length (with_rest rest len xs) ≡ len
-  length-with_rest few = grind (arith, length-append, length-replicate)
+  pub length_with_rest : length xs ≤ len → length (with_rest rest len xs) ≡ len
+  length_with_rest few = grind (arith, length-append, length-replicate)
 
   -- a written element is read as it was written
   pub read_written : {n : ℕ} (d : X) → n < length xs → slice_index_or (with_rest rest len xs) n d ≡ slice_index_or xs n d
@@ -25,12 +25,12 @@ module _ {X : Type 0} (rest : X) (len : ℕ) (xs : List X) where
       ∙ get_or-replicate (len - length xs) (n - length xs) rest d (omega arith)
 
   -- a write of what was written is a write of the whole list
-  pub with_rest-set : {n : ℕ} (x : X) → n < length xs → with_rest rest len (slice_set xs n x) ≡ slice_set (with_rest rest len xs) n x
-  with_rest-set {n} x inside = grind (arith, length-set, set-append_left)
+  pub with_rest_set : {n : ℕ} (x : X) → n < length xs → with_rest rest len (slice_set xs n x) ≡ slice_set (with_rest rest len xs) n x
+  with_rest_set {n} x inside = grind (arith, length-set, set-append_left)
 
   -- one more of the rest may be written at any time
-  pub with_rest-push : length xs < len → with_rest rest len (xs ++ rest ∷ []) ≡ with_rest rest len xs
-  with_rest-push inside =
+  pub with_rest_push : length xs < len → with_rest rest len (xs ++ rest ∷ []) ≡ with_rest rest len xs
+  with_rest_push inside =
       let size : length (xs ++ rest ∷ []) ≡ length xs + 1 = length-append xs (rest ∷ []) in
       let same : suc (len - length (xs ++ rest ∷ [])) ≡ len - length xs = omega arith in
       let joined : with_rest rest len (xs ++ rest ∷ []) ≡ xs ++ replicate (suc (len - length (xs ++ rest ∷ []))) rest =
@@ -40,7 +40,7 @@ module _ {X : Type 0} (rest : X) (len : ℕ) (xs : List X) where
 -- an element that is neither the rest nor the default was written
 inside_written : {X : Type 0} (rest d : X) {len : ℕ} (xs : List X) (n : ℕ) → length xs ≤ len → slice_index_or (with_rest rest len xs) n d ≢ rest
     → slice_index_or (with_rest rest len xs) n d ≢ d → n < length xs
-inside_written rest d {len} xs n few no_rest no_default = grind (arith, read_rest, length-with_rest, get_or-eq_default)
+inside_written rest d {len} xs n few no_rest no_default = grind (arith, read_rest, length_with_rest, get_or-eq_default)
 
 -- a node with a file was written
 pub written_inside : {len : ℕ} (xs : List Node) (n : ℕ) → length xs ≤ len → IsSome (identity_in (node_at (with_rest Fresh len xs) n)) → n < length xs
@@ -50,7 +50,7 @@ written_inside xs n few has = grind (arith, inside_written)
 pub changed_over : (f : Node → Node) {len : ℕ} (xs : List Node) (n : ℕ) → length xs ≤ len → IsSome (identity_in (node_at (with_rest Fresh len xs) n))
     → with_rest Fresh len (slice_set (slice_set xs n Gone) n (f (node_at xs n)))
     ≡ slice_set (with_rest Fresh len xs) n (f (node_at (with_rest Fresh len xs) n))
-changed_over f {len} xs n few has = grind (arith, written_inside, set-set, read_written, with_rest-set)
+changed_over f {len} xs n few has = grind (arith, written_inside, set-set, read_written, with_rest_set)
 
 -- The files of the slots are closed, one slot after another.
 

@@ -104,6 +104,7 @@ impl HoldList {
 }
 
 // Appends zeros up to this number, unless they are written already.
+#[tactic(auto, using(crate::proofs::Emptying::with_rest_push))]
 fn write_up_to(holds: &mut Vec<u32>, number: u32)
     requires { number < vec_capacity holds.old }
     ensures inside { number < vec_len holds.new }

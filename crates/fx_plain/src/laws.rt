@@ -57,6 +57,7 @@ pub fn a_table_comes_to_rest()
 
 /// States that what happens to a table at rest may also happen to a table that is opened with its
 /// files: numbers are only names.
+#[tactic(auto, using(crate::proofs::OpenedAnew::opened_anew))]
 pub fn a_later_part_may_open_a_table()
     ensures { OpenedAnew }
 {}

@@ -132,6 +132,7 @@ impl NodeList {
     }
 
     // Writes a node. Callers write only where there is no file.
+    #[tactic(auto, using(crate::proofs::Emptying::length_with_rest, crate::proofs::Emptying::with_rest_set))]
     pub(crate) fn set_node(&mut self, number: u32, node: Node)
         requires { number < length self.old }
         ensures { self.new ≡ slice_set self.old number node }
@@ -141,6 +142,7 @@ impl NodeList {
     }
 
     // Takes the file of a number out of its node.
+    #[tactic(auto, using(crate::proofs::Emptying::written_inside, crate::proofs::Emptying::with_rest_set))]
     pub(crate) fn take_file(&mut self, number: u32) -> OpenFile
         requires { IsSome (identity_in (node_at self.old number)) }
         ensures answer { Some result ≡ identity_in (node_at self.old number) }
@@ -213,6 +215,7 @@ fn cut_off(nodes: &mut Vec<Node>, kept: usize)
 }
 
 // Appends fresh nodes up to this number, unless they are written already.
+#[tactic(auto, using(crate::proofs::Emptying::with_rest_push))]
 fn write_up_to(nodes: &mut Vec<Node>, number: u32)
     requires { number < vec_capacity nodes.old }
     ensures inside { number < vec_len nodes.new }

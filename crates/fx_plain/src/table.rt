@@ -105,6 +105,7 @@ impl PlainTable {
     ///
     /// # Errors
     /// `NoMemory` if the allocation for the slots fails.
+    #[tactic(auto, using(crate::proofs::Settled::sparse_keeps, crate::proofs::Cells::read_default))]
     pub fn sparse(alloc: Global, n: u32) -> Result<PlainTable, NoMemory>
         requires some { 1 ≤ n }
         requires few { n ≤ MOST_SLOTS }

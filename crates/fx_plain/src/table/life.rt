@@ -169,6 +169,7 @@ fn renumber_into(slots: &mut Vec<Option<u32>>, nodes: &mut NodeList, moved: &mut
 
 // Moves the file that a slot names to the node of the slot's own number, unless it is there
 // already.
+#[tactic(auto, using(crate::proofs::Removals::seen_at, crate::proofs::OwnNumbers::node_settled))]
 fn settle(slots: &mut Vec<Option<u32>>, nodes: &mut NodeList, slot: usize)
     requires slot { (slot < vec_len slots.old) × (slot < 2 ^ 32) }
     requires node { slot < length nodes.old }
