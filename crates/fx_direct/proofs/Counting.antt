@@ -37,31 +37,21 @@ own (Opens j true) h k p fits one new b = let c = at_phase fits b in
     record { requests = omega arith; users = omega arith; ended = omega arith; asked = omega arith; closed = omega arith; once = omega arith; opened = omega arith }
 own (Opens j false) h k p fits one new b = let c = at_phase fits b in
     record { requests = omega arith; users = omega arith; ended = omega arith; asked = omega arith; closed = omega arith; once = omega arith; opened = omega arith }
-own (Starts j) h k (Live a u) fits one new b =
-    record { requests = omega arith; users = omega arith; ended = omega arith; asked = omega arith; closed = omega arith; once = omega arith; opened = omega arith }
-own (Starts j) h k _ fits one new b = absurd cc
-own (Finishes j) h k (Live a u) fits one new b =
-    record { requests = omega arith; users = omega arith; ended = omega arith; asked = omega arith; closed = omega arith; once = omega arith; opened = omega arith }
-own (Finishes j) h k (Ending a u) fits one new b =
-    record { requests = omega arith; users = omega arith; ended = omega arith; asked = omega arith; closed = omega arith; once = omega arith; opened = omega arith }
-own (Finishes j) h k _ fits one new b = absurd (omega arith)
-own (Holds j) h k (Live a u) fits one new b =
-    record { requests = omega arith; users = omega arith; ended = omega arith; asked = omega arith; closed = omega arith; once = omega arith; opened = omega arith }
-own (Holds j) h k _ fits one new b = absurd cc
-own (Releases j) h k (Live a u) fits one new b =
-    record { requests = omega arith; users = omega arith; ended = omega arith; asked = omega arith; closed = omega arith; once = omega arith; opened = omega arith }
-own (Releases j) h k (Ending a u) fits one new b =
-    record { requests = omega arith; users = omega arith; ended = omega arith; asked = omega arith; closed = omega arith; once = omega arith; opened = omega arith }
-own (Releases j) h k _ fits one new b = absurd (omega arith)
-own (Ends j) h k (Live a u) fits one new b =
-    record { requests = omega arith; users = omega arith; ended = omega arith; asked = omega arith; closed = omega arith; once = omega arith; opened = omega arith }
-own (Ends j) h k _ fits one new b = absurd cc
 own (Asks j) h k p fits one new b = let c = at_phase fits b in
     record { requests = omega arith; users = omega arith; ended = omega arith; asked = omega arith; closed = omega arith; once = omega arith; opened = omega arith }
 own (FailsToClose j) h k p fits one new b = let c = at_phase fits b in
     record { requests = omega arith; users = omega arith; ended = omega arith; asked = omega arith; closed = omega arith; once = omega arith; opened = omega arith }
 own (Closes j) h k p fits one new b = let c = at_phase fits b in
     record { requests = omega arith; users = omega arith; ended = omega arith; asked = omega arith; closed = omega arith; once = omega arith; opened = omega arith }
+own d h k (Live a u) fits one new b =
+    record { requests = omega arith; users = omega arith; ended = omega arith; asked = omega arith; closed = omega arith; once = omega arith; opened = omega arith }
+own (Finishes j) h k (Ending a u) fits one new b =
+    record { requests = omega arith; users = omega arith; ended = omega arith; asked = omega arith; closed = omega arith; once = omega arith; opened = omega arith }
+own (Finishes j) h k _ fits one new b = absurd (omega arith)
+own (Releases j) h k (Ending a u) fits one new b =
+    record { requests = omega arith; users = omega arith; ended = omega arith; asked = omega arith; closed = omega arith; once = omega arith; opened = omega arith }
+own (Releases j) h k _ fits one new b = absurd (omega arith)
+own _ h k _ fits one new b = absurd cc
 
 -- a transition of another key counts for nothing
 other : (d : Transition) (h : List Transition) (k : LifeKey) (p : Phase) → bit (same_key (key_concerned d) k) ≡ 0

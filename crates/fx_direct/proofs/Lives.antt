@@ -1,7 +1,7 @@
 -- Laws of a whole life.
 use Rattle.fx_direct.proofs.Words.{arith, ◌≡◌, ◌≢◌, ℕ, ◌+◌, ◌<◌, ◌≤◌, ◌⊎◌, inl, inr, true, false, List, [], ◌∷◌, length, refl, sym, ap, ◌∙◌, subst}
 use Rattle.fx_direct.proofs.Words.{Option, Some, None, cases_eq, cases_lt, ◌▷▷◌, Transition, LifeKey, Phase, Slot, Reserves, Opens, Starts, Finishes, Holds, Releases}
-use Rattle.fx_direct.proofs.Words.{Ends, Asks, Closes, FailsToClose, Free, Opening, Live, Ending, Closing, slot_numbered, phase_at, is_live, requests_in, users_in}
+use Rattle.fx_direct.proofs.Words.{Asks, Closes, FailsToClose, Free, Opening, Live, Ending, Closing, slot_numbered, phase_at, is_live, requests_in, users_in}
 use Rattle.fx_direct.proofs.Words.{key_concerned, HasLife, IsEnabled, phase_after, slots_with, AreEnabled, slots_left_by, Advances, AdvancesAndAsks}
 use Rattle.fx_direct.specs.Counts.{times, starts, finishes, holds, releases, ends, asks, fails, phase_of, IsBalanced}
 use Rattle.fx_direct.specs.Lives.{NoCloseIsDue, NeverAsks, NoCloseIsLate, EachCloseIsAskedForOnce, StaleKeysStayStale}
@@ -107,15 +107,7 @@ told : (slots : List Slot) (t : Transition) → IsEnabled slots t
     → (((slot_numbered slots (key_concerned t).slot).number ≡ (key_concerned t).number) × (phase_at slots (key_concerned t).slot ≡ Free → ⊥))
     ⊎ ((key_concerned t).number ≡ (slot_numbered slots (key_concerned t).slot).number + 1)
 told slots (Reserves k) can = inr can.1
-told slots (Opens k b) can = inl (can.0.1, busy (Opens k b) _ can.1 (λ j e. cc))
-told slots (Starts k) can = inl (can.0.1, busy (Starts k) _ can.1 (λ j e. cc))
-told slots (Finishes k) can = inl (can.0.1, busy (Finishes k) _ can.1 (λ j e. cc))
-told slots (Holds k) can = inl (can.0.1, busy (Holds k) _ can.1 (λ j e. cc))
-told slots (Releases k) can = inl (can.0.1, busy (Releases k) _ can.1 (λ j e. cc))
-told slots (Ends k) can = inl (can.0.1, busy (Ends k) _ can.1 (λ j e. cc))
-told slots (Asks k) can = inl (can.0.1, busy (Asks k) _ can.1 (λ j e. cc))
-told slots (Closes k) can = inl (can.0.1, busy (Closes k) _ can.1 (λ j e. cc))
-told slots (FailsToClose k) can = inl (can.0.1, busy (FailsToClose k) _ can.1 (λ j e. cc))
+told slots t can = inl (can.0.1, busy t _ can.1 (λ j e. cc))
 
 refused : (slots : List Slot) (t : Transition) → IsOver slots (key_concerned t) → IsEnabled slots t → ⊥
 refused slots t over can = elim (told slots t can) [

@@ -23,12 +23,14 @@ pub fn limits_are_numbers()
 
 /// States that in every flight an open finds its slot empty, and that each request and each close
 /// finds the file that the open of its own key installed.
+#[tactic(auto, using(crate::proofs::Reach::each_access_finds_its_own))]
 pub fn each_access_finds_its_own()
     ensures { EachAccessFindsItsOwn }
 {}
 
 /// States that where a slot may be handed out, the kernel's slot is empty and no call is in flight
 /// at it, and that where a close may be asked for, no call is in flight at its slot.
+#[tactic(auto, using(crate::proofs::Reach::nothing_is_left))]
 pub fn nothing_is_left()
     ensures { NothingIsLeft }
 {}
@@ -48,6 +50,7 @@ pub fn each_close_is_asked_for_once()
 {}
 
 /// States that no call of the machine leaves a close that is due and isn't asked for.
+#[tactic(auto, using(crate::proofs::Lives::no_close_is_late))]
 pub fn no_close_is_late()
     ensures { NoCloseIsLate }
 {}
@@ -64,6 +67,7 @@ pub fn keys_are_given_once()
 {}
 
 /// States that once a life is over, no transition under its key is ever possible again.
+#[tactic(auto, using(crate::proofs::Lives::stale_keys_stay_stale))]
 pub fn stale_keys_stay_stale()
     ensures { StaleKeysStayStale }
 {}
@@ -75,12 +79,14 @@ pub fn keys_come_back()
 
 /// States that a flight with all kinds of moments and transitions exists, so that the laws of
 /// flights are not about nothing.
+#[tactic(auto, using(crate::proofs::Rounds::goes_round))]
 pub fn a_flight_goes_round()
     ensures { GoesRound }
 {}
 
 /// States that if a close didn't wait for the requests, there would be a flight in which a request
 /// finds the file of another key.
+#[tactic(auto, using(crate::proofs::Mistakes::haste_is_wrong))]
 pub fn haste_is_wrong()
     ensures { HasteIsWrong }
 {}
