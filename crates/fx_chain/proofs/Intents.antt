@@ -26,12 +26,12 @@ abbrev position_at : ℕ → ℤ → List (Option ℕ)
 position_at in_list entry = if int_le (negsuc 0) entry then Some in_list ∷ [] else []
 
 -- as many positions as entries that aren't skips
-pub length-positions : (in_list : ℕ) (list : List ℤ)
+pub length_positions : (in_list : ℕ) (list : List ℤ)
     → length (positions_from in_list list) ≡ length (filter (λ entry. int_le (negsuc 0) entry) list)
-length-positions in_list [] = refl
-length-positions in_list (entry ∷ list) = elim (cases_Bool (int_le (negsuc 0) entry)) [
-  | inl done ↦ rw (done, length-positions (in_list + 1) list)
-  | inr skipped ↦ rw (skipped, length-positions (in_list + 1) list)
+length_positions in_list [] = refl
+length_positions in_list (entry ∷ list) = elim (cases_Bool (int_le (negsuc 0) entry)) [
+  | inl done ↦ rw (done, length_positions (in_list + 1) list)
+  | inr skipped ↦ rw (skipped, length_positions (in_list + 1) list)
 ]
 
 one_more : (in_list : ℕ) (list : List ℤ) (entry : ℤ)

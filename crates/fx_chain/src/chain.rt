@@ -23,6 +23,7 @@ pub struct Chain {
 
 impl Chain {
     /// Returns the members of the chain, one of this list of requests ([`cut`]).
+    #[tactic(auto, using(crate::proofs::ChainGoesOn::asked_part))]
     pub fn members(self, requests: &[Request]) -> &[Request]
         requires inside { self.first + self.len ≤ length requests.now }
         ensures part { result.now ≡ take self.len (drop self.first requests.now) }

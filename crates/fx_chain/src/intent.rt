@@ -51,6 +51,7 @@ pub enum Finding {
 impl Request {
     /// Returns the number of accesses that the request makes if it isn't refused or canceled and no
     /// allocation fails: 1, or for an update the number of its entries that aren't -2.
+    #[tactic(auto, using(crate::proofs::Intents::length_positions))]
     pub fn accesses(&self) -> usize
         ensures { result ≡ length (positions_of (operation_of self.now.op)) }
     {

@@ -28,6 +28,7 @@ pub fn runs_are_the_only_ones()
 
 /// States that the requests that a fault depends on, the linking ones at the end of those before
 /// the request, are the earlier members of the request's own run.
+#[tactic(auto, using(crate::proofs::Runs::is_in_run))]
 pub fn each_request_is_in_its_run()
     ensures { (front : List Asked) (request : Asked) (behind : List Asked)
         → IsInRun front request (runs_of (front ++ request ∷ behind)) }
@@ -35,6 +36,7 @@ pub fn each_request_is_in_its_run()
 
 /// States that the fault of a submission is that of its first request with a fault, and that no
 /// request has one if the submission has none.
+#[tactic(auto, using(crate::proofs::Accepted::the_first_fault))]
 pub fn fault_is_the_first()
     ensures { (requests : List Asked)
         → MatchOption (fault_of requests) (HasNoFault requests) (IsFirstFault requests) }
@@ -46,6 +48,7 @@ pub fn chains_answer_by_any_numbers()
 {}
 
 /// States that a chain uses no more file numbers than its requests ask for.
+#[tactic(auto, using(crate::proofs::OtherNumbers::few_given))]
 pub fn chains_give_numbers_as_asked()
     ensures { NumbersFilesAsAsked }
 {}
