@@ -1,57 +1,44 @@
 -- The file at a slot after a history: the one that the last change of the slot left there.
-use Rattle.fx_table.proofs.Words.{◌≡◌, ◌≢◌, ◌⊎◌, ℕ, List, [], ◌∷◌, ◌++◌, map, sym, refl, ap, ◌∙◌, subst, inl, inr, ⊎_elim, Option, Some, None, IsSome, Contains, File, Event, Action}
-use Rattle.fx_table.proofs.Words.{State, changed_at, changed_here, changed_else, ◌▷◌, ◌▷▷◌, Opening, start_of, state_at, action_of, ℕ_discrete, dite, ◌<◌, ◌≤◌, ◌+◌}
+use Rattle.fx_table.proofs.Words.{◌≡◌, ◌⊎◌, ℕ, List, [], ◌∷◌, map, sym, refl, ◌∙◌, subst, inl, inr, ⊎_elim, Option, Some, None, IsSome, Contains, File, Event, Action}
+use Rattle.fx_table.proofs.Words.{State, changed_here, changed_else, ◌▷◌, ◌▷▷◌, Opening, start_of, state_at, action_of, ℕ_discrete, dite, ◌<◌, ◌≤◌, ◌+◌}
 use Rattle.fx_table.proofs.SumLemmas.{contains_none, contains_head, contains_tail, contains_cases}
 use Rattle.fx_plain.proofs.Leading.{same_shape}
 use Rattle.fx_plain.specs.Step.{Allows, after}
-use Rattle.fx_plain.specs.History.{state_after}
-use Rattle.fx_plain.specs.declared.event.Action.TheVariants.{Look, Release, Put, Clear, Take, Allocate, Full, Close}
+use Rattle.fx_plain.specs.declared.event.Action.TheVariants.{Look, Put, Clear, Take, Allocate, Full}
 use Rattle.fx_table.specs.Finding.{LeavesAt, KeepsSlot, IsLegalAt, AllKeepSlot, LookUpFindsTheChange, LookUpFindsThePut, LookUpFindsTheRemoval, FullFollowsAnInstallation}
 
 -- an action changes the slot or doesn't
 changes : (slot : ℕ) (a : Action) → ((left : Option File) × LeavesAt slot left a) ⊎ KeepsSlot slot a
-changes slot (Look s found) = inr tt
-changes slot (Release f) = inr tt
 changes slot (Put s f replaced) = ⊎_elim (λ e. inl (Some f, (e, refl))) (λ other. inr other) (dite (ℕ_discrete s slot) (λ e. inl e) (λ other. inr other))
 changes slot (Clear s found) = ⊎_elim (λ e. inl (None, (e, refl))) (λ other. inr other) (dite (ℕ_discrete s slot) (λ e. inl e) (λ other. inr other))
 changes slot (Take s found) = ⊎_elim (λ e. inl (None, (e, refl))) (λ other. inr other) (dite (ℕ_discrete s slot) (λ e. inl e) (λ other. inr other))
 changes slot (Allocate s f) = ⊎_elim (λ e. inl (Some f, (e, refl))) (λ other. inr other) (dite (ℕ_discrete s slot) (λ e. inl e) (λ other. inr other))
-changes slot Full = inr tt
-changes slot (Close f) = inr tt
+changes slot _ = inr tt
 
 -- what a change leaves is at the slot
 left_at : (slot : ℕ) (left : Option File) (a : Action) (st : State) → LeavesAt slot left a → (after st a).at slot ≡ left
-left_at slot left (Look s found) st l = absurd l
-left_at slot left (Release f) st l = absurd l
 left_at slot left (Put s f replaced) st l = changed_here st.at s (Some f) slot (sym l.0) ∙ sym l.1
 left_at slot left (Clear s found) st l = changed_here st.at s None slot (sym l.0) ∙ sym l.1
 left_at slot left (Take s found) st l = changed_here st.at s None slot (sym l.0) ∙ sym l.1
 left_at slot left (Allocate s f) st l = changed_here st.at s (Some f) slot (sym l.0) ∙ sym l.1
-left_at slot left Full st l = absurd l
-left_at slot left (Close f) st l = absurd l
+left_at slot left _ st l = absurd l
 
 -- every other action leaves the slot as it is
 kept_at : (slot : ℕ) (a : Action) (st : State) → KeepsSlot slot a → (after st a).at slot ≡ st.at slot
 kept_at slot (Look s None) st l = refl
-kept_at slot (Look s (Some f)) st l = refl
-kept_at slot (Release f) st l = refl
 kept_at slot (Put s f replaced) st l = changed_else st.at s (Some f) slot (λ e. l (sym e))
 kept_at slot (Clear s found) st l = changed_else st.at s None slot (λ e. l (sym e))
 kept_at slot (Take s found) st l = changed_else st.at s None slot (λ e. l (sym e))
 kept_at slot (Allocate s f) st l = changed_else st.at s (Some f) slot (λ e. l (sym e))
-kept_at slot Full st l = refl
-kept_at slot (Close f) st l = refl
+kept_at slot _ st l = refl
 
 -- an action that changes the slot doesn't keep it
 not_both : (slot : ℕ) (left : Option File) (a : Action) → LeavesAt slot left a → KeepsSlot slot a → ⊥
-not_both slot left (Look s found) l k = absurd l
-not_both slot left (Release f) l k = absurd l
 not_both slot left (Put s f replaced) l k = k l.0
 not_both slot left (Clear s found) l k = k l.0
 not_both slot left (Take s found) l k = k l.0
 not_both slot left (Allocate s f) l k = k l.0
-not_both slot left Full l k = absurd l
-not_both slot left (Close f) l k = absurd l
+not_both slot left _ l k = absurd l
 
 kept_by : (slot : ℕ) (h : List Event) → AllKeepSlot slot h → (e : Event) → Contains h e → KeepsSlot slot e.action
 kept_by slot [] all e c = absurd (contains_none e c)

@@ -26,6 +26,7 @@ pub fn calls_compose()
 {}
 
 /// States that a call's events follow all that its pass had seen or learned before the call.
+#[tactic(auto, using(crate::proofs::Calls::follows_shown))]
 pub fn calls_follow_what_was_shown()
     ensures { CallsFollowWhatWasShown }
 {}
@@ -38,12 +39,14 @@ pub fn a_look_up_finds_the_change()
 
 /// States that a look-up after a put at its slot finds the new file, if no action between changes
 /// the slot.
+#[tactic(auto, using(crate::proofs::Finding::finds_the_put))]
 pub fn a_look_up_finds_the_put()
     ensures { LookUpFindsThePut }
 {}
 
 /// States that a look-up after a removal at its slot finds no file, if no action between changes
 /// the slot.
+#[tactic(auto, using(crate::proofs::Finding::finds_the_removal))]
 pub fn a_look_up_finds_the_removal()
     ensures { LookUpFindsTheRemoval }
 {}
