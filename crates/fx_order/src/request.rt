@@ -207,6 +207,7 @@ pub(crate) fn is_request_done(
 }
 
 /// Returns the number of accesses that a request made, if it has this completion.
+#[tactic(auto, using(crate::proofs::RequestCases::counted))]
 pub(crate) fn accesses_made(setting: &OrderSetting<'_>, request: &Request, c: &Completion) -> usize
     ensures { (place : Place) (own : List Made) → IsRequestDone setting.now.catalogue.now
         setting.now.size place (operation_of request.now.op) own (completed_of c.now)

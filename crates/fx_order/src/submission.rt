@@ -21,8 +21,7 @@ pub fn members<'a>(requests: &'a [Request], chain: Chain) -> &'a [Request]
     ensures limits { All (λ r. IsWithinLimits (asked_of r)) result.now }
     ensures few { length result.now ≤ MOST_MEMBERS }
 {
-    let first = chain.first as usize;
-    &requests[first..first + chain.len as usize]
+    chain.members(requests)
 }
 
 /// A submission's requests, and an order of their accesses at a table of `size` slots.
