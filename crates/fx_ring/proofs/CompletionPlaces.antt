@@ -1,21 +1,18 @@
 -- The places of completions: of a chain, and of a submission in parts.
-use Rattle.fx_ring.proofs.Words.{◌≡◌, ℕ, ◌+◌, ◌-◌, ◌<◌, List, [], length, take, drop, slice_index_or, sym, ap, subst, ◌∙◌, All, arith, get_or-map}
+use Rattle.fx_ring.proofs.Words.{◌≡◌, ℕ, ◌+◌, ◌-◌, ◌<◌, List, [], length, slice_index_or, sym, ap, subst, ◌∙◌, All, arith, get_or-map}
 use Rattle.fx_ring.proofs.Words.{length-map, IsChain, IsShortRun, members_of, Asked, all_asked, runs_of, all_installs, Chain, Request, AreCutInto}
 use Rattle.fx_ring.proofs.Words.{InstallAtMost, All-map, All-weaker, ◌≤◌, ◌*◌, ◌∷◌, refl, All-nil, All-cons, FileEntry, Action, Completed}
 use Rattle.fx_ring.proofs.Words.{next_member, Explains, canceled, severs, Place, either_case, suc, ◌++◌, length-append, map, sum_by, IsPermutation}
 use Rattle.fx_ring.proofs.Words.{flat_map, IsNonDecreasingBy, All-head, All-tail, All-append, sum_by-cons, IsPermutation-sym, IsPermutation-trans}
 use Rattle.fx_ring.proofs.Words.{length_permutation, MOST_MEMBERS, part_of_chain, action_of, Event, first_member, ExplainsParts, completions_of_chain}
-use Rattle.fx_ring.proofs.Words.{run_of_chain, Contains, HasWorked, WorkerState, range_with_len, asked_part}
+use Rattle.fx_ring.proofs.Words.{run_of_chain, Contains, HasWorked, WorkerState, range_with_len, asked_of}
 use Rattle.fx_ring.proofs.Installs.{answered}
 use Rattle.fx_ring.proofs.OneOrder.{Rises, one_list_in_order}
 use Rattle.fx_ring.proofs.Parts.{made_by_key, split_by_key}
 
--- the part of a list that a chain is
-pub asked_of_part : (requests : List Request) (chain : Chain)
-    → all_asked (take (chain.first + chain.len - chain.first) (drop chain.first requests)) ≡ members_of (all_asked requests) chain
-asked_of_part requests chain =
-    let count : chain.first + chain.len - chain.first ≡ chain.len = omega arith in
-    ap (λ (n : ℕ). all_asked (take n (drop chain.first requests))) count ∙ asked_part requests chain.first chain.len
+-- a chain is a part of the list of requests
+pub inside_requests : (requests : List Request) (chain : Chain) → IsChain (all_asked requests) chain → chain.first + chain.len ≤ length requests
+inside_requests requests chain is = let as_many = length-map requests asked_of in let inside = is.inside in omega arith
 
 module _ {requests : List Asked} {chains : List Chain} (cut : AreCutInto requests chains) where
   -- there are as many chains as runs

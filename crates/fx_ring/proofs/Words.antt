@@ -88,7 +88,7 @@ pub use Rattle.std.proofs.lemmas.Option.{slice_get_past, slice_get-get_or}
 pub use Rattle.std.proofs.lemmas.Simd.{map-map}
 pub use Rattle.std.specs.List.{list_any, range_with_len, zip}
 pub use Rattle.std.specs.List.Sorted.{IsNonDecreasingBy}
-pub use Rattle.fx_chain.proofs.ChainGoesOn.{explained_count, asked_part}
+pub use Rattle.fx_chain.proofs.ChainGoesOn.{explained_count}
 pub use Rattle.fx_table.proofs.Seats.{begins_at_rest, start_is}
 pub use Rattle.fx_plain.proofs.LawFiles.{HoldsOfAll, holds_of_closes, all_closes_in, every_removed_file_is_closed}
 pub use Rattle.fx_plain.proofs.LawHolds.{closed_at_most_once, no_close_while_held}

@@ -22,6 +22,7 @@ fn installs_of_chain(members: &[Request]) -> u32
 
 impl<R, G> Submission<'_, R, G> {
     /// Returns the greatest number of files that a chain installs.
+    #[tactic(auto, using(crate::proofs::CompletionPlaces::inside_requests))]
     pub(crate) fn most_installs(&self) -> u32
         ensures few { result ≤ CHAIN_NUMBERS }
         ensures each { InstallAtMost (all_asked self.now.requests.now) result }
@@ -30,7 +31,7 @@ impl<R, G> Submission<'_, R, G> {
     {
         let mut most = 0;
         for chain in self.chains {
-            most = most.max(installs_of_chain(self.members(*chain)));
+            most = most.max(installs_of_chain(chain.members(self.requests)));
         }
         most
     }

@@ -1,7 +1,6 @@
 //! The values that stay the same while a submission is played, and the play of one chain.
 ghost use Rattle.std.specs.Prelude.{◌≡◌, ◌+◌, ◌<◌, ◌≤◌, length, vec_capacity};
 ghost use Rattle.fx_table.specs.Pass.{IsIdle};
-ghost use Rattle.fx_chain.specs.Accepted.{IsChain, members_of};
 ghost use Rattle.fx_chain.specs.Completed.{all_completed};
 ghost use Rattle.fx_chain.specs.Operation.{all_asked};
 ghost use Rattle.fx_chain.specs.Performs.{PlaysChainExactly, player};
@@ -45,21 +44,10 @@ pub(crate) struct Play<'a, T: FileTable, R, G> {
         (T.opening table.now).numbers },
 }
 
-impl<'a, R, G> Submission<'a, R, G> {
-    /// Returns the members of a chain.
-    #[tactic(auto, using(crate::proofs::CompletionPlaces::asked_of_part))]
-    pub(crate) fn members(&self, chain: Chain) -> &'a [Request]
-        requires { IsChain (all_asked self.now.requests.now) chain }
-        ensures { all_asked result.now ≡ members_of (all_asked self.now.requests.now) chain }
-    {
-        let first = chain.first as usize;
-        &self.requests[first..first + chain.len as usize]
-    }
-}
-
 impl<'a, R: Wait, G: Gate> Submission<'a, R, G> {
     /// Plays chain number `chain`, counted from 1, by a pass that drew it, and adds its completions
     /// and closes to an outcome.
+    #[tactic(auto, using(crate::proofs::CompletionPlaces::inside_requests))]
     pub(crate) fn play_chain<T: FileTable>(
         &self,
         table: &T,
@@ -95,7 +83,7 @@ impl<'a, R: Wait, G: Gate> Submission<'a, R, G> {
             self.catalogue,
             self.earlier + 1,
             chain,
-            self.members(self.chains[chain as usize - 1]),
+            self.chains[chain as usize - 1].members(self.requests),
             self.gate,
             &mut outcome.completions,
             &mut outcome.closes,

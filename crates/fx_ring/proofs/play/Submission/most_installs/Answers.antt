@@ -9,7 +9,7 @@ none = record { first = 0; len = 0 }
 
 pub installs_of_chain-requires : goal.installs_of_chain-requires
 installs_of_chain-requires g c =
-    let same = ap all_installs c.members.ensures in
+    let same = ap all_installs c.members.ensures.members in
     omega (arith, same, (c.args.self.now.cut.within c.loop-chain.chain-index none c.loop-chain-test.true).run.installs)
 
 pub loop-chain-preserved : goal.loop-chain-preserved
@@ -19,7 +19,7 @@ loop-chain-preserved g c =
     let i = c.loop-chain.chain-index in
     let inside = c.loop-chain-test.true in
     let chain : Chain = slice_index_or chains i none in
-    let its = c.installs_of_chain.ensures ∙ ap all_installs c.members.ensures in
+    let its = c.installs_of_chain.ensures ∙ ap all_installs c.members.ensures.members in
     let few = (c.args.self.now.cut.within i none inside).run.installs in
     let so_far = c.loop-chain.invariant in
     let before = so_far.few in
