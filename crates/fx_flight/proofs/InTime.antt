@@ -13,9 +13,10 @@ use Rattle.fx_flight.specs.Faults.{IsFaultless}
 use Rattle.fx_flight.specs.Laws.{IsCallOf, IsAllOver}
 use Rattle.fx_chain.proofs.Cases.{either_way}
 use Rattle.fx_order.proofs.ChainsFront.{length-done}
-use Rattle.fx_order.specs.Access.{Permits, Table, table_with}
+use Rattle.fx_order.proofs.Placed.{same_size}
+use Rattle.fx_order.specs.Access.{Permits, Table}
 use Rattle.fx_order.specs.Order.{table_of}
-use Rattle.fx_order.specs.declared.access.Access.TheVariants.{Allocates, Clears, FindsFull, Looks, Puts, Takes}
+use Rattle.fx_order.specs.declared.access.Access.TheVariants.{Looks}
 use Rattle.fx_plain.proofs.Cells.{by_equality}
 use Rattle.std.proofs.Common.{if◌then◌else◌}
 use Rattle.std.specs.Prelude.{nat_le}
@@ -48,14 +49,6 @@ made_by-parts id (Accesses x ∷ later) earlier =
     ≡ made_by id earlier ++ (if b then made_by id later ++ x.access ∷ [] else made_by id later))
     (λ _. ap (λ l. l ++ x.access ∷ []) rest ∙ append_assoc (made_by id earlier) (made_by id later) (x.access ∷ []))
     (λ _. rest)
-
-same_size : (table : Table) (a : Access) → (table_with table a).size ≡ table.size
-same_size table (Looks slot found) = refl
-same_size table (Puts slot file removed) = refl
-same_size table (Clears slot removed) = refl
-same_size table (Takes slot removed) = refl
-same_size table (Allocates slot file) = refl
-same_size table FindsFull = refl
 
 pub size_stays : (table : Table) (flight : List Moment) → (table_left_by table flight).size ≡ table.size
 size_stays table [] = refl

@@ -1,7 +1,7 @@
 -- The calls of a log: no two have the same number.
 use Rattle.fx_flight.proofs.Words.{◌≡◌, ℕ, ◌+◌, ◌<◌, ◌≤◌, List, [], ◌∷◌, ◌++◌, length, refl, sym, ◌∙◌, arith, length-append, Option, Some}
 use Rattle.fx_flight.proofs.Words.{None, ⊎_elim, Contains, Contains-append_right, contains_cases, contains_head, contains_none, Happening, Called}
-use Rattle.fx_flight.proofs.Words.{Answered, LookCalled, LookAnswered, Freed, FileClosed, AllSettled}
+use Rattle.fx_flight.proofs.Words.{LookCalled}
 use Rattle.fx_flight.specs.Faults.{event_fault, fault_of_log, or_in_rest, progress_after}
 use Rattle.fx_flight.specs.Laws.{IsCallOf}
 use Rattle.fx_flight.specs.declared.fault.EventFault.{EventFault}
@@ -16,30 +16,18 @@ no_fault at (Some fault) later is = absurd (cc)
 grows : (calls : List CallProgress) (e : Happening) → length calls ≤ length (progress_after calls e)
 grows calls (Called id requests) = omega (arith, length-append {A = CallProgress})
 grows calls (LookCalled id slot) = omega (arith, length-append {A = CallProgress})
-grows calls (Answered id c) = omega (arith, length-set {A = CallProgress})
-grows calls (LookAnswered id found) = omega (arith, length-set {A = CallProgress})
-grows calls (Freed id) = omega (arith, length-set {A = CallProgress})
-grows calls (FileClosed file) = omega arith
-grows calls AllSettled = omega arith
+grows calls e = omega (arith, length-set {A = CallProgress})
 
 call_grows : (calls : List CallProgress) (e : Happening) (id : ℕ) → IsCallOf id e → length (progress_after calls e) ≡ length calls + 1
 call_grows calls (Called other requests) id is = length-append calls _
 call_grows calls (LookCalled other slot) id is = length-append calls _
-call_grows calls (Answered other c) id is = absurd is
-call_grows calls (LookAnswered other found) id is = absurd is
-call_grows calls (Freed other) id is = absurd is
-call_grows calls (FileClosed file) id is = absurd is
-call_grows calls AllSettled id is = absurd is
+call_grows calls e id is = absurd is
 
 -- a call's number is that of the calls before it and 1 more
 number_of : (calls : List CallProgress) (e : Happening) (id : ℕ) → event_fault calls e ≡ None → IsCallOf id e → id ≡ length calls + 1
 number_of calls (Called other requests) id fits is = grind arith
 number_of calls (LookCalled other slot) id fits is = grind arith
-number_of calls (Answered other c) id fits is = absurd is
-number_of calls (LookAnswered other found) id fits is = absurd is
-number_of calls (Freed other) id fits is = absurd is
-number_of calls (FileClosed file) id fits is = absurd is
-number_of calls AllSettled id fits is = absurd is
+number_of calls e id fits is = absurd is
 
 module _ (id : ℕ) where
   later_number : (at : ℕ) (calls : List CallProgress) (log : List Happening) (e : Happening) → fault_of_log at calls log ≡ None → Contains log e

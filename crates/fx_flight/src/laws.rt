@@ -6,12 +6,14 @@ ghost use Rattle.fx_flight.specs.Whole.{EachBeginningIsLegalByWholeUpdates, Each
 
 /// States that each beginning of a legal log is legal. So a log that isn't legal has a first event
 /// with which no flight is left.
+#[tactic(auto, using(crate::proofs::Beginnings::beginning))]
 pub fn each_beginning_is_legal()
     ensures { EachBeginningIsLegal }
 {}
 
 /// States that once all answers of a chain were seen, its accesses and answers are those of a chain
 /// that is done, as in a submission.
+#[tactic(auto, using(crate::proofs::InTime::answered_is_done))]
 pub fn each_answered_chain_is_done()
     ensures { EachAnsweredChainIsDone }
 {}
@@ -34,6 +36,7 @@ pub fn no_second_close()
 {}
 
 /// States that in a flight no file is closed before an access took it from its slot.
+#[tactic(auto, using(crate::proofs::Beginnings::closed_was_removed))]
 pub fn each_closed_file_was_removed()
     ensures { EachClosedFileWasRemoved }
 {}
