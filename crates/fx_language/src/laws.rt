@@ -18,6 +18,7 @@ pub fn limits_are_numbers()
 
 /// States that every byte string either is a script, which says one thing, or has one fault on one
 /// line.
+#[tactic(auto, using(crate::proofs::FilesOfScripts::decided))]
 pub fn every_byte_string_is_a_script_or_has_one_fault()
     ensures { (bytes : List ℕ) → IsScriptOrFaulty bytes }
 {}

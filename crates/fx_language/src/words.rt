@@ -60,6 +60,7 @@ pub fn number(word: &[u8]) -> Result<u32, ScriptFault>
 }
 
 // Returns a word as text.
+#[tactic(auto, using(crate::proofs::FilesOfScripts::printable_is_text, crate::proofs::FilesOfScripts::text_is_ok))]
 pub fn text(word: &[u8]) -> &str
     requires { is_printable word.now ≡ true }
     ensures { result.now ≡ word.now }
