@@ -1,6 +1,6 @@
 -- Calls in flight, counted by slot, and what each says of its slot.
-use Rattle.fx_direct.proofs.Words.{arith, ◌≡◌, ◌≢◌, ℕ, ◌+◌, ◌<◌, ◌==◌, Bool, true, false, if◌then◌else◌, List, [], ◌∷◌, ◌++◌, refl, sym, ap}
-use Rattle.fx_direct.proofs.Words.{subst, Option, Some, None, eq-eqb, ne_eqb, File, Phase, Slot}
+use Rattle.fx_direct.proofs.Words.{arith, ◌≡◌, ◌≢◌, ℕ, ◌+◌, ◌<◌, ◌==◌, Bool, true, false, if◌then◌else◌, List, [], ◌∷◌, ◌++◌, refl, ap}
+use Rattle.fx_direct.proofs.Words.{Option, Some, None, eq-eqb, ne_eqb, File, Phase, Slot}
 use Rattle.fx_direct.proofs.Words.{Free, Opening, Live, Ending, Closing, is_installed, DirectCall, OpenAt, UseOf, CloseOf, key_of_call, Pending}
 
 abbrev pub place_of : Pending → ℕ
@@ -83,18 +83,11 @@ FitsAt p size slot at files =
 -- the same fact, of equal things
 pub fits_same : (p : Pending) {n n' : ℕ} {slot slot' : Slot} {at at' : Option File} {files files' : List File}
     → n' ≡ n → slot' ≡ slot → at' ≡ at → files' ≡ files → FitsAt p n slot at files → FitsAt p n' slot' at' files'
-fits_same p {n} {n'} {slot} {slot'} {at} {at'} {files} {files'} e1 e2 e3 e4 fits =
-    subst (λ (x : ℕ). FitsAt p x slot' at' files') (sym e1)
-    (subst (λ (x : Slot). FitsAt p n x at' files') (sym e2)
-    (subst (λ (x : Option File). FitsAt p n slot x files') (sym e3)
-    (subst (λ (x : List File). FitsAt p n slot at x) (sym e4) fits)))
+fits_same p e1 e2 e3 e4 fits = rw (e1, e2, e3, e4) fits
 
 pub stands_same : {slot slot' : Slot} {at at' : Option File} {files files' : List File}
     → slot' ≡ slot → at' ≡ at → files' ≡ files → Stands slot.phase at files → Stands slot'.phase at' files'
-stands_same {slot} {slot'} {at} {at'} {files} {files'} e2 e3 e4 stands =
-    subst (λ (x : Slot). Stands x.phase at' files') (sym e2)
-    (subst (λ (x : Option File). Stands slot.phase x files') (sym e3)
-    (subst (λ (x : List File). Stands slot.phase at x) (sym e4) stands))
+stands_same e2 e3 e4 stands = rw (e2, e3, e4) stands
 
 -- an open phase isn't this one
 pub no_phase : (p q : Phase) → is_installed q ≡ false → is_installed p ≡ true → p ≡ q → ⊥

@@ -1,7 +1,7 @@
 -- The worlds of a flight in which a close doesn't wait.
 use Rattle.fx_direct.proofs.Words.{arith, [], ◌∷◌, refl, true, false, Some, None, World, DirectMoment, pending, OpenAt, UseOf, CloseOf}
-use Rattle.fx_direct.proofs.Words.{Does, Accesses, Reserves, Opens, Starts, Ends, Asks, Closes, Put, Look, Take}
-use Rattle.fx_direct.proofs.FirstUse.{accessed, done, only, use1, w1, w2, w3, w4}
+use Rattle.fx_direct.proofs.Words.{Does, Accesses, Reserves, Ends, Asks, Closes, Put, Look, Take}
+use Rattle.fx_direct.proofs.FirstUse.{accessed, c1, c2, c3, c4, done, only, use1, w1, w2, w3, w4}
 use Rattle.fx_direct.specs.Round.{one_slot, some_file, first_key, second_key}
 use Rattle.fx_direct.specs.Flight.{ComesBy}
 use Rattle.fx_direct.specs.Haste.{IsEnabledInHaste, other_file, HasteIsWrong}
@@ -29,18 +29,6 @@ w10 = accessed w9 (Put 0 other_file None) (pending (OpenAt second_key) true ∷ 
 
 abbrev w11 : World
 w11 = accessed w10 (Look 0 (Some other_file)) (pending (OpenAt second_key) true ∷ use1 ∷ [])
-
-c1 : Goes one_slot (Does (Reserves first_key)) w1
-c1 = ((omega arith, refl, refl, omega arith), refl, refl)
-
-c2 : Goes w1 (Accesses (OpenAt first_key) (Put 0 some_file None)) w2
-c2 = ((omega arith, refl, refl), record { front = []; rest = []; earlier = false; later = true; was = refl; is = refl; may = (refl, refl, refl) }, refl)
-
-c3 : Goes w2 (Does (Opens first_key true)) w3
-c3 = (((omega arith, refl), refl), only (OpenAt first_key) true [], refl)
-
-c4 : Goes w3 (Does (Starts first_key)) w4
-c4 = (((omega arith, refl), refl), refl, refl)
 
 c5 : Goes w4 (Does (Ends first_key)) w5
 c5 = (((omega arith, refl), refl), refl, refl)

@@ -1,8 +1,8 @@
 -- The worlds of a flight that goes round.
-use Rattle.fx_direct.proofs.Words.{arith, [], ◌∷◌, refl, true, false, Some, None, World, pending, OpenAt, UseOf, CloseOf}
-use Rattle.fx_direct.proofs.Words.{Does, Accesses, Others, Reserves, Opens, Starts, Finishes, Holds, Releases, Ends, Asks, Closes, FailsToClose, Put, Look, Release, Take, Close}
+use Rattle.fx_direct.proofs.Words.{arith, [], ◌∷◌, refl, true, false, Some, World, pending, OpenAt, UseOf, CloseOf}
+use Rattle.fx_direct.proofs.Words.{Does, Accesses, Others, Reserves, Opens, Finishes, Holds, Releases, Ends, Asks, Closes, FailsToClose, Look, Release, Take, Close}
 use Rattle.fx_direct.proofs.Words.{Comes}
-use Rattle.fx_direct.proofs.FirstUse.{accessed, done, only, use1, w1, w2, w3, w4}
+use Rattle.fx_direct.proofs.FirstUse.{accessed, c1, c2, c3, c4, done, only, use1, w1, w2, w3, w4}
 use Rattle.fx_direct.specs.Round.{one_slot, some_file, first_key, second_key, GoesRound}
 use Rattle.fx_direct.proofs.Words.{zero, suc, phase_at, Free, IsEmptyStart, ℕ, ◌≡◌}
 
@@ -47,18 +47,6 @@ w15 = done w14 (Reserves second_key) (pending (OpenAt second_key) false ∷ [])
 
 abbrev w16 : World
 w16 = done w15 (Opens second_key false) []
-
-c1 : Comes one_slot (Does (Reserves first_key)) w1
-c1 = ((omega arith, refl, refl, omega arith), refl, refl)
-
-c2 : Comes w1 (Accesses (OpenAt first_key) (Put 0 some_file None)) w2
-c2 = ((omega arith, refl, refl), record { front = []; rest = []; earlier = false; later = true; was = refl; is = refl; may = (refl, refl, refl) }, refl)
-
-c3 : Comes w2 (Does (Opens first_key true)) w3
-c3 = (((omega arith, refl), refl), only (OpenAt first_key) true [], refl)
-
-c4 : Comes w3 (Does (Starts first_key)) w4
-c4 = (((omega arith, refl), refl), refl, refl)
 
 c5 : Comes w4 (Does (Holds first_key)) w5
 c5 = (((omega arith, refl), refl), refl, refl)

@@ -4,7 +4,7 @@ use Rattle.fx_direct.proofs.Words.{◌∙◌, subst, Option, Some, None, cases_e
 use Rattle.fx_direct.proofs.Words.{calls_in, is_installed, life_at, FailsToClose, Live, Ending, is_live, requests_in, users_in, with_counts, DirectCall, OpenAt, UseOf, CloseOf, key_of_call}
 use Rattle.fx_direct.proofs.Words.{Pending, pending, DirectMoment, Does, Accesses, Others, Transition, Reserves, Opens, Starts, Finishes, Holds, Releases, Ends, Asks, Closes}
 use Rattle.fx_direct.proofs.Words.{slot_numbered, phase_at, key_concerned, NamesLastLife, IsEnabled, slots_with, TurnsCalls, files_under, same_key}
-use Rattle.fx_direct.proofs.Words.{Action, Allocate, Clear, Close, Look, Put, Release, Take, Full, changed_at, table_after, Makes, IsElsewhere}
+use Rattle.fx_direct.proofs.Words.{Action, Allocate, Clear, Look, Put, Release, Take, changed_at, table_after, Makes, IsElsewhere}
 use Rattle.fx_direct.proofs.Calls.{place_of, at_slot, tally, at_same, tally-mid, Each, each-out, each-in, each-map, each-away}
 use Rattle.fx_direct.proofs.Calls.{HasOne, Stands, fits_same, stands_same, open_stands}
 use Rattle.fx_direct.proofs.Moves.{Sound, Fitting, still, first, last, more, less}
@@ -60,55 +60,44 @@ module _ {slots : List Slot} {table : State} {calls : List Pending} {h : List Di
   pub does : (d : Transition) (calls' : List Pending) → IsEnabled slots d → TurnsCalls d calls calls' → Sound (slots_with slots d) table calls' (Does d ∷ h)
   does (Reserves k) calls' can turns = let d = Reserves k in
       let empty : table.at k.slot ≡ None = subst (λ (p : Phase). Stands p (table.at k.slot) (files_under (life_at slots k.slot) h)) can.2 (sound.stands k.slot can.0) in
-      subst (λ (cs : List Pending). Sound (slots_with slots d) table cs (Does d ∷ h)) (sym turns)
-      (first sound d can.0 (pending (OpenAt k) false) refl (ap calls_in can.2) refl tt
+      rw turns (first sound d can.0 (pending (OpenAt k) false) refl (ap calls_in can.2) refl tt
       (can.0, refl, (refl, empty, sound.unborn k (omega arith))) (omega arith))
   does (Opens k true) calls' can turns = let d = Opens k true in
-      subst (λ (cs : List Pending). Sound (slots_with slots d) table cs (Does d ∷ h)) (sym turns.is)
-      (last sound d can.0.0 (pending (OpenAt k) true) turns.front turns.rest refl turns.was (ap calls_in can.1) refl (λ fit. fit.2.1) (omega arith))
+      rw turns.is (last sound d can.0.0 (pending (OpenAt k) true) turns.front turns.rest refl turns.was (ap calls_in can.1) refl (λ fit. fit.2.1) (omega arith))
   does (Opens k false) calls' can turns = let d = Opens k false in
-      subst (λ (cs : List Pending). Sound (slots_with slots d) table cs (Does d ∷ h)) (sym turns.is)
-      (last sound d can.0.0 (pending (OpenAt k) false) turns.front turns.rest refl turns.was (ap calls_in can.1) refl (λ fit. fit.2.1) (omega arith))
+      rw turns.is (last sound d can.0.0 (pending (OpenAt k) false) turns.front turns.rest refl turns.was (ap calls_in can.1) refl (λ fit. fit.2.1) (omega arith))
   does (Starts k) calls' can turns = let d = Starts k in let x = pending (UseOf k) false in let p = phase_at slots k.slot in
       let opened = live_open p can.1 in
       let one = at_same k.slot x refl in let all = sound.counted k.slot in let r = calls_requests p opened in
       let n = counts_calls p (requests_in p + 1) (users_in p) opened in
-      subst (λ (cs : List Pending). Sound (slots_with slots d) table cs (Does d ∷ h)) (sym turns)
-      (still sound d can.0.0 (x ∷ calls) can.0.1 opened (counts_open p (requests_in p + 1) (users_in p) opened) (omega arith) (more sound d can.0.0 x refl)
+      rw turns (still sound d can.0.0 (x ∷ calls) can.0.1 opened (counts_open p (requests_in p + 1) (users_in p) opened) (omega arith) (more sound d can.0.0 x refl)
       ((can.0.0, can.0.1, (opened, refl)), sound.fits))
   does (Finishes k) calls' can turns = let d = Finishes k in let x = pending (UseOf k) false in let p = phase_at slots k.slot in
       let opened = requests_open p can.1 in
       let one = at_same k.slot x refl in let all = sound.counted k.slot in let r = calls_requests p opened in
       let n = counts_calls p (requests_in p - 1) (users_in p) opened in
       let m = tally-mid k.slot turns.front turns.rest x in let w : tally k.slot calls ≡ tally k.slot (turns.front ++ x ∷ turns.rest) = ap (tally k.slot) turns.was in
-      subst (λ (cs : List Pending). Sound (slots_with slots d) table cs (Does d ∷ h)) (sym turns.is)
-      (still sound d can.0.0 (turns.front ++ turns.rest) can.0.1 opened (counts_open p (requests_in p - 1) (users_in p) opened) (omega arith)
+      rw turns.is (still sound d can.0.0 (turns.front ++ turns.rest) can.0.1 opened (counts_open p (requests_in p - 1) (users_in p) opened) (omega arith)
       (less sound d can.0.0 x turns.front turns.rest refl turns.was)
       (each-out (Fitting slots table h) turns.front turns.rest x (subst (Each (Fitting slots table h)) turns.was sound.fits)).1)
   does (Holds k) calls' can turns = let d = Holds k in let p = phase_at slots k.slot in
       let opened = live_open p can.1 in let all = sound.counted k.slot in let r = calls_requests p opened in
       let n = counts_calls p (requests_in p) (users_in p + 1) opened in
-      subst (λ (cs : List Pending). Sound (slots_with slots d) table cs (Does d ∷ h)) (sym turns)
-      (still sound d can.0.0 calls can.0.1 opened (counts_open p (requests_in p) (users_in p + 1) opened) (omega arith) (λ s ne. refl) sound.fits)
+      rw turns (still sound d can.0.0 calls can.0.1 opened (counts_open p (requests_in p) (users_in p + 1) opened) (omega arith) (λ s ne. refl) sound.fits)
   does (Releases k) calls' can turns = let d = Releases k in let p = phase_at slots k.slot in
       let opened = users_open p can.1 in let all = sound.counted k.slot in let r = calls_requests p opened in
       let n = counts_calls p (requests_in p) (users_in p - 1) opened in
-      subst (λ (cs : List Pending). Sound (slots_with slots d) table cs (Does d ∷ h)) (sym turns)
-      (still sound d can.0.0 calls can.0.1 opened (counts_open p (requests_in p) (users_in p - 1) opened) (omega arith) (λ s ne. refl) sound.fits)
+      rw turns (still sound d can.0.0 calls can.0.1 opened (counts_open p (requests_in p) (users_in p - 1) opened) (omega arith) (λ s ne. refl) sound.fits)
   does (Ends k) calls' can turns = let d = Ends k in let p = phase_at slots k.slot in
       let opened = live_open p can.1 in let all = sound.counted k.slot in let r = calls_requests p opened in
-      subst (λ (cs : List Pending). Sound (slots_with slots d) table cs (Does d ∷ h)) (sym turns)
-      (still sound d can.0.0 calls can.0.1 opened refl (omega arith) (λ s ne. refl) sound.fits)
+      rw turns (still sound d can.0.0 calls can.0.1 opened refl (omega arith) (λ s ne. refl) sound.fits)
   does (Asks k) calls' can turns = let d = Asks k in
-      subst (λ (cs : List Pending). Sound (slots_with slots d) table cs (Does d ∷ h)) (sym turns)
-      (first sound d can.0.0 (pending (CloseOf k) false) refl (ap calls_in can.1) refl tt
+      rw turns (first sound d can.0.0 (pending (CloseOf k) false) refl (ap calls_in can.1) refl tt
       (can.0.0, refl, (refl, ended_one k can.0 can.1)) (omega arith))
   does (Closes k) calls' can turns = let d = Closes k in
-      subst (λ (cs : List Pending). Sound (slots_with slots d) table cs (Does d ∷ h)) (sym turns.is)
-      (last sound d can.0.0 (pending (CloseOf k) true) turns.front turns.rest refl turns.was (ap calls_in can.1) refl (λ fit. fit.2.1) (omega arith))
+      rw turns.is (last sound d can.0.0 (pending (CloseOf k) true) turns.front turns.rest refl turns.was (ap calls_in can.1) refl (λ fit. fit.2.1) (omega arith))
   does (FailsToClose k) calls' can turns = let d = FailsToClose k in
-      subst (λ (cs : List Pending). Sound (slots_with slots d) table cs (Does d ∷ h)) (sym turns.is)
-      (last sound d can.0.0 (pending (CloseOf k) false) turns.front turns.rest refl turns.was (ap calls_in can.1) refl (λ fit. fit.2.1) (omega arith))
+      rw turns.is (last sound d can.0.0 (pending (CloseOf k) false) turns.front turns.rest refl turns.was (ap calls_in can.1) refl (λ fit. fit.2.1) (omega arith))
 
   -- Accesses.
 
@@ -214,30 +203,18 @@ module _ {slots : List Slot} {table : State} {calls : List Pending} {h : List Di
 
   pub accesses : (c : DirectCall) (a : Action) (calls' : List Pending) → Makes c a calls calls' → Sound slots (table_after table a) calls' (Accesses c a ∷ h)
   accesses (OpenAt k) (Put slot f replaced) calls' makes =
-      subst (λ (cs : List Pending). Sound slots (table_after table (Put slot f replaced)) cs (Accesses (OpenAt k) (Put slot f replaced) ∷ h)) (sym makes.is)
-      (subst (λ (s : ℕ). Sound slots (table_after table (Put s f replaced)) (makes.front ++ pending (OpenAt k) makes.later ∷ makes.rest)
-      (Accesses (OpenAt k) (Put s f replaced) ∷ h)) (sym makes.may.0)
-      (subst (λ (b : Bool). Sound slots (table_after table (Put k.slot f replaced)) (makes.front ++ pending (OpenAt k) b ∷ makes.rest)
-      (Accesses (OpenAt k) (Put k.slot f replaced) ∷ h)) (sym makes.may.2)
-      (puts k f replaced makes.front makes.rest
-      (makes.was ∙ ap (λ (b : Bool). makes.front ++ pending (OpenAt k) b ∷ makes.rest) makes.may.1))))
+      rw (makes.is, makes.may.0, makes.may.2)
+      (puts k f replaced makes.front makes.rest (makes.was ∙ ap (λ (b : Bool). makes.front ++ pending (OpenAt k) b ∷ makes.rest) makes.may.1))
   accesses (CloseOf k) (Take slot found) calls' makes =
-      subst (λ (cs : List Pending). Sound slots (table_after table (Take slot found)) cs (Accesses (CloseOf k) (Take slot found) ∷ h)) (sym makes.is)
-      (subst (λ (s : ℕ). Sound slots (table_after table (Take s found)) (makes.front ++ pending (CloseOf k) makes.later ∷ makes.rest)
-      (Accesses (CloseOf k) (Take s found) ∷ h)) (sym makes.may.0)
-      (subst (λ (b : Bool). Sound slots (table_after table (Take k.slot found)) (makes.front ++ pending (CloseOf k) b ∷ makes.rest)
-      (Accesses (CloseOf k) (Take k.slot found) ∷ h)) (sym makes.may.2)
-      (takes k found makes.front makes.rest
-      (makes.was ∙ ap (λ (b : Bool). makes.front ++ pending (CloseOf k) b ∷ makes.rest) makes.may.1))))
+      rw (makes.is, makes.may.0, makes.may.2)
+      (takes k found makes.front makes.rest (makes.was ∙ ap (λ (b : Bool). makes.front ++ pending (CloseOf k) b ∷ makes.rest) makes.may.1))
   accesses (UseOf k) (Look slot None) calls' makes =
-      subst (λ (cs : List Pending). Sound slots table cs (Accesses (UseOf k) (Look slot None) ∷ h)) (sym makes.is)
-      (uses k (Look slot None) table makes.front makes.rest makes.earlier makes.later makes.was makes.may.1 refl (λ s. refl))
+      rw makes.is (uses k (Look slot None) table makes.front makes.rest makes.earlier makes.later makes.was makes.may.1 refl (λ s. refl))
   accesses (UseOf k) (Look slot (Some f)) calls' makes =
-      subst (λ (cs : List Pending). Sound slots (table_after table (Look slot (Some f))) cs (Accesses (UseOf k) (Look slot (Some f)) ∷ h)) (sym makes.is)
-      (uses k (Look slot (Some f)) (table_after table (Look slot (Some f))) makes.front makes.rest makes.earlier makes.later makes.was makes.may.1 refl (λ s. refl))
+      let a = Look slot (Some f) in
+      rw makes.is (uses k a (table_after table a) makes.front makes.rest makes.earlier makes.later makes.was makes.may.1 refl (λ s. refl))
   accesses (UseOf k) (Release f) calls' makes =
-      subst (λ (cs : List Pending). Sound slots (table_after table (Release f)) cs (Accesses (UseOf k) (Release f) ∷ h)) (sym makes.is)
-      (uses k (Release f) (table_after table (Release f)) makes.front makes.rest makes.earlier makes.later makes.was makes.may refl (λ s. refl))
+      let a = Release f in rw makes.is (uses k a (table_after table a) makes.front makes.rest makes.earlier makes.later makes.was makes.may refl (λ s. refl))
   accesses _ _ calls' makes = absurd makes.may
 
   -- an action of others
@@ -254,7 +231,4 @@ module _ {slots : List Slot} {table : State} {calls : List Pending} {h : List Di
   others (Take slot found) le = elsewhere (Take slot found) (table_after table (Take slot found)) refl (λ s lt. other_slot slot s None le lt)
   others (Allocate slot f) le = elsewhere (Allocate slot f) (table_after table (Allocate slot f)) refl (λ s lt. other_slot slot s (Some f) le lt)
   others (Look slot None) le = elsewhere (Look slot None) table refl (λ s lt. refl)
-  others (Look slot (Some f)) le = elsewhere (Look slot (Some f)) (table_after table (Look slot (Some f))) refl (λ s lt. refl)
-  others (Release f) le = elsewhere (Release f) (table_after table (Release f)) refl (λ s lt. refl)
-  others Full le = elsewhere Full table refl (λ s lt. refl)
-  others (Close f) le = elsewhere (Close f) (table_after table (Close f)) refl (λ s lt. refl)
+  others a le = elsewhere a (table_after table a) refl (λ s lt. refl)
