@@ -5,12 +5,11 @@ other.
   The model prints the text if it does the requests one at a time in the printed orders (model/replay.py).
 - A list with a text left out, one too many, or one twice, is reported. With few states a list says that it is one of some texts, and
   has no others.
-- FIXCHECK calls a sample of the listed texts legal, and texts that differ little from them, and aren't listed, not legal.
 - For each request of those scripts FIXCHECK --may lists the answers that it has in the listed texts, each with orders that result in
   it; with fewer states no others. A place without a request is refused. A list without one of the answers is reported.
 - The kept text of each example is listed.
 - The kept texts of each question in examples/questions are those listed, and each kept order results in its text.
-- With --few it asks fixcheck about few texts.
+- With --few it asks fixcheck about few requests.
 
 tests/check-meetings has fixcheck judge the texts of threads in turns. The number of scripts and texts of each kind is checked."""
 import collections
@@ -18,7 +17,6 @@ import contextlib
 import functools
 import itertools
 import os
-import random
 import re
 
 from scripts.checks import Counted, arguments
@@ -26,7 +24,7 @@ from model.illegal import Illegal
 from model.interleavings import Interleavings, TooManyOrders, texts_of_all_orders
 from scripts import listing
 from model.model import Player, Script
-from scripts.programs import LEGAL, NOT_LEGAL, in_parallel, in_processes, kept_script, run, verdict
+from scripts.programs import in_parallel, in_processes, kept_script, run
 from model.random_scripts import random_scripts
 from model.replay import replayed
 from scripts.repository import ROOT, scripts_of, text_beside
@@ -35,9 +33,8 @@ from scripts.repository import ROOT, scripts_of, text_beside
 MOST_ORDERS, LEFT_OUT_OF_100 = 400, 12
 # more than a third of the scripts must have several texts
 SEVERAL_OF = 3
-# the numbers of tiny and of contending scripts that fixcheck is asked about, and the most texts of
-# each
-ASKED, CONTENDING, TEXTS_EACH = 150, 20, 12
+# the numbers of tiny and of contending scripts of whose requests fixcheck is asked
+ASKED, CONTENDING = 150, 20
 # the same with --few
 FEW, FEW_CONTENDING = 30, 2
 # at least one of this many contending scripts has a list
@@ -72,19 +69,6 @@ def complaint_of_orders(script, those):
         except Illegal as wrong:
             return f"{orders} aren't orders: {wrong}"
     return None
-
-
-def neighbours(rng, listed):
-    """Texts that aren't listed: some with a line of another one, some with a result that is one more."""
-    for _ in range(4):
-        lines, other = (rng.choice(listed).split("\n") for _ in range(2))
-        at = rng.randrange(len(lines))
-        if len(lines) == len(other) and rng.random() < 0.7:
-            lines[at] = other[at]
-        else:
-            lines[at] = re.sub(r" (\d+)$", lambda it: f" {int(it[1]) + 1}", lines[at])
-        if "\n".join(lines) not in listed:
-            yield "\n".join(lines)
 
 
 def complaint_of_few(fixcheck, script, texts):
@@ -183,9 +167,6 @@ class Checks(Counted):
         self.want(several * SEVERAL_OF >= count, f"only {several} tiny scripts have several texts")
         print(f"outcomes: {len(done)} tiny scripts were played in all {orders} orders, which give {texts} texts; {several} have several")
 
-    def verdict(self, script, text):
-        return verdict(self.fixcheck, script, text)[0]
-
     def listed(self, seed, is_few):
         """Tiny scripts, and larger ones whose chains contend, each with the list of its texts. All tiny ones have one, and enough of the
         others."""
@@ -198,19 +179,6 @@ class Checks(Counted):
                     listed += 1
                     yield name, script, found.alone()
             self.want(listed >= least, f"{listed} of {count} {shape} scripts have a list, and at least {least} are expected")
-
-    def ask(self, those, seed):
-        """Of listed texts, and of neighbours of them that aren't listed."""
-        rng, cases = random.Random(f"ask {seed}"), []
-        for name, script, listed in those:
-            cases += [(name, script, it, LEGAL) for it in rng.sample(listed, min(TEXTS_EACH, len(listed)))]
-            cases += [(name, script, it, NOT_LEGAL) for it in neighbours(rng, listed)]
-        said = in_parallel(lambda it: self.verdict(*it[1:3]), cases)
-        legal, others = (sum(it[3] == wanted for it in cases) for wanted in (LEGAL, NOT_LEGAL))
-        self.want(legal >= len(those) <= 2 * others, f"fixcheck is asked about {legal} listed texts and {others} others of {len(those)} scripts, which are few")
-        for (name, _, text, wanted), status in zip(cases, said):
-            self.want(status == wanted, f"{name}: of {text!r} fixcheck says, with status {status}, and not {wanted}")
-        print(f"outcomes: fixcheck calls {said.count(LEGAL)} listed texts legal, and {said.count(NOT_LEGAL)} others not")
 
     def may(self, path, place, *options):
         """The status and the lines of `fixcheck --may`."""
@@ -265,8 +233,6 @@ class Checks(Counted):
             for it in (kept, found):
                 wrong = complaint_of_orders(script, it.texts)
                 self.want(wrong is None, f"{name}: {wrong}")
-            for text in kept.alone():
-                self.want(self.verdict(script, text) == LEGAL, f"{name}: fixcheck doesn't call {text!r} legal")
 
     def limits(self):
         """Checks that of three texts as many are listed as requested, and that the count is that of all."""
@@ -296,7 +262,5 @@ def command():
     checks.limits()
     checks.examples()
     checks.questions()
-    those = list(checks.listed(f"{seed} asked", given.few))
-    checks.ask(those, seed)
-    checks.ask_of_requests(those)
+    checks.ask_of_requests(list(checks.listed(f"{seed} asked", given.few)))
     return checks.end()

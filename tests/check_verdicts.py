@@ -1,7 +1,6 @@
 """check-verdicts PROGRAM [--few]: checks that fixcheck, the PROGRAM, prints what examples/judged has for each script and text, with its
 exit status; its arguments, and what it can't read or write; and what it prints for texts that are too long or too odd to be kept as
-lines. --few leaves out what tests/spoil.c can't replace, failing writes, and a list of 4,096 texts. check-allocation-failures looks at
-lacks of memory.
+lines. --few leaves out what tests/spoil.c can't replace: failing writes. check-allocation-failures looks at lacks of memory.
 
 A file NAME.judged has indented lines under the headings `script`, `text` and `fixcheck OPTIONS, status N`: for the script and text
 above, fixcheck prints these lines, and nothing on standard error. With the heading `judge-linux OPTIONS, status N` it is
@@ -9,7 +8,6 @@ kernel/judge-linux that prints them. A line that begins with `#` is a comment.""
 import contextlib
 import errno
 import glob
-import itertools
 import math
 import os
 import pty
@@ -18,7 +16,6 @@ import tempfile
 
 from scripts.checks import Counted, arguments
 from tests.limits import BYTES, lines
-from scripts import listing
 from scripts.programs import limited, run_bytes
 from scripts.repository import ROOT, read, read_bytes, write
 
@@ -33,8 +30,6 @@ FEW_OPENS, MANY_OPENS = 8, 14
 # a number of chains at slots of their own, and of reads beside an update of their slot, each of
 # which may find two files; or of opens at one slot
 OWN, BESIDE = 64, 10
-# the number of slots at which a read may find two files
-CHOICES = 12
 # so many reads beside an update, twice; so many submissions of one such read; and how much memory a
 # program may have that keeps 8 MiB of their texts
 TWICE, OFTEN, LIST_MIB = 8, 60, 64
@@ -319,30 +314,6 @@ class Verdicts(Counted):
         """So many submissions, each with a read that finds the file that was there, or the one that replaces it."""
         return [line for it in range(count) for line in ("read 0 0 1", f"update 0 {1 - it % 2}", "submit")]
 
-    def many_texts(self):
-        """Each of 4,096 texts is listed once, and no other: at each of twelve slots a read finds the file that was there, or the one that
-        another chain puts there; and each of twelve reads of one slot finds the file from before an update, or the one after it."""
-        requests = [it for slot in range(CHOICES) for it in (f"read {slot} 0 1", f"open b at {slot}")]
-        path = self.path("choices", lines("file a 61", "file b 62", f"register {','.join('0' * CHOICES)}", *requests, "submit").encode())
-        closed, left = ([mark.format(it, 2 * it + 2) for it in range(CHOICES)] for mark in ("closed r1.{0} a", "closed 1.{1}.1.0 b"))
-        expected = set()
-        for found in itertools.product((61, 62), repeat=CHOICES):
-            answers = [it for nth, byte in enumerate(found) for it in (f"1.{2 * nth + 1}.1 1 {byte}", f"1.{2 * nth + 2}.1 0")]
-            expected.add(lines("register 0", *answers, *closed, "teardown", *left))
-        self.want_texts(path, expected)
-        path = self.path("readers", lines("file a 61", "file b 62", "register 0", *["read 0 0 1"] * CHOICES, "update 0 1", "submit").encode())
-        ends = [f"1.{CHOICES + 1}.1 1", "closed r1.0 a", "teardown", f"closed 1.{CHOICES + 1}.1.0 b"]
-        expected = set()
-        for found in itertools.product((61, 62), repeat=CHOICES):
-            expected.add(lines("register 0", *(f"1.{nth + 1}.1 1 {byte}" for nth, byte in enumerate(found)), *ends))
-        self.want_texts(path, expected)
-
-    def want_texts(self, path, expected):
-        """A script has these texts, each listed once, and no other."""
-        found = listing.asked_or_failed(self.program, read_bytes(path), 2 * len(expected))
-        wrong = found.complaint(expected)
-        self.want(found.are_all and wrong is None, f"of {len(expected)} texts: {wrong}")
-
     def want_list(self, what, words, status, nth, line, **how):
         """A list ends with this status, and its nth line is this."""
         ended, written, message = self.run(words, **how)
@@ -363,6 +334,5 @@ def command():
         verdicts.progress()
         verdicts.lists()
         if not given.few:
-            verdicts.many_texts()
             verdicts.writes()
     return verdicts.end()
