@@ -2,8 +2,8 @@
 
 For each number of open calls it prints the CPU seconds of a legal log of CALLS calls, those of a log that was spoiled near its end, their
 ratio, and the steps of the reason with their CPU seconds; then those of a spoiled log of 480,000 calls; then those of two legal logs, of
-60,000 calls, which the oracle (model/flight_states.py) judges too, and of eight times as many; then, of COUNT spoiled logs of 500
-calls for each way, the numbers of logs that are legal, not legal and undecided, and of those not legal that have a reason.
+60,000 calls and of eight times as many; then, of COUNT spoiled logs of 500 calls for each way, the numbers of logs that are legal, not legal
+and undecided, and of those not legal that have a reason.
 
 With --targets the exit status is 1 if a ratio is above 2, if the log of 480,000 calls takes more than 10 CPU seconds, or if fewer than
 95 % of the logs of a way that are not legal have a reason, and each of these is printed. Else it only measures."""
@@ -11,7 +11,6 @@ import collections
 import time
 
 from scripts.checks import arguments
-from model import flight_states
 from model.flight_logs import WAYS, Log, spoiled
 import yachtjudge
 import yachtlog
@@ -75,18 +74,13 @@ def long_row(targets):
 
 
 def legal_rows():
-    """Prints how long a legal log takes, and the oracle on it, and a log of more calls."""
-    def lines_of(calls):
-        return Log(calls, LEGAL_OPEN, SLOTS, 0, 1).lines
-
-    lines, more = lines_of(LEGAL_CALLS), lines_of(TIMES * LEGAL_CALLS)
-    few, many = Judged(lines), Judged(more)
-    began = time.process_time()
-    found = flight_states.judged(few.log)
-    oracle = time.process_time() - began
-    print(f"{LEGAL_CALLS} calls, {LEGAL_OPEN} open, {len(lines)} lines: {few.word} {few.seconds:.2f}, the oracle {found.word} {oracle:.2f}, "
-          f"ratio {few.seconds / oracle:.3f}")
-    print(f"{TIMES * LEGAL_CALLS} calls, {LEGAL_OPEN} open, {len(more)} lines: {many.word} {many.seconds:.2f}, ratio {many.seconds / few.seconds:.1f}")
+    """Prints how long a legal log takes, and a log of more calls."""
+    first = None
+    for calls in LEGAL_CALLS, TIMES * LEGAL_CALLS:
+        lines = Log(calls, LEGAL_OPEN, SLOTS, 0, 1).lines
+        it = Judged(lines)
+        first = first or it.seconds
+        print(f"{calls} calls, {LEGAL_OPEN} open, {len(lines)} lines: {it.word} {it.seconds:.2f}, ratio {it.seconds / first:.1f}")
 
 
 def shares(count, targets):

@@ -1,10 +1,10 @@
-"""check-flights [COUNT [SEED]]: compares the verified judge of logs (bindings/python/yachtlog.py) and the oracle model/flight_states.py
-with a search of all orders (model/tiny_flights.py) on COUNT tiny random logs, as they happened and spoiled. A log that a judge refuses must
-not be legal for the search either. Of a log that isn't legal, the beginning before the judge's line must be legal, and the one with it must
-not be. No log may be undecided. Each wrong judge of WRONG and WRONG_VERDICTS must differ on some log.
+"""check-flights [COUNT [SEED]]: compares the verified judge of logs (bindings/python/yachtlog.py) with a search of all orders
+(model/tiny_flights.py) on COUNT tiny random logs, as they happened and spoiled. A log that the judge refuses must not be legal for the
+search either. Of a log that isn't legal, the beginning before the judge's line must be legal, and the one with it must not be. No log may be
+undecided. Each wrong judge of WRONG and WRONG_VERDICTS must differ on some log.
 
-Both by whole updates, which kernel/conform asks of the verified judge, must find on a third as many logs, of updates, what the search of all
-orders finds in which nothing comes between the accesses of an update. Without whole updates each must differ on some of these logs.
+By whole updates, which kernel/conform asks for, the judge must find on a third as many logs, of updates, what the search of all orders finds
+in which nothing comes between the accesses of an update. Without whole updates it must differ on some of these logs.
 
 Each step of the reason of a log that is not legal must follow from the log, and the last one must be a contradiction, by tests/reasons.py,
 which shares nothing with the library. That program must refuse a reason without one of its steps, and for the lines before the wrong one.
@@ -12,12 +12,11 @@ Enough logs must have a reason. The rows of tests/reason_rows.py must hold: for 
 
 The rows of tests/log_lines.py must hold: what is a log, and how yachtlog.py ends. Each wrong module of that file must fail on a row.
 
-This machine's kernel must keep the rules of kernel/conform of calls in flight, on LOGS logs of each, and for the oracle too. More than half of
-them must have calls that overlap. Logs of changed recorders, which show what a wrong kernel would show, must not be legal, also if one of
+This machine's kernel must keep the rules of kernel/conform of calls in flight, on LOGS logs of each. More than half of them must have calls
+that overlap. Logs of changed recorders, which show what a wrong kernel would show, must not be legal, also if one of
 LOGS is wrong; nor those of a recorder that fails or is cut off; nor a log with an update of two steps, but only where whole updates are
 asked for."""
 import collections
-import concurrent.futures
 import os
 import re
 import shutil
@@ -25,7 +24,7 @@ import tempfile
 from unittest import mock
 
 from scripts.checks import Counted, arguments
-from model import flight_states, tiny_flights
+from model import tiny_flights
 from kernel import conform, flights
 from kernel.kernels import NO_KERNEL, built_player
 from tests import log_lines, reason_rows, reasons
@@ -37,19 +36,18 @@ HEAD = "".join(f"file {name} {content}\n" for name, content in tiny_flights.NAME
 # every so many logs that aren't legal, the line is compared too
 LINE_OF = 5
 LEGAL, NOT_LEGAL, REFUSED, NOT_DECIDED = "legal", "not legal", "refused", "undecided"
-JUDGES = "oracle", "verified judge"
 COUNT, SEED = 10_000, 1
 # the least number of tiny logs of updates, in 1,000, that are legal, and not by whole updates
 SPLIT = 8
 # the least share of the tiny logs that are not legal that must have a reason, in percent
 CERTIFIED = 89
-# the number of logs of each rule, of logs of the kernel for the oracle, and of logs of each wrong
-# recorder but the one that spoils one of LOGS
-LOGS, KERNEL_LOGS, WRONG_LOGS = 1_000, 500, 20
+# the number of logs of each rule, and of logs of each wrong recorder but the one that spoils one of
+# LOGS
+LOGS, WRONG_LOGS = 1_000, 20
 # the number of logs of a recorder of which fewer than half have calls that overlap
 OVERLAPPING = 60
 # the number of cases that need a kernel with io_uring
-OF_KERNEL = 16
+OF_KERNEL = 15
 # a log that is legal, but not if each update is one step
 BETWEEN = """file a 61
 call 1 sparse 2
@@ -114,11 +112,10 @@ WRONG_VERDICTS = {
 }
 
 
-def verdict_of(lines, is_proved, is_whole=False):
-    """What the oracle or the verified judge says, perhaps by whole updates, and the line."""
+def verdict_of(lines, is_whole=False):
+    """What the verified judge says, perhaps by whole updates, and the line."""
     try:
-        log = yachtlog.Log(HEAD + "\n".join(lines) + "\n")
-        verdict = log.judge(whole_updates=is_whole) if is_proved else flight_states.judged(log, is_whole=is_whole)
+        verdict = yachtlog.Log(text_of(lines, len(lines))).judge(whole_updates=is_whole)
     except ValueError:
         return REFUSED, 0
     return verdict.word, verdict.line - HEAD.count("\n")
@@ -166,12 +163,6 @@ def is_legal(lines, is_whole=False):
         return tiny_flights.is_legal(lines, is_whole)
     except KeyError:
         return False
-
-
-def kernel_verdict(program, seed):
-    """What the oracle says of a log of this machine's kernel, or why there is no log."""
-    log, missing = flights.recorded(program, [], seed)
-    return missing or flight_states.judged(yachtlog.Log(log)).word
 
 
 def conform_rows():
@@ -224,36 +215,32 @@ def wrong_rows_of(change):
 
 class Checks(Counted):
     def compare(self, count, seed):
-        """Compares the verdicts on random logs. Returns the logs, with the verdict of the verified judge and that of all orders."""
-        found, tallies = [], ({}, {})
+        """Compares the verdicts on random logs. Returns the logs, with the judge's verdict and that of all orders."""
+        found, tally = [], collections.Counter()
         for happened, lines in tiny_flights.logs(seed, count):
-            legal = is_legal(lines)
-            for is_proved, tally in enumerate(tallies):
-                word, line = verdict_of(lines, is_proved)
-                holds = is_right(word, line, lines, legal, tally.get(NOT_LEGAL, 0) % LINE_OF == 0) and (legal or not happened)
-                self.want(holds, f"the {JUDGES[is_proved]} says {word} {line}, and all orders {legal}:\n" + "\n".join(lines))
-                tally[word] = tally.get(word, 0) + 1
+            legal, (word, line) = is_legal(lines), verdict_of(lines)
+            holds = is_right(word, line, lines, legal, tally[NOT_LEGAL] % LINE_OF == 0) and (legal or not happened)
+            self.want(holds, f"the judge says {word} {line}, and all orders {legal}:\n" + "\n".join(lines))
+            tally[word] += 1
             found.append((lines, (word, line), legal))
-        self.shares(count, tallies[0])
-        for name, tally in zip(JUDGES, tallies):
-            self.want(NOT_DECIDED not in tally, f"the {name} leaves a tiny log undecided")
+        # enough logs are legal, and enough are not
+        for kind, share in ((LEGAL, 3), (NOT_LEGAL, 7)):
+            self.want(tally[kind] * share >= count, f"only {tally[kind]} of {count} logs are {kind}")
+        self.want(NOT_DECIDED not in tally, "the judge leaves a tiny log undecided")
         return found
 
     def whole_updates(self, count, seed):
         """Compares the verdicts by whole updates on random logs of updates."""
-        split, differs = 0, [False, False]
+        split, differs = 0, False
         for _, lines in tiny_flights.logs(seed, count, tiny_flights.PlayOfUpdates):
-            whole = is_legal(lines, True)
+            whole, (word, line) = is_legal(lines, True), verdict_of(lines, is_whole=True)
             split += is_legal(lines) and not whole
-            for is_proved, name in enumerate(JUDGES):
-                word, line = verdict_of(lines, is_proved, is_whole=True)
-                self.want(is_right(word, line, lines, whole, is_whole=True),
-                          f"by whole updates the {name} says {word} {line}, and all orders {whole}:\n" + "\n".join(lines))
-                differs[is_proved] |= not is_right(*verdict_of(lines, is_proved), lines, whole, wants_line=False)
+            self.want(is_right(word, line, lines, whole, is_whole=True),
+                      f"by whole updates the judge says {word} {line}, and all orders {whole}:\n" + "\n".join(lines))
+            differs |= not is_right(*verdict_of(lines), lines, whole, wants_line=False)
         print(f"# {split} of {count} tiny logs of updates are legal, and not by whole updates")
         self.want(split * 1_000 >= count * SPLIT, f"only {split} of {count} tiny logs of updates are legal, and not by whole updates")
-        for name, differs_there in zip(JUDGES, differs):
-            self.want(differs_there, f"the {name} differs on no log if it asks for no whole updates")
+        self.want(differs, "the judge differs on no log if it is asked for no whole updates")
 
     def lines(self):
         """Checks the rows of tests/log_lines.py, and that each wrong module fails on one."""
@@ -262,11 +249,6 @@ class Checks(Counted):
         self.want(wrong == 0, f"rows of tests/log_lines.py are wrong:\n{said}")
         for (name, old, new), found in zip(log_lines.WRONG, in_parallel(wrong_rows_of, log_lines.WRONG)):
             self.want(found[0] > 0, f"{name}.py with {new!r} in place of {old!r} fails on no row: {found[1]}")
-
-    def shares(self, count, tally):
-        """Checks that enough logs are legal, and enough are not."""
-        for kind, share in ((LEGAL, 3), (NOT_LEGAL, 7)):
-            self.want(tally[kind] * share >= count, f"only {tally[kind]} of {count} logs are {kind}")
 
     def reasons(self, found):
         """Checks the reasons of the logs that are not legal, and their share."""
@@ -312,10 +294,6 @@ class Checks(Counted):
             self.want(overlaps and int(overlaps[1]) * 2 > LOGS, f"{rule}: few logs have calls that overlap: {text[:300]}")
         for rule in flights.RULES:
             self.want(self.skips(rule), f"{rule} is judged without the library, or isn't skipped by name")
-        with concurrent.futures.ThreadPoolExecutor(os.cpu_count()) as pool:
-            program = flights.built_recorder()
-            words = collections.Counter(pool.map(lambda seed: kernel_verdict(program, seed), range(1, KERNEL_LOGS + 1)))
-        self.want(words[LEGAL] == KERNEL_LOGS, f"the oracle finds logs of the kernel {dict(words)}")
         with tempfile.TemporaryDirectory() as room:
             self.want(overlapping(changed_recorder(room, "chain.c", "\t\tsqe->flags |= IOSQE_ASYNC;\n", "")) * 2 < OVERLAPPING,
                       "a recorder whose requests start at once is not noticed")

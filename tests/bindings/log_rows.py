@@ -3,7 +3,6 @@ numbers of calls, tags, the caller's own events, the reason of a log, what is ra
 import yachtevents
 import yachtjudge
 import yachtlog
-from model import flight_states
 from rows import end, raises, want
 from tests import reasons
 from yachtjudge import LogVerdict, Point, Step, explain_events, judge_events
@@ -24,11 +23,11 @@ def outcome(call):
 
 
 def verdict(word, line, *lines):
-    """Wants a verdict of both judges. The first line after the head has the number 5."""
+    """Wants a verdict. The first line after the head has the number 5."""
     it = log(*lines)
     found = outcome(lambda: judge_events(it))
     want(found == LogVerdict(word, line) and bool(found) == (word == "legal"), f"{found} in place of {word} {line}: {lines}")
-    want(outcome(it.judge) == outcome(lambda: flight_states.judged(it)) == (word, line), f"the judge and the oracle differ: {lines}")
+    want(outcome(it.judge) == (word, line), f"{outcome(it.judge)} with its tags in place of {word} {line}: {lines}")
 
 
 opened = "call 2 open a at 0", "done 2.1 0"
@@ -50,9 +49,8 @@ want(outcome(lambda: judge_events(tagged, tagged.events[:3])) == LogVerdict("leg
 between = log("call 2 update 0 0,0", "call 3 read 0 0 1", "done 3.1 1 61", "call 4 read 1 0 1", "done 4.1 -9", "done 2.1 2")
 at_once = log("call 2 update 0 0,-2,0", "done 2.1 -22", "call 3 update 0 0,-1", "done 3.1 2")
 want(outcome(between.judge) == ("legal", 0), "no request comes between two entries of an update")
-want(flight_states.judged(between, is_whole=True) == outcome(lambda: between.judge(whole_updates=True)) == ("not legal", 9),
-     "a request comes between two entries of an update of one step")
-want(flight_states.judged(at_once, is_whole=True).word == at_once.judge(whole_updates=True).word == "legal", "an update isn't one step")
+want(outcome(lambda: between.judge(whole_updates=True)) == ("not legal", 9), "a request comes between two entries of an update of one step")
+want(at_once.judge(whole_updates=True).word == "legal", "an update isn't one step")
 want(judge_events(between, whole_updates=True) == LogVerdict("not legal", 9) and between.reason(9) == [],
      "a log that is legal but by whole updates has a reason")
 
