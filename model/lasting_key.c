@@ -9,36 +9,26 @@
 
 bool is_by_key(const struct pass *it) { return it->call == TAKE_KEY || it->call == PUT_KEY || it->call == LOOK_KEY; }
 
-static bool compares_first(void) {
-    return wrong == key_without_a_hold || wrong == key_is_compared_before_the_hold;
-}
-
-enum step first_by_key(const struct pass *it) {
-    if (it->guards == BY_HOLD_WORD) {
-        return wrong == announced_after_the_comparison ? COMPARE : ANNOUNCE;
-    }
-    return compares_first() ? COMPARE : TAKE;
-}
+enum step first_by_key(const struct pass *it) { return it->guards == BY_HOLD_WORD ? ANNOUNCE : TAKE; }
 
 /* Ends a call that changes nothing. */
 static void end_by_key(struct pass *it) {
     it->key = it->named = 0;
     it->guards = it->holds ? it->guards : BY_TAKE;
     it->step = it->call & INSTALLS ? REST : LET_GO;
-    if (it->step == LET_GO && (!it->holds || (it->call == LOOK_KEY && wrong == stale_look_up_keeps_its_hold))) {
+    if (it->step == LET_GO && !it->holds) {
         begin_call(it, 0, IDLE);
     }
 }
 
 /* Loads the slot's word. A listed pass announces what a hot slot names. */
 static void aim(struct state *s, struct pass *it) {
-    bool is_hot = s->heat[it->slot];
-    if (!s->is_full[it->slot] || (is_hot && compares_first())) {
+    if (!s->is_full[it->slot]) {
         begin_call(it, 0, IDLE);
         return;
     }
     it->named = node_at(it->slot);
-    it->guards = is_hot && it->is_listed ? BY_HOLD_WORD : BY_TAKE;
+    it->guards = s->heat[it->slot] && it->is_listed ? BY_HOLD_WORD : BY_TAKE;
     expect(s, it);
     if (it->call == PUT_KEY) {
         begin_installation(it);
@@ -63,17 +53,13 @@ static void change(struct pass *it) {
         hold_until_release(it, it->guards == BY_HOLD_WORD ? GUARDED : COUNTED);
         return;
     }
-    bool is_early = it->guards == BY_HOLD_WORD && wrong == stepped_down_before_the_exchange;
-    it->step = is_early ? STEP_DOWN : it->call == PUT_KEY ? SWAP : first_of_removal();
+    it->step = it->call == PUT_KEY ? SWAP : first_of_removal();
 }
 
 /* Goes on after a take or a confirmation. */
 static void after_hold(struct pass *it) {
-    bool is_late = it->guards == BY_HOLD_WORD && wrong == announced_after_the_comparison;
-    if (!it->holds || (wrong == key_is_compared_before_the_hold && it->holds != it->named)) {
+    if (!it->holds) {
         end_by_key(it);
-    } else if (wrong == key_is_compared_before_the_hold || is_late) {
-        change(it);
     } else {
         it->named = 0;
         it->step = COMPARE;
@@ -112,9 +98,6 @@ static void guard(struct state *s, struct pass *it) {
 static void announce(struct state *s, struct pass *it, int who) {
     s->hold[who] = it->named;
     it->step = CONFIRM;
-    if (wrong == announced_key_is_not_confirmed) {
-        guard(s, it);
-    }
 }
 
 /* If the slot has changed since, the pass withdraws its announcement, after it has returned the
@@ -123,9 +106,6 @@ static void confirm(struct state *s, struct pass *it, int who) {
     if (names(s, it->slot, it->named) && s->heat[it->slot]) {
         want(s->hold[who] == it->named, "a confirmed hold is charged");
         guard(s, it);
-    } else if (wrong == vain_announcement_stays) {
-        it->guards = IN_VAIN;
-        it->step = TAKE;
     } else {
         it->step = it->call == PUT_KEY ? REST : WITHDRAW;
     }
@@ -148,7 +128,7 @@ static void withdraw(struct state *s, struct pass *it, int who) {
     it->node = it->named;
     it->named = own;
     it->guards = IN_VAIN;
-    if (empty_hold(s, it, who, withdrawal_by_a_store)) {
+    if (empty_hold(s, it, who)) {
         it->step = DROP;
     } else {
         begin_again(it);
@@ -179,26 +159,19 @@ int ways_to_compare(const struct pass *it) { return has_key(it) ? 1 : 2; }
 
 /* Compares the number of a file with the key's. */
 static void compare(struct pass *it, int nth) {
-    bool is_high = has_key(it) || nth == 0;
-    bool ignores_low = wrong == low_bits_are_ignored || (wrong == sought_key_is_not_compared && it->call == LOOK_KEY);
-    if (!is_high || (!has_key(it) && !ignores_low)) {
-        end_by_key(it);
-    } else if (wrong == key_is_compared_before_the_hold) {
-        it->step = TAKE;
-    } else if (it->guards == BY_HOLD_WORD && !it->holds) {
-        it->step = ANNOUNCE;
-    } else {
+    bool is_high = has_key(it) || nth == 0, is_low = has_key(it);
+    if (is_high && is_low) {
         change(it);
+    } else {
+        end_by_key(it);
     }
 }
 
 /* Ends a hold by a take with the exchange: the take was counted in the slot's word, and is dropped
  * from no node's. */
 static void end_hold(struct state *s, struct pass *it) {
-    bool is_take = it->guards == BY_TAKE || wrong == hold_word_counts_as_a_take;
     if (it->holds) {
-        s->takes[it->slot] -= is_take && wrong != own_take_is_forgotten;
-        s->word[it->holds] -= wrong == own_take_is_dropped_twice;
+        s->takes[it->slot] -= it->guards == BY_TAKE;
         it->holds = 0;
     }
 }
@@ -215,7 +188,6 @@ static void exchange_by_key(struct state *s, struct pass *it, int who) {
     } else {
         want(!is_named || it->changes >= TRIES, "a call tries no more, and the slot's word changed less often than it tried");
         it->named = it->tried = it->changes = 0;
-        it->holds = wrong == hold_is_lost ? 0 : it->holds;
         miss(it);
     }
 }
@@ -224,7 +196,7 @@ static void let_go(struct state *s, struct pass *it, int who) {
     it->node = it->holds;
     if (it->guards == BY_TAKE) {
         drop(s, it);
-    } else if (empty_hold(s, it, who, release_by_a_store)) {
+    } else if (empty_hold(s, it, who)) {
         begin_call(it, RELEASE, DROP);
         it->slot = 0;
     } else {
@@ -236,20 +208,9 @@ static void let_go(struct state *s, struct pass *it, int who) {
 /* Empties the hold word of the pass by a store, after the exchange, and begins the visits: the
  * retirement is the next call. */
 static void step_down(struct state *s, struct pass *it, int who) {
-    if (it->call == RETIREMENT) {
-        want(s->hold[who] == it->node, "a pass steps down, and its hold word is charged");
-        s->hold[who] = it->guards = it->steps = 0;
-        it->step = FINISH;
-        if (wrong != stepped_down_after_the_visits) {
-            go_on_with_round(it, who);
-        }
-    } else if (s->hold[who] & CHARGE) {
-        end_by_key(it);
-    } else {
-        it->named = it->holds;
-        it->holds = s->hold[who] = it->guards = 0;
-        change(it);
-    }
+    want(s->hold[who] == it->node, "a pass steps down, and its hold word is charged");
+    s->hold[who] = it->guards = it->steps = 0;
+    go_on_with_round(it, who);
 }
 
 bool take_step_by_key(struct state *s, struct pass *it, int who, int nth) {

@@ -16,11 +16,11 @@ static bool is_full(const struct state *s, int group) {
     return s->count[group] == (left < family->group_len ? left : family->group_len);
 }
 
-int bit_of(int who) { return wrong == one_bit_for_all_askers ? 1 : 1 << who; }
+int bit_of(int who) { return 1 << who; }
 
 bool is_uncounted(const struct pass *it) {
     bool is_lowered = it->step == CHECK || it->step == BREAK || it->step == SWAP;
-    bool removes = it->call == REMOVE || it->call == TAKE_KEY || (it->call == TAKE_IF && wrong != lower_after_the_exchange);
+    bool removes = it->call == REMOVE || it->call == TAKE_KEY || it->call == TAKE_IF;
     return it->step == RAISE || (is_lowered && removes && family->group_len);
 }
 
@@ -28,7 +28,7 @@ bool is_uncounted(const struct pass *it) {
  * a slot's word by a look-up: an exchange that expected another word fails then. */
 static bool is_changing(const struct pass *it) {
     bool looks = (it->call == LOOK || is_by_key(it)) && (it->step == TAKE || it->step == HEAT);
-    return looks || is_uncounted(it) || it->step == LOWER_LATE || (it->step == SWAP && wrong == raise_before_the_fill);
+    return looks || is_uncounted(it);
 }
 
 void note_changes(struct state *s) {
@@ -43,65 +43,25 @@ void note_changes(struct state *s) {
 
 /* Changes of the range */
 
-enum step first_of_removal(void) {
-    bool loads = wrong == question_is_loaded_before_the_lower || wrong == lower_after_the_swap || wrong == no_lower;
-    return !family->group_len ? SWAP : loads ? CHECK : LOWER;
-}
+enum step first_of_removal(void) { return family->group_len ? LOWER : SWAP; }
 
-enum step after_swap(const struct pass *it, bool was_empty) {
-    bool installs = it->call & INSTALLS;
-    if (!family->group_len) {
-        return IDLE;
-    }
-    if (installs ? wrong == raise_before_the_fill : wrong == lower_after_the_swap || (it->call == TAKE_IF && wrong == lower_after_the_exchange)) {
-        return was_empty ? IDLE : LOWER_LATE;
-    }
-    if (!installs && !was_empty && wrong == question_is_cleared_after_the_swap) {
-        return CHECK;
-    }
-    bool raises = installs ? was_empty || wrong == replaced_slot_is_counted
-        : was_empty && wrong != empty_removal_is_not_raised && wrong != no_lower;
-    return raises ? RAISE : IDLE;
-}
+enum step after_swap(bool was_empty) { return family->group_len && was_empty ? RAISE : IDLE; }
 
 static void lower(struct state *s, struct pass *it) {
-    bool was_full = is_full(s, group_of(it->slot));
     s->count[group_of(it->slot)]--;
-    bool loads = wrong != question_is_loaded_before_the_lower && wrong != question_is_cleared_after_the_swap
-        && (wrong != cleared_only_at_a_full_group || was_full);
-    it->step = loads ? CHECK : SWAP;
+    it->step = CHECK;
 }
 
 static void raise(struct state *s, struct pass *it, int who) {
-    s->count[(group_of(it->slot) + (wrong == raise_in_another_group)) % groups()]++;
+    s->count[group_of(it->slot)]++;
     end_change(it, who);
 }
 
-static void go_on(struct pass *it, int who) {
-    it->last = 0;
-    if (wrong == question_is_cleared_after_the_swap) {
-        end_change(it, who);
-    } else {
-        it->step = wrong == question_is_loaded_before_the_lower ? LOWER : SWAP;
-    }
-}
+static void check(const struct state *s, struct pass *it) { it->step = s->question ? BREAK : SWAP; }
 
-static void check(const struct state *s, struct pass *it, int who) {
-    it->last = wrong == cleared_by_one_exchange ? s->question : 0;
-    if (s->question && wrong != question_is_not_cleared) {
-        it->step = BREAK;
-    } else {
-        go_on(it, who);
-    }
-}
-
-static void break_question(struct state *s, struct pass *it, int who) {
-    if (wrong == one_bit_is_cleared_alone) {
-        s->question &= s->question - 1;
-    } else if (wrong != cleared_by_one_exchange || s->question == it->last) {
-        s->question = 0;
-    }
-    go_on(it, who);
+static void break_question(struct state *s, struct pass *it) {
+    s->question = 0;
+    it->step = SWAP;
 }
 
 /* An allocation: a pass that found the range full first decides whether it still is. Else it tries
@@ -112,7 +72,7 @@ static void break_question(struct state *s, struct pass *it, int who) {
 static const int steps[] = {67, 71, 73, 79, 83, 89, 97, 101};
 
 enum step next_of_scan(struct pass *it, int who) {
-    int number = who + 1, step = wrong == step_leads_through_one_group ? groups() : steps[number % 8];
+    int step = steps[(who + 1) % 8];
     bool is_begun = it->next > 0, is_over = it->next == groups();
     int group = (group_of(it->from) + it->next * step) % groups();
     if (is_begun && it->step != PEEK_GROUP && it->slot + 1 < family->slots && group_of(it->slot + 1) == group_of(it->slot)) {
@@ -125,8 +85,7 @@ enum step next_of_scan(struct pass *it, int who) {
 }
 
 static void peek_group(const struct state *s, struct pass *it, int who) {
-    bool skips = is_full(s, group_of(it->slot)) || (wrong == group_is_skipped_too_early && s->count[group_of(it->slot)] > 0);
-    it->step = skips ? next_of_scan(it, who) : PEEK;
+    it->step = is_full(s, group_of(it->slot)) ? next_of_scan(it, who) : PEEK;
 }
 
 static void answer(const struct state *s, struct pass *it, bool is_full) {
@@ -134,7 +93,7 @@ static void answer(const struct state *s, struct pass *it, bool is_full) {
         want(!is_full || s->is_full[slot], "an allocation returns that the range is full, and a slot is empty");
     }
     want(is_full || !it->is_alone, "nobody else changes the range, and an allocation finds no slot and doesn't return that it is full");
-    it->is_sure = is_full || (wrong == old_full_is_kept && it->is_sure);
+    it->is_sure = is_full;
     begin_call(it, 0, IDLE);
 }
 
@@ -142,45 +101,39 @@ static void decide_first(const struct state *s, struct pass *it, int who) {
     if (s->question & bit_of(who)) {
         answer(s, it, true);
     } else {
-        it->is_sure = wrong == old_full_is_kept;
+        it->is_sure = 0;
         begin_installation(it);
     }
 }
 
 static void begin_question(const struct state *s, struct pass *it, int who) {
-    it->step = (s->question & bit_of(who)) || wrong == bit_is_set_after_the_visits ? COUNT : ASK;
+    it->step = s->question & bit_of(who) ? COUNT : ASK;
 }
 
 static void ask(struct state *s, struct pass *it, int who) {
     s->question += bit_of(who);
-    it->step = wrong == bit_is_set_after_the_visits ? DECIDE : COUNT;
+    it->step = COUNT;
 }
 
-static void count_group(const struct state *s, struct pass *it, int who) {
-    bool has_bit = s->question & bit_of(who);
+static void count_group(const struct state *s, struct pass *it) {
     if (!is_full(s, it->next)) {
         answer(s, it, false);
-    } else if (++it->next == groups() - (wrong == last_group_is_not_visited)) {
-        it->step = wrong == bit_is_set_after_the_visits && !has_bit ? ASK : DECIDE;
-        if (wrong == question_is_loaded_once) {
-            answer(s, it, true);
-        }
+    } else if (++it->next == groups()) {
+        it->step = DECIDE;
     }
 }
 
 void take_step_of_range(struct state *s, struct pass *it, int who) {
     switch ((enum step)it->step) {
     case LOWER: lower(s, it); break;
-    case CHECK: check(s, it, who); break;
-    case BREAK: break_question(s, it, who); break;
+    case CHECK: check(s, it); break;
+    case BREAK: break_question(s, it); break;
     case RAISE: raise(s, it, who); break;
-    case RAISE_EARLY: s->count[group_of(it->slot)]++; it->step = SWAP; break;
-    case LOWER_LATE: s->count[group_of(it->slot)]--; end_change(it, who); break;
     case PEEK_GROUP: peek_group(s, it, who); break;
     case DECIDE_FIRST: decide_first(s, it, who); break;
     case BEGIN: begin_question(s, it, who); break;
     case ASK: ask(s, it, who); break;
-    case COUNT: count_group(s, it, who); break;
+    case COUNT: count_group(s, it); break;
     case DECIDE: answer(s, it, s->question & bit_of(who)); break;
     default: break;
     }

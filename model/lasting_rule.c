@@ -1,5 +1,5 @@
-/* The lasting table's families and wrong tables, and its rule: what every state must be between two
- * steps of lasting_table.c.
+/* The lasting table's families, and its rule: what every state must be between two steps of
+ * lasting_table.c.
  *
  * Passes make calls without end, and each call is chosen in every way. No word counts calls, so
  * there are finitely many states. A stock has as many nodes as there are passes, the fewest
@@ -50,17 +50,8 @@ static const struct family families[] = {
     {"three passes, two slots in the range, that allocate, look up by key and remove", 3, 2, 1, 1, {PUT_ANY, LOOK_KEY, REMOVE}, false},
 };
 
-/* The families with which the search for a wrong table begins. */
-enum { FIRST_OF_LOOKS = sizeof families / sizeof families[0] - 5, FIRST_OF_HOLDS = FIRST_OF_LOOKS - 7, FIRST_OF_KEYS = FIRST_OF_HOLDS - 6 };
-
-static int first_family(int table) {
-    return table < WRONG_KEYS ? 0 : table < WRONG_HOLDS ? FIRST_OF_KEYS : table < WRONG_LOOKS ? FIRST_OF_HOLDS : FIRST_OF_LOOKS;
-}
-
-static const char *const wrong_names[] = { TABLES(AS_NAME) };
-
 static bool has_announced(const struct pass *it) {
-    return it->step == CONFIRM || it->step == WITHDRAW || it->step == GUARDED || (it->step == LIST && it->holds);
+    return it->step == CONFIRM || it->step == WITHDRAW || it->step == GUARDED;
 }
 
 /* The node that the hold word of a pass may name beside 0: one that it announces or holds, or that
@@ -102,8 +93,7 @@ static const struct pass *worker_of(const struct state *s, int node, bool retire
     for (int who = 0; who < family->passes; who++) {
         const struct pass *it = &s->pass[who];
         bool has_place = it->step == REST || it->step == PARK;
-        bool is_retiring = (it->call == RETIREMENT && !has_place) || it->step == LOWER_LATE;
-        if (it->node == node && (retires ? is_retiring : has_place)) {
+        if (it->node == node && (retires ? it->call == RETIREMENT && !has_place : has_place)) {
             return it;
         }
     }
@@ -193,7 +183,7 @@ static void check_pass(const struct state *s, int who) {
     want(hold == 0 || hold == node_of_hold(it), "a hold word names what its pass doesn't announce");
 }
 
-/* Checks the words of the range. A wrong table of them is judged by its answers, and at rest. */
+/* Checks the words of the range. */
 static void check_range(const struct state *s, int group) {
     int from = group * family->group_len, full = 0, uncounted = 0;
     bool is_idle = true;
@@ -206,7 +196,7 @@ static void check_range(const struct state *s, int group) {
         is_idle &= it->step == IDLE;
     }
     want(!is_idle || s->count[group] == full, "all passes are idle, and the word of a group is wrong");
-    want(s->count[group] + uncounted == full || wrong >= WRONG_RANGES, "the word of a group is wrong");
+    want(s->count[group] + uncounted == full, "the word of a group is wrong");
 }
 
 /* Checks a question whose bit is there: the groups that its pass has visited are full, and no
@@ -215,7 +205,7 @@ static void check_question(const struct state *s, int who) {
     const struct pass *it = &s->pass[who];
     bool asks = it->step == COUNT || it->step == DECIDE, holds = true;
     int end = it->is_sure ? family->slots : asks ? it->next * family->group_len : 0;
-    if (!(s->question & bit_of(who)) || wrong >= WRONG_RANGES) {
+    if (!(s->question & bit_of(who))) {
         return;
     }
     for (int slot = 0; slot < end && slot < family->slots; slot++) {
@@ -245,10 +235,9 @@ static void check_state(const void *state) {
     }
 }
 
-static const char *begin_family(int which, int table, void *state) {
+static const char *begin_family(int which, void *state) {
     family = &families[which];
-    wrong = table;
-    stock = family->without_nodes ? 0 : family->passes - (table == stock_one_node_too_small);
+    stock = family->without_nodes ? 0 : family->passes;
     memset(state, 0, sizeof(struct state));
     return family->name;
 }
@@ -256,6 +245,5 @@ static const char *begin_family(int which, int table, void *state) {
 _Static_assert(sizeof(struct state) <= MOST_STATE, "a state has room");
 
 const struct step_table the_table = {
-    "lasting table", sizeof(struct state), sizeof families / sizeof families[0], WRONG_TABLES, wrong_names, begin_family, take_step,
-    check_state, first_family
+    "lasting table", sizeof(struct state), sizeof families / sizeof families[0], begin_family, take_step, check_state
 };

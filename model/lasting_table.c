@@ -7,7 +7,6 @@
 #include "lasting_table.h"
 
 const struct family *family;
-enum wrong wrong;
 int stock;
 
 /* Nodes. A node is told by where it is: at a slot, or in the stock of a pass. So an installation or
@@ -113,12 +112,8 @@ static void empty_slot(struct state *s, int slot) {
 /* Names the node of the pass at the slot, and puts the node that was named there in its place in
  * the stock. Returns the node that was named. */
 static int exchange_names(struct state *s, const struct pass *it) {
-    int own = it->node, first = node_in_stock(0, 0);
+    int own = it->node;
     exchange_nodes(s, own, node_at(it->slot));
-    if (wrong == node_goes_to_another_stock) {
-        exchange_nodes(s, own, first);
-        own = first;
-    }
     exchanged = node_at(it->slot);
     return own;
 }
@@ -128,7 +123,7 @@ static int exchange_names(struct state *s, const struct pass *it) {
 static int install(struct state *s, struct pass *it) {
     empty_slot(s, it->slot);
     s->is_full[it->slot] = 1;
-    s->takes[it->slot] = wrong == carry_is_forgotten ? 0 : it->lost;
+    s->takes[it->slot] = it->lost;
     it->lost = 0;
     if (!stock) {
         return it->node;
@@ -173,13 +168,11 @@ static void end_node(struct pass *it) {
 
 /* Drops a take or a charge from a node's word. If the word was 2, the file is closed. */
 void drop(struct state *s, struct pass *it) {
-    int last = wrong == free_word_of_a_closed_file ? LAST - 1 : wrong == closed_one_too_early ? LAST + 1
-        : wrong == closed_one_too_late ? LAST - 1 : LAST;
     int found = s->word[it->node];
     want(found > 0, "a node word falls below 0");
     s->word[it->node] = found - 1;
     it->holds = 0;
-    if (found == last) {
+    if (found == LAST) {
         close_file(s, it->node);
         it->step = REST;
     } else {
@@ -204,7 +197,7 @@ static void rest(struct state *s, struct pass *it) {
 /* Keeps the node of a closed file, and returns its empty place, if a load finds that the node's
  * word has lost few takes. */
 static void park(struct state *s, struct pass *it) {
-    if (s->word[it->node] < BORN - MOST_CARRIED && wrong != carry_without_its_limit) {
+    if (s->word[it->node] < BORN - MOST_CARRIED) {
         it->step = REST;
         return;
     }
@@ -215,7 +208,7 @@ static void park(struct state *s, struct pass *it) {
 
 /* Frees the node that the pass keeps. */
 static void settle(struct state *s, struct pass *it) {
-    s->word[it->kept] = wrong == kept_node_is_not_settled ? s->word[it->kept] : FREE;
+    s->word[it->kept] = FREE;
     it->kept = 0;
     sort_stocks(s);
 }
@@ -225,11 +218,11 @@ static void settle(struct state *s, struct pass *it) {
 static void glance(struct state *s, struct pass *it) {
     if (!s->is_full[it->slot]) {
         begin_call(it, 0, IDLE);
-    } else if (wrong == listed_at_each_look || (!it->is_listed && wrong != listed_after_the_second_look)) {
+    } else if (!it->is_listed) {
         it->step = LIST;
     } else if (s->heat[it->slot]) {
         it->node = node_at(it->slot);
-        it->step = wrong == announced_after_the_second_look ? CONFIRM : ANNOUNCE;
+        it->step = ANNOUNCE;
     } else {
         it->step = TAKE;
     }
@@ -239,50 +232,29 @@ static void glance(struct state *s, struct pass *it) {
  * cold. */
 void list(struct state *s, struct pass *it, int who) {
     uint8_t *word = &s->list[who / PER_WORD], bit = 1 << who % PER_WORD;
-    *word = wrong == listed_by_a_store ? bit : *word + bit;
+    *word += bit;
     it->is_listed = 1;
-    if (it->holds) {
-        hold_until_release(it, GUARDED);
-    } else {
-        it->step = it->call == PUT_KEY ? AIM : is_by_key(it) ? first_by_key(it) : TAKE;
-    }
+    it->step = it->call == PUT_KEY ? AIM : is_by_key(it) ? first_by_key(it) : TAKE;
 }
 
 static void announce(struct state *s, struct pass *it, int who) {
     s->hold[who] = it->node;
-    if (wrong == no_second_look) {
-        hold_file(s, it, it->node);
-    }
-    if (it->holds) {
-        hold_until_release(it, GUARDED);
-    } else {
-        it->step = CONFIRM;
-    }
+    it->step = CONFIRM;
 }
 
 static void confirm(struct state *s, struct pass *it, int who) {
-    bool still = names(s, it->slot, it->node) && (s->heat[it->slot] || wrong == hot_not_asked_at_the_second_look);
-    bool is_announced = wrong != announced_after_the_second_look;
-    if (!still) {
-        it->step = is_announced ? WITHDRAW : TAKE;
+    if (!names(s, it->slot, it->node) || !s->heat[it->slot]) {
+        it->step = WITHDRAW;
         return;
     }
     hold_file(s, it, it->node);
-    if (is_announced) {
-        want(s->hold[who] == it->node, "a confirmed hold is charged");
-        if (it->is_listed) {
-            hold_until_release(it, GUARDED);
-        } else {
-            it->step = LIST;
-        }
-    } else {
-        it->step = ANNOUNCE;
-    }
+    want(s->hold[who] == it->node, "a confirmed hold is charged");
+    hold_until_release(it, GUARDED);
 }
 
 /* Empties the hold word of the pass, and returns whether it was charged. */
-bool empty_hold(struct state *s, const struct pass *it, int who, enum wrong by_a_store) {
-    int found = wrong == by_a_store ? it->node : s->hold[who];
+bool empty_hold(struct state *s, const struct pass *it, int who) {
+    int found = s->hold[who];
     s->hold[who] = 0;
     want((found & ~CHARGE) == it->node, "a hold word names another node");
     return found & CHARGE;
@@ -297,7 +269,7 @@ static void end_take(struct pass *it) {
 }
 
 static void take(struct state *s, struct pass *it) {
-    bool heats = s->takes[it->slot] >= family->cold_takes && wrong != slot_never_heated;
+    bool heats = s->takes[it->slot] >= family->cold_takes;
     s->takes[it->slot]++;
     if (s->is_full[it->slot]) {
         it->node = node_at(it->slot);
@@ -311,7 +283,7 @@ static void take(struct state *s, struct pass *it) {
 }
 
 static void heat(struct state *s, struct pass *it) {
-    s->heat[it->slot] += wrong == heat_counts_two ? 2 : 1;
+    s->heat[it->slot] += 1;
     end_take(it);
 }
 
@@ -320,29 +292,23 @@ static void heat(struct state *s, struct pass *it) {
 /* Goes on with a round: to the next listed pass of the word that was loaded, to the next word, or
  * to its end. */
 void go_on_with_round(struct pass *it, int who) {
-    bool visits_own = it->guards && wrong == stepped_down_after_the_visits;
-    int end = wrong == last_pass_not_visited ? family->passes - 1 : family->passes;
-    for (; it->next < end; it->next++) {
+    for (; it->next < family->passes; it->next++) {
         if (it->next == it->words * PER_WORD) {
             it->step = SKIM;
             return;
         }
-        if ((it->next != who || visits_own) && (it->last >> it->next % PER_WORD & 1)) {
+        if (it->next != who && (it->last >> it->next % PER_WORD & 1)) {
             it->step = VISIT;
             return;
         }
     }
     it->next = it->words = it->last = 0;
-    it->step = it->call != RETIREMENT ? SWAP : visits_own ? STEP_DOWN : wrong == finish_before_the_visits ? RETIRE : FINISH;
+    it->step = FINISH;
 }
 
 static void skim(struct state *s, struct pass *it, int who) {
     it->last = s->list[it->words++];
-    if (it->call != RETIREMENT && wrong == skimmed_before_the_swap) {
-        it->step = first_of_removal();
-    } else {
-        go_on_with_round(it, who);
-    }
+    go_on_with_round(it, who);
 }
 
 static void visit_next(struct pass *it, int who) {
@@ -364,15 +330,10 @@ void end_change(struct pass *it, int who) {
     begin_call(it, RETIREMENT, SKIM);
     it->slot = 0;
     it->takes = found.takes;
-    it->charges = found.charges;
-    it->words = found.words;
-    it->last = found.last;
-    it->next = found.heat && wrong != no_visits && wrong != scan_before_the_swap ? 0 : family->passes;
-    it->guards = found.guards == BY_HOLD_WORD && wrong != hold_word_outlives_the_hold;
-    if (it->guards && wrong != stepped_down_after_the_visits) {
+    it->next = found.heat ? 0 : family->passes;
+    it->guards = found.guards == BY_HOLD_WORD;
+    if (it->guards) {
         it->step = STEP_DOWN;
-    } else if (wrong == finish_before_the_visits) {
-        it->step = FINISH;
     } else {
         go_on_with_round(it, who);
     }
@@ -387,30 +348,24 @@ void swap(struct state *s, struct pass *it, int who) {
     if (it->call & INSTALLS) {
         found = install(s, it);
     } else {
-        bool leaves_name = wrong == kept_while_a_slot_names_it && it->call == TAKE_IF;
         empty_slot(s, it->slot);
-        found = has_stock(who) && !leaves_name ? exchange_names(s, it) : found;
+        found = has_stock(who) ? exchange_names(s, it) : found;
     }
-    it->node = !removes ? 0 : wrong == removal_loses_the_old_name ? node_at(it->slot) : found;
+    it->node = removes ? found : 0;
     it->takes = removes ? takes : UINT8_MAX;
     it->heat = heat > 0;
-    bool was_born = wrong == kept_by_a_load_before_the_swap && removes && it->last == BORN;
-    it->step = after_swap(it, !was_full);
-    if (was_born) {
-        close_file(s, it->node);
-        begin_call(it, RETIREMENT, PARK);
-    } else if (it->step == IDLE) {
+    it->step = after_swap(!was_full);
+    if (it->step == IDLE) {
         end_change(it, who);
     }
 }
 
 /* A charge is an exchange: only a pass that still announces the node gets it. */
 static void charge_hold(struct state *s, struct pass *it, int who) {
-    bool charges = s->hold[it->next] == it->node || wrong == charge_by_a_store;
-    if (charges) {
+    if (s->hold[it->next] == it->node) {
         s->hold[it->next] = it->node | CHARGE;
+        it->charges++;
     }
-    it->charges += charges || wrong == failed_charges_counted;
     visit_next(it, who);
 }
 
@@ -425,46 +380,37 @@ static void visit(struct state *s, struct pass *it, int who) {
 /* Returns whether the pass may keep the node of a file that it closed at a load: the node is in its
  * stock, so that no slot names it. */
 static bool may_park(const struct pass *it, int who) {
-    bool is_named = wrong == kept_while_a_slot_names_it && has_stock(who);
-    bool is_elsewhere = wrong == kept_without_a_stock && !has_stock(who);
-    return !it->kept && (is_in_stock(who, it->node) || is_named || is_elsewhere);
+    return !it->kept && is_in_stock(who, it->node);
 }
 
 /* Closes the file at a load, if all of its takes and charges were dropped, so that nobody else
  * changes the node's word. */
 static void finish(struct state *s, struct pass *it, int who) {
-    int dropped = it->takes + (wrong == finish_ignores_charges ? 0 : it->charges);
-    if (s->word[it->node] + dropped == BORN) {
+    if (s->word[it->node] + it->takes + it->charges == BORN) {
         close_file(s, it->node);
         it->step = may_park(it, who) ? PARK : REST;
-    } else if (wrong == finish_before_the_visits) {
-        go_on_with_round(it, who);
     } else {
         it->step = RETIRE;
     }
 }
 
 static void retire(struct state *s, struct pass *it) {
-    int closed = wrong == free_word_of_a_closed_file ? FREE : CLOSED;
-    int amount = BORN - closed - it->charges - (wrong == takes_left_out_of_a_retirement ? 0 : it->takes);
+    int amount = BORN - CLOSED - it->charges - it->takes;
     want(s->word[it->node] >= amount, "a node word falls below 0");
     s->word[it->node] -= amount;
-    if (s->word[it->node] != closed) {
+    if (s->word[it->node] != CLOSED) {
         begin_call(it, 0, IDLE);
         return;
     }
     close_file(s, it->node);
-    if (wrong == rest_before_the_file_is_out) {
-        s->word[it->node] = FREE;
-    }
     it->step = REST;
 }
 
 /* An installation */
 
 static void seek(struct state *s, struct pass *it, int who) {
-    int node = node_in_stock(wrong == birth_from_another_stock ? 0 : who, it->nth);
-    if (s->word[node] == FREE || wrong == birth_without_a_search) {
+    int node = node_in_stock(who, it->nth);
+    if (s->word[node] == FREE) {
         it->node = node;
         it->nth = it->tried = it->steps = 0;
         it->step = BIRTH;
@@ -476,8 +422,7 @@ static void seek(struct state *s, struct pass *it, int who) {
 }
 
 static enum step after_birth(const struct pass *it) {
-    bool is_early = wrong == raise_before_the_fill && family->group_len && it->call == PUT;
-    return it->call == PUT_ANY ? PEEK : is_early ? RAISE_EARLY : it->call == PUT_KEY ? first_by_key(it) : SWAP;
+    return it->call == PUT_ANY ? PEEK : it->call == PUT_KEY ? first_by_key(it) : SWAP;
 }
 
 /* Gets the place of a node for a new file, and puts the file there. */
@@ -496,14 +441,14 @@ static void birth(struct state *s, struct pass *it) {
 /* Gets the place of the node that the pass keeps, by a load, which says how many takes the node's
  * word has lost. */
 static void resume(struct state *s, struct pass *it) {
-    it->node = it->kept ? it->kept : s->pass[0].kept;
+    it->node = it->kept;
     it->kept = 0;
     it->lost = BORN - s->word[it->node];
     get_place(s, it);
 }
 
 void begin_installation(struct pass *it) {
-    it->step = !stock ? after_birth(it) : it->kept && wrong != kept_beside_a_search ? RESUME : SEEK;
+    it->step = !stock ? after_birth(it) : it->kept ? RESUME : SEEK;
 }
 
 enum step after_scan(void) { return stock ? REST : BEGIN; }
@@ -555,7 +500,7 @@ static bool is_kept(const struct state *s, int who) {
     for (int other = who + 1; other < family->passes; other++) {
         kept |= s->pass[other].key && !is_by_key(&s->pass[other]) && holder_for(other) == who;
     }
-    return kept && wrong != file_of_the_node_is_not_held;
+    return kept;
 }
 
 void expect(const struct state *s, struct pass *it) {
@@ -566,10 +511,10 @@ void expect(const struct state *s, struct pass *it) {
 static void see(struct state *s, struct pass *it, int who) {
     it->key = key_of(s, who);
     expect(s, it);
-    if (!names(s, it->slot, it->key) && wrong != node_is_not_compared) {
+    if (!names(s, it->slot, it->key)) {
         begin_call(it, 0, IDLE);
     } else {
-        it->step = wrong == lower_after_the_exchange && family->group_len ? CHECK : first_of_removal();
+        it->step = first_of_removal();
         if (it->call == PUT_IF) {
             begin_installation(it);
         }
@@ -578,30 +523,24 @@ static void see(struct state *s, struct pass *it, int who) {
 
 /* Ends a call that has lost its last try. */
 void miss(struct pass *it) {
-    bool is_forgotten = is_by_key(it) ? wrong == missed_key_is_not_raised
-        : wrong == missed_removal_is_not_raised || wrong == lower_after_the_exchange;
     it->takes = UINT8_MAX;
     it->key = 0;
     it->step = it->call & INSTALLS ? REST : RAISE;
-    if (it->step == RAISE && (!family->group_len || is_forgotten)) {
+    if (it->step == RAISE && !family->group_len) {
         end_node(it);
     }
 }
 
 static void exchange_if(struct state *s, struct pass *it, int who) {
-    bool swaps = wrong == node_is_not_compared || wrong == node_is_compared_before_a_swap;
     bool is_named = names(s, it->slot, it->key);
-    bool goes_on = is_named || (wrong == found_word_is_not_compared && it->tried && s->is_full[it->slot]);
-    if (swaps || (goes_on && s->takes[it->slot] == it->takes && s->heat[it->slot] == it->heat)) {
+    if (is_named && s->takes[it->slot] == it->takes && s->heat[it->slot] == it->heat) {
         want(is_named && !it->is_stale, "a call removes another file than the one whose node it names");
         it->key = it->tried = it->changes = 0;
         swap(s, it, who);
-    } else if ((goes_on || wrong == found_word_is_not_compared) && ++it->tried < TRIES) {
-        if (wrong != old_word_is_expected_again) {
-            expect(s, it);
-        }
+    } else if (is_named && ++it->tried < TRIES) {
+        expect(s, it);
     } else {
-        want(!goes_on || it->changes >= TRIES, "a call tries no more, and the slot's word changed less often than it tried");
+        want(!is_named || it->changes >= TRIES, "a call tries no more, and the slot's word changed less often than it tried");
         it->tried = it->changes = 0;
         miss(it);
     }
@@ -630,28 +569,14 @@ static void begin_at(struct state *s, struct pass *it, int who, int call, int sl
         see(s, it, who);
     } else if (is_by_key(it)) {
         begin_by_key(s, it, who);
-    } else if (call == REMOVE && wrong == scan_before_the_swap && s->is_full[slot] && s->heat[slot]) {
-        it->node = node_at(slot);
-        go_on_with_round(it, who);
-    } else if (call == REMOVE && wrong == skimmed_before_the_swap && s->heat[slot]) {
-        it->step = SKIM;
-    } else if (call == REMOVE && wrong == kept_by_a_load_before_the_swap && stock) {
-        it->step = FINISH_EARLY;
     } else if (call == PUT || (call == PUT_ANY && !it->is_sure)) {
         begin_installation(it);
-        if (wrong == kept_node_of_another_pass_is_resumed && s->pass[0].kept) {
-            it->step = RESUME;
-        }
     }
 }
 
-/* Returns whether a pass that keeps a node may begin a call before it has settled. */
-static bool may_keep(int call) {
-    return (call & INSTALLS) || (call == REMOVE && wrong == kept_beside_a_removal);
-}
-
 /* Begins a call in the `nth` way, or settles: a search may begin at each node of the pass's stock,
- * and a removal may put each of them at the slot. */
+ * and a removal may put each of them at the slot. A pass that keeps a node settles before it begins
+ * a call that doesn't install. */
 static bool begin_nth(struct state *s, struct pass *it, int who, int nth) {
     if (it->kept && nth-- == 0) {
         settle(s, it);
@@ -660,14 +585,14 @@ static bool begin_nth(struct state *s, struct pass *it, int who, int nth) {
     for (int call = LOOK; call <= LAST_CALL; call *= 2) {
         bool uses_stock = has_stock(who) && call != LOOK && call != LOOK_KEY, is_named = call == TAKE_IF || call == PUT_IF;
         bool is_keyed = call >= TAKE_KEY, removes = call == TAKE_IF || call == TAKE_KEY;
-        bool may = (family->calls[who] & call) && (!is_named || key_of(s, who)) && (!it->kept || may_keep(call));
+        bool may = (family->calls[who] & call) && (!is_named || key_of(s, who)) && (!it->kept || (call & INSTALLS));
         int ways = may ? family->slots * (uses_stock ? stock : 1) * (is_keyed ? 2 : 1) : 0;
         if (nth < ways) {
             int entry = uses_stock ? nth / family->slots % stock : 0;
             begin_at(s, it, who, call, nth % family->slots);
             it->key = is_keyed && nth >= ways / 2 ? 0 : it->key;
             if (call == REMOVE && uses_stock && !it->node) {
-                it->node = node_in_stock(wrong == removal_takes_a_node_of_another_pass ? 0 : who, entry);
+                it->node = node_in_stock(who, entry);
             } else if (removes && uses_stock && it->step != IDLE) {
                 it->node = node_in_stock(who, entry);
             } else if (call != REMOVE && it->step != IDLE) {
@@ -686,11 +611,11 @@ static void take_other_step(struct state *s, struct pass *it, int who) {
     case LIST: list(s, it, who); break;
     case ANNOUNCE: announce(s, it, who); break;
     case CONFIRM: confirm(s, it, who); break;
-    case WITHDRAW: it->step = empty_hold(s, it, who, withdrawal_by_a_store) ? DROP : TAKE; break;
+    case WITHDRAW: it->step = empty_hold(s, it, who) ? DROP : TAKE; break;
     case TAKE: take(s, it); break;
     case HEAT: heat(s, it); break;
     case GUARDED:
-        if (empty_hold(s, it, who, release_by_a_store)) {
+        if (empty_hold(s, it, who)) {
             it->step = DROP;
         } else {
             it->holds = 0;
@@ -704,7 +629,6 @@ static void take_other_step(struct state *s, struct pass *it, int who) {
     case BIRTH: birth(s, it); break;
     case PARK: park(s, it); break;
     case RESUME: resume(s, it); break;
-    case FINISH_EARLY: it->last = s->word[node_at(it->slot)]; it->step = first_of_removal(); break;
     case SWAP:
         if (it->key) {
             exchange_if(s, it, who);

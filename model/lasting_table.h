@@ -26,42 +26,13 @@ enum { TRIES = 2 };
 /* The most takes that the word of a kept node has lost; in the table they are eight. */
 enum { MOST_CARRIED = 1 };
 
-/* The next step of a pass. */
+/* The next step of a pass. Three are steps of wrong tables alone (tests/wrong_steps.txt): RAISE_EARLY,
+ * LOWER_LATE and FINISH_EARLY. */
 enum step {
     IDLE, LIST, ANNOUNCE, CONFIRM, WITHDRAW, DROP, TAKE, HEAT, GUARDED, COUNTED, REST, SEEK, BIRTH, LOWER, CHECK, BREAK,
     SWAP, RAISE, SKIM, VISIT, CHARGE_HOLD, FINISH, RETIRE, PEEK, EXCHANGE, PEEK_GROUP, DECIDE_FIRST, BEGIN, ASK, COUNT,
     DECIDE, RAISE_EARLY, LOWER_LATE, PARK, RESUME, FINISH_EARLY, AIM, COMPARE, LET_GO, STEP_DOWN
 };
-
-/* The right table and wrong ones: each is the right one with one change. */
-#define TABLES(X) \
-    X(right) X(free_word_of_a_closed_file) X(rest_before_the_file_is_out) X(stock_one_node_too_small) \
-    X(birth_from_another_stock) X(birth_without_a_search) X(node_goes_to_another_stock) \
-    X(scan_before_the_swap) X(charge_by_a_store) X(no_second_look) \
-    X(announced_after_the_second_look) X(withdrawal_by_a_store) X(release_by_a_store) X(failed_charges_counted) \
-    X(hot_not_asked_at_the_second_look) X(takes_left_out_of_a_retirement) X(last_pass_not_visited) X(no_visits) \
-    X(closed_one_too_early) X(closed_one_too_late) X(slot_never_heated) X(listed_after_the_second_look) \
-    X(skimmed_before_the_swap) X(listed_by_a_store) X(listed_at_each_look) X(heat_counts_two) \
-    X(finish_ignores_charges) X(finish_before_the_visits) X(removal_loses_the_old_name) X(removal_takes_a_node_of_another_pass) \
-    X(carry_is_forgotten) X(carry_without_its_limit) X(kept_without_a_stock) X(kept_by_a_load_before_the_swap) \
-    X(kept_beside_a_search) X(kept_beside_a_removal) X(kept_node_is_not_settled) \
-    X(kept_node_of_another_pass_is_resumed) \
-    X(question_is_loaded_once) X(question_is_loaded_before_the_lower) X(question_is_not_cleared) \
-    X(question_is_cleared_after_the_swap) X(cleared_only_at_a_full_group) X(cleared_by_one_exchange) \
-    X(one_bit_is_cleared_alone) X(raise_before_the_fill) X(lower_after_the_swap) X(no_lower) X(raise_in_another_group) \
-    X(empty_removal_is_not_raised) X(replaced_slot_is_counted) X(old_full_is_kept) X(bit_is_set_after_the_visits) \
-    X(one_bit_for_all_askers) X(last_group_is_not_visited) X(group_is_skipped_too_early) \
-    X(step_leads_through_one_group) \
-    X(node_is_not_compared) X(node_is_compared_before_a_swap) X(found_word_is_not_compared) X(old_word_is_expected_again) \
-    X(missed_removal_is_not_raised) X(lower_after_the_exchange) X(file_of_the_node_is_not_held) \
-    X(kept_while_a_slot_names_it) \
-    X(key_without_a_hold) X(own_take_is_forgotten) X(own_take_is_dropped_twice) X(key_is_compared_before_the_hold) \
-    X(hold_is_lost) X(missed_key_is_not_raised) X(low_bits_are_ignored) \
-    X(announced_key_is_not_confirmed) X(announced_after_the_comparison) X(hold_word_counts_as_a_take) \
-    X(hold_word_outlives_the_hold) X(stepped_down_before_the_exchange) X(stepped_down_after_the_visits) \
-    X(vain_announcement_stays) X(sought_key_is_not_compared) X(stale_look_up_keeps_its_hold)
-enum wrong { TABLES(AS_MEMBER) WRONG_TABLES, WRONG_RANGES = question_is_loaded_once, WRONG_KEYS = node_is_not_compared, WRONG_HOLDS = key_without_a_hold,
-    WRONG_LOOKS = sought_key_is_not_compared };
 
 struct family {
     const char *name;
@@ -128,7 +99,6 @@ struct state {
 };
 
 extern const struct family *family;
-extern enum wrong wrong;
 /* The number of nodes of each pass's stock. */
 extern int stock;
 
@@ -169,7 +139,7 @@ void hold_until_release(struct pass *it, enum step step);
  * and returns whether it was charged. Goes on with a round of visits. */
 void list(struct state *s, struct pass *it, int who);
 void drop(struct state *s, struct pass *it);
-bool empty_hold(struct state *s, const struct pass *it, int who, enum wrong by_a_store);
+bool empty_hold(struct state *s, const struct pass *it, int who);
 void go_on_with_round(struct pass *it, int who);
 
 /* Makes a step of lasting_range.c. */
@@ -180,7 +150,7 @@ void note_changes(struct state *s);
 enum step next_of_scan(struct pass *it, int who);
 /* The first step of a removal, and the step after its swap or that of an installation, or IDLE. */
 enum step first_of_removal(void);
-enum step after_swap(const struct pass *it, bool was_empty);
+enum step after_swap(bool was_empty);
 /* Returns whether the words count one full slot too few, on the account of the pass. */
 bool is_uncounted(const struct pass *it);
 /* Returns the bit of a pass in the question word, and the group of a slot. */

@@ -5,30 +5,21 @@
 
 enum { MOST_PASSES = 3, MOST_STATE = 136 };
 
-/* A model of a table, right or wrong by one change, with the programs that passes play on it. A
- * state is a struct of bytes. */
+/* A model of a table, with the programs that passes play on it. A state is a struct of bytes. */
 struct step_table {
     const char *name;
     size_t state_size;
-    int families, wrong_tables;
-    /* The names of the wrong tables by their numbers, from 1; 0 is the right one. */
-    const char *const *wrong_names;
-    /* Chooses a family and a table, and makes its first state. Returns the family's name. */
-    const char *(*begin)(int family, int wrong, void *state);
+    int families;
+    /* Chooses a family, and makes its first state. Returns the family's name. */
+    const char *(*begin)(int family, void *state);
     /* Makes one step of a pass. An idle pass begins the `nth` call that it may make. Returns false
      * if there are no `nth + 1` ways. */
     bool (*take_step)(void *state, int who, int nth);
     /* Checks a state between two steps. */
     void (*check)(const void *state);
-    /* Returns the family with which the search for a wrong table begins. */
-    int (*first_family)(int wrong);
 };
 
 extern const struct step_table the_table;
-
-/* For a list TABLES of names, of which the first is the right table. */
-#define AS_MEMBER(name) name,
-#define AS_NAME(name) #name,
 
 /* What the last step or check found wrong, or NULL. */
 extern const char *fault;

@@ -1,10 +1,10 @@
-"""check-steps: makes the steps of the lasting table (model/lasting_table.c) in every order of small programs, and of wrong tables, each of
-which must be found (step_orders.c). The families, with the numbers of their states and steps, and what is found of each wrong table must
-be the lines of tests/steps.txt.
+"""check-steps: makes the steps of the lasting table (model/lasting_table.c) in every order of small programs (step_orders.c). The families,
+with the numbers of their states and steps, must be the lines of tests/steps.txt.
 
-Then it changes the table by the edits of tests/wrong_steps.txt. An edit is a line with the table, the fault that must be found, a text
-that the table's sources have once, and what replaces it, with tabs between them. So each fault of the sources is reported of some
-wrong table or of some edit."""
+Then it makes the steps of the wrong tables of tests/wrong_steps.txt, each of which must be found. A wrong table is a line with its name, the
+number of the family with which the search begins, from 0, the fault that must be found, and pairs of a text that the table's sources have
+once and what replaces it, with tabs between them; `\\n` is the end of a line. With a `*` after the number the table is judged by its
+answers, and the rule of the range's words (WORDS) is left out. So each fault of the sources is reported of some wrong table."""
 import contextlib
 import difflib
 import os
@@ -22,6 +22,8 @@ from scripts.repository import ROOT, read
 RIGHT = "-O3", "-flto", "-Wall", "-Wextra", "-Werror"
 # the longest run: all families
 SECONDS = 600
+# what is replaced of the rule of the range's words
+WORDS = (('want(s->count[group] + uncounted == full, "the word of a group is wrong");', ";"), ("if (!(s->question & bit_of(who))) {", "if (true) {"))
 # a call of `want`
 FAULT = re.compile(r'want\([^"]*"([^"]+)"')
 
@@ -51,13 +53,21 @@ def object_of(room, text, flags):
     return path
 
 
-def first_fault(room, nth, old, new):
-    """Returns the first fault of the table with an edit, or what is wrong with the edit."""
+def first_fault(room, name, family, pairs):
+    """Returns the first fault of a wrong table, or what is wrong with its edits."""
     texts = sources()
-    if sum(it.count(old) for it in texts) != 1:
-        return f"the sources have {old!r} {sum(it.count(old) for it in texts)} times, and not once"
-    status, text, _ = run([built(room, f"edit{nth}", [it.replace(old, new) for it in texts]), "--first"], seconds=SECONDS)
+    for old, new in [*zip(pairs[::2], pairs[1::2]), *(WORDS if family.endswith("*") else ())]:
+        if sum(it.count(old) for it in texts) != 1:
+            return f"the sources have {old!r} {sum(it.count(old) for it in texts)} times, and not once"
+        texts = [it.replace(old, new) for it in texts]
+    status, text, _ = run([built(room, name, texts), family.rstrip("*")], seconds=SECONDS)
     return text.splitlines()[-1].split(": ")[-1] if status == 1 and text else "nothing"
+
+
+def wrong_tables():
+    """Returns each wrong table: its name, the first family, the fault, and the texts and what replaces them."""
+    lines = (it.replace("\\n", "\n").split("\t") for it in read("tests/wrong_steps.txt").splitlines())
+    return [(name, family, fault, pairs) for name, family, fault, *pairs in lines]
 
 
 def complaints_of_lines(found, kept):
@@ -69,24 +79,22 @@ def command():
     if shutil.which("cc") is None:
         print("steps: there is no C compiler cc here, which builds the table")
         return 1
-    checks, kept = Counted("steps"), read("tests/steps.txt").splitlines()
-    edits = [it.split("\t")[1:] for it in read("tests/wrong_steps.txt").splitlines()]
+    checks, kept, wrong = Counted("steps"), read("tests/steps.txt").splitlines(), wrong_tables()
     with tempfile.TemporaryDirectory() as room:
         status, text, _ = run([built(room, "table", sources(), RIGHT)], seconds=SECONDS)
-        # the edits share its objects
+        # the wrong tables share its objects
         built(room, "unchanged", sources())
-        faults = in_parallel(lambda it: first_fault(room, it[0], *it[1][1:]), list(enumerate(edits)))
+        faults = in_parallel(lambda it: first_fault(room, it[0], it[1], it[3]), wrong)
     found = text.splitlines()
     print("\n".join(f"steps: {it}" for it in found))
     checks.want(status == 0, f"the program ended with status {status}")
     differs = complaints_of_lines(found, kept)
     checks.want(not differs, "\n".join(["other lines than those of tests/steps.txt:", *differs]))
     checks.seen += len(found)
-    for wrong in (found[1:], [*found, found[-1]], [re.sub(r"\d+(?= steps)", lambda it: str(int(it[0]) + 1), it) for it in found]):
-        checks.want(complaints_of_lines(wrong, kept), "wrong lines are taken for the kept ones")
-    for (fault, old, new), said in zip(edits, faults):
-        checks.want(said == fault, f"with {new!r} for {old!r} it is said: {said}, and not {fault}")
-    known = {fault for fault, *_ in edits} | {it.split(": ")[-1] for it in found}
+    for lines in (found[1:], [*found, found[-1]], [re.sub(r"\d+(?= steps)", lambda it: str(int(it[0]) + 1), it) for it in found]):
+        checks.want(complaints_of_lines(lines, kept), "wrong lines are taken for the kept ones")
+    for (name, _, fault, _), said in zip(wrong, faults):
+        checks.want(said == fault, f"of {name} it is said: {said}, and not {fault}")
     for fault in sorted({fault for it in sources() for fault in FAULT.findall(it)}):
-        checks.want(fault in known, f"no wrong table and no edit shows this fault: {fault}")
+        checks.want(any(fault == it for _, _, it, _ in wrong), f"no wrong table shows this fault: {fault}")
     return checks.end()

@@ -1,11 +1,10 @@
-/* Makes the steps of a table of model/ in every order, and checks every state that they reach. Then
- * it makes the steps of wrong tables, each of which must be found.
+/* Makes the steps of a table of model/ in every order, and checks every state that they reach.
  *
  * What may come next depends on a state alone, so of two orders that reach the same state only one
  * is continued, and a family is done when no new state comes. A line is printed for each family,
- * with the number of its states and steps, and for each wrong table, with what is found. With an
- * argument only the table's families are explored, up to the first fault. The exit status is 1 if a
- * family isn't right, or a wrong table isn't found. */
+ * with the number of its states and steps, and the fault that is found. With an argument, the number
+ * of a family, the families from that one on are explored, up to the first fault. The exit status is
+ * 1 if a family isn't right. */
 #include <stdio.h>
 #include <stdlib.h>
 #include <string.h>
@@ -117,57 +116,27 @@ static long go_on(const struct step_table *table, const struct state *s) {
     return steps;
 }
 
-/* Explores a family of a right or wrong table. Returns whether nothing is wrong with it, and prints
- * the family if it is the right table's. */
-static bool explore(const struct step_table *table, int family, int wrong) {
+/* Explores a family, and prints it. Returns whether nothing is wrong with it. */
+static bool explore(const struct step_table *table, int family) {
     struct state first = {{0}};
-    long steps = 0, done = 0, nearer = 0, depth = 0;
+    long steps = 0;
     fault = NULL;
-    const char *name = table->begin(family, wrong, first.words);
+    const char *name = table->begin(family, first.words);
     push(table, &first);
-    for (; queue.next < queue.count && fault == NULL; done++) {
-        if (done == nearer) {
-            /* all states of so many steps were gone on from */
-            nearer = seen.used;
-            depth++;
-        }
+    while (queue.next < queue.count && fault == NULL) {
         struct state s = queue.states[queue.next++];
         steps += go_on(table, &s);
     }
-    if (wrong && fault != NULL) {
-        printf("%s, %s, in %ld steps: %s\n", table->name, table->wrong_names[wrong], depth, fault);
-    } else if (!wrong) {
-        printf("%s, %s: %zu states, %ld steps%s%s\n", table->name, name, seen.used, steps, fault ? ": " : "", fault ? fault : "");
-    }
+    printf("%s, %s: %zu states, %ld steps%s%s\n", table->name, name, seen.used, steps, fault ? ": " : "", fault ? fault : "");
     fflush(stdout);
     forget_all();
     return fault == NULL;
 }
 
-static bool is_found(const struct step_table *table, int wrong) {
-    for (int family = table->first_family(wrong); family < table->families; family++) {
-        if (!explore(table, family, wrong)) {
-            return true;
-        }
-    }
-    printf("%s, %s: NOT FOUND\n", table->name, table->wrong_names[wrong]);
-    return false;
-}
-
-/* Explores all families, or those up to the first with a fault. */
-static bool is_right(const struct step_table *table, bool up_to_first) {
-    bool right = true;
-    for (int family = 0; family < table->families && (right || !up_to_first); family++) {
-        right &= explore(table, family, 0);
-    }
-    return right;
-}
-
 int main(int count, char **words) {
-    (void)words;
-    bool right = is_right(&the_table, count > 1);
-    for (int wrong = 1; count == 1 && wrong < the_table.wrong_tables; wrong++) {
-        right &= is_found(&the_table, wrong);
+    bool right = true;
+    for (int family = count > 1 ? atoi(words[1]) : 0; family < the_table.families && (right || count == 1); family++) {
+        right &= explore(&the_table, family);
     }
     return right ? 0 : 1;
 }
