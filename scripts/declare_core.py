@@ -1,12 +1,11 @@
-"""declare-core [--check]: writes the declarations of the core's exports for C and Rust, from the sources of fx_server_c and fx_server:
+"""declare-core: writes the declarations of the core's exports for C and Rust, from the sources of fx_server_c and fx_server:
 bindings/c/core.h and bindings/rust/src/access/exports.rs; the functions and the limits of yachtbanyan(3) and yachtdirect(3), from the
 headers; the numbers of the table of docs/use/LIMITS.md, from the constants that its rows name; and the version, from VERSION, in each file
-that has it. With --check it writes nothing, prints each of these files that differs, and ends with status 1 if one does."""
+that has it."""
 import contextlib
 import re
 import textwrap
 
-from scripts.checks import arguments
 from tests.number_sources import constant
 from scripts.repository import ROOT, read, write
 
@@ -233,11 +232,6 @@ def stale():
 
 
 def command():
-    if arguments("declare-core [--check]", flags="check").check:
-        those = list(stale())
-        for path in those:
-            print(f"{path} isn't what scripts/declare-core writes")
-        return 1 if those else 0
     for path, made in FILES.items():
         write(f"{ROOT}/{path}", made())
     return 0

@@ -1,13 +1,12 @@
-"""check-declarations [--spoil]: compares the declarations of the exported functions in Rattle, C, Rust and Python: their names, the number
+"""check-declarations: compares the declarations of the exported functions in Rattle, C, Rust and Python: their names, the number
 and width of each argument and of the result, the fields of the structs, and the values of the constants. What scripts/declare-core
 writes is as it writes it, in manual pages, docs/use/LIMITS.md and files with a version too. The manual pages yachtbanyan(3) and
-yachtdirect(3) have the numbers of their headers. With --spoil it changes each declaration in turn, in memory, and expects a complaint
-about each change."""
+yachtdirect(3) have the numbers of their headers. Then each declaration is changed in turn, in memory, and each change must be noticed."""
 import ast
 import re
 
 from scripts import declare_core
-from scripts.checks import Counted, arguments
+from scripts.checks import Counted
 from scripts.repository import read
 
 # by library: the files with its exports in Rattle, and its declarations elsewhere
@@ -161,22 +160,22 @@ def lacking(header, page):
     return {*re.findall(r"\b(YACHT_\w+) = ", header)} - {*re.findall(r"^\.(?:It )?Dv (YACHT_\w+)", page, re.M)}
 
 
-def manuals(counted, is_spoiled):
-    """Looks for the numbers of the headers on the manual pages; if `is_spoiled`, expects a complaint about each that is missing."""
+def manuals(counted):
+    """Looks for the numbers of the headers on the manual pages, and expects a complaint about each that is missing."""
     for name in ("yachtbanyan", "yachtdirect"):
         header, page = read(f"include/{name}.h"), read(f"man/{name}.3")
         counted.want(not lacking(header, page), f"{name}(3) lacks {lacking(header, page)}")
-        for number in re.findall(r"\b(YACHT_\w+) = ", header) if is_spoiled else ():
+        for number in re.findall(r"\b(YACHT_\w+) = ", header):
             counted.want(lacking(header, re.sub(rf"(Dv {number})\b", r"\1_OTHER", page)), f"{number} may be missing in {name}(3)")
 
 
-def written(counted, is_spoiled):
-    """Checks that the files of scripts/declare-core are what it writes; if `is_spoiled`, expects a complaint about each change of what it
-    writes, or of what this is written from."""
-    stale = [] if is_spoiled else list(declare_core.stale())
-    for path in () if is_spoiled else declare_core.FILES:
+def written(counted):
+    """Checks that the files of scripts/declare-core are what it writes, and expects a complaint about each change of what it writes, or of
+    what this is written from."""
+    stale = list(declare_core.stale())
+    for path in declare_core.FILES:
         counted.want(path not in stale, f"{path} isn't what scripts/declare-core writes")
-    for path, pattern in declare_core.WRITTEN if is_spoiled else ():
+    for path, pattern in declare_core.WRITTEN:
         for at in re.finditer(pattern, read(path), re.M):
             other = at.string[: at.end() - 1] + ("8" if at[0][-1] == "9" else "9") + at.string[at.end() :]
             declare_core.read = lambda it, path=path, other=other: other if it == path else read(it)
@@ -184,17 +183,14 @@ def written(counted, is_spoiled):
 
 
 def command():
-    given = arguments("check-declarations [--spoil]", flags="spoil")
     counted = Counted("declarations")
     for library in RATTLE:
         texts = texts_of(library)
-        if not given.spoil:
-            counted.seen += len(declared("Rattle", "\n".join(texts["Rattle"].values()))) * (len(texts) - 1)
-            for line in differences(texts):
-                counted.want(False, f"{library}: {line}")
-            continue
+        counted.seen += len(declared("Rattle", "\n".join(texts["Rattle"].values()))) * (len(texts) - 1)
+        for line in differences(texts):
+            counted.want(False, f"{library}: {line}")
         for what, changed in spoiled(texts):
             counted.want(differences(changed), f"{library}: the change of {what} isn't noticed")
-    written(counted, given.spoil)
-    manuals(counted, given.spoil)
+    written(counted)
+    manuals(counted)
     return counted.end()
