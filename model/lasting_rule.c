@@ -4,9 +4,6 @@
  * Passes make calls without end, and each call is chosen in every way. No word counts calls, so
  * there are finitely many states. A stock has as many nodes as there are passes, the fewest
  * that suffice. */
-#include <stddef.h>
-#include <string.h>
-
 #include "lasting_table.h"
 
 enum { CHANGES = PUT | REMOVE | PUT_ANY, REQUESTS = LOOK | PUT | REMOVE, BY_KEY = LOOK_KEY | TAKE_KEY | PUT_KEY };
@@ -218,8 +215,7 @@ static void check_question(const struct state *s, int who) {
     want(holds, "a bit is there, and a slot that its pass found full is empty or may become so");
 }
 
-static void check_state(const void *state) {
-    const struct state *s = state;
+void check_state(const struct state *s) {
     for (int node = 1; stock && node < node_in_stock(family->passes, 0); node++) {
         check_node(s, node);
     }
@@ -235,15 +231,12 @@ static void check_state(const void *state) {
     }
 }
 
-static const char *begin_family(int which, void *state) {
+const char *begin_family(int which, struct state *s) {
+    if (which == sizeof families / sizeof families[0]) {
+        return NULL;
+    }
     family = &families[which];
     stock = family->without_nodes ? 0 : family->passes;
-    memset(state, 0, sizeof(struct state));
+    *s = (struct state){0};
     return family->name;
 }
-
-_Static_assert(sizeof(struct state) <= MOST_STATE, "a state has room");
-
-const struct step_table the_table = {
-    "lasting table", sizeof(struct state), sizeof families / sizeof families[0], begin_family, take_step, check_state
-};

@@ -647,8 +647,7 @@ static void take_other_step(struct state *s, struct pass *it, int who) {
     }
 }
 
-bool take_step(void *state, int who, int nth) {
-    struct state *s = state;
+bool take_step(struct state *s, int who, int nth) {
     struct pass *it = &s->pass[who];
     const struct state before = *s;
     exchanged = 0;

@@ -1,10 +1,12 @@
 /* The lasting table's words and passes, which lasting_table.c, lasting_range.c and lasting_key.c
- * change, and which lasting_rule.c checks. */
-#include "step_table.h"
+ * change, and which lasting_rule.c checks. tests/step_orders.c makes its steps in every order. */
+#include <stdbool.h>
+#include <stddef.h>
+#include <stdint.h>
 
 /* A word of the list has the bits of PER_WORD passes, and not of 64, so that a round loads two
  * words. */
-enum { MOST_SLOTS = 4, MOST_GROUPS = 3, MOST_NODES = 12, PER_WORD = 2, MOST_WORDS = (MOST_PASSES + PER_WORD - 1) / PER_WORD };
+enum { MOST_PASSES = 3, MOST_SLOTS = 4, MOST_GROUPS = 3, MOST_NODES = 12, PER_WORD = 2, MOST_WORDS = (MOST_PASSES + PER_WORD - 1) / PER_WORD };
 
 /* The words of a node, where 64 is 2^32 + 1, and the charge of a hold word. */
 enum { FREE = 0, CLOSED = 1, LAST = 2, BORN = 64, CHARGE = 128 };
@@ -109,8 +111,18 @@ bool has_stock(int who);
 bool is_in_stock(int who, int node);
 /* Returns whether the slot has a file, on this node. */
 bool names(const struct state *s, int slot, int node);
-/* Makes one step of a pass, as a `step_table` says. */
-bool take_step(void *state, int who, int nth);
+
+/* What the last step or check found wrong, or NULL. `want` records a fault, unless `holds`. */
+extern const char *fault;
+void want(bool holds, const char *otherwise);
+/* Chooses a family, and makes its first state. Returns the family's name, or NULL after the last
+ * family. */
+const char *begin_family(int which, struct state *s);
+/* Makes one step of a pass. An idle pass begins the `nth` call that it may make. Returns false if
+ * there are no `nth + 1` ways. */
+bool take_step(struct state *s, int who, int nth);
+/* Checks a state between two steps. */
+void check_state(const struct state *s);
 
 /* Begins a call of the pass, or ends one (`call` 0). What it holds stays. */
 void begin_call(struct pass *it, int call, enum step step);

@@ -1,4 +1,4 @@
-/* Makes the steps of a table of model/ in every order, and checks every state that they reach.
+/* Makes the steps of the lasting table of model/ in every order, and checks every state that they reach.
  *
  * What may come next depends on a state alone, so of two orders that reach the same state only one
  * is continued, and a family is done when no new state comes. A line is printed for each family,
@@ -10,7 +10,7 @@
 #include <string.h>
 #include <sys/mman.h>
 
-#include "step_table.h"
+#include "lasting_table.h"
 
 const char *fault;
 
@@ -24,17 +24,18 @@ void want(bool holds, const char *otherwise) {
  * list. */
 enum { LARGE_PAGE = 1 << 21 };
 
-struct state {
-    uint64_t words[MOST_STATE / sizeof(uint64_t)];
+union node {
+    struct state state;
+    uint64_t words[(sizeof(struct state) + sizeof(uint64_t) - 1) / sizeof(uint64_t)];
 };
 
 static struct { uint64_t *prints; size_t room, used; } seen;
-static struct { struct state *states; size_t room, next, count; } queue;
+static struct { union node *nodes; size_t room, next, count; } queue;
 
-static uint64_t print_of(const struct state *s, size_t size) {
+static uint64_t print_of(const union node *it) {
     uint64_t print = 0x9E3779B97F4A7C15u;
-    for (size_t at = 0; at * sizeof *s->words < size; at++) {
-        print = (print ^ s->words[at]) * 0x9E3779B97F4A7C15u;
+    for (size_t at = 0; at < sizeof it->words / sizeof *it->words; at++) {
+        print = (print ^ it->words[at]) * 0x9E3779B97F4A7C15u;
         print ^= print >> 29;
     }
     return print ? print : 1;
@@ -79,55 +80,53 @@ static bool is_new(uint64_t print) {
 }
 
 /* Checks a state that no order has reached before, and adds it to those to go on from. */
-static void push(const struct step_table *table, const struct state *s) {
-    if (fault != NULL || !is_new(print_of(s, table->state_size))) {
+static void push(const union node *it) {
+    if (fault != NULL || !is_new(print_of(it))) {
         return;
     }
-    table->check(s->words);
+    check_state(&it->state);
     if (queue.count == queue.room) {
         /* what was gone on from makes room */
         queue.count -= queue.next;
-        memmove(queue.states, queue.states + queue.next, queue.count * sizeof *s);
+        memmove(queue.nodes, queue.nodes + queue.next, queue.count * sizeof *it);
         queue.room = 2 * queue.count + 4096;
-        queue.states = there(realloc(queue.states, queue.room * sizeof *s));
+        queue.nodes = there(realloc(queue.nodes, queue.room * sizeof *it));
         queue.next = 0;
     }
-    queue.states[queue.count++] = *s;
+    queue.nodes[queue.count++] = *it;
 }
 
 static void forget_all(void) {
     free(seen.prints);
-    free(queue.states);
+    free(queue.nodes);
     memset(&seen, 0, sizeof seen);
     memset(&queue, 0, sizeof queue);
 }
 
 /* Goes on from one state by every step of every pass. Returns how many there are. */
-static long go_on(const struct step_table *table, const struct state *s) {
+static long go_on(const union node *it) {
     long steps = 0;
     for (int who = 0; who < MOST_PASSES; who++) {
-        struct state next = *s;
-        for (int nth = 0; fault == NULL && table->take_step(next.words, who, nth); nth++) {
-            push(table, &next);
-            next = *s;
+        union node next = *it;
+        for (int nth = 0; fault == NULL && take_step(&next.state, who, nth); nth++) {
+            push(&next);
+            next = *it;
             steps++;
         }
     }
     return steps;
 }
 
-/* Explores a family, and prints it. Returns whether nothing is wrong with it. */
-static bool explore(const struct step_table *table, int family) {
-    struct state first = {{0}};
+/* Explores a family from its first state, and prints it. Returns whether nothing is wrong with it. */
+static bool explore(const char *name, const union node *first) {
     long steps = 0;
     fault = NULL;
-    const char *name = table->begin(family, first.words);
-    push(table, &first);
+    push(first);
     while (queue.next < queue.count && fault == NULL) {
-        struct state s = queue.states[queue.next++];
-        steps += go_on(table, &s);
+        union node it = queue.nodes[queue.next++];
+        steps += go_on(&it);
     }
-    printf("%s, %s: %zu states, %ld steps%s%s\n", table->name, name, seen.used, steps, fault ? ": " : "", fault ? fault : "");
+    printf("lasting table, %s: %zu states, %ld steps%s%s\n", name, seen.used, steps, fault ? ": " : "", fault ? fault : "");
     fflush(stdout);
     forget_all();
     return fault == NULL;
@@ -135,8 +134,10 @@ static bool explore(const struct step_table *table, int family) {
 
 int main(int count, char **words) {
     bool right = true;
-    for (int family = count > 1 ? atoi(words[1]) : 0; family < the_table.families && (right || count == 1); family++) {
-        right &= explore(&the_table, family);
+    union node first = {.words = {0}};
+    const char *name;
+    for (int family = count > 1 ? atoi(words[1]) : 0; (right || count == 1) && (name = begin_family(family, &first.state)); family++) {
+        right &= explore(name, &first);
     }
     return right ? 0 : 1;
 }
