@@ -28,8 +28,8 @@ enum { TRIES = 2 };
 /* The most takes that the word of a kept node has lost; in the table they are eight. */
 enum { MOST_CARRIED = 1 };
 
-/* The next step of a pass. Three are steps of wrong tables alone (tests/wrong_steps.txt): RAISE_EARLY,
- * LOWER_LATE and FINISH_EARLY. */
+/* The next step of a pass. RAISE_EARLY, LOWER_LATE and FINISH_EARLY are steps of wrong tables alone
+ * (tests/wrong_steps.txt). */
 enum step {
     IDLE, LIST, ANNOUNCE, CONFIRM, WITHDRAW, DROP, TAKE, HEAT, GUARDED, COUNTED, REST, SEEK, BIRTH, LOWER, CHECK, BREAK,
     SWAP, RAISE, SKIM, VISIT, CHARGE_HOLD, FINISH, RETIRE, PEEK, EXCHANGE, PEEK_GROUP, DECIDE_FIRST, BEGIN, ASK, COUNT,

@@ -1,10 +1,11 @@
-/* Makes the steps of the lasting table of model/ in every order, and checks every state that they reach.
+/* Makes the steps of the lasting table of model/ in every order, and checks every state that they
+ * reach.
  *
  * What may come next depends on a state alone, so of two orders that reach the same state only one
  * is continued, and a family is done when no new state comes. A line is printed for each family,
- * with the number of its states and steps, and the fault that is found. With an argument, the number
- * of a family, the families from that one on are explored, up to the first fault. The exit status is
- * 1 if a family isn't right. */
+ * with the number of its states and steps, and the fault that is found. With an argument, the
+ * number of a family, the families from that one on are explored, up to the first fault. The exit
+ * status is 1 if a family isn't right. */
 #include <stdio.h>
 #include <stdlib.h>
 #include <string.h>
@@ -117,7 +118,7 @@ static long go_on(const union node *it) {
     return steps;
 }
 
-/* Explores a family from its first state, and prints it. Returns whether nothing is wrong with it. */
+/* Explores a family from its first state, and prints it. Returns whether it is right. */
 static bool explore(const char *name, const union node *first) {
     long steps = 0;
     fault = NULL;
