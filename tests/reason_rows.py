@@ -208,9 +208,3 @@ def wrong_rows():
 
 def count():
     return sum(1 + len(others) for _, _, others in ROWS)
-
-
-def command():
-    for it in wrong_rows():
-        print(*it)
-    print(count())

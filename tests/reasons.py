@@ -1,12 +1,9 @@
-"""reasons LOG FACTS: checks the reason why a log of calls in flight is not legal: whether each of its steps follows from the log and from
-earlier steps, and whether they contradict each other. Written from docs/inside/FLIGHT.md and docs/inside/MODEL.md alone; it shares nothing with
-the library. FACTS has a list in JSON, with a list for each step: the rule, the lines of the events that it is applied to, the number of an
-access, the numbers of earlier steps, the earlier point, the later point, and whether the points differ in time. A point is ["event", LINE],
-["access", LINE OF THE ANSWER, NUMBER], ["put", MARK] or ["gone", MARK, SLOT]. Prints what is wrong, or nothing."""
-import json
-import re
-import sys
-from typing import NamedTuple
+"""Checks the reason why a log of calls in flight is not legal: whether each of its steps follows from the log and from earlier steps, and
+whether they contradict each other. Written from docs/inside/FLIGHT.md and docs/inside/MODEL.md alone; it shares the reader of lines with the
+module yachtlog, and nothing with the library. A step is the rule, the lines of the events that it is applied to, the number of an access, the
+numbers of earlier steps, the earlier point, the later point, and whether the points differ in time. A point is EVENT and its line, ACCESS,
+the line of the answer and a number, PUT and a mark, or GONE, a mark and a slot."""
+import yachtlines
 
 EVENT, ACCESS, PUT, GONE = "event", "access", "put", "gone"
 CANCELED = -125
@@ -21,102 +18,47 @@ def want(holds, why):
         raise Wrong(why)
 
 
-class Request(NamedTuple):
-    """A request: its kind, or `any` for an open at any slot; its slot, or None for that; the file that an open names; and an update's list."""
-
-    kind: str
-    slot: int
-    name: str = ""
-    entries: tuple = ()
-
-
-def request_of(text):
-    kind, *words = [it for it in text.split() if it not in ("link", "hardlink")]
-    if kind == "open":
-        return Request("any", None, words[0]) if words[1] == "any" else Request(kind, int(words[2]), words[0])
-    if kind in ("update", "regupdate"):
-        return Request("update", int(words[0]), "", tuple(map(int, words[1].split(","))))
-    return Request(kind, int(words[0]))
-
-
 class Log:
-    """The lines of a log, from 1. With `tags`, the tag of a file comes in place of its close."""
+    """What the lines of a log say, as the module yachtlines reads them. With `tags`, the tag of a file comes in place of its close."""
 
     def __init__(self, text, tags=False):
-        self.lines = [""] + text.split("\n")[:-1]
-        self.names = [it.split()[1] for it in self.lines if re.match("(file|pipe) ", it)]
-        self.is_of_pipes = any(it.startswith("pipe ") for it in self.lines)
-        self.size = next(int(it.split()[3]) for it in self.lines if re.match(r"call \d+ sparse ", it))
-        self.calls = {int(it.split()[1]): at for at, it in enumerate(self.lines) if re.match(r"call \d+ (?!sparse)", it)}
-        tagged = {it.split()[1] for it in self.lines if it.startswith("tag ")} if tags else set()
-        self.closes = {}
-        for at, it in enumerate(self.lines):
-            word, *rest = it.split() or [""]
-            if word == "tag" and tags:
-                self.closes[at] = mark_of(rest[0])
-            if word == "closed" and rest[0] not in tagged:
-                self.closes[at] = mark_of(rest[0]) if self.file_of(mark_of(rest[0])) == rest[1] else (0, 0, 0)
-        self.answers = {}
-        for at, it in enumerate(self.lines):
-            if re.match(r"done \d+\.\d+ ", it) and int(it.split()[1].split(".")[0]) in self.calls:
-                self.answers.setdefault(mark_of(it.split()[1]), []).append((at, it.split()))
-        self.fed = {it.split()[2].lower(): it.split()[1] for it in self.lines if it.startswith("fed ")}
+        self.read = yachtlines.Lines(text)
+        self.all = list(self.read.readings())[tags]
+        # the answer of a read of a pipe comes before the end of its hold
+        self.events = {it.line: it for it in reversed(self.all)}
+        self.calls = {it.call: it.line for it in self.all if it.word == "call"}
+        self.closes = {it.line: it.mark for it in self.all if it.word == "closed"}
+        self.lines = {(it.call, it.member): it.line for it in self.all if it.word == "done"}
+        self.size = self.read.slots
 
     def chain(self, call):
         """Returns the requests of a call."""
         want(call in self.calls, f"there is no call {call}")
-        return [request_of(it) for it in self.lines[self.calls[call]].split(" ", 2)[2].split(" ; ")]
+        return self.read.chains[call]
 
     def request(self, call, member):
         """Returns the request of a member, or None if the call has no such member."""
         chain = self.chain(call)
         return chain[member - 1] if 1 <= member <= len(chain) else None
 
-    def file_of(self, mark):
-        """Returns the name of the file that the request of a mark installs, or None."""
-        call, member, entry = mark
-        request = self.request(call, member) if call in self.calls else None
-        if request and request.kind in ("open", "any") and entry == 0:
-            return request.name if request.name in self.names else None
-        number = request.entries[entry] if request and entry < len(request.entries) else -1
-        return self.names[number] if 0 <= number < len(self.names) else None
+    def event_at(self, line, word):
+        want(line in self.events and self.events[line].word == word, f"line {line} is no {word}")
+        return self.events[line]
 
     def call_at(self, line):
         """Returns the call that a line begins."""
-        words = self.line(line).split()
-        want(words[0] == "call" and int(words[1]) in self.calls, f"line {line} begins no call")
-        return int(words[1])
-
-    def line(self, line):
-        want(0 < line < len(self.lines), f"there is no line {line}")
-        return self.lines[line]
+        return self.event_at(line, "call").call
 
     def answer_at(self, line):
         """Returns the call and the member that a line answers, the result and what follows it."""
-        words = self.line(line).split()
-        want(words[0] == "done", f"line {line} is no answer")
-        call, member = map(int, words[1].split("."))
-        want(call in self.calls, f"line {line} answers no call")
-        return call, member, int(words[2]), words[3:]
-
-    def is_event(self, line):
-        words = self.line(line).split()
-        if words[0] in ("call", "done"):
-            return int(words[1].split(".")[0]) in self.calls
-        return line in self.closes if words[0] in ("closed", "tag") else words[0] in ("free", "settled")
+        it = self.event_at(line, "done")
+        return it.call, it.member, *self.read.answers[it.call, it.member]
 
     def found_at(self, line):
         """Returns the look that a line answers, and the file that it found."""
-        call, _, result, more = self.answer_at(line)
-        kind = self.chain(call)[0].kind
-        want(result >= 0 and (kind == "look" or self.is_of_pipes and kind == "read"), f"line {line} finds no file")
-        return call, mark_of(more[0]) if kind == "look" else self.pipe_of(more[0])
-
-    def pipe_of(self, byte):
-        """Returns the mark of the pipe that a read found, by the byte that the pipe alone was fed."""
-        marks = [(call, member, entry) for call in self.calls for member, request in enumerate(self.chain(call), 1)
-                 for entry in range(len(request.entries)) if self.file_of((call, member, entry)) == self.fed.get(byte.lower(), "")]
-        return marks[0] if len(marks) == 1 else (0, 0, 0)
+        call, _, _, found = self.answer_at(line)
+        want(self.chain(call)[0].kind == "look" and found, f"line {line} finds no file")
+        return call, found
 
     def access(self, call_line, line, number):
         """Returns what is known of an access of the member that a line answers, by the answer: the slot that the access leaves, with the file
@@ -136,7 +78,7 @@ class Log:
         kind, slot = request.kind, request.slot
         if result in (CANCELED, -12) or kind != "update" and self.refusal(request):
             return []
-        if kind == "any":
+        if slot is None:
             return [(result, (*place, 0)) if result >= 0 else None]
         if kind == "update":
             rows = [(slot + at, (*place, at) if it >= 0 else None) for at, it in enumerate(request.entries) if it >= -1]
@@ -145,8 +87,8 @@ class Log:
             return []
         if kind == "open":
             return [(slot, (*place, 0))]
-        if kind == "look" or kind == "read" and self.is_of_pipes:
-            return [(slot, self.found_at(line)[1])] if result >= 0 else [(slot, None)]
+        if kind == "look":
+            return [(slot, self.found_at(line)[1] if result >= 0 else None)]
         # a close leaves its slot empty, whatever it finds; a read that answers -9 found it empty
         return [(slot, None) if kind == "close" or result < 0 else None]
 
@@ -155,7 +97,7 @@ class Log:
         self.access(call_line, line, number)
         call, member, result, _ = self.answer_at(line)
         request = self.request(call, member)
-        if request.kind == "any":
+        if request.slot is None:
             return range(self.size) if result < 0 else []
         return [request.slot] if request.kind in ("close", "read", "look") and result >= 0 else []
 
@@ -164,7 +106,7 @@ class Log:
         slot, or None if it may be any, and the file that it installs, or None."""
         for call, line in self.calls.items():
             for member, it in enumerate(self.chain(call) if line < before else [], 1):
-                if it.kind in ("close", "open", "any") and not self.refusal(it):
+                if it.kind in ("close", "open") and not self.refusal(it):
                     yield call, member, 0, it.slot, None if it.kind == "close" else (call, member, 0)
                 made = [at for at, entry in enumerate(it.entries) if entry >= -1 and not self.refusal(it)]
                 for number, at in enumerate(made):
@@ -181,33 +123,29 @@ class Log:
 
     def refusal(self, request):
         """Returns the answer of a request that changes nothing, whatever is at the slots, or None."""
-        if request.kind in ("open", "any") and request.name not in self.names:
+        if request.kind == "open" and request.name not in self.read.names:
             return -2
-        if request.kind in ("open", "close", "update") and request.slot + max(len(request.entries), 1) > self.size:
+        if request.kind in ("open", "close", "update") and (request.slot or 0) + max(len(request.entries), 1) > self.size:
             return -22
-        return -9 if any(not -2 <= it < len(self.names) for it in request.entries) else None
+        return -9 if any(not -2 <= it < len(self.read.contents) for it in request.entries) else None
 
     def slot_of(self, file, result):
         """Returns the slot at which a member that answered a result installed a file."""
         call, member, entry = file
         request = self.request(call, member)
-        return result if request.kind == "any" else request.slot + entry
+        return result if request.slot is None else request.slot + entry
 
     def answer_of(self, file):
         """Returns the line and the result of the answer of the member that installs a file, or 0 twice."""
-        for line, words in self.answers.get(file[:2], ()):
-            return line, int(words[2])
-        return 0, 0
+        return (self.lines[file[:2]], self.read.answers[file[:2]].result) if file[:2] in self.lines else (0, 0)
 
     def left_before(self, slot, before):
         """Yields for each access to a slot that was answered before a line, and whose answer says what it leaves there, the line of its call
         and the file, or None."""
-        for (call, _), those in self.answers.items():
-            for line, _ in those:
-                for number in range(len(self.accesses_of(line)) if line < before else 0):
-                    left = self.access(self.calls[call], line, number)
-                    if left and left[0] == slot:
-                        yield self.calls[call], left[1]
+        for (call, _), line in self.lines.items():
+            for left in self.accesses_of(line) if line < before else ():
+                if left and left[0] == slot:
+                    yield self.calls[call], left[1]
 
     def may_answer(self, request, result, more):
         """Returns whether a request of a chain may have a result, and words after it, whatever it finds."""
@@ -218,13 +156,9 @@ class Log:
             return result == refusal
         if kind == "read":
             return result == -9 or result >= 0 and request.slot < self.size
-        if kind == "any":
+        if request.slot is None:
             return result == -23 or 0 <= result < self.size
         return result in {"open": (0,), "close": (0, -9), "update": (len(request.entries),)}[kind]
-
-
-def mark_of(word):
-    return tuple(map(int, word.split(".")))
 
 
 def is_put(point):
@@ -246,7 +180,7 @@ class Reason:
         return wanted(lines, access, [self.known[it] for it in premises], *named)
 
     def _events(self, lines, access, premises):
-        want(lines[0] < lines[1] and all(map(self.log.is_event, lines)), "the lines are in another order, or no events")
+        want(lines[0] < lines[1] and self.log.events.keys() >= set(lines), "the lines are in another order, or no events")
         return (EVENT, lines[0]), (EVENT, lines[1]), True
 
     def _begins(self, lines, access, premises):
@@ -299,7 +233,7 @@ class Reason:
     def _settles(self, lines, access, premises):
         (line,) = lines
         (put, event, is_before), (there, gone, is_there) = premises
-        want(self.log.line(line) == "settled" and is_before and event == (EVENT, line), "nothing is settled after the installation")
+        want(self.log.event_at(line, "settled") and is_before and event == (EVENT, line), "nothing is settled after the installation")
         want(is_there and gone[0] == GONE and put == there == (PUT, gone[1]), "the file isn't known to be at a slot")
         want(all(file != gone[1] for at, file in self.log.closes.items() if at < line), "the file was closed before")
         return (EVENT, line), gone, True
@@ -352,7 +286,7 @@ class Reason:
     def _closes_held(self, lines, access, premises):
         look, file = self.log.found_at(lines[0])
         want(lines[0] < lines[1] and self._closed(lines[1]) == file, "another file was closed, or before the look")
-        want(f"free {look}" not in self.log.lines[: lines[1]] and not self.log.is_of_pipes, "the look doesn't hold the file")
+        want(all((it.word, it.call) != ("free", look) for it in self.log.all if it.line < lines[1]), "the look doesn't hold the file")
         return (EVENT, lines[1]), (EVENT, lines[1]), True
 
     def _cant_answer(self, lines, access, premises):
@@ -385,7 +319,7 @@ class Reason:
 
     def _lands(self, lines, access, premises, slot):
         put, may = self._landing(premises, slot)
-        want(may and self.log.file_of(put[1]) and self.log.request(*put[1][:2]).kind != "any", "it isn't the only slot")
+        want(may and self.log.read.file_of(put[1]) >= 0 and self.log.request(*put[1][:2]).slot is not None, "it isn't the only slot")
         return put, (GONE, put[1], slot), True
 
     def _misses(self, lines, access, premises, slot):
@@ -405,7 +339,7 @@ class Reason:
 
     def _stays(self, lines, access, premises):
         ((since, gone, is_there),) = premises
-        want(is_there and since[0] == EVENT and gone[0] == GONE and self.log.is_event(lines[0]), "the file isn't known to be there")
+        want(is_there and since[0] == EVENT and gone[0] == GONE and lines[0] in self.log.events, "the file isn't known to be there")
         self._want_taker(None, since[1], gone, lines[0])
         return (EVENT, lines[0]), gone, True
 
@@ -446,12 +380,6 @@ class Reason:
         return before, after, True
 
 
-def point_of(words):
-    """Returns a point as this program writes it."""
-    kind, *rest = words
-    return kind, *(tuple(it) if isinstance(it, list) else it for it in rest)
-
-
 def facts_of(steps):
     """Returns steps that yachtjudge.explain_events returns as this program reads them."""
     def point(it):
@@ -465,7 +393,7 @@ def complaint(text, facts, tags=False):
     try:
         reason = Reason(Log(text, tags))
         for nth, (rule, lines, access, premises, before, after, is_strict) in enumerate(facts):
-            order = point_of(before), point_of(after), bool(is_strict)
+            order = before, after, is_strict
             # the file of a call and the slot of a close are named by the order alone
             points = order[:2],
             named = {"calls": order[1][1:2], "closes": order[0][2:3], "lands": order[1][2:3], "misses": order[0][2:3], "holds": points,
@@ -480,10 +408,3 @@ def complaint(text, facts, tags=False):
         return f"the log or the facts can't be read: {fault!r}"
     before, after, is_strict = reason.known[-1] if reason.known else ("", "-", False)
     return "" if is_strict and before == after else "the last step has no point before itself"
-
-
-def command():
-    with open(sys.argv[1], encoding="latin-1") as log, open(sys.argv[2], encoding="ascii") as given:
-        wrong = complaint(log.read(), json.load(given))
-    print(wrong, end="\n" if wrong else "")
-    return bool(wrong)
