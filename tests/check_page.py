@@ -17,7 +17,7 @@ from scripts.programs import run
 from scripts.repository import ROOT, read, write
 
 # the numbers of cases that need fixcheck, and mandoc
-OF_FIXCHECK, OF_MANDOC = 14, 3
+OF_FIXCHECK, OF_MANDOC = 13, 3
 # the first lines of README.md that name its readers, and its largest number of bytes
 HEAD, MOST_BYTES = 12, 8_200
 # the number of cases of the tutorial, that of logs of which one must show the bug, the most lines
@@ -232,11 +232,6 @@ def recording(checks):
             checks.want(holds, f"not right: {what}")
 
 
-def shows_history(fixcheck):
-    """Checks whether docs/use/CHECKING.md shows the history that fixcheck prints of its first example."""
-    return run([fixcheck, "--history", *(f"{ROOT}/examples/open_read_close.{it}" for it in ("script", "text"))])[1] in texts_of("docs/use/CHECKING.md")
-
-
 def command():
     given = arguments(__doc__, "program fixcheck?")
     checks, program, page = Counted("page"), given.program, read("docs/use/SCRIPT.md")
@@ -254,8 +249,6 @@ def command():
     checks.want(first in blocks(read("docs/inside/LIBRARY.md"), spans_gaps=True), "docs/inside/LIBRARY.md has another program than first.rt")
     for name, holds in manual_pages({"fixfiles": program, "fixcheck": given.fixcheck}) if given.fixcheck else ():
         checks.want(holds, f"not right: {name}")
-    if given.fixcheck:
-        checks.want(shows_history(given.fixcheck), "docs/use/CHECKING.md has another history than fixcheck prints")
     table = dict(faults(section(page, "## Faults")))
     names = re.findall(r'ScriptFault::\w+ => "([a-z-]+)"', read("crates/fx_language/src/fault.rt"))
     checks.want(list(table) == names, f"the faults of docs/use/SCRIPT.md are not those of fx_language, in their order: {names}")

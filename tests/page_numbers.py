@@ -7,11 +7,13 @@ word, in which {=EXPRESSION} is a number that is computed: of constants (`fx_las
 of number_sources.py, of the names after `== names`, and of Python's operators. {=EXPRESSION;d} is the number without commas. A row with one
 has no other number, but those that the expression has, as in the name of a kept row. Each other row is after a line with its source:
 `-- in FILE, ..`, of which one has the row word for word; `-- run by CHECK`, which plays the page's samples and names the page; or
-`-- REASON`, which says why the number is neither computed nor held to a file.
+`-- REASON`, which says why the number is neither computed nor held to a file. A number beside its name needs no row: -9 (`EBADF`), and on
+the manual page of a library YACHT_X (9).
 
 Some rows are of several lines of the page's indented blocks. {NAME~PATTERN} stands for what fits the pattern, and the expressions have it by
 its name: a row with it is one for each line that fits. {N lines of FILE} is one for each of the N lines that the file has, in its order.
 {samples SUM} is one for all lines with a number that has no other row: their checksum."""
+import errno
 import functools
 import glob
 import os
@@ -30,6 +32,8 @@ EXPRESSION = re.compile(r"\{=([^{}]+)\}")
 NAMED, LINES_OF, MARKS = re.compile(r"\{(\w+)~([^{}]+)\}"), re.compile(r"\{(\d+) lines of (.+)\}"), re.compile(r"(\{[=\w][^{}]*\})")
 # what stands for the samples of a page: their checksum
 SEAL = re.compile(r"\{samples \w+\}")
+# a number beside the name of its error, or of its constant
+BESIDE = re.compile(r"(-\d+)(?: is)? \(?`(E[A-Z]+)|(YACHT_\w+) \(([\d,]+)\)")
 # the words before and after a number that a row gets
 AROUND = 2
 # what the lines begin with that name the source of the rows after them
@@ -118,6 +122,16 @@ class Page:
             yield self.text[begin:end]
 
 
+def beside_names(page):
+    """Yields the parts of a page with a number beside its name, if it is the number of that error, or of that constant of the header."""
+    header = os.path.basename(page.path).split(".")[0]
+    for part, (error, name, constant, number) in ((it[0], it.groups()) for it in BESIDE.finditer(page.text)):
+        if name and int(error) == -getattr(errno, name, 0):
+            yield part
+        if constant and page.path.startswith("man/yacht") and number == f"{number_sources.constant(header, constant):,}":
+            yield part
+
+
 @functools.cache
 def sources():
     """Returns what expressions may name."""
@@ -198,7 +212,7 @@ def kind_of(row, reason):
 def complaints(page, rows, every=(), kinds=None):
     """Yields a line for each row that a page doesn't have or that lacks its source, and for each number that no row has, nor a part of
     every page. Counts the numbers by the kinds of their rows."""
-    parts, seal = dict(every), None
+    parts, seal = dict(every) | dict.fromkeys(beside_names(page), "computed"), None
     for row, reason in rows:
         try:
             its, lack = [] if SEAL.fullmatch(row) else parts_of_row(row, page), lacks_source(page.path, row, reason)
