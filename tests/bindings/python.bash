@@ -81,7 +81,7 @@ wrong_module() {
 
 in_python() {
     want 'the judge from Python is wrong over the examples' judges_examples
-    want 'the judge from Python is wrong' judges_rows judge_rows 209
+    want 'the judge from Python is wrong' judges_rows judge_rows 165
     want 'the judge from Python is wrong over the stand-in' over_the_stand_in_of_rows
     want 'the judge of logs from Python is wrong' judges_rows log_rows 49
     want 'the verified judge of yachtlog is wrong' proved_logs
