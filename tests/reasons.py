@@ -1,8 +1,12 @@
-"""Checks the reason why a log of calls in flight is not legal: whether each of its steps follows from the log and from earlier steps, and
-whether they contradict each other. Written from docs/inside/FLIGHT.md and docs/inside/MODEL.md alone; it shares the reader of lines with the
-module yachtlog, and nothing with the library. A step is the rule, the lines of the events that it is applied to, the number of an access, the
-numbers of earlier steps, the earlier point, the later point, and whether the points differ in time. A point is EVENT and its line, ACCESS,
-the line of the answer and a number, PUT and a mark, or GONE, a mark and a slot."""
+"""reasons LOG: checks the reason why a log of calls in flight is not legal: whether each of its steps follows from the log and from earlier
+steps, and whether they contradict each other. The exit status is 0 if it is so, 1 if it isn't, and 2 if no reason is found.
+
+Written from docs/inside/FLIGHT.md and docs/inside/MODEL.md alone; it shares the reader of lines with the module yachtlog, and nothing with
+the library. A step is the rule, the lines of the events that it is applied to, the number of an access, the numbers of earlier steps, the
+earlier point, the later point, and whether the points differ in time. A point is EVENT and its line, ACCESS, the line of the answer and a
+number, PUT and a mark, or GONE, a mark and a slot."""
+import sys
+
 import yachtlines
 
 EVENT, ACCESS, PUT, GONE = "event", "access", "put", "gone"
@@ -408,3 +412,19 @@ def complaint(text, facts, tags=False):
         return f"the log or the facts can't be read: {fault!r}"
     before, after, is_strict = reason.known[-1] if reason.known else ("", "-", False)
     return "" if is_strict and before == after else "the last step has no point before itself"
+
+
+def command():
+    import yachtjudge
+    import yachtlog
+
+    with open(sys.argv[1], "rb") as file:
+        log = yachtlog.Log(file.read())
+    line = log.judge().line
+    for nth, events in enumerate(log.readings()):
+        steps = yachtjudge.explain_events(log, line, events) if any(it.line == line for it in events) else ()
+        if steps:
+            wrong = complaint(log.source, facts_of(steps), bool(nth))
+            print(wrong, end="\n" if wrong else "")
+            return bool(wrong)
+    return 2

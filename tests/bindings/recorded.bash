@@ -34,7 +34,7 @@ legal() {
 
 # reasoned LOG: the reason of a log that is not legal follows from the log
 reasoned() {
-    YACHTBANYAN_LIB_DIR=$libraries PYTHONPATH=bindings/python:$PWD python3 -B tests/bindings/reasoned.py "$1"
+    YACHTBANYAN_LIB_DIR=$libraries scripts/run tests.reasons "$1"
 }
 
 # found TABLE [none]: one of twenty logs is not legal, and has a right reason; with `none`, perhaps
