@@ -1,5 +1,5 @@
-/* The reason of a log in C: its last step, less room than it needs, what is no log, and each
- * allocation failing in turn. tests/reasons.py checks its steps. */
+/* The reason of a log in C: its last step, less room than it needs, and each allocation failing in
+ * turn. tests/reasons.py checks its steps. */
 #include "judge_log.h"
 #include "refusing.h"
 
@@ -38,16 +38,6 @@ static void stale(void) {
     WANT(explain(6, ROOM) == YACHT_UNDECIDED && explain(UINT64_MAX, ROOM) == YACHT_UNDECIDED && has_details(0, 0, 0, 0));
 }
 
-static void refused(void) {
-    held.events[5].file = 1;
-    WANT(explain(5, ROOM) == YACHT_MALFORMED && has_details(0, 5, YACHT_FLAW_FILE, 0));
-    held.events[5].file = 0;
-    WANT(yacht_explain_events((const uint8_t *)"file a\n", 7, 1, held.requests, 0, held.entries, 0, held.bytes, 0, held.events, 0, 0, steps, ROOM,
-                              &reason) == YACHT_BAD_SCRIPT && has_details(0, 0, 0, 1));
-    WANT(yacht_explain_events((const uint8_t *)catalogue, strlen(catalogue), YACHT_MOST_LOG_SLOTS + 1, held.requests, 0, held.entries, 0, held.bytes, 0,
-                              held.events, 0, 0, steps, ROOM, &reason) == YACHT_TOO_MANY_SLOTS && has_details(0, 0, 0, 0));
-}
-
 static void refused_allocations(void) {
     int refused = 0;
     uint32_t answer = YACHT_JUDGE_NO_MEMORY;
@@ -62,7 +52,6 @@ static void refused_allocations(void) {
 
 int main(void) {
     stale();
-    refused();
     refused_allocations();
     WANT(reason.steps > 5);
     return report("judge reasons");
