@@ -3,7 +3,7 @@ print the text beside or after them, and the script of each row of the table of 
 its last line. The printed lines in docs/inside/LIBRARY.md must be those that are kept of it, and the history in docs/inside/PROOFS.md that of
 model/picture. The tutorial of docs/use/RECORDING.md is followed by its commands, over the library. The reproducer of
 docs/use/BAD_ENTRY.md, the judge of docs/use/C.md and the crate without the library, by docs/use/RUST.md, are run. With FIXCHECK it looks at
-the history in docs/use/CHECKING.md, and at man/fixfiles.1 and man/fixcheck.1 too: their options, which are those of the completions too, their numbers and statuses are those of the
+man/fixfiles.1 and man/fixcheck.1 too: their options, which are those of the completions too, their numbers and statuses are those of the
 programs' help, their examples are played, and mandoc, where it is there, finds nothing to complain of."""
 import os
 import re
