@@ -2,8 +2,8 @@
 pub use Rattle.fx_lasting.proofs.Turns.{Homes, word_at, LabelSame, labels_same, slot_word, now, logged, met_same, Turn, turn_of, Made, by_turn}
 pub use Rattle.fx_lasting.proofs.Turns.{few_in_range}
 use Rattle.fx_lasting.proofs.Words.{Contains, contains_head, contains_only, ◌≡◌, ◌≢◌, ℕ, ◌+◌, ◌<◌, ◌≤◌, List, [], ◌∷◌, ◌++◌, map, set, length, sym}
-use Rattle.fx_lasting.proofs.Words.{refl, ap, ◌∙◌, subst, arith, Option, inl, inr, eq-eqb, eqb, some, get_elem?, Closed, part_of_pass, Event}
-use Rattle.fx_lasting.proofs.Words.{Action, sum_by, sum_set, sum_at, Bool, true, ⊎_elim, one_if, held_by}
+use Rattle.fx_lasting.proofs.Words.{refl, ap, ◌∙◌, subst, arith, Option, inl, some, get_elem?, Closed, part_of_pass, Event}
+use Rattle.fx_lasting.proofs.Words.{Action, sum_by, sum_set, Bool, true, ⊎_elim, held_by}
 use Rattle.fx_lasting.proofs.Words.{IsSeenBy, at_set, SlotAgrees, NodeAgrees, OwnerAgrees, WorkAgrees}
 use Rattle.fx_lasting.proofs.Words.{LogAgrees, ViewAgrees, Agrees, RangeCounts, HoldAgrees, GuardAgrees, GlanceAgrees, Heats, IsAllowed}
 use Rattle.fx_lasting.proofs.Words.{count_in, word_of, hold_word_of, Shared, slots_of, nodes_of, range_at_start, state_after_all}
@@ -304,7 +304,8 @@ module _ (turn : Turn) where
     seen = seen;
     legal = legal;
     own = own;
-    steps = refl;
+    steps = omega arith;
+    begun = omega arith;
     listed = ap (λ (z : Bool × Survey × List ℕ). z.0) same;
     asked = ap (λ (z : Bool × Survey × List ℕ). z.1) same;
     stock = ap (λ (z : Bool × Survey × List ℕ). z.2) same;

@@ -7,10 +7,10 @@ use Rattle.fx_lasting.proofs.Words.{LastingTable, IsSeatOf, IsPassOf, IsPassOfTa
 use Rattle.fx_lasting.proofs.Words.{pass_in, numbers_of_pass, doing_in, hold_at, retired_at, retiring_work, IsHistory, Action, ◌▷◌, Put, Clear, Take}
 use Rattle.fx_lasting.proofs.Words.{Release, Close, Look, File, Closed, numbered, full_name_in, count_in, LetsFileGo, option_map, Result, Ok, Err}
 use Rattle.fx_lasting.proofs.Words.{ok_or, is_err, is_some, not, ◌==◌, ◌≢◌, not-false, not-true, Use, no_use, one_number, one_look, Adds, IsNewFile}
-use Rattle.fx_lasting.proofs.Words.{Placed, Cleared, Taken, ReleasesFile, LookedAfter, LookedUp, adds_then, adds_nothing, Owing, Yielding, Placing}
+use Rattle.fx_lasting.proofs.Words.{Placed, Cleared, Taken, ReleasesFile, LookedAfter, LookedUp, adds_then, Owing, Yielding, Placing}
 use Rattle.fx_lasting.proofs.Words.{Emptying, HoldsOn, new_round, LooksByTake, LetsChargeGo, Announced, first_visit, heat_in, cond, inl, inr, Opening}
 use Rattle.fx_lasting.proofs.Words.{PassView, IsIdle, IsFileRemoval, Doing, DoesNothing, Holding, Hold, Retired, dite, dec_le, lt-ltb, IsIdleSeatOf}
-use Rattle.fx_lasting.proofs.Words.{HasNoFile, Searching, is_in, account, uncounted, group_of, Allocate, Full, Allocated}
+use Rattle.fx_lasting.proofs.Words.{HasNoFile, Searching, is_in, account, uncounted, group_of, Covered, groups_in, range_at_start}
 use Rattle.fx_table.specs.declared.values.Doing.TheVariants.{Retiring as Retires}
 use Rattle.fx_table.specs.declared.values.Empty.{Empty}
 use Rattle.fx_table.specs.declared.values.LookFault.{LookFault}
@@ -35,39 +35,56 @@ adds_run m {k} started {m'} r used = record {
   looks_left = refl;
 }
 
-module _ {id : TableId} {k : Start} {p : LastingPass} (seated : IsSeatOf id k p) where
-  started : p.seat.me.0.start ≡ k
-  started = seated.at.pass.0
+-- A pass whose seat has made some steps from here, as a pass with this number
+module _ {id : TableId} {k : Start} {number : ℕ} {m : Sat} (at : IsAtWork k number m) (q : LastingPass) {xs : List Action} {w : Work} {g : Glance}
+    {c : Change} {n : ℕ} (r : Runs m xs w g c n q.seat.me) where
+  -- its fields fit its work
+  pub goes_on : c ≡ Outside → q.number ≡ number → q.seat.table_id ≡ id → q.seat.me.1 ≡ []
+      → (q.stock.items ≡ (pass_in m).stock) × (q.number ≤ k.installing → q.next_entry < k.passes)
+      → (q.listed ≡ (pass_in m).listed) × (q.sure ≡ true → (pass_in m).asked ≡ Covered (groups_in (range_at_start k).1)) → IsSeatOf id k q
+  goes_on out same table places stocked flags = record {
+    table = table;
+    places = places;
+    at = subst (λ (i : ℕ). IsAtWork k i q.seat.me) (sym same) (still_at_work at r);
+    change = r.change ∙ out;
+    stock = stocked.0 ∙ sym r.stock;
+    next = stocked.1;
+    listed = flags.0 ∙ sym r.listed;
+    sure = λ is. r.asked ∙ flags.1 is;
+  }
 
+  -- it is between two calls
+  pub rests_on : IsSeatOf id k q → g ≡ Nothing → Knows k.passes q w → IsPassOf id k q
+  rests_on seated calm knows = record {
+    seated = seated;
+    calm = r.glance ∙ calm;
+    knows = subst (Knows k.passes q) (sym r.work) knows;
+    front = (adds_run m at.pass.0 r no_use).front;
+  }
+
+module _ {id : TableId} {k : Start} {p : LastingPass} (seated : IsSeatOf id k p) where
   -- the changes that a pass's steps make to its view
   pub adds_so : {m' : Sat} {xs : List Action} {w : Work} {g : Glance} {c : Change} {n : ℕ} → Runs p.seat.me xs w g c n m' → (used : Use)
       → Adds (opening_of k) (view_of p) xs (doing_in w) used (pass_of m'.0)
-  adds_so = adds_run p.seat.me started
+  adds_so = adds_run p.seat.me seated.at.pass.0
+
+  -- a pass that is listed, and sure, as it was
+  pub same_flags : (q : LastingPass) → ◌≡◌ {A = Bool × Bool} (q.listed, q.sure) (p.listed, p.sure)
+      → (q.listed ≡ (pass_in p.seat.me).listed) × (q.sure ≡ true → (pass_in p.seat.me).asked ≡ Covered (groups_in (range_at_start k).1))
+  same_flags q same =
+      (ap (λ (z : Bool × Bool). z.0) same ∙ seated.listed, λ is. seated.sure (sym (ap (λ (z : Bool × Bool). z.1) same) ∙ is))
 
   -- a pass whose seat has made some steps, and whose fields fit its work
   pub still_seat : (q : LastingPass) {xs : List Action} {w : Work} {g : Glance} {n : ℕ} → Runs p.seat.me xs w g Outside n q.seat.me
       → (q.number ≡ p.number) × ◌≡◌ {A = Bool × Bool} (q.listed, q.sure) (p.listed, p.sure) → q.seat.table_id ≡ p.seat.table_id → q.seat.me.1 ≡ []
       → (q.stock.items ≡ p.stock.items) × (q.number ≤ k.installing → q.next_entry < k.passes) → IsSeatOf id k q
-  still_seat q r same table places stocked = record {
-    table = table ∙ seated.table;
-    places = places;
-    at = subst (λ (n : ℕ). IsAtWork k n q.seat.me) (sym same.0) (still_at_work seated.at r);
-    change = r.change;
-    stock = stocked.0 ∙ (seated.stock ∙ sym r.stock);
-    next = stocked.1;
-    listed = ap (λ (z : Bool × Bool). z.0) same.1 ∙ (seated.listed ∙ sym r.listed);
-    sure = λ is. r.asked ∙ seated.sure (sym (ap (λ (z : Bool × Bool). z.1) same.1) ∙ is);
-  }
+  still_seat q r same table places stocked = goes_on seated.at q r refl same.0 (table ∙ seated.table) places (stocked.0 ∙ seated.stock, stocked.1)
+      (same_flags q same.1)
 
   pub still_pass : (q : LastingPass) {xs : List Action} {w : Work} {n : ℕ} → Runs p.seat.me xs w Nothing Outside n q.seat.me
       → (q.number ≡ p.number) × ◌≡◌ {A = Bool × Bool} (q.listed, q.sure) (p.listed, p.sure) → q.seat.table_id ≡ p.seat.table_id → q.seat.me.1 ≡ []
       → (q.stock.items ≡ p.stock.items) × (q.number ≤ k.installing → q.next_entry < k.passes) → Knows k.passes q w → IsPassOf id k q
-  still_pass q r same table places stocked knows = record {
-    seated = still_seat q r same table places stocked;
-    calm = r.glance;
-    knows = subst (Knows k.passes q) (sym r.work) knows;
-    front = (adds_so r no_use).front;
-  }
+  still_pass q r same table places stocked = rests_on seated.at q r (still_seat q r same table places stocked) refl
 
 -- a pass that has put another node at an entry of its stock
 module _ {id : TableId} {k : Start} {p : LastingPass} (seated : IsSeatOf id k p) (entry node : ℕ) (inside : node < nodes_of k) where
@@ -79,21 +96,10 @@ module _ {id : TableId} {k : Start} {p : LastingPass} (seated : IsSeatOf id k p)
       → (q.number ≡ p.number) × ◌≡◌ {A = Bool × Bool} (q.listed, q.sure) (p.listed, p.sure) → q.seat.table_id ≡ p.seat.table_id → q.seat.me.1 ≡ []
       → (q.stock.items ≡ set p.stock.items entry node) × (q.number ≤ k.installing → q.next_entry < k.passes)
       → Knows k.passes q w → IsPassOf id k q
-  swapped_pass q r same table places stocked knows = record {
-    seated = record {
-      table = table ∙ seated.table;
-      places = places;
-      at = subst (λ (n : ℕ). IsAtWork k n q.seat.me) (sym same.0) (still_at_work (at_swapped seated.at entry node inside) r);
-      change = r.change;
-      stock = stocked.0 ∙ (ap (λ (l : List ℕ). set l entry node) seated.stock ∙ sym r.stock);
-      next = stocked.1;
-      listed = ap (λ (z : Bool × Bool). z.0) same.1 ∙ (seated.listed ∙ sym r.listed);
-      sure = λ is. r.asked ∙ seated.sure (sym (ap (λ (z : Bool × Bool). z.1) same.1) ∙ is);
-    };
-    calm = r.glance;
-    knows = subst (Knows k.passes q) (sym r.work) knows;
-    front = (adds_swapped r no_use).front;
-  }
+  swapped_pass q r same table places stocked =
+      let at = at_swapped seated.at entry node inside in
+      rests_on at q r (goes_on at q r refl same.0 (table ∙ seated.table) places
+      (stocked.0 ∙ ap (λ (l : List ℕ). set l entry node) seated.stock, stocked.1) (same_flags seated q same.1)) refl
 
 -- it looks nothing up, outside a change
 pub swapped_rest : {id : TableId} {k : Start} {p : LastingPass} → IsPassOf id k p → (entry node : ℕ) → {m' : Sat} {xs : List Action} {w : Work} {n : ℕ}
@@ -113,16 +119,9 @@ module _ {id : TableId} {k : Start} {p : LastingPass} (seated : IsSeatOf id k p)
   pub listed_seat : (q : LastingPass) {w : Work} {g : Glance} {n : ℕ} → Runs (as_listed p.seat.me) [] w g Outside n q.seat.me
       → (q.number ≡ p.number) × ◌≡◌ {A = Bool × Bool} (q.listed, q.sure) (true, p.sure) → q.seat.table_id ≡ p.seat.table_id → q.seat.me.1 ≡ []
       → (q.stock.items ≡ p.stock.items) × (q.number ≤ k.installing → q.next_entry < k.passes) → IsSeatOf id k q
-  listed_seat q r same table places stocked = record {
-    table = table ∙ seated.table;
-    places = places;
-    at = subst (λ (n : ℕ). IsAtWork k n q.seat.me) (sym same.0) (still_at_work (at_listed seated.at) r);
-    change = r.change;
-    stock = stocked.0 ∙ (seated.stock ∙ sym r.stock);
-    next = stocked.1;
-    listed = ap (λ (z : Bool × Bool). z.0) same.1 ∙ sym r.listed;
-    sure = λ is. r.asked ∙ seated.sure (sym (ap (λ (z : Bool × Bool). z.1) same.1) ∙ is);
-  }
+  listed_seat q r same table places stocked = goes_on (at_listed seated.at) q r refl same.0 (table ∙ seated.table) places
+      (stocked.0 ∙ seated.stock, stocked.1)
+      (ap (λ (z : Bool × Bool). z.0) same.1, λ is. seated.sure (sym (ap (λ (z : Bool × Bool). z.1) same.1) ∙ is))
 
 -- a pass that holds a file does so by a take or by its hold word
 pub holds_on : (w : Work) {f : File} {hold : Hold} → doing_in w ≡ Holding f hold → HoldsOn w f hold.node
@@ -464,23 +463,7 @@ idle_seat t fits idle unkept = record {
   change = fits.seated.change;
 }
 
--- an idle pass has added nothing yet
-pub nothing_yet : {id : TableId} {k : Start} {p : LastingPass} → IsPassOf id k p → IsIdle (view_of p)
-    → Adds (opening_of k) (view_of p) [] DoesNothing no_use (view_of p)
-nothing_yet {k = k} {p = p} fits idle = subst (λ (d : Doing). Adds (opening_of k) (view_of p) [] d no_use (view_of p)) idle
-    (adds_nothing (opening_of k) (view_of p) fits.front)
-
 -- a new file, as a lasting table has it
 pub new_file_so : (k : Start) {v u : PassView} {file back : Closed} {new : File} → IsNewFile (opening_of k) v back new → back ≡ file
     → IsNewFile (opening_of k) u file new
 new_file_so k its same = record { identity = its.identity ∙ same; same = λ e. absurd (cc e) }
-
--- a pass that found nothing tries again
-pub allocated_again : (k : Start) {v u : PassView} (w : PassView) {file back : Closed} (found : Result ℕ Closed) → back ≡ file
-    → Adds (opening_of k) v [] DoesNothing no_use u → Allocated (opening_of k) u back found w → Allocated (opening_of k) v file found w
-allocated_again k {v} {u} w (Ok slot) same before found = (
-  found.0,
-  (found.1.0, new_file_so k found.1.1 same, adds_then (opening_of k) v u w [] ([] ▷ Allocate slot found.1.0) DoesNothing DoesNothing no_use one_number before found.1.2),
-)
-allocated_again k {v} {u} w (Err left) same before found =
-    (found.0 ∙ same, adds_then (opening_of k) v u w [] ([] ▷ Full) DoesNothing DoesNothing no_use no_use before found.1)

@@ -1,5 +1,7 @@
 -- A load from which the pass learns nothing keeps the rule.
 use Rattle.fx_lasting.proofs.Words.{ℕ, List, [], refl, Option, none, keeps, step, Closed, Peeks, PeeksKeep, Goes, inl, arith}
+use Rattle.fx_lasting.proofs.Words.{◌≡◌, ◌<◌, LastingTable, IsAtWork, Seat, View, Allows, Agrees, groups_in, group_place}
+use Rattle.fx_lasting.proofs.Calling.{group_word}
 use Rattle.fx_lasting.proofs.Histories.{grows_none}
 use Rattle.fx_lasting.proofs.Keeping.{none_added, Turn, turn_of, Made, by_turn, its_log, its_work, tells, w}
 use Rattle.fx_lasting.proofs.Calm.{read_after, Reads, read_kept}
@@ -37,3 +39,10 @@ module _ (turn : Turn) where
 pub peeks_keep : PeeksKeep Peeks
 peeks_keep k slots id i m x has = by_turn slots (λ _. Unit {0}) (λ _. i) (λ word. word) (λ i. Peeks (step slots i 0 0 none) m)
     has tt refl (λ st r here _ fits. peek (turn_of m x has.1 id st r here) slots i m.1)
+
+-- a pass of a table may so load the word of a group
+pub may_peek : (t : LastingTable) (seat : Seat (Option Closed) View) {p g i : ℕ} → seat.table_id ≡ t.table.shared.table_id
+    → IsAtWork t.table.shared.key p seat.me → g < groups_in t.range_len → i ≡ group_place g
+    → (seat.table_id ≡ t.table.shared.table_id) × (i < t.table.shared.table_id.words)
+    × Allows (Agrees t.table.shared.key) t.table.shared.table_id.slots seat.id seat.me i (λ word. word) (Peeks (step t.table.shared.table_id.slots i 0 0 none) seat.me)
+may_peek t seat table at inside place = (table, group_word t inside place, peeks_keep _ _ _ _ seat.me _ at.pass)

@@ -9,9 +9,7 @@ use Rattle.fx_lasting.proofs.Words.{part_of_pass, IsInside, rested, append_assoc
 use Rattle.fx_lasting.proofs.Words.{Bool}
 
 pub runs_one : {m m' : Sat} {xs : List Action} {w : Work} {g : Glance} {c : Change} → Stepped m xs w g c m' → Runs m xs w g c 1 m'
-runs_one {m} {m'} s =
-    let few : (pass_in m').steps ≤ (pass_in m).steps + 1 = (let e = s.steps in omega arith) in
-    let begun : (pass_in m).steps ≤ (pass_in m').steps = (let e = s.steps in omega arith) in assumption (s, few, begun)
+runs_one {m} {m'} s = let begun : (pass_in m).steps + 0 ≤ (pass_in m').steps = (let e = s.begun in omega arith) in assumption (s, begun)
 
 pub runs_then : {m m' m'' : Sat} {xs ys : List Action} {w w' : Work} {g g' : Glance} {c c' : Change} {n n' : ℕ} → Runs m xs w g c n m'
     → Runs m' ys w' g' c' n' m'' → Runs m (xs ▷▷ ys) w' g' c' (n + n') m''
@@ -88,6 +86,9 @@ module _ {k : Start} {p : ℕ} {m : Sat} (at : IsAtWork k p m) where
 
   pub stock_is : (pass_in m).stock ≡ at.log.stock
   stock_is = ap (λ (l : List Log). (first_log l).stock) at.pass.1
+
+  pub listed_is : at.log.listed ≡ (pass_in m).listed
+  listed_is = sym (ap (λ (l : List Log). (first_log l).listed) at.pass.1)
 
   -- the seat goes on
   pub still_at_work : {m' : Sat} {xs : List Action} {w : Work} {g : Glance} {c : Change} {n : ℕ} → Runs m xs w g c n m' → IsAtWork k p m'

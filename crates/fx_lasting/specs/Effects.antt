@@ -105,17 +105,18 @@ as_swapped entry node m = as_stocked (slice_set (pass_in m).stock entry node) m
 abbrev pub NamesANode : Start → ℕ → Type 0
 NamesANode k found = (name_in found ≢ 0) × (name_in found - 1 < nodes_of k)
 
--- One step of a seat with one pass: it saw more of the history and took these actions, and now it
--- does this work
-pub record Stepped (m : Sat) (actions : List Action) (w : Work) (g : Glance) (c : Change)
-    (m' : Sat) : Type 0 where
+-- From `least` to `most` steps of a seat with one pass: it saw more of the history and took these
+-- actions, and now it does this work
+pub record MakesSteps (m : Sat) (actions : List Action) (w : Work) (g : Glance) (c : Change)
+    (least most : ℕ) (m' : Sat) : Type 0 where
   pub one : (y : Log) × (m'.0.logs ≡ y ∷ [])
   pub number : (pass_in m').number ≡ (pass_in m).number
   pub seen : IsSeenBy (pass_in m).front (pass_in m').front
   pub legal : IsHistory m.0.start (pass_in m').front
   pub own : part_of_pass (pass_in m).number (pass_in m').front
       ≡ map (pass_event (pass_in m)) actions ++ part_of_pass (pass_in m).number (pass_in m).front
-  pub steps : (pass_in m').steps ≡ (pass_in m).steps + 1
+  pub steps : (pass_in m').steps ≤ (pass_in m).steps + most
+  pub begun : (pass_in m).steps + least ≤ (pass_in m').steps
   pub listed : (pass_in m').listed ≡ (pass_in m).listed
   pub asked : (pass_in m').asked ≡ (pass_in m).asked
   pub stock : (pass_in m').stock ≡ (pass_in m).stock
@@ -125,6 +126,10 @@ pub record Stepped (m : Sat) (actions : List Action) (w : Work) (g : Glance) (c 
   pub glance : m'.0.glance ≡ g
   pub change : m'.0.change ≡ c
   pub start : m'.0.start ≡ m.0.start
+
+-- one step
+abbrev pub Stepped : Sat → List Action → Work → Glance → Change → Sat → Type 0
+Stepped m actions w g c m' = MakesSteps m actions w g c 1 1 m'
 
 -- a step that moves no place
 pub record Goes (m : Sat) (actions : List Action) (w : Work) (g : Glance) (m' : Sat) : Type 0 where

@@ -81,7 +81,7 @@ module _ (k : Start) (id : ℕ) (v w : View) (x : Log) (one : v.logs ≡ x ∷ [
       legal = subst (λ (z : Start). IsHistory z r.history) (sym begun) r.life.legal;
       own = subst (λ (z : Log). part_of_pass z.number r.history ≡ part_of_pass z.number z.front) (sym first) passed.own;
       steps = subst (λ (z : Log). x.steps ≤ z.steps + 0) (sym first) (omega arith);
-      begun = subst (λ (z : Log). z.steps ≤ x.steps) (sym first) (omega arith);
+      begun = subst (λ (z : Log). z.steps + 0 ≤ x.steps) (sym first) (omega arith);
       listed = ap (λ (z : Log). z.listed) (sym first);
       asked = ap (λ (z : Log). z.asked) (sym first);
       stock = ap (λ (z : Log). z.stock) (sym first);

@@ -1,9 +1,9 @@
 -- A pass that asks whether the range is full: what its steps leave, one after another.
 use Rattle.fx_lasting.proofs.Words.{◌≡◌, ℕ, ◌+◌, [], ◌▷◌, Full, subst, Bool, true, false, Sat, Work, Glance, Change, Runs, Survey, Covered, as_asked}
-use Rattle.fx_lasting.proofs.Words.{sym, ◌∙◌, ap, IsAtWork, Start, LastingTable, LastingPass, IsPassOfTable, Knows, groups_in, range_at_start}
+use Rattle.fx_lasting.proofs.Words.{refl, sym, ◌∙◌, ap, IsAtWork, Start, LastingTable, LastingPass, IsPassOfTable, groups_in, range_at_start}
 use Rattle.fx_lasting.proofs.Words.{opening_of, view_of, Option, Closed, View, List, Action, arith, HasQuestionOf, pass_in, Seat, adds_nothing, Adds}
 use Rattle.fx_lasting.proofs.Words.{cond, no_use, IsIdle, Doing, DoesNothing, AsksSo, DecidesIf, HasAsked}
-use Rattle.fx_lasting.proofs.Passing.{adds_run}
+use Rattle.fx_lasting.proofs.Passing.{adds_run, goes_on, rests_on}
 use Rattle.fx_lasting.proofs.Running.{runs_then, runs_none, runs_asked, at_asked, still_at_work, number_is}
 
 -- the question word doesn't have the pass's bit
@@ -48,21 +48,10 @@ module _ (t : LastingTable) {p : LastingPass} (fits : IsPassOfTable t p) (seat :
     adds = adds_run (as_asked a p.seat.me) fits.seated.at.pass.0 run no_use
 
     still_fits : IsPassOfTable t (q b)
-    still_fits = record {
-      seated = record {
-        table = table ∙ fits.seated.table;
-        places = places ∙ fits.seated.places;
-        at = still_at_work (at_asked a fits.seated.at) run;
-        change = run.change ∙ fits.seated.change;
-        stock = fits.seated.stock ∙ sym run.stock;
-        next = fits.seated.next;
-        listed = fits.seated.listed ∙ sym run.listed;
-        sure = λ is. run.asked ∙ its is;
-      };
-      calm = run.glance ∙ fits.calm;
-      knows = subst (Knows k.passes (q b)) (sym run.work) fits.knows;
-      front = adds.front;
-    }
+    still_fits =
+        let s = fits.seated in
+        let at = at_asked a s.at in
+        rests_on at (q b) run (goes_on at (q b) run s.change refl (table ∙ s.table) (places ∙ s.places) (s.stock, s.next) (s.listed, its)) fits.calm fits.knows
 
   pub has_asked : {n : ℕ} (b : Bool) → DecidesIf (groups_in t.range_len) n p.seat.me b seat.me → HasAsked t n p b (q b)
   has_asked true tells = let same : groups_in t.range_len ≡ groups_in (range_at_start k).1 = ap (λ (z : ℕ × ℕ). groups_in z.1) t.same_range in record {

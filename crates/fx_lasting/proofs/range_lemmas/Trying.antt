@@ -3,7 +3,7 @@ use Rattle.fx_lasting.proofs.Words.{◌≡◌, ℕ, ◌+◌, ◌*◌, ◌<◌, �
 use Rattle.fx_lasting.proofs.Words.{Allocate, Sat, Work, Glance, Change, Placing, Idle, Outside, Inside, Runs, Goes, Exchanges, slot_of, Stepped}
 use Rattle.fx_lasting.proofs.Words.{LastingTable, IsInRange, List, Action, Start, group_of, range_at_start, node_of_number, ◌▷▷◌, ◌-◌, IsAtWork}
 use Rattle.fx_lasting.proofs.Words.{NamesANode, as_swapped, pass_in, name_in, nodes_of, get_elem?, some, label_of, as_written}
-use Rattle.fx_lasting.proofs.Words.{Option, None, IfSome, IsPlacing, HasAllocated, StillPlaces, group_steps}
+use Rattle.fx_lasting.proofs.Words.{Option, None, IfSome, IsPlacing, HasAllocated, StillPlaces, group_steps, most_carried}
 use Rattle.table_range.proofs.GroupSlots.{by_size}
 use Rattle.fx_lasting.proofs.Running.{runs_one, runs_goes, runs_within, turns_then, does_then, swapped_then, at_swapped, still_at_work}
 
@@ -118,6 +118,13 @@ swapped_does {m' = m'} {m'' = m''} {ys = ys} {w' = w'} {n' = n'} entry node a b 
 pub stocked_at : (stock : List ℕ) (m m' : Sat) (e n : ℕ) → stock ≡ (pass_in m).stock → (pass_in m').stock ≡ (pass_in m).stock → get_elem? stock e ≡ some n
     → get_elem? (pass_in m').stock e ≡ some n
 stocked_at stock m m' e n its same at = ap (λ (l : List ℕ). get_elem? l e) (same ∙ sym its) ∙ at
+
+-- a pass that has placed a file is about to install it
+pub placing_now : {stock : List ℕ} {m m' : Sat} {n lost most : ℕ} (e : ℕ) (file : Closed) {its : Closed} → stock ≡ (pass_in m).stock
+    → Runs m [] (Placing n (as_written lost (label_of file))) m.0.glance m.0.change most m' → lost ≤ most_carried → m'.1 ≡ (n, Some file) ∷ []
+    → get_elem? stock e ≡ some n → its ≡ file → IsPlacing n lost its m'
+placing_now {stock} {m} {m'} {n} {lost} e file same placed few place at is = subst (λ (z : Closed). IsPlacing n lost z m') (sym is)
+    record { work = placed.work; few_lost = few; place = place; stocked = (e, stocked_at stock m m' e n same placed.stock at) }
 
 -- The steps of a search through some groups
 pub group_more : (len count most : ℕ) → most ≤ count * group_steps len → most + group_steps len ≤ (count + 1) * group_steps len

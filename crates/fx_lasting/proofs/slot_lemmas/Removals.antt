@@ -1,12 +1,12 @@
 -- A pass that emptied a slot: what the step leaves, and the pass with the stock that it has then.
-use Rattle.fx_lasting.proofs.Words.{◌≡◌, ◌≤◌, ◌<◌, ℕ, ◌+◌, ◌-◌, List, [], set, sym, ap, ◌∙◌, subst, Option, Bool, get_elem?, some, Action, ◌▷◌}
+use Rattle.fx_lasting.proofs.Words.{◌≡◌, ◌≤◌, ◌<◌, ℕ, ◌+◌, ◌-◌, List, [], set, refl, sym, ap, ◌∙◌, subst, Option, Bool, get_elem?, some, Action, ◌▷◌}
 use Rattle.fx_lasting.proofs.Words.{◌▷▷◌, Sat, Start, Work, Glance, Change, Runs, IsAtWork, IsStockOf, TableId, File, At, as_stocked}
 use Rattle.fx_lasting.proofs.Words.{pass_in, name_in, nodes_of, empty_word_of, retiring_work, account, range_at_start, slot_of, slot_place, Nothing}
-use Rattle.fx_lasting.proofs.Words.{Outside, LastingPass, IsSeatOf, IsPassOf, Knows, opening_of, view_of, pass_of, doing_in, Use, no_use}
+use Rattle.fx_lasting.proofs.Words.{Outside, LastingPass, IsSeatOf, IsPassOf, Knows, opening_of, view_of, pass_of, doing_in, Use}
 use Rattle.fx_lasting.proofs.Words.{Adds, Removes, SwapsOut, HasEmptied}
 use Rattle.fx_lasting.proofs.Places.{slot_back}
 use Rattle.fx_lasting.proofs.Running.{runs_one, runs_then, runs_stocked, turns_then, number_is, own_stock, stock_is, still_at_work, at_swapped, at_work_as}
-use Rattle.fx_lasting.proofs.Passing.{adds_run}
+use Rattle.fx_lasting.proofs.Passing.{adds_run, goes_on, rests_on, same_flags}
 
 -- the seat of a pass with this stock
 pub at_stocked : {k : Start} {p : ℕ} {m : Sat} → IsAtWork k p m → (s : List ℕ) → IsStockOf k p s → IsAtWork k p (as_stocked s m)
@@ -76,18 +76,6 @@ module _ {id : TableId} {k : Start} {p : LastingPass} (seated : IsSeatOf id k p)
       → (q.number ≡ p.number) × ◌≡◌ {A = Bool × Bool} (q.listed, q.sure) (p.listed, p.sure) → q.seat.table_id ≡ p.seat.table_id → q.seat.me.1 ≡ []
       → (q.stock.items ≡ s) × (q.number ≤ k.installing → q.next_entry < k.passes)
       → Knows k.passes q w → IsPassOf id k q
-  stocked_pass its q r same table places stocked knows = record {
-    seated = record {
-      table = table ∙ seated.table;
-      places = places;
-      at = subst (λ (n : ℕ). IsAtWork k n q.seat.me) (sym same.0) (still_at_work (at_stocked seated.at s its) r);
-      change = r.change;
-      stock = stocked.0 ∙ sym r.stock;
-      next = stocked.1;
-      listed = ap (λ (z : Bool × Bool). z.0) same.1 ∙ (seated.listed ∙ sym r.listed);
-      sure = λ is. r.asked ∙ seated.sure (sym (ap (λ (z : Bool × Bool). z.1) same.1) ∙ is);
-    };
-    calm = r.glance;
-    knows = subst (Knows k.passes q) (sym r.work) knows;
-    front = (adds_stocked r no_use).front;
-  }
+  stocked_pass its q r same table places stocked =
+      let at = at_stocked seated.at s its in
+      rests_on at q r (goes_on at q r refl same.0 (table ∙ seated.table) places stocked (same_flags seated q same.1)) refl

@@ -3,7 +3,8 @@
 use Rattle.fx_lasting.proofs.Words.{◌≡◌, ◌≢◌, ℕ, ◌+◌, ◌^◌, ◌<◌, ◌≤◌, List, [], ◌∷◌, sym, refl, ap, ◌∙◌, Option, Some, none, keeps, gives, rest}
 use Rattle.fx_lasting.proofs.Words.{eqb, Closed, Take, slots_of, slot_place, file_word_of, HasNoFile}
 use Rattle.fx_lasting.proofs.Words.{IsOffCount, Placing, Outside, Sees, TakesIf, Replaces, SeesKeep, TakesIfKeep, ReplacesKeep, step, exchanged}
-use Rattle.fx_lasting.proofs.Words.{subst, without_file, some, label_of, as_written, pass_event, either}
+use Rattle.fx_lasting.proofs.Words.{subst, without_file, some, label_of, as_written, pass_event, either, LastingTable, IsAtWork, Seat, View, Allows, Agrees}
+use Rattle.fx_lasting.proofs.Calling.{slot_inside, slot_low}
 use Rattle.fx_lasting.proofs.hold_lemmas.HeldFiles.{one_after}
 use Rattle.fx_lasting.proofs.node_lemmas.StockMoves.{names_a_node}
 use Rattle.fx_lasting.proofs.Keeping.{Turn, turn_of, Made, by_turn, word_at, slot_word, w}
@@ -85,6 +86,14 @@ module _ (turn : Turn) (s : ℕ) (inside : s < slots_of turn.v.start) (carried :
 pub sees_keep : SeesKeep Sees
 sees_keep k slots id i s m x has inside place = by_turn slots (λ k. s < slots_of k) (λ _. slot_place s) (λ word. word)
     (λ i. Sees (step slots i 0 0 none) m) has inside place (λ st r here is fits. see (turn_of m x has.1 id st r here) s is m.1 slots)
+
+-- a pass of a table may make such a load
+pub may_see : (t : LastingTable) (seat : Seat (Option Closed) View) {p slot i : ℕ} → seat.table_id ≡ t.table.shared.table_id
+    → IsAtWork t.table.shared.key p seat.me → slot < t.size → i ≡ slot_place slot
+    → (seat.table_id ≡ t.table.shared.table_id) × (i < t.table.shared.table_id.words)
+    × Allows (Agrees t.table.shared.key) t.table.shared.table_id.slots seat.id seat.me i (λ word. word) (Sees (step t.table.shared.table_id.slots i 0 0 none) seat.me)
+may_see t seat {slot = slot} table at inside place =
+    (table, slot_inside t inside place, sees_keep _ _ _ _ slot seat.me _ at.pass (slot_low t inside) place)
 
 pub takes_if_keep : TakesIfKeep TakesIf
 takes_if_keep k slots id i s old new m x has works inside off place made = rw made (by_turn slots (λ k. (s < slots_of k) × IsOffCount k s m.0.change)

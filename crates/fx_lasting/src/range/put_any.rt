@@ -52,29 +52,11 @@ impl LastingTable {
         ensures allocated { Allocated (opening_of_table self.now) (view_of pass.old) file result
             (view_of pass.new) }
     {
-        match self.try_put_any(pass, file) {
-            TriedPut::At(slot) => Ok(slot),
-            TriedPut::Full(back) => Err(back),
-            TriedPut::Again(back) => self.put_any_again(rt, pass, back),
-        }
-    }
-
-    // Installs the file as `put_any` does, after a try that found no empty slot.
-    #[inline(always)]
-    fn put_any_again<R: Wait>(
-        &self,
-        rt: &R,
-        pass: &mut LastingPass,
-        file: OpenFile,
-    ) -> Result<u32, OpenFile>
-        requires fits { IsPassOfTable self.now pass.old }
-        requires idle { IsIdle (view_of pass.old) }
-        requires numbers { 0 < (view_of pass.old).numbers_left }
-        ensures fits { IsPassOfTable self.now pass.new }
-        ensures allocated { Allocated (opening_of_table self.now) (view_of pass.old) file result
-            (view_of pass.new) }
-    {
-        let mut left = file;
+        let mut left = match self.try_put_any(pass, file) {
+            TriedPut::At(slot) => return Ok(slot),
+            TriedPut::Full(back) => return Err(back),
+            TriedPut::Again(back) => back,
+        };
         for _ in rt.forever() {
             thread::yield_now();
             match self.try_put_any(pass, left) {

@@ -1,16 +1,16 @@
-use Rattle.fx_lasting.proofs.Words.{◌≡◌, List, Log, first_log, ℕ, ◌^◌, ◌∙◌, ap, sym, refl, subst, arith, bit_of, list_place, view_of, pass_of, false}
-use Rattle.fx_lasting.proofs.Words.{as_listed, Runs, Change, [], Doing, Adds, no_use, opening_of, Knows}
+use Rattle.fx_lasting.proofs.Words.{◌≡◌, ℕ, ◌^◌, ◌∙◌, ap, sym, refl, subst, arith, bit_of, list_place, view_of, pass_of, false}
+use Rattle.fx_lasting.proofs.Words.{as_listed, Runs, Change, [], Doing, Adds, no_use, opening_of}
 use Rattle.fx_lasting.proofs.Calling.{list_inside}
 use Rattle.fx_lasting.proofs.hold_lemmas.Listing.{lists_keep}
-use Rattle.fx_lasting.proofs.Passing.{adds_run, listed_seat}
-use Rattle.fx_lasting.proofs.Running.{runs_goes}
+use Rattle.fx_lasting.proofs.Passing.{adds_run, listed_seat, rests_on}
+use Rattle.fx_lasting.proofs.Running.{runs_goes, at_listed, listed_is}
 use Rattle.fx_lasting.proofs.table.LastingTable.enlist.Goals as goal
 
 pub fetch_add-requires : goal.fetch_add-requires
 fetch_add-requires c =
     let t = c.args.self.now in
     let s = c.requires.fits.seated in
-    let not_yet : s.at.log.listed ≡ false = sym (ap (λ (l : List Log). (first_log l).listed) s.at.pass.1) ∙ (sym s.listed ∙ c.if-pass.false) in (
+    let not_yet : s.at.log.listed ≡ false = listed_is s.at ∙ (sym s.listed ∙ c.if-pass.false) in (
       s.table,
       list_inside t (omega (arith, s.at.high, t.key.0, t.bounds.1)) c.list_place-place.ensures,
       rw (c.pass_bit.ensures ∙ ap (λ (n : ℕ). 2 ^ bit_of n) (sym s.at.its_number)) (lists_keep _ _ _ _ c.args.pass.now.seat.me _ s.at.pass not_yet
@@ -24,13 +24,8 @@ returns-clause-fits c =
     let goes = c.fetch_add.ensures.2.goes in
     let m = c.args.pass.now.seat.me in
     let run = runs_goes goes in
-    record {
-      seated = listed_seat s _ (subst (λ (z : Change). Runs (as_listed m) [] m.0.work m.0.glance z 1 c.fetch_add.new.seat.me) s.change run) (refl, refl)
-          c.fetch_add.ensures.0 (goes.carried ∙ s.places) (refl, s.next);
-      calm = goes.stepped.glance ∙ fits.calm;
-      knows = subst (Knows c.args.self.now.table.shared.key.passes c.args.pass.now) (sym goes.stepped.work) fits.knows;
-      front = (adds_run (as_listed m) s.at.pass.0 run no_use).front;
-    }
+    rests_on (at_listed s.at) _ run (listed_seat s _ (subst (λ (z : Change). Runs (as_listed m) [] m.0.work m.0.glance z 1 c.fetch_add.new.seat.me) s.change run) (refl, refl)
+    c.fetch_add.ensures.0 (goes.carried ∙ s.places) (refl, s.next)) fits.calm fits.knows
 
 pub returns-clause-adds : goal.returns-clause-adds
 returns-clause-adds c =

@@ -1,9 +1,19 @@
 use Rattle.fx_lasting.proofs.Words.{refl, arith, [], ◌∙◌, true, false, HasAsked, opening_of, view_of, adds_then, no_use, DoesNothing, LastingPass}
+use Rattle.fx_lasting.proofs.Words.{ℕ, LastingTable, IsIdle, Adds}
+use Rattle.fx_lasting.specs.Ends.{Does}
 use Rattle.fx_lasting.proofs.slot_lemmas.ByNode.{adds_none, was_before}
 use Rattle.fx_lasting.proofs.slot_lemmas.EmptySlots.{tells_so}
 use Rattle.fx_lasting.proofs.Passing.{at_rest, still_pass}
 use Rattle.fx_lasting.proofs.range_lemmas.Questions.{asked_so}
 use Rattle.fx_lasting.proofs.table.LastingTable.find.Goals as goal
+
+-- what an idle pass adds that asked, isn't sure, and then looked on
+looks_on : (t : LastingTable) {u v : LastingPass} (p : LastingPass) {m : ℕ} → HasAsked t 1 u false v → IsIdle (view_of u)
+    → Does v.seat.me [] v.seat.me.0.work m p.seat.me → Adds (opening_of t.table.shared.key) (view_of u) [] DoesNothing no_use (view_of p)
+looks_on t {u} {v} p h idle looks =
+    let before = asked_so h idle in
+    adds_then (opening_of t.table.shared.key) (view_of u) (view_of v) (view_of p) [] [] DoesNothing DoesNothing no_use no_use before
+    (adds_none h.fits before.now looks)
 
 pub returns-in-Some-clause-fits : goal.returns-in-Some-clause-fits
 returns-in-Some-clause-fits c =
@@ -14,16 +24,13 @@ returns-in-Some-clause-fits c =
 
 pub returns-in-Some-clause-found : goal.returns-in-Some-clause-found
 returns-in-Some-clause-found c =
-    let k = c.args.self.now.table.shared.key in
     let h : HasAsked c.args.self.now 1 c.args.pass.now false c.is_still_full.new.pass = rw c.if-is_still_full.false at c.is_still_full.ensures in
     let looks = c.in-Some.ensures.looks in
-    let before = asked_so h c.requires.idle in
     let p : LastingPass = record c.is_still_full.new.pass { seat = c.look_for.new.seat; emptied = c.take_last-from.new.self } in (
       looks.0,
       record {
-        was = was_before (view_of c.args.pass.now).front before.seen looks.1;
-        adds = adds_then (opening_of k) (view_of c.args.pass.now) (view_of c.is_still_full.new.pass) (view_of p) [] [] DoesNothing DoesNothing no_use no_use
-            before (adds_none h.fits before.now looks.2);
+        was = was_before (view_of c.args.pass.now).front (asked_so h c.requires.idle).seen looks.1;
+        adds = looks_on c.args.self.now p h c.requires.idle looks.2;
       },
     )
 
@@ -36,24 +43,16 @@ is_all_full-requires-clause-fits c =
 
 pub returns-then-is_all_full-clause-found : goal.returns-then-is_all_full-clause-found
 returns-then-is_all_full-clause-found c =
-    let k = c.args.self.now.table.shared.key in
     let h : HasAsked c.args.self.now 1 c.args.pass.now false c.is_still_full.new.pass = rw c.if-is_still_full.false at c.is_still_full.ensures in
     let looks = c.in_default.ensures.looks in
-    let before = asked_so h c.requires.idle in
     let p : LastingPass = record c.is_still_full.new.pass { seat = c.look_for.new.seat; emptied = c.take_last-from.new.self } in
-    let adds = adds_then (opening_of k) (view_of c.args.pass.now) (view_of c.is_still_full.new.pass) (view_of p) [] [] DoesNothing DoesNothing no_use no_use
-    before (adds_none h.fits before.now looks) in
-    tells_so c.args.self.now c.args.pass.now p c.is_all_full.new.pass true adds (omega (arith, h.met, looks.met))
+    tells_so c.args.self.now c.args.pass.now p c.is_all_full.new.pass true (looks_on c.args.self.now p h c.requires.idle looks) (omega (arith, h.met, looks.met))
     (rw c.if-is_all_full.true at c.is_all_full.ensures.asked) (λ bad. absurd (cc bad))
 
 pub returns-else-is_all_full-clause-found : goal.returns-else-is_all_full-clause-found
 returns-else-is_all_full-clause-found c =
-    let k = c.args.self.now.table.shared.key in
     let h : HasAsked c.args.self.now 1 c.args.pass.now false c.is_still_full.new.pass = rw c.if-is_still_full.false at c.is_still_full.ensures in
     let looks = c.in_default.ensures.looks in
-    let before = asked_so h c.requires.idle in
     let p : LastingPass = record c.is_still_full.new.pass { seat = c.look_for.new.seat; emptied = c.take_last-from.new.self } in
-    let adds = adds_then (opening_of k) (view_of c.args.pass.now) (view_of c.is_still_full.new.pass) (view_of p) [] [] DoesNothing DoesNothing no_use no_use
-    before (adds_none h.fits before.now looks) in
-    tells_so c.args.self.now c.args.pass.now p c.is_all_full.new.pass false adds (omega (arith, h.met, looks.met))
+    tells_so c.args.self.now c.args.pass.now p c.is_all_full.new.pass false (looks_on c.args.self.now p h c.requires.idle looks) (omega (arith, h.met, looks.met))
     (rw c.if-is_all_full.false at c.is_all_full.ensures.asked) (λ _. c.is_all_full.ensures.short c.if-is_all_full.false)

@@ -1,10 +1,10 @@
 use Rattle.fx_lasting.proofs.Words.{ℕ, [], ◌▷◌, subst, inl, inr, ⊎_elim, Work, Idle, Placing, Placement, Runs, Look, Some, Nothing, Cold}
 use Rattle.fx_lasting.proofs.Words.{HasAnnounced, MayAnnounce, announcing, guarding}
-use Rattle.fx_lasting.proofs.Words.{rules, ◌≡◌, ◌+◌, ◌∙◌, full_name_in, IsHot, sym, ap, List, Log, first_log, true}
+use Rattle.fx_lasting.proofs.Words.{rules, ◌≡◌, ◌+◌, ◌∙◌, full_name_in, IsHot, ap}
 use Rattle.fx_lasting.proofs.Calling.{hold_inside, hold_word, slot_inside}
 use Rattle.fx_lasting.proofs.hold_lemmas.HoldWords.{announces_keep}
 use Rattle.fx_lasting.proofs.hold_lemmas.Looking.{confirms_keep}
-use Rattle.fx_lasting.proofs.Running.{still_at_work, runs_goes, looks_then}
+use Rattle.fx_lasting.proofs.Running.{still_at_work, runs_goes, looks_then, listed_is}
 use Rattle.fx_lasting.proofs.table.LastingTable.guard.Goals as goal
 
 -- a pass whose hold word names the node now
@@ -15,11 +15,10 @@ announced_so {d} {e} {node} is may = ⊎_elim (λ (idle : d ≡ Idle). inl (is �
 pub store-requires : goal.store-requires
 store-requires c =
     let t = c.args.self.now in
-    let at = c.requires.at in
-    let its_listed : at.log.listed ≡ true = sym (ap (λ (l : List Log). (first_log l).listed) at.pass.1) ∙ c.requires.listed in (
+    let at = c.requires.at in (
       c.requires.table,
       hold_inside t at.high c.hold_place-hold.ensures,
-      rw c.announced.ensures (announces_keep _ _ _ _ c.args.slot c.args.node c.args.seat.now.me _ at.pass its_listed c.requires.may c.requires.saw
+      rw c.announced.ensures (announces_keep _ _ _ _ c.args.slot c.args.node c.args.seat.now.me _ at.pass (listed_is at ∙ c.requires.listed) c.requires.may c.requires.saw
           (hold_word t at.its_number c.hold_place-hold.ensures)),
     )
 

@@ -1,17 +1,17 @@
-use Rattle.fx_lasting.proofs.Words.{◌≡◌, true, sym, List, Log, first_log, cold_takes, ap, ◌∙◌, arith, cond, Bool, Nothing, Heating, le-ltb, count_in}
+use Rattle.fx_lasting.proofs.Words.{cold_takes, ap, ◌∙◌, arith, cond, Bool, Nothing, Heating, le-ltb, count_in}
 use Rattle.fx_lasting.proofs.Words.{◌≤◌}
 use Rattle.fx_lasting.proofs.Calling.{slot_inside}
 use Rattle.fx_lasting.proofs.hold_lemmas.Taking.{heats_keep}
+use Rattle.fx_lasting.proofs.Running.{listed_is}
 use Rattle.fx_lasting.proofs.table.LastingTable.heat.Goals as goal
 
 pub fetch_add-requires : goal.fetch_add-requires
 fetch_add-requires c =
     let t = c.args.self.now in
     let at = c.requires.at.1 in
-    let its_listed : at.log.listed ≡ true = sym (ap (λ (l : List Log). (first_log l).listed) at.pass.1) ∙ c.requires.listed in
     let many : cold_takes t.passes ≤ count_in c.args.word = omega arith in (
       c.requires.table,
       slot_inside t c.requires.slot c.slot_place.ensures,
-      heats_keep _ _ _ _ c.args.slot c.args.seat.now.me _ at.pass its_listed
+      heats_keep _ _ _ _ c.args.slot c.args.seat.now.me _ at.pass (listed_is at ∙ c.requires.listed)
           (c.requires.took ∙ ap (λ (b : Bool). cond b Nothing (Heating c.args.slot)) (le-ltb (count_in c.args.word) (cold_takes t.passes) many)) c.slot_place.ensures,
     )

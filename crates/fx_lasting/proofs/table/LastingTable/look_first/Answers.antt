@@ -1,16 +1,16 @@
-use Rattle.fx_lasting.proofs.Words.{◌≡◌, false, List, Log, first_log, ℕ, ◌^◌, ◌∙◌, ap, sym, refl, subst, arith, bit_of, list_place, view_of, pass_of}
+use Rattle.fx_lasting.proofs.Words.{◌≡◌, false, ℕ, ◌^◌, ◌∙◌, ap, sym, refl, subst, arith, bit_of, list_place, view_of, pass_of}
 use Rattle.fx_lasting.proofs.Words.{as_listed, Runs, Change, []}
 use Rattle.fx_lasting.proofs.Calling.{list_inside}
 use Rattle.fx_lasting.proofs.hold_lemmas.Listing.{lists_keep}
 use Rattle.fx_lasting.proofs.Passing.{adds_listed, listed_seat, after_then}
-use Rattle.fx_lasting.proofs.Running.{runs_goes}
+use Rattle.fx_lasting.proofs.Running.{runs_goes, listed_is}
 use Rattle.fx_lasting.proofs.table.LastingTable.look_first.Goals as goal
 
 pub fetch_add-requires : goal.fetch_add-requires
 fetch_add-requires c =
     let t = c.args.self.now in
     let s = c.requires.seated in
-    let not_yet : s.at.log.listed ≡ false = sym (ap (λ (l : List Log). (first_log l).listed) s.at.pass.1) ∙ (sym s.listed ∙ c.requires.unlisted) in (
+    let not_yet : s.at.log.listed ≡ false = listed_is s.at ∙ (sym s.listed ∙ c.requires.unlisted) in (
       s.table,
       list_inside t (omega (arith, s.at.high, t.key.0, t.bounds.1)) c.list_place-place.ensures,
       rw (c.pass_bit.ensures ∙ ap (λ (n : ℕ). 2 ^ bit_of n) (sym s.at.its_number)) (lists_keep _ _ _ _ c.args.pass.now.seat.me _ s.at.pass not_yet

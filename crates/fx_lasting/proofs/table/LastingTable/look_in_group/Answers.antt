@@ -1,19 +1,14 @@
 use Rattle.fx_lasting.proofs.Words.{◌∙◌, arith, refl, subst, ◌+◌, ◌*◌, ◌<◌, ◌≤◌, ℕ, true, false, SeesFile, Some, group_start, group_len}
-use Rattle.fx_lasting.proofs.Calling.{group_word}
 use Rattle.fx_lasting.proofs.range_lemmas.GapSearches.{looks_then, looks_within, looks_at}
 use Rattle.table_range.proofs.GroupSlots.{group_short, of_group}
-use Rattle.fx_lasting.proofs.Peeking.{peeks_keep}
+use Rattle.fx_lasting.proofs.Peeking.{may_peek}
 use Rattle.fx_lasting.proofs.slot_lemmas.ByNode.{stands_then}
 use Rattle.fx_lasting.proofs.Running.{still_at_work, runs_goes, runs_none, runs_within}
 use Rattle.fx_lasting.proofs.range_lemmas.Trying.{in_range}
 use Rattle.fx_lasting.proofs.table.LastingTable.look_in_group.Goals as goal
 
 pub load-word-requires : goal.load-word-requires
-load-word-requires c = (
-  c.requires.table,
-  group_word c.args.self.now c.requires.group c.group_place.ensures,
-  peeks_keep _ _ _ _ c.args.seat.now.me _ c.requires.at.1.pass,
-)
+load-word-requires c = may_peek c.args.self.now c.args.seat.now c.requires.table c.requires.at.1 c.requires.group c.group_place.ensures
 
 pub loop-slot-init : goal.loop-slot-init
 loop-slot-init c = record {

@@ -1,10 +1,10 @@
-use Rattle.fx_lasting.proofs.Words.{alone_in, ◌<◌, nodes_of, ◌∷◌, inr, refl, sym, ap, ◌∙◌, subst, arith, [], Some, Closed, HasPlace, numbered, Start, Work}
-use Rattle.fx_lasting.proofs.Words.{Runs, rested, pass_in, true, false, no_use, one_number, SeesFile, Placing, label_of, as_written}
+use Rattle.fx_lasting.proofs.Words.{alone_in, ◌<◌, nodes_of, inr, refl, sym, ap, ◌∙◌, subst, arith, [], Some, HasPlace, numbered, Start, Work}
+use Rattle.fx_lasting.proofs.Words.{Runs, rested, pass_in, true, false, no_use, one_number, SeesFile, label_of, as_written}
 use Rattle.fx_lasting.proofs.Calling.{begins_at}
 use Rattle.fx_lasting.proofs.slot_lemmas.ByNode.{adds_none, was_further}
 use Rattle.fx_lasting.proofs.Passing.{adds_swapped, swapped_pass, swapped_rest, adds_so, at_rest, still_pass, its_place, its_flag, may_install}
 use Rattle.fx_lasting.proofs.Running.{still_at_work, does_then}
-use Rattle.fx_lasting.proofs.range_lemmas.Trying.{in_size, stocked_at, swapped_does}
+use Rattle.fx_lasting.proofs.range_lemmas.Trying.{in_size, placing_now, stocked_at, swapped_does}
 use Rattle.fx_lasting.proofs.slot_lemmas.Overtaking.{was_lost}
 use Rattle.fx_lasting.proofs.table.LastingTable.put_empty.Goals as goal
 
@@ -48,16 +48,8 @@ try_slot-requires c =
     record {
       table = c.place-entry.ensures.table ∙ (c.sees_file.ensures.table ∙ f.seated.table);
       at = (c.args.pass.now.number, still_at_work f.seated.at placed);
-      placing = record {
-        work = placed.work ∙ ap (λ (z : Closed). Placing c.place-entry.result.1 (as_written c.place-entry.result.2 (label_of z))) (sym c.identity-identity.ensures);
-        few_lost = c.place-entry.ensures.few_lost;
-        place = c.place-entry.ensures.place ∙ ap (λ (z : Closed). (c.place-entry.result.1, Some z) ∷ []) (sym c.identity-identity.ensures);
-        stocked = (
-          c.place-entry.result.0,
-          stocked_at c.as_slice-stock.result.now c.args.pass.now.seat.me c.place-entry.new.seat.me c.place-entry.result.0
-              c.place-entry.result.1 (c.as_slice-stock.ensures.value ∙ f.seated.stock) placed.stock c.place-entry.ensures.stocked,
-        );
-      };
+      placing = placing_now c.place-entry.result.0 c.args.file (c.as_slice-stock.ensures.value ∙ (f.seated.stock ∙ sym saw.1.stock)) c.place-entry.ensures.placed
+          c.place-entry.ensures.few_lost c.place-entry.ensures.place c.place-entry.ensures.stocked c.identity-identity.ensures;
       change = placed.change ∙ f.seated.change;
       range = c.requires.range;
     }

@@ -1,11 +1,11 @@
-use Rattle.fx_lasting.proofs.Words.{alone_in, ◌-◌, ◌∷◌, inr, refl, sym, ap, ◌∙◌, subst, arith, [], ◌▷◌, Put, numbered, Some, Closed, HasPlace, false, Start}
+use Rattle.fx_lasting.proofs.Words.{alone_in, ◌-◌, inr, refl, sym, ap, ◌∙◌, subst, arith, [], ◌▷◌, Put, numbered, Some, HasPlace, false, Start}
 use Rattle.fx_lasting.proofs.Words.{Work, Runs, rested, full_name_in, count_in, retired_at, opening_of, view_of, pass_of, Adds, no_use, one_number}
-use Rattle.fx_lasting.proofs.Words.{Retired, Placing, label_of, as_written, set}
+use Rattle.fx_lasting.proofs.Words.{Retired, label_of, as_written, set}
 use Rattle.fx_table.specs.declared.values.Doing.TheVariants.{Retiring as Retires}
 use Rattle.fx_lasting.proofs.slot_lemmas.ByNode.{swapped_acts, stands_then, missed_so, tried_none, tried_so, value_so, removal_so, is_on, adds_none}
 use Rattle.fx_lasting.proofs.Passing.{adds_swapped, swapped_pass, swapped_looking, adds_so, at_rest, still_pass, its_place, its_flag, may_install, knows_removed, first_by}
 use Rattle.fx_lasting.proofs.Running.{still_at_work, does_then}
-use Rattle.fx_lasting.proofs.range_lemmas.Trying.{stocked_at}
+use Rattle.fx_lasting.proofs.range_lemmas.Trying.{placing_now, stocked_at}
 use Rattle.fx_lasting.proofs.Calling.{begins_at}
 use Rattle.fx_lasting.proofs.table.LastingTable.put_if.Goals as goal
 
@@ -48,16 +48,8 @@ try_replace-requires c =
     record {
       table = c.place-entry.ensures.table ∙ (c.see.ensures.table ∙ f.seated.table);
       at = (c.args.pass.now.number, still_at_work f.seated.at placed);
-      placing = record {
-        work = placed.work ∙ ap (λ (z : Closed). Placing c.place-entry.result.1 (as_written c.place-entry.result.2 (label_of z))) (sym c.identity-identity.ensures);
-        few_lost = c.place-entry.ensures.few_lost;
-        place = c.place-entry.ensures.place ∙ ap (λ (z : Closed). (c.place-entry.result.1, Some z) ∷ []) (sym c.identity-identity.ensures);
-        stocked = (
-          c.place-entry.result.0,
-          stocked_at c.as_slice-stock.result.now c.args.pass.now.seat.me c.place-entry.new.seat.me c.place-entry.result.0
-              c.place-entry.result.1 (c.as_slice-stock.ensures.value ∙ f.seated.stock) placed.stock c.place-entry.ensures.stocked,
-        );
-      };
+      placing = placing_now c.place-entry.result.0 c.args.file (c.as_slice-stock.ensures.value ∙ (f.seated.stock ∙ sym saw.2.stock)) c.place-entry.ensures.placed
+          c.place-entry.ensures.few_lost c.place-entry.ensures.place c.place-entry.ensures.stocked c.identity-identity.ensures;
       slot = omega (arith, c.requires.slot, c.args.self.now.same_size);
       change = placed.change ∙ f.seated.change;
       named = saw.0;

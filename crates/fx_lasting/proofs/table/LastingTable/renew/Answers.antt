@@ -2,7 +2,7 @@ use Rattle.fx_lasting.proofs.Words.{◌-◌, [], refl, ap, ◌∙◌, subst, ari
 use Rattle.fx_lasting.proofs.Words.{Work, Runs, Closed, HasPlace, Start, full_name_in, count_in, retired_at, set, one_look, false}
 use Rattle.std.specs.Vec.{with_item}
 use Rattle.fx_lasting.proofs.Calling.{slot_low}
-use Rattle.fx_lasting.proofs.Words.{◌≡◌, ℕ, sym, File, HoldsBesides, Placement, is_some}
+use Rattle.fx_lasting.proofs.Words.{◌≡◌, ◌≤◌, ◌∷◌, ℕ, List, Sat, pass_in, get_elem?, some, most_carried, sym, File, HoldsBesides, Placement, is_some}
 use Rattle.fx_lasting.proofs.slot_lemmas.Renewals.{held_besides}
 use Rattle.fx_lasting.proofs.Passing.{adds_so, at_ease, charges_run, still_seat, still_pass, swapped_pass, knows_removed, first_by, lets_run}
 use Rattle.fx_lasting.proofs.Running.{looks_then, does_then, file_then, still_at_work}
@@ -14,6 +14,18 @@ use Rattle.fx_lasting.proofs.table.LastingTable.renew.Goals as goal
 -- the pass works with the node that it holds and with its own
 besides_so : {d e : Work} {f : File} {n own : ℕ} {l : Placement} → e ≡ d → HoldsBesides d f n own l → HoldsBesides e f n own l
 besides_so {f = f} {n = n} {own = own} {l = l} is holds = subst (λ (w : Work). HoldsBesides w f n own l) (sym is) holds
+
+-- it holds that file beside the one that it has placed
+beside_now : {stock : List ℕ} {m : Sat} {node own lost : ℕ} {held : File} {d : Work} (e : ℕ) (file : Closed) → stock ≡ (pass_in m).stock
+    → m.0.work ≡ d → HoldsBesides d held node own (as_written lost (label_of file)) → lost ≤ most_carried → m.1 ≡ (own, Some file) ∷ []
+    → get_elem? stock e ≡ some own → IsBeside node own lost file m
+beside_now {held = held} e file same work holds few place at = record {
+  held = held;
+  work = besides_so work holds;
+  few_lost = few;
+  place = place;
+  stocked = (e, ap (λ (l : List ℕ). get_elem? l e) (sym same) ∙ at);
+}
 
 pub take_out-file-requires-clause-at : goal.take_out-file-requires-clause-at
 take_out-file-requires-clause-at c = let placed = c.place-entry.ensures.placed in
@@ -65,17 +77,8 @@ unplace-file-requires-clause-beside c =
     let run = looks_then placed h.2.4 in (
       c.place-entry.result.2,
       c.args.file,
-      record {
-        held = h.0;
-        work = besides_so run.work h.2.2;
-        few_lost = c.place-entry.ensures.few_lost;
-        place = c.hold_beside.ensures.places ∙ c.place-entry.ensures.place;
-        stocked = (
-          c.place-entry.result.0,
-          stocked_at c.as_slice-stock.result.now c.args.pass.now.seat.me c.hold_beside.new.seat.me c.place-entry.result.0 c.place-entry.result.1
-              (c.as_slice-stock.ensures.value ∙ s.stock) run.stock c.place-entry.ensures.stocked,
-        );
-      },
+      beside_now c.place-entry.result.0 c.args.file (c.as_slice-stock.ensures.value ∙ (s.stock ∙ sym run.stock)) run.work h.2.2 c.place-entry.ensures.few_lost
+          (c.hold_beside.ensures.places ∙ c.place-entry.ensures.place) c.place-entry.ensures.stocked,
     )
 
 pub returns-in-Other : goal.returns-in-Other
@@ -90,17 +93,9 @@ returns-in-Other c =
     let held = looks_then placed h.2.4 in
     let lets = end.released h.0 (held_besides (besides_so held.work h.2.2)) in
     let run = at_ease s (does_then held (lets_run m₂ m₃ h.0 4 c.unplace-file.result.1 lets).1) in
-    let b : IsBeside c.in-Other.node c.place-entry.result.1 c.place-entry.result.2 c.args.file m₂ = record {
-      held = h.0;
-      work = besides_so held.work h.2.2;
-      few_lost = c.place-entry.ensures.few_lost;
-      place = c.hold_beside.ensures.places ∙ c.place-entry.ensures.place;
-      stocked = (
-        c.place-entry.result.0,
-        stocked_at c.as_slice-stock.result.now c.args.pass.now.seat.me m₂ c.place-entry.result.0 c.place-entry.result.1
-            (c.as_slice-stock.ensures.value ∙ s.stock) held.stock c.place-entry.ensures.stocked,
-      );
-    } in record {
+    let b : IsBeside c.in-Other.node c.place-entry.result.1 c.place-entry.result.2 c.args.file m₂ =
+    beside_now c.place-entry.result.0 c.args.file (c.as_slice-stock.ensures.value ∙ (s.stock ∙ sym held.stock)) held.work h.2.2 c.place-entry.ensures.few_lost
+    (c.hold_beside.ensures.places ∙ c.place-entry.ensures.place) c.place-entry.ensures.stocked in record {
       renews = (
         still_pass s _ run (refl, refl) (end.table ∙ (c.hold_beside.ensures.table ∙ c.place-entry.ensures.table)) end.places
             (refl, λ _. omega (arith, c.place-entry.ensures.entry, t.key.0)) (c.requires.idle, refl),
@@ -167,18 +162,10 @@ returns-in-Err c =
     let r = c.unplace-file-in-Err.result.1 in
     let held = looks_then placed h.2.4 in
     let still = does_then held tried.2 in
-    let b : IsBeside c.in-Its.node c.place-entry.result.1 c.place-entry.result.2 c.args.file m₃ = record {
-      held = f;
-      work = besides_so (tried.2.work ∙ held.work) h.2.2;
-      few_lost = c.place-entry.ensures.few_lost;
-      place = tried.3 ∙ (c.hold_beside.ensures.places ∙ c.place-entry.ensures.place);
-      stocked = (
-        c.place-entry.result.0,
-        stocked_at c.as_slice-stock.result.now c.args.pass.now.seat.me m₃ c.place-entry.result.0 c.place-entry.result.1
-            (c.as_slice-stock.ensures.value ∙ s.stock) still.stock c.place-entry.ensures.stocked,
-      );
-    } in
-    let lets = end.released f (held_besides b.work) in
+    let b : IsBeside c.in-Its.node c.place-entry.result.1 c.place-entry.result.2 c.args.file m₃ =
+    beside_now c.place-entry.result.0 c.args.file (c.as_slice-stock.ensures.value ∙ (s.stock ∙ sym still.stock)) (tried.2.work ∙ held.work) h.2.2 c.place-entry.ensures.few_lost
+    (tried.3 ∙ (c.hold_beside.ensures.places ∙ c.place-entry.ensures.place)) c.place-entry.ensures.stocked in
+    let lets = end.released f (held_besides (besides_so (tried.2.work ∙ held.work) h.2.2)) in
     let run = at_ease s (does_then held (lets_run m₂ m₄ f 9 r (file_then m₄ f 4 r tried.2 lets)).1) in
     let p' = record c.args.pass.now { seat = c.unplace-file-in-Err.new.seat; next_entry = c.place-entry.result.0; keeps = false } in
     record {

@@ -1,17 +1,11 @@
 use Rattle.fx_lasting.proofs.Words.{ap, ◌∙◌, slot_of}
-use Rattle.fx_lasting.proofs.Calling.{slot_inside, slot_low}
 use Rattle.fx_lasting.proofs.slot_lemmas.ByNode.{saw_if}
 use Rattle.fx_lasting.proofs.Places.{slot_back}
-use Rattle.fx_lasting.proofs.slot_lemmas.Seeing.{sees_keep}
+use Rattle.fx_lasting.proofs.slot_lemmas.Seeing.{may_see}
 use Rattle.fx_lasting.proofs.table.LastingTable.see.Goals as goal
 
 pub load-word-requires : goal.load-word-requires
-load-word-requires c =
-    let t = c.args.self.now in (
-      c.requires.table,
-      slot_inside t c.requires.slot c.slot_place.ensures,
-      sees_keep _ _ _ _ c.args.slot c.args.seat.now.me _ c.requires.at.1.pass (slot_low t c.requires.slot) c.slot_place.ensures,
-    )
+load-word-requires c = may_see c.args.self.now c.args.seat.now c.requires.table c.requires.at.1 c.requires.slot c.slot_place.ensures
 
 pub returns : goal.returns
 returns c =

@@ -50,7 +50,7 @@ returns-then-pass c =
       same = settled_view (works a) did;
       unkept = refl;
       steps = let few = run.steps in omega arith;
-      begun = run.begun;
+      begun = let any = run.begun in omega arith;
       met = run.met;
     }
 

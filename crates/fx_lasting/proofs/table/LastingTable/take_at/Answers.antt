@@ -1,17 +1,15 @@
-use Rattle.fx_lasting.proofs.Words.{◌≡◌, ℕ, ap, sym, Start, glance_after, ◌∙◌, List, Log, first_log, true}
+use Rattle.fx_lasting.proofs.Words.{ℕ, ap, sym, Start, glance_after, ◌∙◌}
 use Rattle.fx_lasting.proofs.Calling.{slot_inside}
-use Rattle.fx_lasting.proofs.Running.{still_at_work, runs_goes, stays_then, took, no_name, its_name}
+use Rattle.fx_lasting.proofs.Running.{listed_is, still_at_work, runs_goes, stays_then, took, no_name, its_name}
 use Rattle.fx_lasting.proofs.hold_lemmas.Taking.{takes_once_keep}
 use Rattle.fx_lasting.proofs.table.LastingTable.take_at.Goals as goal
 
 pub fetch_add-word-requires : goal.fetch_add-word-requires
 fetch_add-word-requires c =
-    let t = c.args.self.now in
-    let at = c.requires.at.1 in
-    let its_listed : at.log.listed ≡ true = sym (ap (λ (l : List Log). (first_log l).listed) at.pass.1) ∙ c.requires.listed in (
+    let at = c.requires.at.1 in (
       c.requires.table,
-      slot_inside t c.requires.slot c.slot_place.ensures,
-      takes_once_keep _ _ _ _ c.args.slot c.args.seat.now.me _ at.pass its_listed c.requires.idle c.requires.cold c.slot_place.ensures,
+      slot_inside c.args.self.now c.requires.slot c.slot_place.ensures,
+      takes_once_keep _ _ _ _ c.args.slot c.args.seat.now.me _ at.pass (listed_is at ∙ c.requires.listed) c.requires.idle c.requires.cold c.slot_place.ensures,
     )
 
 pub heat-requires-clause-at : goal.heat-requires-clause-at

@@ -1,17 +1,12 @@
 use Rattle.fx_lasting.proofs.Words.{◌∙◌, arith, refl, ◌+◌, StillPlaces}
-use Rattle.fx_lasting.proofs.Calling.{group_word}
 use Rattle.table_range.proofs.GroupSlots.{group_short}
-use Rattle.fx_lasting.proofs.Peeking.{peeks_keep}
+use Rattle.fx_lasting.proofs.Peeking.{may_peek}
 use Rattle.fx_lasting.proofs.Running.{still_at_work, placed_none}
 use Rattle.fx_lasting.proofs.range_lemmas.Trying.{peeked, still_then, allocated_then, still_within, allocated_within}
 use Rattle.fx_lasting.proofs.table.LastingTable.try_group.Goals as goal
 
 pub load-word-requires : goal.load-word-requires
-load-word-requires c = (
-  c.requires.table,
-  group_word c.args.self.now c.requires.group c.group_place.ensures,
-  peeks_keep _ _ _ _ c.args.seat.now.me _ c.requires.at.1.pass,
-)
+load-word-requires c = may_peek c.args.self.now c.args.seat.now c.requires.table c.requires.at.1 c.requires.group c.group_place.ensures
 
 pub loop-slot-init : goal.loop-slot-init
 loop-slot-init c = let run = peeked c.requires.placing c.load-word.ensures.2.goes in

@@ -1,8 +1,8 @@
 use Rattle.fx_lasting.proofs.Words.{◌≡◌, ◌≢◌, ◌+◌, ◌<◌, ◌^◌, ap, ◌∙◌, sym, arith, rules, None, file_node_in, name_in, ℕ, ◌-◌, subst, slot_of, refl}
 use Rattle.fx_lasting.proofs.Words.{Inside, group_of, range_at_start, inl, inr, [], IsWatching}
 use Rattle.table_range.proofs.GroupSlots.{in_range_so}
-use Rattle.fx_lasting.proofs.Calling.{slot_inside, slot_low}
-use Rattle.fx_lasting.proofs.slot_lemmas.Seeing.{sees_keep}
+use Rattle.fx_lasting.proofs.Calling.{slot_inside}
+use Rattle.fx_lasting.proofs.slot_lemmas.Seeing.{may_see}
 use Rattle.fx_lasting.proofs.slot_lemmas.EmptySlots.{full_so}
 use Rattle.fx_lasting.proofs.slot_lemmas.Overtaking.{overtaken_in, overtaken_now}
 use Rattle.fx_lasting.proofs.Places.{slot_back}
@@ -13,11 +13,8 @@ use Rattle.fx_lasting.proofs.table.LastingTable.try_slot.Goals as goal
 
 pub load-old-requires : goal.load-old-requires
 load-old-requires c =
-    let t = c.args.self.now in (
-      c.requires.table,
-      slot_inside t (in_size t c.args.slot c.requires.range) c.slot_place-place.ensures,
-      sees_keep _ _ _ _ c.args.slot c.args.seat.now.me _ c.requires.at.1.pass (slot_low t (in_size t c.args.slot c.requires.range)) c.slot_place-place.ensures,
-    )
+    let t = c.args.self.now in
+    may_see t c.args.seat.now c.requires.table c.requires.at.1 (in_size t c.args.slot c.requires.range) c.slot_place-place.ensures
 
 pub compare_exchange-found-requires : goal.compare_exchange-found-requires
 compare_exchange-found-requires c =

@@ -1,54 +1,36 @@
-use Rattle.fx_lasting.proofs.Words.{alone_in, ◌∷◌, Closed, inr, refl, ap, ◌∙◌, sym, subst, arith, HasPlace, Some, Work, numbered, Runs, [], rested, no_use}
-use Rattle.fx_lasting.proofs.Words.{one_number, Placing, label_of, as_written, ◌<◌, Start, nodes_of}
+use Rattle.fx_lasting.proofs.Words.{alone_in, inr, refl, ap, ◌∙◌, subst, arith, HasPlace, Some, Work, numbered, Runs, [], rested, no_use}
+use Rattle.fx_lasting.proofs.Words.{one_number, label_of, as_written, ◌<◌, Start, nodes_of}
 use Rattle.fx_lasting.proofs.Running.{still_at_work, does_then}
 use Rattle.fx_lasting.proofs.Passing.{adds_swapped, swapped_pass, swapped_rest, adds_so, at_rest, still_pass, its_place, its_flag, may_install}
-use Rattle.fx_lasting.proofs.range_lemmas.Trying.{stocked_at, swapped_does}
+use Rattle.fx_lasting.proofs.range_lemmas.Trying.{placing_now, stocked_at, swapped_does}
 use Rattle.fx_lasting.proofs.Calling.{begins_at}
 use Rattle.fx_lasting.proofs.table.LastingTable.try_slots.Goals as goal
 
-pub place-entry-requires-clause-at : goal.place-entry-requires-clause-at
-place-entry-requires-clause-at c =
+pub place-entry-requires : goal.place-entry-requires
+place-entry-requires c =
+    let t = c.args.self.now in
+    let f = c.requires.fits in
+    record {
+      table = f.seated.table;
+      at = f.seated.at;
+      may = rw c.as_slice-stock.ensures.value (its_place f c.requires.idle);
+      places = f.seated.places;
+      installs = omega (arith, may_install f.seated c.requires.numbers, t.key.1);
+      stock = c.as_slice-stock.ensures.value ∙ f.seated.stock;
+      start = begins_at t f (omega (arith, may_install f.seated c.requires.numbers, t.key.1));
+    }
+
+pub scan-requires : goal.scan-requires
+scan-requires c =
     let s = c.requires.fits.seated in
-    s.at
-
-pub place-entry-requires-clause-may : goal.place-entry-requires-clause-may
-place-entry-requires-clause-may c = rw c.as_slice-stock.ensures.value (its_place c.requires.fits c.requires.idle)
-
-pub place-entry-requires-clause-places : goal.place-entry-requires-clause-places
-place-entry-requires-clause-places c = c.requires.fits.seated.places
-
-pub place-entry-requires-clause-installs : goal.place-entry-requires-clause-installs
-place-entry-requires-clause-installs c = omega (arith, may_install c.requires.fits.seated c.requires.numbers, c.args.self.now.key.1)
-
-pub place-entry-requires-clause-stock : goal.place-entry-requires-clause-stock
-place-entry-requires-clause-stock c = c.as_slice-stock.ensures.value ∙ c.requires.fits.seated.stock
-
-pub place-entry-requires-clause-start : goal.place-entry-requires-clause-start
-place-entry-requires-clause-start c = let t = c.args.self.now in
-    begins_at t c.requires.fits (omega (arith, may_install c.requires.fits.seated c.requires.numbers, t.key.1))
-
-pub scan-requires-clause-at : goal.scan-requires-clause-at
-scan-requires-clause-at c =
-    let s = c.requires.fits.seated in
-    still_at_work s.at c.place-entry.ensures.placed
-
-pub scan-requires-clause-placing : goal.scan-requires-clause-placing
-scan-requires-clause-placing c = record {
-  work = c.place-entry.ensures.placed.work ∙ ap (λ (z : Closed). Placing c.place-entry.result.1 (as_written c.place-entry.result.2 (label_of z))) (sym c.identity-identity.ensures);
-  few_lost = c.place-entry.ensures.few_lost;
-  place = c.place-entry.ensures.place ∙ ap (λ (f : Closed). (c.place-entry.result.1, Some f) ∷ []) (sym c.identity-identity.ensures);
-  stocked = (
-    c.place-entry.result.0,
-    stocked_at c.as_slice-stock.result.now c.args.pass.now.seat.me c.place-entry.new.seat.me c.place-entry.result.0
-        c.place-entry.result.1 (c.as_slice-stock.ensures.value ∙ c.requires.fits.seated.stock) c.place-entry.ensures.placed.stock
-        c.place-entry.ensures.stocked,
-  );
-}
-
-pub scan-requires-clause-change : goal.scan-requires-clause-change
-scan-requires-clause-change c =
-    let s = c.requires.fits.seated in
-    c.place-entry.ensures.placed.change ∙ s.change
+    let placed = c.place-entry.ensures in
+    record {
+      table = placed.table ∙ s.table;
+      at = still_at_work s.at placed.placed;
+      placing = placing_now c.place-entry.result.0 c.args.file (c.as_slice-stock.ensures.value ∙ s.stock) placed.placed placed.few_lost placed.place placed.stocked
+          c.identity-identity.ensures;
+      change = placed.placed.change ∙ s.change;
+    }
 
 pub returns-in-Some : goal.returns-in-Some
 returns-in-Some c =
