@@ -57,6 +57,7 @@ pub fn glance_keeps_rule()
 {}
 
 /// A pass that isn't listed and adds its bit to the list keeps the rule, and is listed.
+#[tactic(auto, using(crate::proofs::hold_lemmas::Listing::lists_keep))]
 pub fn list_keeps_rule()
     ensures { ListsKeep ⟦<Listing as Play<Option<OpenFile>, View>>⟧.then }
 {}
@@ -227,6 +228,7 @@ pub fn begin_keeps_rule()
 {}
 
 /// A pass that adds its bit to the question word keeps the rule.
+#[tactic(auto, using(crate::proofs::range_lemmas::QuestionSteps::asks_keep))]
 pub fn ask_keeps_rule()
     ensures { AsksKeep ⟦<Asking as Play<Option<OpenFile>, View>>⟧.then }
 {}
@@ -249,11 +251,13 @@ pub fn peek_keeps_rule()
 {}
 
 /// A pass that is split off an idle seat keeps the rule.
+#[tactic(auto, using(crate::proofs::life_lemmas::Seats::splits_keep))]
 pub fn split_keeps_rule()
     ensures { SplitsKeep ⟦<Deal as Split<View>>⟧.left ⟦<Deal as Split<View>>⟧.right }
 {}
 
 /// An idle seat that takes in the passes of another keeps the rule.
+#[tactic(auto, using(crate::proofs::life_lemmas::Seats::joins_keep))]
 pub fn join_keeps_rule()
     ensures { JoinsKeep ⟦<Gather as Join<View>>⟧.both ⟦<Gather as Join<View>>⟧.spent }
 {}
@@ -365,6 +369,7 @@ pub fn words_are_bounded()
 /// are of one file, which is the file of the slot whose word names the node. The number of a held
 /// file, modulo the number of nodes, is its node. A node whose word is 0, as that which a search
 /// finds, is that of no file which is held.
+#[tactic(auto, using(crate::proofs::hold_lemmas::Holds::nodes_are_of_one_file))]
 pub fn nodes_are_of_one_file()
     ensures { NodesAreOfOneFile }
 {}
@@ -373,6 +378,7 @@ pub fn nodes_are_of_one_file()
 /// slot that is on the node is the held one, and so is a file of the node that another pass has to
 /// retire. So `LastingTable::take_if` and `put_if` with that node, while the file is held, remove
 /// the held file or nothing.
+#[tactic(auto, using(crate::proofs::hold_lemmas::Holds::held_nodes_name_files))]
 pub fn held_nodes_name_files()
     ensures { HeldNodesNameFiles }
 {}
@@ -402,11 +408,13 @@ pub fn removed_files_have_users()
 
 /// Each word of a table of `size` slots, with `passes` passes and `nodes` nodes, has its place
 /// inside the table's memory.
+#[tactic(auto, using(crate::proofs::Places::places_inside))]
 pub fn places_are_inside()
     ensures { (size passes nodes : ℕ) → PlacesAreInside size passes nodes }
 {}
 
 /// Different words of such a table have different places, and those of a node are in one line.
+#[tactic(auto, using(crate::proofs::Places::places_apart, crate::proofs::Places::labels_apart, crate::proofs::Places::nodes_in_line))]
 pub fn places_are_apart()
     ensures places { (size passes : ℕ) → PlacesAreApart size passes }
     ensures labels { (size passes : ℕ) → LabelsAreApart size passes }

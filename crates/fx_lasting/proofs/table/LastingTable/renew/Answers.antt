@@ -2,7 +2,7 @@ use Rattle.fx_lasting.proofs.Words.{◌-◌, [], refl, ap, ◌∙◌, subst, ari
 use Rattle.fx_lasting.proofs.Words.{Work, Runs, Closed, HasPlace, Start, full_name_in, count_in, retired_at, set, one_look, false}
 use Rattle.std.specs.Vec.{with_item}
 use Rattle.fx_lasting.proofs.Calling.{slot_low}
-use Rattle.fx_lasting.proofs.Words.{◌≡◌, ◌≤◌, ◌∷◌, ℕ, List, Sat, pass_in, get_elem?, some, most_carried, sym, File, HoldsBesides, Placement, is_some}
+use Rattle.fx_lasting.proofs.Words.{◌≡◌, ◌≤◌, ◌∷◌, ℕ, List, Sat, pass_in, get_elem?, some, most_carried, Placing, sym, File, HoldsBesides, Placement, is_some}
 use Rattle.fx_lasting.proofs.slot_lemmas.Renewals.{held_besides}
 use Rattle.fx_lasting.proofs.Passing.{adds_so, at_ease, charges_run, still_seat, still_pass, swapped_pass, knows_removed, first_by, lets_run}
 use Rattle.fx_lasting.proofs.Running.{looks_then, does_then, file_then, still_at_work}
@@ -14,6 +14,11 @@ use Rattle.fx_lasting.proofs.table.LastingTable.renew.Goals as goal
 -- the pass works with the node that it holds and with its own
 besides_so : {d e : Work} {f : File} {n own : ℕ} {l : Placement} → e ≡ d → HoldsBesides d f n own l → HoldsBesides e f n own l
 besides_so {f = f} {n = n} {own = own} {l = l} is holds = subst (λ (w : Work). HoldsBesides w f n own l) (sym is) holds
+
+-- the place of its own node is with the pass
+own_place : {m : Sat} {own : ℕ} {file : Closed} (l : Placement) → alone_in m.0.work ≡ Placing own l → m.1 ≡ (own, Some file) ∷ []
+    → HasPlace own (Some file) m
+own_place l is place = record { work = inr (l, is); place = place }
 
 -- it holds that file beside the one that it has placed
 beside_now : {stock : List ℕ} {m : Sat} {node own lost : ℕ} {held : File} {d : Work} (e : ℕ) (file : Closed) → stock ≡ (pass_in m).stock
@@ -34,10 +39,8 @@ take_out-file-requires-clause-at c = let placed = c.place-entry.ensures.placed i
 pub take_out-file-requires-clause-place : goal.take_out-file-requires-clause-place
 take_out-file-requires-clause-place c = let placed = c.place-entry.ensures.placed in (
   c.args.file,
-  record {
-    work = inr (as_written c.place-entry.result.2 (label_of c.args.file), ap alone_in (c.in-Nothing.ensures.holds _ placed.work).work);
-    place = c.hold_beside.ensures.places ∙ c.place-entry.ensures.place;
-  },
+  own_place (as_written c.place-entry.result.2 (label_of c.args.file)) (ap alone_in (c.in-Nothing.ensures.holds _ placed.work).work)
+      (c.hold_beside.ensures.places ∙ c.place-entry.ensures.place),
 )
 
 pub returns-in-Nothing : goal.returns-in-Nothing
@@ -50,10 +53,8 @@ returns-in-Nothing c =
     let end = c.take_out-file.ensures in
     let rests = subst (λ (z : Work). Runs m₂ [] (rested z) m₂.0.glance m₂.0.change 1 c.take_out-file.new.seat.me) h.work end.rests in
     let run = at_ease s (does_then (looks_then placed h) rests) in
-    let place : HasPlace c.place-entry.result.1 (Some c.args.file) m₂ = record {
-      work = inr (as_written c.place-entry.result.2 (label_of c.args.file), ap alone_in h.work);
-      place = c.hold_beside.ensures.places ∙ c.place-entry.ensures.place;
-    } in record {
+    let place : HasPlace c.place-entry.result.1 (Some c.args.file) m₂ =
+    own_place (as_written c.place-entry.result.2 (label_of c.args.file)) (ap alone_in h.work) (c.hold_beside.ensures.places ∙ c.place-entry.ensures.place) in record {
       renews = (
         still_pass s _ run (refl, refl) (end.table ∙ (c.hold_beside.ensures.table ∙ c.place-entry.ensures.table)) end.empty
             (refl, λ _. omega (arith, c.place-entry.ensures.entry, t.key.0)) (c.requires.idle, refl),
@@ -184,10 +185,8 @@ returns-in-Err c =
 pub take_out-file-requires-in-Moved-clause-place : goal.take_out-file-requires-in-Moved-clause-place
 take_out-file-requires-in-Moved-clause-place c = let placed = c.place-entry.ensures.placed in (
   c.args.file,
-  record {
-    work = inr (as_written c.place-entry.result.2 (label_of c.args.file), ap alone_in (c.in-Moved.ensures.holds _ placed.work).1.work);
-    place = c.hold_beside.ensures.places ∙ c.place-entry.ensures.place;
-  },
+  own_place (as_written c.place-entry.result.2 (label_of c.args.file)) (ap alone_in (c.in-Moved.ensures.holds _ placed.work).1.work)
+      (c.hold_beside.ensures.places ∙ c.place-entry.ensures.place),
 )
 
 -- the announcement was in vain
@@ -205,10 +204,8 @@ returns-in-Moved c =
     let vain = does_then (looks_then placed h.1) rests in
     let lets = charges_run m₃ m₄ 3 c.withdraw.result c.withdraw.ensures.withdraws in
     let run = does_then vain lets.1 in
-    let place : HasPlace c.place-entry.result.1 (Some c.args.file) m₂ = record {
-      work = inr (as_written c.place-entry.result.2 (label_of c.args.file), ap alone_in h.1.work);
-      place = c.hold_beside.ensures.places ∙ c.place-entry.ensures.place;
-    } in record {
+    let place : HasPlace c.place-entry.result.1 (Some c.args.file) m₂ =
+    own_place (as_written c.place-entry.result.2 (label_of c.args.file)) (ap alone_in h.1.work) (c.hold_beside.ensures.places ∙ c.place-entry.ensures.place) in record {
       renews = (
         end.file c.args.file place,
         ap is_some h.0,
