@@ -54,8 +54,6 @@ module _ (catalogue : List FileEntry) (place : Place) where
       (λ off list l fits intent other so. list_fits (answer_at_table catalogue place (Updates off list) (last_finding l)) 0 off list intent so)
       operation own x
 
-module _ (catalogue : List FileEntry) (size : ℕ) (c : Completed) (request : Asked) where
-
 module _ (catalogue : List FileEntry) (size : ℕ) (c : Completed) (request : Asked)
     (running : (1 < c.place.member) → (c ≡ refusal c.place ECANCELED) → ⊥) where
   module _ (fed : c ≡ refusal c.place ENOMEM → ⊥) where

@@ -1,7 +1,6 @@
 pub mod AsBox
 pub mod ByKey
 pub mod Dealing
-pub mod Drawing
 pub mod DrawnByCalls
 pub mod EndingCalls
 pub mod EndsOfKeys
