@@ -7,6 +7,7 @@ ghost use Rattle.fx_server.specs.StaleKeys.{StaleKeysHadAnother};
 
 /// States that no number but 0 is drawn twice by the workers of a table, so that no key names two
 /// values, and how many numbers a worker has.
+#[tactic(auto, using(crate::proofs::FileNumbers::numbers_once, crate::proofs::FileNumbers::numbers_last))]
 pub fn numbers_are_drawn_once()
     ensures once { NumbersAreDrawnOnce }
     ensures last { NumbersLast }
@@ -24,6 +25,7 @@ pub fn a_key_ends_once()
 /// States that a call by key says `Stale` only if the slot had another file than that of the key at
 /// a moment of the call: after what a pass of the worker had seen before it, and within what a pass
 /// of the worker has seen after it.
+#[tactic(auto, using(crate::proofs::StaleKeys::stale_keys))]
 pub fn a_stale_key_had_another_file()
     ensures { StaleKeysHadAnother }
 {}
