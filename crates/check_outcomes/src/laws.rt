@@ -17,6 +17,7 @@ pub fn each_outcome_is_listed()
 /// files on the way. If no allocation fails, each report of the submission is that of a listed
 /// state where no chain has an access left: the same answers, the same closed files in any order,
 /// the same ring.
+#[tactic(auto, using(crate::proofs::RecordedStates::each_report_is_listed))]
 pub fn each_report_is_listed()
     ensures { EachReportIsListed }
 {}
