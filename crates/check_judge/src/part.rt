@@ -70,29 +70,23 @@ fn judge_part(
     }
 }
 
-// Looks for the first slot whose own claims have no order. A slot that is a part by itself is left
-// out.
+// Looks for the first of some slots whose own claims have no order.
 fn judge_slots(
     alloc: Global,
     table: &TableRecorded<'_>,
-    parts: &[Vec<usize>],
+    slots: &[usize],
     limits: Limits,
 ) -> Result<PartVerdict, NoMemory>
     ensures { IfOk result (IsTableVerdict table.now) }
 {
-    for i in 0..parts.len() {
-        if parts[i].len() < 2 {
+    for slot in slots {
+        if *slot >= table.slots.at.len() {
             continue;
         }
-        for slot in &parts[i] {
-            if *slot >= table.slots.at.len() {
-                continue;
-            }
-            let cells = [cell_of(table, *slot)];
-            let outcome = judge_part(alloc, table, &cells, limits, Reason::Slot(*slot as u32))?;
-            if let PartVerdict::Refuted(reason) = outcome {
-                return Ok(PartVerdict::Refuted(reason));
-            }
+        let cells = [cell_of(table, *slot)];
+        let outcome = judge_part(alloc, table, &cells, limits, Reason::Slot(*slot as u32))?;
+        if let PartVerdict::Refuted(reason) = outcome {
+            return Ok(PartVerdict::Refuted(reason));
         }
     }
     Ok(PartVerdict::Unsettled(Doubt::NotShown))
@@ -178,8 +172,13 @@ fn judge_searched(
     if let PartVerdict::Order(order) = first {
         return Ok(PartVerdict::Order(order));
     }
-    if let PartVerdict::Refuted(reason) = judge_slots(alloc, table, &parts, limits)? {
-        return Ok(PartVerdict::Refuted(reason));
+    for part in &parts {
+        // the slot of a part of one slot is judged with the part
+        if part.len() > 1
+            && let PartVerdict::Refuted(reason) = judge_slots(alloc, table, part, limits)?
+        {
+            return Ok(PartVerdict::Refuted(reason));
+        }
     }
     match first {
         PartVerdict::Refuted(reason) => Ok(PartVerdict::Refuted(reason)),
