@@ -1,8 +1,8 @@
 //! Prints one whole history of a script and a legal text: an event or an answer on each line, with
 //! the state of the table after it.
-use crate::case::{place_after, place_of};
-use crate::lines::{AskedLine, Lines, cut_word};
+use crate::lines::{Lines, cut_word};
 use crate::question::Question;
+use crate::rows::{place_after, place_of};
 use crate::words::Words;
 use fx_base::{Closed, Mark, NoMemory};
 use fx_chain::{Place, Request};
@@ -32,7 +32,7 @@ enum Maker<'a> {
 #[derive(Drop)]
 pub struct History<'a> {
     question: &'a Question<'a>,
-    asked: &'a [AskedLine<'a>],
+    asked: Lines<'a>,
     text: Lines<'a>,
     orders: &'a [Order],
     // The number of accepted lists.
@@ -68,7 +68,7 @@ impl<'a> History<'a> {
         lines.say("legal\n");
         History {
             question,
-            asked: question.asked,
+            asked: Lines::new(question.source),
             text: Lines::new(question.text),
             orders,
             lists: 0,
@@ -90,17 +90,6 @@ impl<'a> History<'a> {
     pub fn clear(&mut self) {
         self.lines.clear();
         self.last = 0;
-    }
-
-    // Takes the next line of the script that is a command or a request.
-    fn next_asked(&mut self) -> &'a [u8] {
-        match self.asked {
-            [line, rest @ ..] => {
-                self.asked = rest;
-                line.bytes
-            }
-            [] => b"",
-        }
     }
 
     // Takes the next line of the text. Returns it without its first word.
@@ -269,7 +258,7 @@ impl<'a> History<'a> {
 
     // Appends a command that the next line of the text answers alone.
     fn push_call(&mut self, command: &Command) -> Result<(), NoMemory> {
-        let (line, answer) = (self.next_asked(), self.next_answer());
+        let (line, answer) = (self.asked.take_asked(), self.next_answer());
         self.text = self.text.after_closes();
         if !answer.starts_with(b"-") && !answer.starts_with(b"refused") {
             self.who = Maker::Command(cut_word(line).0);
@@ -349,7 +338,7 @@ impl<'a> History<'a> {
             let (result, _) = cut_word(self.next_answer());
             answers.push(Answer {
                 place,
-                request: self.next_asked(),
+                request: self.asked.take_asked(),
                 result,
             })?;
             place = place_after(place, request);
@@ -363,7 +352,7 @@ impl<'a> History<'a> {
     fn push_submission(&mut self, requests: &[Request], order: &Order) -> Result<(), NoMemory> {
         let mut next = Vec::new(self.question.alloc);
         let answers = self.answers(requests, order.submission, &mut next)?;
-        self.next_asked();
+        self.asked.take_asked();
         self.text = self.text.after_closes();
         self.push_turns(&answers, order, &mut next);
         let mut chain = 1u32;
@@ -389,9 +378,7 @@ impl<'a> History<'a> {
                 self.orders = others;
                 return self.push_submission(requests, order);
             }
-            for _ in 0..requests.len() {
-                self.next_asked();
-            }
+            self.asked = self.asked.after_asked(requests.len());
         }
         self.push_call(command)
     }

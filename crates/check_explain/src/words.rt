@@ -1,5 +1,4 @@
 //! Words for a person: of places, marks, files, bytes and lines.
-use crate::case::place_of;
 use crate::lines::without_end;
 use fx_base::{Catalogue, Closed, Mark, NoMemory};
 use fx_chain::Place;
@@ -67,17 +66,12 @@ impl Words {
 
     /// Appends a number between two texts.
     pub fn count(&mut self, before: &str, number: u64, after: &str) {
-        self.say(before);
-        self.number(number);
-        self.say(after);
+        self.is_whole &= write!(self.words, "{before}{number}{after}").is_ok();
     }
 
     /// Appends a result.
     pub fn result(&mut self, res: i32) {
-        if res < 0 {
-            self.say("-");
-        }
-        self.number(u64::from(res.unsigned_abs()));
+        self.is_whole &= write!(self.words, "{res}").is_ok();
     }
 
     // Appends bytes in lower case hexadecimal.
@@ -89,28 +83,26 @@ impl Words {
 
     /// Appends a place: `S.C.M`.
     pub fn place(&mut self, place: Place) {
-        self.number(u64::from(place.submission));
-        self.count(".", u64::from(place.chain), ".");
-        self.number(u64::from(place.member));
+        let Place {
+            submission,
+            chain,
+            member,
+        } = place;
+        self.is_whole &= write!(self.words, "{submission}.{chain}.{member}").is_ok();
     }
 
     /// Appends a mark: `rK.I` or `S.C.M.E`.
     pub fn mark(&mut self, mark: Mark) {
-        match mark {
-            Mark::Registered { k, i } => {
-                self.count("r", u64::from(k), ".");
-                self.number(u64::from(i));
-            }
+        let written = match mark {
+            Mark::Registered { k, i } => write!(self.words, "r{k}.{i}"),
             Mark::Submitted {
                 submission,
                 chain,
                 member,
                 entry,
-            } => {
-                self.place(place_of(submission, chain, member));
-                self.count(".", u64::from(entry), "");
-            }
-        }
+            } => write!(self.words, "{submission}.{chain}.{member}.{entry}"),
+        };
+        self.is_whole &= written.is_ok();
     }
 
     /// Appends a file: its mark and its name.

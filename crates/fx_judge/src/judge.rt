@@ -2,7 +2,8 @@
 ghost use Rattle.fx_judge.specs.Verdicts.{IsConclusion, IsTextVerdict};
 
 use crate::codes::{BAD_SCRIPT, LEGAL, NO_MEMORY, NOT_LEGAL, UNDECIDED};
-use crate::note::{JudgedText, note_break, note_fault};
+use crate::note::{note_break, note_fault};
+use check_explain::Question;
 use check_judge::{Judgement, judge};
 use check_search::Limits;
 use fx_script::{Script, ScriptError};
@@ -40,8 +41,7 @@ fn no_details() -> YachtVerdict {
 
 // Writes the details and the note of a judgement. Returns its number.
 fn conclude(
-    alloc: Global,
-    judged: JudgedText<'_>,
+    question: &Question<'_>,
     judgement: Judgement,
     note: &mut [u8],
     verdict: &mut YachtVerdict,
@@ -53,7 +53,7 @@ fn conclude(
         Judgement::NotLegal(broken) => {
             verdict.commands = broken.commands as u64;
             verdict.at = broken.at as u64;
-            verdict.note = note_break(alloc, judged, &broken, note);
+            verdict.note = note_break(question, &broken, note);
             NOT_LEGAL
         }
         Judgement::Undecided(submission, _) => {
@@ -93,10 +93,11 @@ pub fn judge_text(
     let Ok(judgement) = judge(alloc, &read, text, limits) else {
         return NO_MEMORY;
     };
-    let judged = JudgedText {
-        source: script,
+    let question = Question {
+        alloc,
         script: &read,
+        source: script,
         text,
     };
-    conclude(alloc, judged, judgement, note, verdict)
+    conclude(&question, judgement, note, verdict)
 }
