@@ -8,6 +8,7 @@ ghost use Rattle.fx_table.specs.Pass.{IsIdle};
 ghost use Rattle.example_library.specs.HandOver.{HasPut, FindsThePut};
 
 use crate::life::close_all;
+use crate::serve::close_returned;
 use fx_base::{Catalogue, CloseList, Mark, NoMemory, OpenFile};
 use fx_lasting::LastingTable;
 use fx_table::{LookUp, RealTime, SharedTable};
@@ -62,16 +63,12 @@ fn find<T: RealTime, R: Wait>(
     ensures found { FindsThePut slot entry result (T.view pass.new).front }
 {
     let LookUp { found, freed } = table.look_up_after(rt, pass, slot, seen);
-    if let Some(file) = freed {
-        closes.close(file);
-    }
+    close_returned(freed, closes);
     let Ok(hold) = found else {
         return None;
     };
     let entry = hold.entry;
-    if let Some(file) = table.release(rt, pass, hold) {
-        closes.close(file);
-    }
+    close_returned(table.release(rt, pass, hold), closes);
     Some(entry)
 }
 
@@ -110,9 +107,7 @@ pub fn hand_over<T: RealTime, R: Threads + Wait + Sync>(
         { put_and_show(rt, catalogue, table, first, slot, entry) },
         &mut || (),
     );
-    if let Some(file) = replaced {
-        closes.close(file);
-    }
+    close_returned(replaced, closes);
     find(rt, table, second, slot, entry, &seen, closes)
 }
 

@@ -4,7 +4,7 @@ ghost use Rattle.fx_table.specs.Opening.{size_of};
 ghost use Rattle.fx_table.specs.Pass.{IsIdle};
 
 use crate::desk::{Desk, Job};
-use fx_base::{CloseList, Mark, NoMemory};
+use fx_base::{CloseList, Mark, NoMemory, OpenFile};
 use fx_table::{LookUp, SharedTable};
 use std::alloc::Global;
 use std::sync::Wait;
@@ -15,6 +15,16 @@ const ROOM: u32 = 64;
 
 // The number of bytes that one look-up reads.
 const LENGTH: u32 = 5;
+
+/// Closes the file that a call returned, if it returned one.
+pub(crate) fn close_returned(file: Option<OpenFile>, closes: &mut CloseList)
+    requires { 0 < closes.old.room }
+    ensures { closes.old.room ≤ closes.new.room + 1 }
+{
+    if let Some(file) = file {
+        closes.close(file);
+    }
+}
 
 // Makes room for two more closed files: reports those of a full list, and goes on with an empty
 // one.
@@ -49,16 +59,12 @@ fn read_once<T: SharedTable, R: Wait>(
     ensures ready { T.fits table.now pass.new × IsIdle (T.view pass.new) }
 {
     let LookUp { found, freed } = table.look_up(rt, pass, slot);
-    if let Some(file) = freed {
-        closes.close(file);
-    }
+    close_returned(freed, closes);
     let Ok(hold) = found else {
         return false;
     };
     let count = desk.catalogue.read_into(hold.entry, 0, LENGTH, bytes);
-    if let Some(file) = table.release(rt, pass, hold) {
-        closes.close(file);
-    }
+    close_returned(table.release(rt, pass, hold), closes);
     count == LENGTH
 }
 
@@ -114,9 +120,7 @@ fn replace<T: SharedTable, R: Wait>(
     let mark = Mark::Registered { k: 1, i: slot };
     let file = desk.catalogue.open(entry, mark, tag);
     if let Some(removed) = table.put(rt, pass, slot, file) {
-        if let Some(file) = table.retire(rt, pass, removed) {
-            closes.close(file);
-        }
+        close_returned(table.retire(rt, pass, removed), closes);
     }
 }
 

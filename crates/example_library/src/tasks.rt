@@ -6,6 +6,7 @@ ghost use Rattle.fx_table.specs.Opening.{size_of};
 ghost use Rattle.fx_table.specs.Pass.{IsIdle};
 
 use crate::first::replace;
+use crate::serve::close_returned;
 use fx_base::{Catalogue, CloseList, Mark, NoMemory, OpenFile};
 use fx_counted::CountedTable;
 use fx_plain::PlainTable;
@@ -56,12 +57,8 @@ fn read_while_replaced<T: FileTable, R: Threads + Wait + Sync>(
             ensures { T.fits table.entry.now writer.exit.now × IsIdle (T.view writer.exit.now) }
         { replace(rt, catalogue, table, writer) },
     );
-    if let Some(file) = table.release(rt, reader, hold) {
-        by_reader.close(file);
-    }
-    if let Some(file) = retired {
-        by_writer.close(file);
-    }
+    close_returned(table.release(rt, reader, hold), by_reader);
+    close_returned(retired, by_writer);
     Ok(Some(count?))
 }
 
