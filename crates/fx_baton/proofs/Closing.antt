@@ -5,32 +5,26 @@ use Rattle.fx_baton.proofs.Words.{get_elem?, None, Contains, sum_by, TableId, St
 use Rattle.fx_baton.proofs.Words.{is_leaving, Node, pass_of_chain, HasSameFiles, PassView, HasDrawnInTurn, ClosesTable, times_drawn, Idle}
 use Rattle.fx_baton.proofs.Words.{contains_map, contains_mapped, sum_map, Log, View, Start, BatonPass, Shared, opening_of, holds_by, removals_by}
 use Rattle.fx_baton.proofs.Words.{leaving_count, IsLog, IsHome, IsAway, IsKept, first_own, view_of, IsPassOf, logs_in, drawn_inside, drawn_few}
-use Rattle.fx_baton.proofs.Words.{all_are_drawn, sum_zero_at, one_if, once_is, ◌++◌, contains_head, contains_only, file_held, Leaving, Retired}
+use Rattle.fx_baton.proofs.Words.{all_are_drawn, sum_zero_at, one_if, once_is, ◌++◌, contains_head, file_held, Leaving, Retired}
 use Rattle.fx_baton.proofs.Words.{none-some, seats, front_in, AreGathered}
 use Rattle.std.proofs.lemmas.List.{append-nil}
 use Rattle.fx_table.proofs.Histories.{IsWhole, closes_table, settles as settles_whole}
 use Rattle.fx_table.specs.Settling.{IsSettledSoFar}
-use Rattle.table_seats.proofs.Gathered.{each_rests, its_log as gathered_log, numbers, pass_of, whole as gathered_whole}
+use Rattle.table_seats.proofs.Gathered.{each_rests, its_log as gathered_log, numbers, of_only, pass_of, whole as gathered_whole}
 
 module _ (id : TableId) (k : Start) where
-  abbrev pub Is : BatonPass → Type 0
-  Is p = IsPassOf id k p
-
   -- the one log of a pass
   abbrev pub log_of : BatonPass → Log
   log_of p = record { number = p.number; front = front_in seats p.seat.me.0.logs; own = first_own p.seat.me.0.logs }
 
-  pub its_log : {p : BatonPass} → Is p → p.seat.me.0.logs ≡ log_of p ∷ []
+  pub its_log : {p : BatonPass} → IsPassOf id k p → p.seat.me.0.logs ≡ log_of p ∷ []
   its_log fits = let s = fits.seated in
       s.one ∙ (λ i. record { number = s.number i; front = ap (front_in seats) (sym s.one) i; own = ap first_own (sym s.one) i } ∷ [])
 
-  abbrev pub logs_at : BatonPass → List Log
-  logs_at p = p.seat.me.0.logs
-
-  module _ (ps : List BatonPass) (each : (p : BatonPass) → Contains ps p → Is p) (count : length ps ≡ k.passes) (s : Shared) (r : IsKept k s)
+  module _ (ps : List BatonPass) (each : (p : BatonPass) → Contains ps p → IsPassOf id k p) (count : length ps ≡ k.passes) (s : Shared) (r : IsKept k s)
       (seat : ℕ) (v : View) (at : get_elem? s.views seat ≡ some v) (logs_are : v.logs ≡ logs_in (reverse ps))
       (idle : v.doing ≡ Idle) (free : v.loan ≡ None) where
-    abbrev pub all : AreGathered seats k s.views logs_at log_of ps
+    abbrev pub all : AreGathered seats k s.views (λ (p : BatonPass). p.seat.me.0.logs) log_of ps
     all = record { one = λ p h. its_log (each p h); count = count; seat = seat; view = v; at = at; are = logs_are }
 
     all_rest : (i : ℕ) (u : View) → get_elem? s.views i ≡ some u → (u.doing ≡ Idle) × (u.loan ≡ None)
@@ -90,13 +84,10 @@ module _ (id : TableId) (k : Start) where
 -- The history of a table with one pass, which is idle, without closing the table.
 module _ (id : TableId) (k : Start) (p : BatonPass) (fits : IsPassOf id k p) (idle : p.seat.me.0.doing ≡ Idle) (alone : k.passes ≡ 1)
     (s : Shared) (r : IsKept k s) (seat : ℕ) (at : get_elem? s.views seat ≡ some p.seat.me.0) where
-  only : (q : BatonPass) → Contains (p ∷ []) q → IsPassOf id k q
-  only q h = subst (IsPassOf id k) (sym (contains_only p q h)) fits
-
   all_its : p.seat.me.0.logs ≡ p.seat.me.0.logs ++ []
   all_its = sym (append-nil p.seat.me.0.logs)
 
   pub settles : IsSettledSoFar (opening_of k) (view_of p)
   settles = settles_whole (opening_of k) (view_of p) r.history
-      (whole id k (p ∷ []) only (sym alone) s r seat p.seat.me.0 at all_its idle fits.free (omega (arith, alone))) fits.seated.front
-      ((known id k (p ∷ []) only (sym alone) s r seat p.seat.me.0 at all_its idle fits.free p (contains_head p [])).held ∙ ap file_held idle)
+      (whole id k (p ∷ []) (of_only (IsPassOf id k) fits) (sym alone) s r seat p.seat.me.0 at all_its idle fits.free (omega (arith, alone))) fits.seated.front
+      ((known id k (p ∷ []) (of_only (IsPassOf id k) fits) (sym alone) s r seat p.seat.me.0 at all_its idle fits.free p (contains_head p [])).held ∙ ap file_held idle)

@@ -1,20 +1,18 @@
 -- A pass shows what it has seen, and another pass learns it: the rule holds afterwards. Neither is
 -- an atomic step.
 use Rattle.fx_baton.proofs.Words.{◌≡◌, ℕ, List, [], ◌∷◌, sym, refl, ap, ◌∙◌, subst, inl, inr, ⊎_elim, some, get_elem?, set, set_else, at_set}
-use Rattle.fx_baton.proofs.Words.{Contents, state_of, IsSeenBy, Event, seen_again, contains_none, contains_only, Log, View, Start, Shared, IsLog}
-use Rattle.fx_baton.proofs.Words.{IsView, IsHome, IsAway, IsKept, Splits, ◌≢◌, None, none-some, BatonPass, TableId, Seat, IsPassOf, IsFront, PassView}
+use Rattle.fx_baton.proofs.Words.{Contents, state_of, IsSeenBy, Event, Log, View, Start, Shared}
+use Rattle.fx_baton.proofs.Words.{IsHome, IsAway, IsKept, Splits, ◌≢◌, None, none-some, BatonPass, TableId, Seat, IsPassOf, IsFront, PassView}
 use Rattle.fx_baton.proofs.Words.{HasDrawnInTurn, opening_of, first_own, view_of, Seated, IsLegal, begin_of, part_of_pass, some-injective}
-use Rattle.fx_baton.proofs.Words.{HasSeen, its_pass, started, seats, front_in, shown_view}
+use Rattle.fx_baton.proofs.Words.{its_pass, started, seats, front_in, shown_view}
 use Rattle.fx_baton.specs.Showing.{HasLearned}
 use Rattle.fx_baton.proofs.SeatsKeepRule.{is_rule, laws}
 use Rattle.fx_baton.proofs.StepsKeepRule.{Turns, keeps_rule}
-use Rattle.fx_baton.proofs.TurnsKeepRule.{legal_end}
-use Rattle.fx_table.proofs.SumLemmas.{contains_alone}
+use Rattle.fx_baton.proofs.TurnsKeepRule.{learns_all, legal_end}
 use Rattle.fx_baton.proofs.Passing.{ends_there}
 use Rattle.fx_table.specs.Showing.{Learns}
 use Rattle.table_seats.proofs.Moving.{may_show as seats_show}
 use Rattle.table_seats.proofs.Together.{known}
-use Rattle.fx_seen.specs.Kept.{MayLearn}
 
 -- a seat with one pass may show what the pass has seen
 pub may_show : (k : Start) (id : ℕ) (v : View) {x : Log} → v.logs ≡ x ∷ [] → Splits (IsKept k) id v v (shown_view seats v)
@@ -23,15 +21,6 @@ may_show k id v one = seats_show is_rule laws k id v one
 -- a seat with one pass that doesn't have the table may learn the whole history
 module _ (k : Start) (id : ℕ) (v w : View) (x : Log) (one : v.logs ≡ x ∷ []) (free : v.loan ≡ None) (s : Shared) (r : IsKept k s)
     (at : get_elem? s.views id ≡ some v) (other : ℕ) (there : get_elem? s.views other ≡ some w) where
-  mine : IsView k r.history r.contents v
-  mine = r.views id v at
-
-  its_log : IsLog k r.history r.contents v.doing x
-  its_log = mine.logs x (contains_alone one)
-
-  passed : HasSeen seats r.history x
-  passed = its_pass r.life id at one
-
   abbrev log : Log
   log = record x { front = r.history }
 
@@ -39,54 +28,32 @@ module _ (k : Start) (id : ℕ) (v w : View) (x : Log) (one : v.logs ≡ x ∷ [
   learned = record v { logs = log ∷ [] }
 
   turns : Turns k s r id v at learned r.contents [] s.words s.homes
-  turns = record {
-    log = x;
-    one = one;
-    now = log;
-    one_now = refl;
-    number = refl;
-    start = refl;
-    known = refl;
-    seen = record { seen = seen_again r.history; own = passed.own };
-    authors = λ e h. absurd (contains_none e h);
-    legal = legal_end r;
-    sound = r.sound;
-    place = ⊎_elim
-        (λ (home : IsHome r.contents s). inl (
-          home.0,
-          home.1,
-          λ i u e. ⊎_elim
-              (λ (m : (i ≡ id) × (learned ≡ u)). ap (λ (z : View). z.loan) (sym m.1) ∙ free)
-              (λ m. home.2 i u m.1) (at_set s.views id i learned u e),
-        ))
-        (λ (away : IsAway r.contents r.history s). let apart : away.holder ≢ id = λ same.
-        none-some r.contents (sym free ∙ (ap (λ (z : View). z.loan) (some-injective v away.view (sym at ∙ (ap (get_elem? s.views) (sym same) ∙ away.at))) ∙ away.loan)) in
-        inr record {
-          words = away.words;
-          homes = away.homes;
-          holder = away.holder;
-          view = away.view;
-          at = set_else s.views id away.holder learned apart ∙ away.at;
-          loan = away.loan;
-          whole = away.whole;
-          others = λ i u n e. ⊎_elim
-              (λ (m : (i ≡ id) × (learned ≡ u)). ap (λ (z : View). z.loan) (sym m.1) ∙ free)
-              (λ m. away.others i u n m.1) (at_set s.views id i learned u e);
-        })
-        r.place;
-    mine = record {
-      logs = λ y h. subst (λ (z : Log). IsLog k r.history r.contents v.doing z) (sym (contains_only log y h))
-          record { held = its_log.held; fresh = its_log.fresh };
-      file = mine.file;
-    };
-    held = λ n. refl;
-    leaves = λ n. refl;
-    files = λ f i _. i;
-    others = λ n _ e. e;
-  }
+  turns = learns_all k id v x one s r at v.loan s.words s.homes (⊎_elim
+      (λ (home : IsHome r.contents s). inl (
+        home.0,
+        home.1,
+        λ i u e. ⊎_elim
+            (λ (m : (i ≡ id) × (learned ≡ u)). ap (λ (z : View). z.loan) (sym m.1) ∙ free)
+            (λ m. home.2 i u m.1) (at_set s.views id i learned u e),
+      ))
+      (λ (away : IsAway r.contents r.history s). let apart : away.holder ≢ id = λ same.
+      none-some r.contents (sym free ∙ (ap (λ (z : View). z.loan) (some-injective v away.view (sym at ∙ (ap (get_elem? s.views) (sym same) ∙ away.at))) ∙ away.loan)) in
+      inr record {
+        words = away.words;
+        homes = away.homes;
+        holder = away.holder;
+        view = away.view;
+        at = set_else s.views id away.holder learned apart ∙ away.at;
+        loan = away.loan;
+        whole = away.whole;
+        others = λ i u n e. ⊎_elim
+            (λ (m : (i ≡ id) × (learned ≡ u)). ap (λ (z : View). z.loan) (sym m.1) ∙ free)
+            (λ m. away.others i u n m.1) (at_set s.views id i learned u e);
+      })
+      r.place)
 
   learned_so : HasLearned v w learned
-  learned_so = record {
+  learned_so = let passed = its_pass r.life id at one in record {
     log = x;
     one = one;
     history = r.history;
@@ -98,11 +65,8 @@ module _ (k : Start) (id : ℕ) (v w : View) (x : Log) (one : v.logs ≡ x ∷ [
     legal = subst (λ (z : Start). IsLegal (begin_of z) r.history (state_of r.contents)) (sym (started one (r.life.seats id v at))) (legal_end r);
   }
 
-  may : (z : View) × IsKept k record { words = s.words; homes = s.homes; views = set s.views id z } × HasLearned v w z
-  may = (learned, keeps_rule k s r id v at learned r.contents [] s.words s.homes turns, learned_so)
-
-pub may_learn : (k : Start) (id : ℕ) (v w : View) {x : Log} → v.logs ≡ x ∷ [] → v.loan ≡ None → MayLearn (IsKept k) id v w (HasLearned v w)
-may_learn k id v w {x} one free s r at other there = may k id v w x one free s r at other there
+  pub may_learn : (z : View) × IsKept k record { words = s.words; homes = s.homes; views = set s.views id z } × HasLearned v w z
+  may_learn = (learned, keeps_rule k s r id v at learned r.contents [] s.words s.homes turns, learned_so)
 
 -- the pass that has learned
 module _ {id : TableId} {k : Start} {p : BatonPass} (fits : IsPassOf id k p) (w : View) (seat : Seat Contents View)

@@ -6,7 +6,7 @@ use Rattle.fx_baton.proofs.Words.{Event, seen_again, contains_none, contains_onl
 use Rattle.fx_baton.proofs.Words.{begin_of, holds_by, removals_by, HasFreshNumbers, IsLog, IsView, IsHome, IsAway, IsKept, Knows, lent_view}
 use Rattle.fx_baton.proofs.Words.{Grabs, Allows, ◌≢◌, true, ◌++◌, map, dite, ℕ_discrete, some-injective, Some, gives, at_set, IsTable, IsSeenBy}
 use Rattle.fx_baton.proofs.Words.{held_by, ◌▷▷◌, Task, pass_of_number, log_after, view_after, PutsBack, IsTurn, part_mine, set_here, stands_at}
-use Rattle.fx_baton.proofs.Words.{none-some, Idle, HasSeen, its_pass, started, seats}
+use Rattle.fx_baton.proofs.Words.{none-some, Idle, HasSeen, Option, ◌⊎◌, its_pass, started, seats}
 use Rattle.std.proofs.lemmas.List.{set-get_or}
 use prog.Atomic.{either}
 use Rattle.fx_table.proofs.SumLemmas.{contains_alone}
@@ -59,11 +59,16 @@ module _ (k : Start) (id : ℕ) (v : View) (x : Log) (one : v.logs ≡ x ∷ [])
         λ n. let a = sum_at (λ (z : View). removals_by n z.doing) s.views id v at in let b = r.leaves n in omega arith in
         assumption (legal, r.sound, passed, log_of, fresh, mine.file, room s r, holds, leaves)
 
-    abbrev lent : View
-    lent = lent_view v x r.history r.contents
+    -- the view of the seat when its pass has seen the whole history, with this loan
+    abbrev pub learned : Option Contents → View
+    learned loan = record v { logs = record x { front = r.history } ∷ []; loan = loan }
 
-    taken_turns : (home : IsHome r.contents s) → Turns k s r id v at lent r.contents [] (set s.words 0 0) (set s.homes 0 none)
-    taken_turns home = record {
+    -- the pass learns the whole history, and makes no event
+    pub learns_all : (loan : Option Contents) (words : List ℕ) (homes : List (mathlib.Core.Option.Option Contents))
+        → (let after : Shared = record { words = words; homes = homes; views = set s.views id (learned loan) } in
+        IsHome r.contents after ⊎ IsAway r.contents r.history after)
+        → Turns k s r id v at (learned loan) r.contents [] words homes
+    learns_all loan words homes place = record {
       log = x;
       one = one;
       now = record x { front = r.history };
@@ -75,16 +80,7 @@ module _ (k : Start) (id : ℕ) (v : View) (x : Log) (one : v.logs ≡ x ∷ [])
       authors = λ e h. absurd (contains_none e h);
       legal = legal_end r;
       sound = r.sound;
-      place = inr record {
-        words = ap (λ (l : List ℕ). set l 0 0) home.0;
-        homes = ap (λ l. set l 0 none) home.1;
-        holder = id;
-        view = lent;
-        at = set_here s.views id lent (stands_at s.views id v at).0;
-        loan = refl;
-        whole = λ y h. ap (λ (z : Log). z.front) (contains_only _ y h);
-        others = λ i u n e. home.2 i u (sym (set_else s.views id i lent n) ∙ e);
-      };
+      place = place;
       mine = record {
         logs = λ y h. subst (λ (z : Log). IsLog k r.history r.contents v.doing z) (sym (contains_only _ y h))
             record { held = log_of.held; fresh = log_of.fresh };
@@ -95,6 +91,21 @@ module _ (k : Start) (id : ℕ) (v : View) (x : Log) (one : v.logs ≡ x ∷ [])
       files = λ f i _. i;
       others = λ n _ e. e;
     }
+
+    abbrev lent : View
+    lent = lent_view v x r.history r.contents
+
+    taken_turns : (home : IsHome r.contents s) → Turns k s r id v at lent r.contents [] (set s.words 0 0) (set s.homes 0 none)
+    taken_turns home = learns_all (Some r.contents) (set s.words 0 0) (set s.homes 0 none) (inr record {
+      words = ap (λ (l : List ℕ). set l 0 0) home.0;
+      homes = ap (λ l. set l 0 none) home.1;
+      holder = id;
+      view = lent;
+      at = set_here s.views id lent (stands_at s.views id v at).0;
+      loan = refl;
+      whole = λ y h. ap (λ (z : Log). z.front) (contains_only _ y h);
+      others = λ i u n e. home.2 i u (sym (set_else s.views id i lent n) ∙ e);
+    })
 
   pub grab_keeps : v.loan ≡ None → Allows (IsKept k) 1 id (v, []) 0 (λ n. either (n == 1) 0 n) (Grabs (step 1 0 1 0 none) (v, []))
   grab_keeps free s r wide at small = ⊎_elim

@@ -27,28 +27,25 @@ pub use Rattle.fx_plain.specs.declared.event.File.{File}
 pub use Rattle.fx_plain.specs.declared.node.Node.{Node}
 pub use Rattle.fx_table.proofs.Calls.{seen_again, seen_further, new_here, cleared_so, placed_so, taken_so, prepared_again}
 pub use Rattle.fx_table.proofs.Histories.{held_mine, held_other, legal_then, one_author, part_mine, part_other}
-pub use Rattle.fx_table.proofs.SumLemmas.{contains_head, contains_map, contains_mapped, contains_none, contains_only, contains_reverse}
-pub use Rattle.fx_table.proofs.SumLemmas.{contains_reversed, bit_here, once_is, one_if, one_less_at, one_more_at, found_by, sum_at, sum_le_at}
-pub use Rattle.fx_table.proofs.SumLemmas.{sum_map, sum_of, sum_set, sum_two, sum_zero_at, counted_once, stands_at}
-pub use Rattle.fx_table.proofs.Chains.{all_are_drawn, drawn_few, drawn_inside, next_is_its_own, first_left, last_left, fits, one_dealt, all_dealt}
-pub use Rattle.fx_table.proofs.Chains.{AreDealt}
+pub use Rattle.fx_table.proofs.SumLemmas.{contains_head, contains_map, contains_mapped, contains_none, contains_only}
+pub use Rattle.fx_table.proofs.SumLemmas.{bit_here, once_is, one_if, one_less_at, one_more_at, sum_at, sum_le_at}
+pub use Rattle.fx_table.proofs.SumLemmas.{sum_map, sum_set, sum_zero_at, stands_at}
+pub use Rattle.fx_table.proofs.Chains.{all_are_drawn, drawn_few, drawn_inside, next_is_its_own, fits, one_dealt, all_dealt}
 pub use Rattle.fx_table.specs.Closing.{ClosesTable, times_drawn}
 pub use Rattle.fx_table.specs.Files.{HasFile}
-pub use Rattle.fx_table.specs.Numbers.{chains_of_pass, number_following, numbers_for, pass_of_chain, pass_of_number, once}
+pub use Rattle.fx_table.specs.Numbers.{chains_of_pass, number_following, numbers_for, pass_of_chain, pass_of_number}
 pub use Rattle.fx_table.specs.Opening.{HasSameFiles, Opening, size_of, state_at}
 pub use Rattle.fx_table.specs.Pass.{IsFront, IsHoldOf, IsRetiredOf, PassView, hold_of, new_pass, IsFileHold, retired_of}
 pub use Rattle.fx_table.specs.Turns.{HasDrawnInTurn}
 pub use Rattle.fx_table.specs.declared.values.Task.{Task}
 pub use Rattle.fx_table.specs.declared.values.Task.TheVariants.{Holding, Idle, Retiring}
-pub use Rattle.std.proofs.Common.{All, Bool, List, [], ap, arith, cond, eqb, false, get_or, inl, inr, length, length-append, map, refl, reverse}
-pub use Rattle.std.proofs.Common.{rules, set, subst, suc, sym, true, vec_capacity, zero, ℕ, ⊎_elim, ◌*◌, ◌++◌, ◌+◌, ◌-◌, ◌<◌, ◌∙◌, ◌∷◌, ◌≡◌, ◌≢◌, ◌≤◌}
-pub use Rattle.std.proofs.Common.{◌⊎◌, take, drop}
-pub use Rattle.std.proofs.lemmas.List.Elements.{Contains-append_cases}
-pub use Rattle.std.proofs.lemmas.List.Sums.{sum_by-append}
-pub use Rattle.std.specs.Prelude.{Contains, None, Option, Some, count_by, if◌then◌else◌, is_some, not, option_map, sum_by, ◌&&◌, ◌==◌}
+pub use Rattle.std.proofs.Common.{Bool, List, [], ap, arith, cond, eqb, false, get_or, inl, inr, length, map, refl, reverse}
+pub use Rattle.std.proofs.Common.{rules, set, subst, sym, true, vec_capacity, ℕ, ⊎_elim, ◌*◌, ◌++◌, ◌+◌, ◌-◌, ◌<◌, ◌∙◌, ◌∷◌, ◌≡◌, ◌≢◌, ◌≤◌}
+pub use Rattle.std.proofs.Common.{◌⊎◌}
+pub use Rattle.std.specs.Prelude.{Contains, None, Option, Some, if◌then◌else◌, is_some, not, option_map, sum_by, ◌&&◌, ◌==◌}
 pub use lib.ListN.{get_elem?}
 pub use mathlib.Core.Logic.{dite}
-pub use mathlib.Core.Option.{none, some, some-injective, some-ne-none}
+pub use mathlib.Core.Option.{none, some, some-injective}
 pub use native.Mathlib.Decide.{ℕ_discrete}
 pub use Rattle.fx_table.specs.Tasks.{activity_of, retiring}
 pub use Rattle.fx_baton.specs.Turns.{holds_now, actions_of, doing_of, events_of, use_of, table_of_seats, by, table_of_loan}
@@ -57,6 +54,6 @@ pub use Rattle.fx_table.proofs.Growing.{Grows}
 pub use Rattle.fx_table.proofs.Seats.{IsAnew, gathered, last_of}
 pub use Rattle.table_seats.proofs.Gathered.{AreGathered}
 pub use Rattle.table_seats.proofs.Together.{HasLaws, Moves, its_pass, not_there, started}
-pub use Rattle.table_seats.specs.Together.{HasSeen, Together}
+pub use Rattle.table_seats.specs.Together.{HasSeen}
 pub use Rattle.table_seats.specs.Seats.{dealt, first_alone, first_view, front_in, shown_view, without_first}
 pub use Rattle.std.proofs.lemmas.Option.{none-some}

@@ -1,9 +1,9 @@
-//! The rule of the table guarded by one word, and its four kinds of step.
-use crate::view::{Start, View};
-use atomic_table::{Join, Play, Split, TableRule};
+//! The rule of the table guarded by one word, and its kinds of step.
+use crate::view::{Log, Start, View};
+use atomic_table::{Play, TableRule};
 use fx_plain::PlainTable;
-use fx_seen::Learning;
 use std::marker::{Brand, PhantomData};
+use table_seats::SeatView;
 
 /// The rule of the shared table: the table and all passes agree with one legal history. The word is
 /// 1 while the table is at home, and 0 while one pass has it.
@@ -16,30 +16,6 @@ impl TableRule<PlainTable, View, Start> for OneHistory {
     ghost holds = { IsKept };
 
     ghost first = { first_view seats };
-}
-
-/// The split of a seat: its first pass gets a seat of its own.
-pub struct Deal;
-
-impl Split<View> for Deal {
-    ghost use Rattle.table_seats.specs.Seats.{without_first, first_alone};
-    ghost use Rattle.fx_baton.specs.Rule.{seats};
-
-    ghost left = { without_first seats };
-
-    ghost right = { first_alone seats };
-}
-
-/// The join of two seats: one takes in the passes of the other.
-pub struct Gather;
-
-impl Join<View> for Gather {
-    ghost use Rattle.table_seats.specs.Seats.{joined, spent};
-    ghost use Rattle.fx_baton.specs.Rule.{seats};
-
-    ghost both = { joined seats };
-
-    ghost spent = { spent seats };
 }
 
 /// The attempt to take the table: it succeeds if the table is at home.
@@ -94,23 +70,15 @@ impl Play<PlainTable, View> for Observe {
     ghost then = { Observes IsKept (λ v. v.start) };
 }
 
-/// Show: a seat shows all that its pass has seen.
-pub struct Show;
-
-impl Split<View> for Show {
-    ghost use Rattle.table_seats.specs.Seats.{shown_view};
-    ghost use Rattle.fx_baton.specs.Rule.{seats};
-
-    ghost left = { λ v. v };
-
-    ghost right = { shown_view seats };
-}
-
-/// Learn: a pass has seen all that was shown, and all that it had seen before.
-pub struct Learn;
-
-impl Learning<View> for Learn {
+impl SeatView for View {
+    ghost use Rattle.fx_baton.specs.Rule.{seats as views};
     ghost use Rattle.fx_baton.specs.Showing.{HasLearned};
 
-    ghost then = { HasLearned };
+    type Log = Log;
+
+    type Start = Start;
+
+    ghost seats = { views };
+
+    ghost learns = { HasLearned };
 }

@@ -12,7 +12,7 @@ ghost use Rattle.fx_table.specs.Settling.{IsSettledSoFar};
 ghost use Rattle.fx_baton.specs.Lives.{HasPrepared, HasAllPasses, IsIdleSeatOf, logs_in, AllIsHome};
 ghost use Rattle.fx_baton.specs.Lives.{Leaves};
 
-use crate::kinds::{Deal, Gather, Observe};
+use crate::kinds::Observe;
 use crate::pass::BatonPass;
 use crate::table::BatonTable;
 use crate::view::{Start, View};
@@ -22,6 +22,7 @@ use fx_plain::PlainTable;
 use fx_table::{MAX_CHAINS, MAX_PASSES, numbers_for};
 use std::alloc::Global;
 use std::snapshot::Snapshot;
+use table_seats::{Deal, Gather};
 
 // Takes the only table out of a list.
 fn only_table(mut slots: Vec<PlainTable>) -> PlainTable

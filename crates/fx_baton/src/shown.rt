@@ -6,12 +6,12 @@ ghost use Rattle.fx_baton.specs.Passes.{view_of};
 ghost use Rattle.fx_baton.specs.Tables.{opening_of_table, IsPassOfTable};
 ghost use Rattle.fx_baton.specs.Showing.{shown_of, IsSeenOf};
 
-use crate::kinds::{Learn, Show};
 use crate::pass::BatonPass;
 use crate::table::BatonTable;
 use crate::view::View;
 use fx_seen::{Seen, learn, show};
 use fx_table::RealTime;
+use table_seats::{Learn, Show};
 
 /// The history that a pass of a [`BatonTable`] had seen when it showed it. It has no bytes.
 #[derive(Drop)]

@@ -8,11 +8,11 @@ use Rattle.fx_counted.proofs.Words.{is_idle, CountedPass, new_pass, IsNewPass, s
 use Rattle.fx_counted.proofs.Words.{IsSettled, ClosesTable, times_drawn, HasSameFiles, PassView, contains_head, contains_map}
 use Rattle.fx_counted.proofs.Words.{contains_mapped, sum_map, sum_of, found_sum, logs_in, opening_of}
 use Rattle.fx_counted.proofs.Words.{state_after_all, first_log, once, ◌<◌, map, reverse, once_is, ◌++◌}
-use Rattle.fx_counted.proofs.Words.{contains_only, held_in, append-nil, IsSettledSoFar}
+use Rattle.fx_counted.proofs.Words.{held_in, append-nil, IsSettledSoFar}
 use Rattle.fx_counted.proofs.Words.{some_there, some_times}
 use Rattle.fx_counted.proofs.Openings.{laws}
 use Rattle.fx_counted.proofs.Words.{AreGathered, Moves, seats}
-use Rattle.table_seats.proofs.Gathered.{each_rests, its_log as gathered_log, total, whole as gathered_whole}
+use Rattle.table_seats.proofs.Gathered.{each_rests, its_log as gathered_log, of_only, total, whole as gathered_whole}
 use Rattle.table_seats.proofs.Moving.{IsRule, alone_is_dealt, may_join, may_split}
 use Rattle.table_seats.proofs.Together.{reseated as seats_reseated}
 use Rattle.fx_counted.proofs.Frames.{busy, owner_map}
@@ -94,23 +94,17 @@ some_pass [] low = absurd (omega arith)
 some_pass (x ∷ l) low = (x, contains_head x l)
 
 module _ (id : TableId) (k : Start) where
-  abbrev pub Is : CountedPass → Type 0
-  Is p = IsPassOf id k p
-
-  abbrev pub logs_at : CountedPass → List Log
-  logs_at p = p.seat.me.0.logs
-
   -- the one log of a pass
   abbrev pub log_of : CountedPass → Log
   log_of p = first_log p.seat.me.0.logs
 
-  pub its_log : (p : CountedPass) → Is p → p.seat.me.0.logs ≡ log_of p ∷ []
+  pub its_log : (p : CountedPass) → IsPassOf id k p → p.seat.me.0.logs ≡ log_of p ∷ []
   its_log p fits = fits.seated.one ∙ ap (λ (x : Log). x ∷ []) (sym (ap first_log fits.seated.one))
 
-  module _ (ps : List CountedPass) (each : (p : CountedPass) → Contains ps p → Is p) (count : length ps ≡ k.passes)
+  module _ (ps : List CountedPass) (each : (p : CountedPass) → Contains ps p → IsPassOf id k p) (count : length ps ≡ k.passes)
       {s : Shared} (r : Agrees k s) (seat : ℕ) {v : View} (at : get_elem? s.views seat ≡ some v) (logs_are : v.logs ≡ logs_in (reverse ps))
       (idle : v.work ≡ Between Idle) where
-    abbrev pub all : AreGathered seats k s.views logs_at log_of ps
+    abbrev pub all : AreGathered seats k s.views (λ (p : CountedPass). p.seat.me.0.logs) log_of ps
     all = record { one = λ p h. its_log p (each p h); count = count; seat = seat; view = v; at = at; are = logs_are }
 
     pub all_idle : (i : ℕ) (u : View) → get_elem? s.views i ≡ some u → u.work ≡ Between Idle
@@ -147,13 +141,10 @@ module _ (id : TableId) (k : Start) (p : CountedPass) (fits : IsPassOf id k p) (
   work : p.seat.me.0.work ≡ Between Idle
   work = its_idle fits idle
 
-  only : (q : CountedPass) → Contains (p ∷ []) q → IsPassOf id k q
-  only q h = subst (IsPassOf id k) (sym (contains_only p q h)) fits
-
   all_its : p.seat.me.0.logs ≡ p.seat.me.0.logs ++ []
   all_its = sym (append-nil p.seat.me.0.logs)
 
   pub settles : IsSettledSoFar (opening_of k) (view_of p)
   settles = settles_whole (opening_of k) (view_of p) r.history
-      (whole id k (p ∷ []) only (sym alone) r seat at all_its work (omega (arith, alone))) fits.seated.front
-      ((known id k (p ∷ []) only (sym alone) r seat at all_its work p (contains_head p [])).held ∙ ap held_in work)
+      (whole id k (p ∷ []) (of_only (IsPassOf id k) fits) (sym alone) r seat at all_its work (omega (arith, alone))) fits.seated.front
+      ((known id k (p ∷ []) (of_only (IsPassOf id k) fits) (sym alone) r seat at all_its work p (contains_head p [])).held ∙ ap held_in work)

@@ -18,7 +18,7 @@ use Rattle.fx_counted.specs.Goes.{Goes}
 use Rattle.fx_counted.specs.Passes.{held_of, shown, doing_in}
 use Rattle.fx_counted.specs.Showing.{HasLearned}
 use Rattle.fx_counted.specs.Effects.{IsInside}
-use Rattle.fx_counted.proofs.Words.{HasSeen, its_pass, seats, shown_view, total_same}
+use Rattle.fx_counted.proofs.Words.{its_pass, seats, shown_view, total_same}
 use Rattle.fx_counted.proofs.Openings.{laws}
 use Rattle.fx_counted.proofs.Seats.{is_rule}
 use Rattle.fx_counted.proofs.Frames.{owner_same, control_same, draws_same}
@@ -27,7 +27,6 @@ use Rattle.table_seats.proofs.Moving.{may_show as seats_show}
 use Rattle.table_seats.proofs.Together.{known, learned as seats_learn}
 use Rattle.fx_table.proofs.Calls.{learned_so}
 use Rattle.fx_counted.proofs.Calling.{adds_so, still_pass}
-use Rattle.fx_seen.specs.Kept.{MayLearn}
 
 -- a seat with one pass may show what the pass has seen
 pub may_show : (k : Start) (id : ℕ) (v : View) {x : Log} → v.logs ≡ x ∷ [] → Splits (Agrees k) id v v (shown_view seats v)
@@ -38,9 +37,6 @@ module _ (k : Start) (id : ℕ) (v w : View) (x : Log) (one : v.logs ≡ x ∷ [
     (at : get_elem? s.views id ≡ some v) (other : ℕ) (there : get_elem? s.views other ≡ some w) where
   its_log : LogAgrees k r.history r.phase v.work x
   its_log = (r.each_view id v at).logs x (contains_alone one)
-
-  passed : HasSeen seats r.history x
-  passed = its_pass r.life id at one
 
   abbrev log : Log
   log = record x { front = r.history }
@@ -86,7 +82,7 @@ module _ (k : Start) (id : ℕ) (v w : View) (x : Log) (one : v.logs ≡ x ∷ [
   }
 
   adds_here : Adds (opening_of k) (shown x v.work) [] (doing_in v.work) no_use (shown log v.work)
-  adds_here = record {
+  adds_here = let passed = its_pass r.life id at one in record {
     seen = passed.seen;
     front = record { legal = r.life.legal; mine = refl };
     own = passed.own;
@@ -113,18 +109,12 @@ module _ (k : Start) (id : ℕ) (v w : View) (x : Log) (one : v.logs ≡ x ∷ [
     shown = known r.life other w there;
   }
 
-  may : (z : View) × Agrees k record { words = s.words; homes = s.homes; views = set s.views id z } × HasLearned v w z
-  may = (learned, learned_agrees, learns_so)
-
-pub may_learn : (k : Start) (id : ℕ) (v w : View) {x : Log} → v.logs ≡ x ∷ [] → v.start ≡ k → IsInside v.start v.work → MayLearn (Agrees k) id v w (HasLearned v w)
-may_learn k id v w {x} one begun within s r at other there = may k id v w x one begun within s r at other there
+  pub may_learn : (z : View) × Agrees k record { words = s.words; homes = s.homes; views = set s.views id z } × HasLearned v w z
+  may_learn = (learned, learned_agrees, learns_so)
 
 -- the pass that has learned
 module _ {id : TableId} {k : Start} {p : CountedPass} (fits : IsPassOf id k p) (w : View) (seat : Seat (Option Closed) View)
     (table : seat.table_id ≡ p.seat.table_id) (slots : seat.me.1 ≡ p.seat.me.1) (learns : HasLearned p.seat.me.0 w seat.me.0) where
-  abbrev q : CountedPass
-  q = record p { seat = seat }
-
   goes : Goes p.seat.me [] no_use p.seat.me.0.work p.seat.me.0.change 0 seat.me
   goes = let o = learns.goes in record {
     one = o.one;
@@ -139,12 +129,9 @@ module _ {id : TableId} {k : Start} {p : CountedPass} (fits : IsPassOf id k p) (
   outside : Goes p.seat.me [] no_use p.seat.me.0.work Outside 0 seat.me
   outside = subst (λ (c : Change). Goes p.seat.me [] no_use p.seat.me.0.work c 0 seat.me) fits.seated.change goes
 
-  adds : Adds (opening_of k) (view_of p) [] (doing_in p.seat.me.0.work) no_use (view_of q)
-  adds = adds_so fits goes
-
-  pub learned_pass : IsPassOf id k q × Learns (opening_of k) w.known (view_of p) (view_of q)
+  pub learned_pass : IsPassOf id k (record p { seat = seat }) × Learns (opening_of k) w.known (view_of p) (view_of (record p { seat = seat }))
   learned_pass = (
-    still_pass q fits outside table (slots ∙ fits.places) fits.seated.work refl refl (let e : p.numbers_left + 0 ≡ p.numbers_left = omega arith in e)
+    still_pass (record p { seat = seat }) fits outside table (slots ∙ fits.places) fits.seated.work refl refl (let e : p.numbers_left + 0 ≡ p.numbers_left = omega arith in e)
         (let e : p.looks_left + 0 ≡ p.looks_left = omega arith in e) fits.knows.idle,
-    learned_so (opening_of k) w.known (view_of p) (view_of q) adds learns.shown,
+    learned_so (opening_of k) w.known (view_of p) _ (adds_so fits goes) learns.shown,
   )

@@ -1,12 +1,12 @@
 -- The names that these proofs cite, passed on from one place. Declares nothing.
-pub use Rattle.atomic_table.proofs.Lists.{at_map, at_set, exchanged, set_again, set_else, set_here}
+pub use Rattle.atomic_table.proofs.Lists.{at_map, at_set, exchanged, set_else, set_here}
 pub use Rattle.atomic_table.specs.Seated.{TableId}
 pub use Rattle.atomic_table.specs.Table.{Act, Allows, Final, Seen, Valid, carried_after, gives, keeps, rest, step, stepped, takes}
 pub use Rattle.atomic_table.specs.declared.shared.Seat.{Seat}
 pub use Rattle.fx_base.specs.declared.open_file.Closed.{Closed}
 pub use Rattle.fx_counted.specs.Agrees.{Agrees, Does, HasShape, Home, IsGone, IsSeated, LogAgrees, Names, NodeAgrees, OwnerAgrees, PlacesNext}
 pub use Rattle.fx_counted.specs.Agrees.{SlotAgrees, ViewAgrees, WorkAgrees}
-pub use Rattle.fx_counted.specs.Changing.{HasToReport, InRange, IsAtWork, begun, difference}
+pub use Rattle.fx_counted.specs.Changing.{HasToReport, InRange, begun, difference}
 pub use Rattle.fx_counted.specs.Control.{ControlCounts, added, added_of, changes_of, in_change, removed_by, removed_of}
 pub use Rattle.fx_counted.specs.Counts.{all_looks, look_in, looks, looks_after}
 pub use Rattle.fx_counted.specs.Cuts.{seats}
@@ -38,7 +38,7 @@ pub use Rattle.fx_counted.specs.declared.view.Start.{Start}
 pub use Rattle.fx_counted.specs.declared.view.View.{View}
 pub use Rattle.fx_counted.specs.declared.view.Work.{Work}
 pub use Rattle.fx_counted.specs.declared.view.Work.TheVariants.{Between, Emptying, Placing}
-pub use Rattle.fx_plain.proofs.Cells.{changed_else, changed_here, each_set}
+pub use Rattle.fx_plain.proofs.Cells.{changed_else, changed_here}
 pub use Rattle.fx_plain.specs.Contents.{Contents, IsPrepared, state_of}
 pub use Rattle.fx_plain.specs.History.{IsLegal, ReleasesItsOwn, action_of, held_after, held_by, part_of_pass, ◌▷▷◌, ◌▷◌}
 pub use Rattle.fx_plain.specs.State.{IsSettled, State, file_numbered}
@@ -48,9 +48,9 @@ pub use Rattle.fx_plain.specs.declared.event.Action.{Action}
 pub use Rattle.fx_plain.specs.declared.event.Action.TheVariants.{Allocate, Clear, Close, Full, Look, Put, Release, Take}
 pub use Rattle.fx_plain.specs.declared.event.Event.{Event}
 pub use Rattle.fx_plain.specs.declared.event.File.{File}
-pub use Rattle.fx_table.proofs.SumLemmas.{contains_head, contains_map, contains_mapped, contains_none, contains_only, contains_reverse}
-pub use Rattle.fx_table.proofs.SumLemmas.{contains_reversed, each_all, read_at, stands_at, bit_else, bit_here, counted_once, once_is, once_more}
-pub use Rattle.fx_table.proofs.SumLemmas.{one_if, one_less_at, one_more_at, times, found_by, found_sum, sum_at, sum_le_at, sum_map, sum_of, sum_set}
+pub use Rattle.fx_table.proofs.SumLemmas.{contains_head, contains_map, contains_mapped, contains_only}
+pub use Rattle.fx_table.proofs.SumLemmas.{each_all, read_at, stands_at, bit_else, bit_here, once_is, once_more}
+pub use Rattle.fx_table.proofs.SumLemmas.{one_if, one_less_at, one_more_at, times, found_sum, sum_at, sum_le_at, sum_map, sum_of, sum_set}
 pub use Rattle.fx_table.proofs.SumLemmas.{sum_two, sum_zero, sum_zero_at}
 pub use Rattle.fx_table.proofs.FullSlots.{full_all, full_else, full_few, full_here}
 pub use Rattle.fx_table.specs.FullSlots.{first_at, full_in, if_full}
@@ -68,17 +68,16 @@ pub use Rattle.fx_table.specs.declared.values.Task.TheVariants.{Holding, Idle, R
 pub use Rattle.fx_words.proofs.Parts.{entry_made, entry_more, name_made, name_more, named_suc, takes_made, takes_more}
 pub use Rattle.fx_words.specs.Words.{born, control_word_of, end_amount_of, entry_in, full_word_of, name_in, named, node_in, one_change}
 pub use Rattle.fx_words.specs.Words.{retire_amount_of, slot_word_of, takes_in}
-pub use Rattle.std.proofs.Common.{All, Bool, IsSome, List, None, Option, Some, [], ap, arith, cond, drop, eq-eqb, eqb, false, get_or}
-pub use Rattle.std.proofs.Common.{get_or-set_other, get_or-set_same, inl, inr, le-ltb, length, length-append, length-set, lt-ltb, map, nat_eq, nat_lt}
-pub use Rattle.std.proofs.Common.{refl, reverse, rules, set, slice_index, subst, suc, sym, take, true, vec_capacity, zero, ℕ, ⊎_elim, ◌%◌, ◌&&◌, ◌*◌}
+pub use Rattle.std.proofs.Common.{Bool, IsSome, List, None, Option, Some, [], ap, arith, cond, eq-eqb, eqb, false, get_or}
+pub use Rattle.std.proofs.Common.{get_or-set_other, get_or-set_same, inl, inr, le-ltb, length, length-set, lt-ltb, map, nat_eq, nat_lt}
+pub use Rattle.std.proofs.Common.{refl, reverse, rules, set, slice_index, subst, suc, sym, true, vec_capacity, zero, ℕ, ⊎_elim, ◌%◌, ◌&&◌, ◌*◌}
 pub use Rattle.std.proofs.Common.{◌++◌, ◌+◌, ◌-◌, ◌/◌, ◌<◌, ◌^◌, ◌∙◌, ◌∷◌, ◌≡◌, ◌≢◌, ◌≤◌, ◌⊎◌, not}
 pub use Rattle.std.proofs.Math.Nat.{mul-add, mul-le-mul_left, mul-le-mul_right}
-pub use Rattle.std.proofs.lemmas.List.{append-nil, length-map, length-reverse, set-get_or}
+pub use Rattle.std.proofs.lemmas.List.{append-nil, length-map, set-get_or}
 pub use Rattle.std.proofs.lemmas.List.Elements.{All-contains, Contains-append_left}
-pub use Rattle.std.proofs.lemmas.List.FromFn.{length-map-range_with_len}
 pub use Rattle.std.proofs.lemmas.List.Sums.{count_by-le-length, sum_by-append, sum_by-cons}
 pub use Rattle.std.specs.List.{range_with_len}
-pub use Rattle.std.specs.Mem.Slots.{IsFull, slots_filled, slots_items, slots_len}
+pub use Rattle.std.specs.Mem.Slots.{IsFull, slots_items, slots_len}
 pub use Rattle.std.specs.Prelude.{Contains, count_by, is_some, option_map, sum_by, ℤ}
 pub use lib.ListN.{get_elem?}
 pub use mathlib.Core.Logic.{dite}
@@ -87,10 +86,10 @@ pub use native.Mathlib.Decide.{dec_le, ℕ_discrete}
 pub use Rattle.fx_table.proofs.Calls.{adds_then, cleared_so, placed_so, new_here, taken_so}
 pub use Rattle.fx_table.specs.declared.values.Hold.{Hold}
 pub use Rattle.fx_plain.proofs.Prepared.{inside_behind, opens_inside, numbered_anew}
-pub use Rattle.fx_table.proofs.Seats.{only_here, gathered, last_of}
+pub use Rattle.fx_table.proofs.Seats.{gathered, last_of}
 pub use Rattle.table_seats.proofs.Gathered.{AreGathered}
 pub use Rattle.table_seats.proofs.Together.{HasLaws, Moves, its_pass, not_there, of_one, total_same}
-pub use Rattle.table_seats.specs.Seats.{dealt, first_alone, first_view, front_in, new_logs, shown_view, without_first}
-pub use Rattle.table_seats.specs.Together.{HasSeen, Together, lengths}
+pub use Rattle.table_seats.specs.Seats.{dealt, first_alone, first_view, new_logs, shown_view, without_first}
+pub use Rattle.table_seats.specs.Together.{HasSeen, lengths}
 pub use Rattle.fx_table.proofs.Growing.{Grows, grows_none, grows_one, part_mine, each_changed}
-pub use Rattle.fx_table.proofs.Chains.{first_left, last_left, in_part, some_there, some_times, IsReady, fits, one_dealt, all_dealt, AreDealt}
+pub use Rattle.fx_table.proofs.Chains.{some_there, some_times, IsReady, fits, one_dealt, all_dealt}

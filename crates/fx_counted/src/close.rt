@@ -6,8 +6,8 @@ ghost use Rattle.fx_table.specs.Settling.{IsSettledSoFar};
 ghost use Rattle.fx_counted.specs.Lives.{IsIdleSeatOf, logs_in, AllAreIdle, Leaves};
 ghost use Rattle.fx_counted.specs.Tables.{view_of, opening_of_table, IsPassOfTable};
 
-use crate::kinds::{Gather, Observe};
-use crate::layout::{CONTROL, home_place, homes_for, slot_place};
+use crate::kinds::Observe;
+use crate::layout::{CONTROL, home_place, slot_place};
 use crate::pass::CountedPass;
 use crate::table::CountedTable;
 use crate::view::View;
@@ -15,7 +15,7 @@ use atomic_table::Seat;
 use fx_base::OpenFile;
 use fx_plain::PlainTable;
 use fx_words::node_of;
-use table_seats::take_home;
+use table_seats::{Gather, free_empty, take_home};
 
 impl CountedTable {
     /// Turns the table back into a table of one thread, after all its passes have come back, idle
@@ -75,9 +75,9 @@ impl CountedTable {
         let CountedTable {
             table,
             mut shell,
-            chains,
+            chains: _,
             passes: _,
-            numbers,
+            numbers: _,
             size,
             range_start: _,
             range_len: _,
@@ -90,11 +90,7 @@ impl CountedTable {
                 }
             }
         }
-        for place in 0..homes_for(size, numbers * chains) {
-            let home = closed.take(place);
-            let None = home else { unreachable!() };
-        }
-        closed.free();
+        free_empty(closed);
         shell
     }
 }

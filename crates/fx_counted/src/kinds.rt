@@ -1,18 +1,17 @@
 //! The rule of the lock-free table, and its fourteen kinds of step.
 ghost use Rattle.fx_counted.specs.Agrees.{Agrees};
-ghost use Rattle.table_seats.specs.Seats.{first_view, without_first, first_alone, joined, spent};
-ghost use Rattle.table_seats.specs.Seats.{shown_view};
+ghost use Rattle.table_seats.specs.Seats.{first_view};
 ghost use Rattle.table_seats.specs.Settling.{Observes};
-ghost use Rattle.fx_counted.specs.Cuts.{seats};
+ghost use Rattle.fx_counted.specs.Cuts.{seats as views};
 ghost use Rattle.fx_counted.specs.Effects.{Births, Looks, Installs, Retires, Releases, Rests};
 ghost use Rattle.fx_counted.specs.Effects.{SaysFull, Exchanges, DrawsChain, GoesOn};
 ghost use Rattle.fx_counted.specs.declared.view.Change.TheVariants.{Same, Outside};
 ghost use Rattle.fx_counted.specs.Showing.{HasLearned};
 
-use crate::view::{Start, View};
-use atomic_table::{Join, Play, Split, TableRule};
+use crate::view::{Log, Start, View};
+use atomic_table::{Play, TableRule};
 use fx_base::OpenFile;
-use fx_seen::Learning;
+use table_seats::SeatView;
 
 /// The rule of the shared table: words, places and passes agree with the state that one legal
 /// history leads to.
@@ -21,25 +20,7 @@ pub struct OneHistory;
 impl TableRule<Option<OpenFile>, View, Start> for OneHistory {
     ghost holds = { Agrees };
 
-    ghost first = { first_view seats };
-}
-
-/// The split of a seat: its first pass gets a seat of its own.
-pub struct Deal;
-
-impl Split<View> for Deal {
-    ghost left = { without_first seats };
-
-    ghost right = { first_alone seats };
-}
-
-/// The join of two seats: one takes in the passes of the other.
-pub struct Gather;
-
-impl Join<View> for Gather {
-    ghost both = { joined seats };
-
-    ghost spent = { spent seats };
+    ghost first = { first_view views };
 }
 
 /// The birth of a file's number: the pass takes the place of its next number, whose word then says
@@ -157,18 +138,12 @@ impl Play<Option<OpenFile>, View> for Observe {
     ghost then = { Observes Agrees (λ v. v.start) };
 }
 
-/// Show: a seat shows all that its pass has seen.
-pub struct Show;
+impl SeatView for View {
+    type Log = Log;
 
-impl Split<View> for Show {
-    ghost left = { λ v. v };
+    type Start = Start;
 
-    ghost right = { shown_view seats };
-}
+    ghost seats = { views };
 
-/// Learn: a pass has seen all that was shown, and all that it had seen before.
-pub struct Learn;
-
-impl Learning<View> for Learn {
-    ghost then = { HasLearned };
+    ghost learns = { HasLearned };
 }

@@ -15,7 +15,7 @@ ghost use Rattle.fx_counted.specs.Layout.{slot_place, words_for, homes_for};
 ghost use Rattle.fx_counted.specs.Lives.{HasAllPasses};
 ghost use Rattle.fx_counted.specs.Tables.{view_of, opening_of_table, IsPassOfTable};
 
-use crate::kinds::{Deal, OneHistory};
+use crate::kinds::OneHistory;
 use crate::layout::{CONTROL, MOST_NUMBERS, homes_for, slot_place, words_for};
 use crate::moves::BORN;
 use crate::pass::CountedPass;
@@ -28,6 +28,7 @@ use fx_table::{CHAIN_NUMBERS, MAX_CHAINS, MAX_PASSES, full_in_range, move_out, p
 use fx_words::{control_word, slot_word};
 use std::alloc::Global;
 use std::snapshot::Snapshot;
+use table_seats::Deal;
 
 impl CountedTable {
     // Shares a settled table (`PlainTable::is_settled`) between `passes` passes, 1 to

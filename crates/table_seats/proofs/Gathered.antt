@@ -1,9 +1,9 @@
 -- All passes in one seat again: what the one history says of each of them.
 use Rattle.table_seats.proofs.Words.{◌≡◌, ◌≢◌, ℕ, ◌<◌, ◌≤◌, List, [], ◌∷◌, map, length, reverse, sym, refl, ap, ◌∙◌, subst, arith, true, eqb, some}
 use Rattle.table_seats.proofs.Words.{get_elem?, Contains, count_by, sum_by, flat_map, Event, IsSettled, IsWhole, logs_are}
-use Rattle.table_seats.proofs.Words.{sum_gathered, each_seat, only_here, contains_map, contains_mapped, contains_none, contains_reverse, one_if}
+use Rattle.table_seats.proofs.Words.{sum_gathered, each_seat, only_here, contains_map, contains_mapped, contains_none, contains_only, contains_reverse, one_if}
 use Rattle.table_seats.proofs.Words.{contains_reversed, found_by, once_is, once, in_part, length-map, length-reverse, times_drawn, PassView, Seats, HasSeen}
-use Rattle.table_seats.proofs.Words.{Together, lengths, state_at}
+use Rattle.table_seats.proofs.Words.{Together, state_at}
 
 -- a total over all seats is that of a seat with all passes
 pub total_of_seat : {V L K : Type 0} {W : Seats V L K} {k : K} {views : List V} {h : List Event} → Together W k views h → (seat : ℕ) {v : V}
@@ -11,6 +11,10 @@ pub total_of_seat : {V L K : Type 0} {W : Seats V L K} {k : K} {views : List V} 
     → sum_by (λ u. sum_by f (W.logs u)) views ≡ sum_by f (W.logs v)
 total_of_seat {W} {views} t seat {v} at all f =
     only_here W.logs views seat v at (all ∙ sym t.whole) (λ u. sum_by f (W.logs u)) (λ u none. ap (sum_by f) none)
+
+-- a property of the only pass in a list
+pub of_only : {P : Type 0} (Q : P → Type 0) {p : P} → Q p → (q : P) → Contains (p ∷ []) q → Q q
+of_only Q {p} has q i = subst Q (sym (contains_only p q i)) has
 
 -- one seat has the logs of these passes, which are all passes of the table
 pub record AreGathered {V L K P : Type 0} (W : Seats V L K) (k : K) (views : List V) (its : P → List L) (log_of : P → L) (ps : List P)

@@ -1,10 +1,14 @@
 -- Seats are split, joined and shown under the rule of any table, and a seat observes it.
 use Rattle.table_seats.proofs.Words.{◌≡◌, ℕ, ◌+◌, ◌≤◌, List, [], ◌∷◌, ◌++◌, set, drop, take, sym, refl, ap, ◌∙◌, subst, set_again, set-get_or}
+use Rattle.table_seats.proofs.Words.{All, PassView, flat_map, reverse}
 use Rattle.table_seats.proofs.Words.{Event, IsSeenBy, seen_from_start, Splits, Joins, Allows, TableState, Me, keeps, step, appended, split, seats_joined}
 use Rattle.table_seats.proofs.Words.{first_left, last_left, Seats, dealt, without_first, first_alone, joined, spent, front_in, shown_view, Together}
 use Rattle.table_seats.proofs.Together.{HasLaws, Moves, Shows, known, its_pass}
 use Rattle.fx_seen.proofs.Views.{of_replaced, of_appended}
 use Rattle.table_seats.specs.Settling.{Observes}
+use Rattle.atomic_table.specs.Seated.{TableId}
+use Rattle.atomic_table.specs.declared.shared.Seat.{Seat}
+use Rattle.fx_table.proofs.Chains.{AreDealt}
 
 -- a table's rule has its seats together, and holds where passes move between idle seats
 pub record IsRule {S V L K : Type 0} (W : Seats V L K) (Holds : K → TableState S V → Type 0) : Type 0 where
@@ -76,3 +80,19 @@ module _ {V L K : Type 0} (W : Seats V L K) (laws : HasLaws W) (k : K) where
   pub last_is_dealt : {p : ℕ} → p ≡ (W.opening k).passes → dealt W k p ≡ first_alone W (dealt W k p)
   last_is_dealt {p} last = ap (W.begun k) (last_left (W.new_log k) p (W.opening k).passes last)
       ∙ sym (laws.begun_with k _ (take 1 (its p)) ∙ ap (W.begun k) (ap (take 1) (laws.begun_logs k _)))
+
+-- the passes before `number` have seats of their own, and this seat has the others
+pub record IsDealing {S V L K P : Type 0} (W : Seats V L K) (Is : P → Type 0) (shown : P → PassView) (id : TableId) (k : K) (seat : Seat S V)
+    (number passes : ℕ) (dealt_out : List P) (capacity : ℕ) : Type 0 where
+  pub before : AreDealt Is shown number passes dealt_out
+  pub table : seat.table_id ≡ id
+  pub me : seat.me ≡ (dealt W k number, [])
+  pub room : passes ≤ capacity
+
+-- the seat `first` took in the passes of others, and those in the list are left
+pub record IsGathering {S V L K P : Type 0} (W : Seats V L K) (Rests : Seat S V → Type 0) (seat_of : P → Seat S V)
+    (first now : Seat S V) (all left : List P) : Type 0 where
+  pub seat : Rests now
+  pub passes : All (λ p. Rests (seat_of p)) left
+  pub logs : W.logs now.me.0 ++ flat_map (λ p. W.logs (seat_of p).me.0) (reverse left)
+      ≡ W.logs first.me.0 ++ flat_map (λ p. W.logs (seat_of p).me.0) (reverse all)

@@ -5,7 +5,7 @@ pub learn-requires-clause-table : goal.learn-requires-clause-table
 learn-requires-clause-table c = c.requires.fits.table
 
 pub learn-requires-clause-may : goal.learn-requires-clause-may
-learn-requires-clause-may c = let f = c.requires.fits in may_learn _ _ _ _ f.seated.one f.free
+learn-requires-clause-may c = let f = c.requires.fits in may_learn _ _ _ _ _ f.seated.one f.free
 
 pub returns-clause-fits : goal.returns-clause-fits
 returns-clause-fits c = let e = c.learn.ensures in (learned_pass c.requires.fits c.args.seen.now.seen.view c.learn.new.seat e.table e.slots e.learned).0

@@ -1,13 +1,10 @@
-use Rattle.fx_baton.proofs.Words.{◌≡◌, ◌≤◌, ◌-◌, vec_capacity, [], view_of, IsPassOf, dealt, seats, AreDealt}
+use Rattle.fx_baton.proofs.Words.{◌-◌, vec_capacity, seats, view_of, IsPassOf}
+use Rattle.table_seats.proofs.Moving.{IsDealing}
 use Rattle.fx_baton.proofs.table.BatonTable.deal.Given as goal
 
 abbrev pub invariant-loop-number : goal.invariant-loop-number
-invariant-loop-number l = record {
-  before : AreDealt (IsPassOf l.self.table.shared.table_id l.self.table.shared.key) view_of l.number l.self.passes l.list.items;
-  table : l.seat.table_id ≡ l.self.table.shared.table_id;
-  me : l.seat.me ≡ (dealt seats l.self.table.shared.key l.number, []);
-  room : l.self.passes ≤ vec_capacity l.list;
-}
+invariant-loop-number l = let t = l.self.table.shared in
+    IsDealing seats (IsPassOf t.table_id t.key) view_of t.table_id t.key l.seat l.number l.self.passes l.list.items (vec_capacity l.list)
 
 abbrev pub decreases-loop-number : goal.decreases-loop-number
 decreases-loop-number l = l.self.passes - l.number

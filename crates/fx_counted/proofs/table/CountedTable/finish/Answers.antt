@@ -1,6 +1,6 @@
 use Rattle.fx_counted.proofs.Words.{◌≡◌, ℕ, List, refl, ap, ◌∙◌, arith, Option, Some, some, get_elem?, slots_items, read_at, home_place, node_in}
-use Rattle.fx_counted.proofs.Words.{slice_index, slot_place, rules, option_map, false, get_or-set_other, slots_filled, each_set}
-use Rattle.fx_table.proofs.Shells.{file_put, none_came, all_came, none_named, some_came, none_there}
+use Rattle.fx_counted.proofs.Words.{slice_index, slot_place, rules, option_map}
+use Rattle.fx_table.proofs.Shells.{file_put, none_came, all_came, none_left, none_named, some_came, none_there}
 use Rattle.fx_counted.proofs.HomeComing.{place_at, home_at_end, known_at_end, leaves_at_end}
 use Rattle.fx_counted.proofs.table.CountedTable.finish.Goals.{in-Some+in-Some-take_home, in-Some+in_default-take_home, in_default}
 use Rattle.fx_counted.proofs.table.CountedTable.finish.Goals as goal
@@ -60,18 +60,9 @@ loop-slot-preserved c =
           ))
     ]
 
-pub loop-place-preserved : goal.loop-place-preserved
-loop-place-preserved c = let i = c.loop-place.invariant in let o = c.in-None.ensures.others in record {
-  items = o.0 ∙ i.items;
-  count = o.2 ∙ i.count;
-  filled = λ k l u. rw o.1 (get_or-set_other (slots_filled c.loop-place.closed.slots) c.loop-place.place k false false (λ same. omega (arith, l, same))
-      ∙ i.filled k (omega (arith, l)) (omega (arith, u, o.2)));
-  taken = λ k l. rw o.1 (each_set (λ _ b. b ≡ false) (slots_filled c.loop-place.closed.slots) c.loop-place.place false false (search rules) refl k
-      (λ other. i.taken k (omega (arith, l, other))));
-}
-
-pub unreachable-requires : goal.unreachable-requires
-unreachable-requires c = grind arith
+pub free_empty-requires-clause-empty : goal.free_empty-requires-clause-empty
+free_empty-requires-clause-empty c place file there =
+    none_left c.args.self.size _ c.loop-slot.invariant.coming (omega (arith, c.loop-slot-test.false)) place there
 
 pub returns : goal.returns
 returns c =

@@ -1,5 +1,4 @@
-use Rattle.fx_counted.proofs.Words.{◌≡◌, ◌<◌, ℕ, false, get_or, slots_items, slots_len, IsFull, state_of, IsPrepared, slots_filled}
-use Rattle.std.specs.Mem.Slots.Ownership.{Filled}
+use Rattle.fx_counted.proofs.Words.{◌≡◌, slots_items, slots_len, IsFull, state_of, IsPrepared}
 use Rattle.fx_table.proofs.Shells.{AreComing}
 use Rattle.fx_counted.proofs.HomeComing.{place_at}
 use Rattle.fx_counted.proofs.table.CountedTable.finish.Given as goal
@@ -13,13 +12,4 @@ invariant-loop-slot l = record {
   count : slots_len l.closed.slots ≡ slots_len l.initial.closed.slots;
   full : IsFull l.closed.slots;
   words : l.closed.words ≡ l.initial.closed.words;
-}
-
--- nothing is left in the places so far
-abbrev pub invariant-loop-place : goal.invariant-loop-place
-invariant-loop-place l = record {
-  items : slots_items l.closed.slots ≡ slots_items l.initial.closed.slots;
-  count : slots_len l.closed.slots ≡ slots_len l.initial.closed.slots;
-  filled : Filled (slots_filled l.closed.slots) l.place (slots_len l.closed.slots);
-  taken : (k : ℕ) → k < l.place → get_or (slots_filled l.closed.slots) k false ≡ false;
 }
