@@ -5,6 +5,8 @@ use mathlib.Core.Option.{some}
 use lib.ListN.{get_elem?}
 use Rattle.atomic_table.specs.Table.{opening}
 use Rattle.fx_base.specs.Identity.{Identity}
+use Rattle.fx_plain.specs.Contents.{Contents, state_of}
+use Rattle.fx_plain.specs.State.{IsSettled}
 use Rattle.fx_plain.specs.declared.event.File.{File}
 use Rattle.fx_plain.specs.declared.table.TheConstants.{MOST_SLOTS}
 use Rattle.fx_table.specs.declared.limits.TheConstants.{CHAIN_NUMBERS, FIRST_CHAIN_NUMBER}
@@ -19,6 +21,14 @@ use Rattle.fx_counted.specs.Layout.{control_place, draw_place, slot_place, node_
 use Rattle.fx_counted.specs.Layout.{home_place, homes_for}
 use Rattle.fx_counted.specs.Passes.{opening_of, slots_of, chain_numbers, state_after_all}
 use Rattle.fx_counted.specs.declared.view.Start.{Start}
+
+-- the table may be opened for this number of chains, each with `each` numbers, and of passes
+pub record MayOpen (plain : Contents) (chains each passes : ℕ) : Type 0 where
+  pub settled : IsSettled (state_of plain)
+  pub few_chains : chains ≤ MAX_CHAINS
+  pub few_numbers : each ≤ CHAIN_NUMBERS
+  pub some_passes : 1 ≤ passes
+  pub few_passes : passes ≤ MAX_PASSES
 
 -- the word of a slot
 abbrev pub word_for : Option File → ℕ

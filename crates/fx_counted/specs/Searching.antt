@@ -1,5 +1,6 @@
 -- A pass that searches the allocation range for an empty slot.
-use Rattle.std.specs.Prelude.{◌≡◌, ℕ, ◌<◌, Bool, true, false, [], ◌∷◌, List, Some}
+use Rattle.std.specs.Prelude.{◌≡◌, ℕ, ◌<◌, Bool, true, false, [], ◌∷◌, List, Option, Some}
+use Rattle.atomic_table.specs.declared.shared.Seat.{Seat}
 use Rattle.fx_base.specs.Identity.{Identity}
 use Rattle.fx_plain.specs.History.{◌▷◌}
 use Rattle.fx_plain.specs.Table.{numbered}
@@ -11,10 +12,12 @@ use Rattle.fx_counted.specs.Goes.{Goes}
 use Rattle.fx_counted.specs.Laws.{place_of}
 use Rattle.fx_counted.specs.Passes.{Sat, slots_of}
 use Rattle.fx_counted.specs.declared.round.Round.{Round}
+use Rattle.fx_counted.specs.declared.table.CountedTable.{CountedTable}
 use Rattle.fx_counted.specs.declared.round.Round.TheVariants.{At, AllFull, Again}
 use Rattle.fx_counted.specs.declared.view.Change.{Change}
 use Rattle.fx_counted.specs.declared.view.Change.TheVariants.{Outside, Same, More}
 use Rattle.fx_counted.specs.declared.view.Start.{Start}
+use Rattle.fx_counted.specs.declared.view.View.{View}
 use Rattle.fx_counted.specs.declared.view.Work.{Work}
 use Rattle.fx_counted.specs.declared.view.Work.TheVariants.{Between, Placing}
 use Rattle.fx_table.specs.declared.values.Task.TheVariants.{Idle}
@@ -24,6 +27,13 @@ pub record IsPlacing (k : Start) (number : ℕ) (file : Identity) (m : Sat) : Ty
   pub at : IsAtWork k m
   pub work : m.0.work ≡ Placing number
   pub place : m.1 ≡ (place_of k number, Some file) ∷ []
+
+-- the seat of a pass of the table that is about to install the file, with this change to report
+pub record IsSearching (t : CountedTable) (number : ℕ) (file : Identity) (to_report : Change)
+    (seat : Seat (Option Identity) View) : Type 0 where
+  pub table : seat.table_id ≡ t.table.shared.table_id
+  pub placing : IsPlacing t.table.shared.key number file seat.me
+  pub change : seat.me.0.change ≡ to_report
 
 -- any number of steps
 abbrev pub Proceeds : Sat → List Action → Use → Work → Change → Sat → Type 0

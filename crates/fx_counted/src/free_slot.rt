@@ -1,7 +1,7 @@
 //! The search for an empty slot of the allocation range.
 ghost use Rattle.std.specs.Prelude.{◌≡◌, ◌<◌, true, IfSome, None};
 ghost use Rattle.fx_counted.specs.Changing.{InRange};
-ghost use Rattle.fx_counted.specs.Searching.{IsPlacing, Tries, HasAllocated, StillPlaces};
+ghost use Rattle.fx_counted.specs.Searching.{IsSearching, Tries, HasAllocated, StillPlaces};
 ghost use Rattle.fx_counted.specs.Searching.{HasFoundAllFull, RoundEnds};
 ghost use Rattle.fx_counted.specs.declared.view.Change.TheVariants.{Outside, Same, More};
 
@@ -26,9 +26,7 @@ impl CountedTable {
         file: Closed,
         slot: u32,
     ) -> bool
-        requires table { seat.old.table_id ≡ self.now.table.shared.table_id }
-        requires placing { IsPlacing self.now.table.shared.key number file seat.old.me }
-        requires change { seat.old.me.0.change ≡ Same }
+        requires searching { IsSearching self.now number file Same seat.old }
         requires range { InRange self.now.table.shared.key slot true }
         ensures table { seat.new.table_id ≡ seat.old.table_id }
         ensures tries { Tries number file slot seat.old.me result seat.new.me }
@@ -51,9 +49,7 @@ impl CountedTable {
         number: u32,
         file: Closed,
     ) -> Option<u32>
-        requires table { seat.old.table_id ≡ self.now.table.shared.table_id }
-        requires placing { IsPlacing self.now.table.shared.key number file seat.old.me }
-        requires change { seat.old.me.0.change ≡ Same }
+        requires searching { IsSearching self.now number file Same seat.old }
         ensures table { seat.new.table_id ≡ seat.old.table_id }
         ensures slot { IfSome result (λ slot. slot < self.now.size) }
         ensures found { IfSome result
@@ -71,9 +67,7 @@ impl CountedTable {
     // Makes one round: a scan in a change. The end of the change reports the slot that was found,
     // or checks whether all slots are full.
     fn round(&self, seat: &mut Seat<Option<OpenFile>, View>, number: u32, file: Closed) -> Round
-        requires table { seat.old.table_id ≡ self.now.table.shared.table_id }
-        requires placing { IsPlacing self.now.table.shared.key number file seat.old.me }
-        requires change { seat.old.me.0.change ≡ Outside }
+        requires searching { IsSearching self.now number file Outside seat.old }
         ensures table { seat.new.table_id ≡ seat.old.table_id }
         ensures ends { RoundEnds self.now.table.shared.key number file seat.old.me result
             seat.new.me }
@@ -104,9 +98,7 @@ impl CountedTable {
         number: u32,
         file: Closed,
     ) -> Option<u32>
-        requires table { seat.old.table_id ≡ self.now.table.shared.table_id }
-        requires placing { IsPlacing self.now.table.shared.key number file seat.old.me }
-        requires change { seat.old.me.0.change ≡ Outside }
+        requires searching { IsSearching self.now number file Outside seat.old }
         ensures table { seat.new.table_id ≡ seat.old.table_id }
         ensures slot { IfSome result (λ slot. slot < self.now.size) }
         ensures found { IfSome result

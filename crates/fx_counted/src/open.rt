@@ -9,6 +9,7 @@ ghost use Rattle.fx_table.specs.Pass.{IsIdle, new_passes};
 ghost use Rattle.fx_table.specs.Shells.{IsShellOf};
 ghost use Rattle.fx_words.specs.Words.{slot_word_of, born};
 ghost use Rattle.fx_counted.specs.Firsts.{AreFirstWords};
+ghost use Rattle.fx_counted.specs.Opens.{MayOpen};
 ghost use Rattle.table_seats.specs.Seats.{first_view};
 ghost use Rattle.fx_counted.specs.Cuts.{seats};
 ghost use Rattle.fx_counted.specs.Layout.{slot_place, words_for, homes_for};
@@ -41,9 +42,7 @@ impl CountedTable {
         chains: u32,
         passes: u32,
     ) -> Result<(CountedTable, Vec<CountedPass>), (PlainTable, NoMemory)>
-        requires settled { IsSettled (state_of plain) }
-        requires chains { chains ≤ MAX_CHAINS }
-        requires passes { (1 ≤ passes) × (passes ≤ MAX_PASSES) }
+        requires may { MayOpen plain chains CHAIN_NUMBERS passes }
         ensures opened { IfOk result (λ (t, _).
             opening_of_table t ≡ opening_with plain chains passes) }
         ensures ready { IfOk result (λ (t, list).
@@ -66,10 +65,7 @@ impl CountedTable {
         numbers: u32,
         passes: u32,
     ) -> Result<(CountedTable, Vec<CountedPass>), (PlainTable, NoMemory)>
-        requires settled { IsSettled (state_of plain) }
-        requires chains { chains ≤ MAX_CHAINS }
-        requires numbers { numbers ≤ CHAIN_NUMBERS }
-        requires passes { (1 ≤ passes) × (passes ≤ MAX_PASSES) }
+        requires may { MayOpen plain chains numbers passes }
         ensures opened { IfOk result (λ (t, _).
             opening_of_table t ≡ opening_of_chains plain chains numbers passes) }
         ensures ready { IfOk result (λ (t, list).
@@ -101,10 +97,7 @@ impl CountedTable {
         numbers: u32,
         passes: u32,
     ) -> Result<(CountedTable, Seat<Option<OpenFile>, View>), (PlainTable, NoMemory)>
-        requires settled { IsSettled (state_of plain) }
-        requires chains { chains ≤ MAX_CHAINS }
-        requires numbers { numbers ≤ CHAIN_NUMBERS }
-        requires passes { (1 ≤ passes) × (passes ≤ MAX_PASSES) }
+        requires may { MayOpen plain chains numbers passes }
         ensures opened { IfOk result (λ (t, _).
             opening_of_table t ≡ opening_of_chains plain chains numbers passes) }
         ensures seat { IfOk result (λ (t, seat). HasAllPasses t seat) }
