@@ -1,8 +1,7 @@
 //! The rule of a lasting table, and its kinds of step.
 ghost use Rattle.fx_lasting.specs.Agrees.{Agrees};
-ghost use Rattle.table_seats.specs.Seats.{first_view, without_first, first_alone, joined, spent};
-ghost use Rattle.table_seats.specs.Seats.{shown_view};
-ghost use Rattle.fx_lasting.specs.life.Cuts.{seats};
+ghost use Rattle.table_seats.specs.Seats.{first_view};
+ghost use Rattle.fx_lasting.specs.life.Cuts.{seats as views};
 ghost use Rattle.fx_lasting.specs.Effects.{Glances, Lists, Announces, Confirms, Withdraws, Takes};
 ghost use Rattle.fx_lasting.specs.Effects.{HeatsSlot, StepsDown, LettingGo, Seeks, Births, Rests};
 ghost use Rattle.fx_lasting.specs.Effects.{EndsItsHold, Skims, Visits, Charges, Retires, Installs};
@@ -16,11 +15,11 @@ ghost use Rattle.fx_lasting.specs.slots.SwapSteps.{SwapsIf, SwapsHeld, SwapsOut,
 ghost use Rattle.fx_lasting.specs.slots.PutSteps.{Aims, TakesBeside, ReplacesHeld};
 ghost use Rattle.fx_lasting.specs.life.Showing.{HasLearned};
 
-use crate::view::{Start, View};
-use atomic_table::{Join, Play, Split, TableRule};
+use crate::view::{Log, Start, View};
+use atomic_table::{Play, TableRule};
 use fx_base::OpenFile;
-use fx_seen::Learning;
 use std::marker::PhantomData;
+use table_seats::SeatView;
 
 /// The rule: words, places and passes agree with the state that one legal history leads to.
 pub struct OneHistory;
@@ -28,25 +27,7 @@ pub struct OneHistory;
 impl TableRule<Option<OpenFile>, View, Start> for OneHistory {
     ghost holds = { Agrees };
 
-    ghost first = { first_view seats };
-}
-
-/// Split: the first pass of a seat goes to a seat of its own.
-pub struct Deal;
-
-impl Split<View> for Deal {
-    ghost left = { without_first seats };
-
-    ghost right = { first_alone seats };
-}
-
-/// Join: a seat takes in the passes of another.
-pub struct Gather;
-
-impl Join<View> for Gather {
-    ghost both = { joined seats };
-
-    ghost spent = { spent seats };
+    ghost first = { first_view views };
 }
 
 /// Glance: a pass loads a slot's word, to look it up.
@@ -439,18 +420,12 @@ impl Play<Option<OpenFile>, View> for Deciding {
     ghost then = { Decides };
 }
 
-/// Show: a seat shows all that its pass has seen.
-pub struct Show;
+impl SeatView for View {
+    type Log = Log;
 
-impl Split<View> for Show {
-    ghost left = { λ v. v };
+    type Start = Start;
 
-    ghost right = { shown_view seats };
-}
+    ghost seats = { views };
 
-/// Learn: a pass has seen all that was shown, and all that it had seen before.
-pub struct Learn;
-
-impl Learning<View> for Learn {
-    ghost then = { HasLearned };
+    ghost learns = { HasLearned };
 }

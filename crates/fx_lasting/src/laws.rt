@@ -24,15 +24,16 @@ ghost use Rattle.fx_lasting.specs.Laws.{TakesBesideKeep, ReplacesHeldKeep, EndsI
 
 use crate::kinds::{
     Aiming, Announcing, Asking, Beginning, Birth, Breaking, ByClose, ByUpdate, Charging, Checking,
-    Clearing, Confirming, Counting, Deal, Deciding, EndingHold, Exchanging, Finishing, Gather,
-    Glancing, HeatingUp, Installing, Letting, Listing, Lowering, Numbering, OneHistory, Parking,
-    Peeking, Raising, ReadingNumber, ReadingTag, RecallingTag, Replacing, ReplacingHeld, Resting,
-    Resuming, Retire, Seeing, Seeking, Settling, Skimming, SteppingDown, Swapping, SwappingHeld,
-    SwappingIf, Tagging, Taking, TakingBeside, TakingHeld, TakingIf, Visiting, Withdrawing,
+    Clearing, Confirming, Counting, Deciding, EndingHold, Exchanging, Finishing, Glancing,
+    HeatingUp, Installing, Letting, Listing, Lowering, Numbering, OneHistory, Parking, Peeking,
+    Raising, ReadingNumber, ReadingTag, RecallingTag, Replacing, ReplacingHeld, Resting, Resuming,
+    Retire, Seeing, Seeking, Settling, Skimming, SteppingDown, Swapping, SwappingHeld, SwappingIf,
+    Tagging, Taking, TakingBeside, TakingHeld, TakingIf, Visiting, Withdrawing,
 };
 use crate::view::{Start, View};
 use atomic_table::{Join, Play, Split, TableRule};
 use fx_base::OpenFile;
+use table_seats::{Deal, Gather};
 
 /// States that a table has at most 1,048,576 slots and at most 1,024 passes, that at most 64 of
 /// these install files, and that a slot's word has room for the number of each node.

@@ -81,23 +81,17 @@ module _ {id : TableId} (k : Start) {p : ℕ} (low : 1 ≤ p) (high : p ≤ k.pa
 
 -- All passes in one seat: what the one history says of each of them
 module _ (id : TableId) (k : Start) where
-  abbrev pub Is : LastingPass → Type 0
-  Is p = IsPassOf id k p
-
-  abbrev pub logs_at : LastingPass → List Log
-  logs_at p = p.seat.me.0.logs
-
   -- the one log of a pass
   abbrev pub log_of : LastingPass → Log
   log_of p = first_log p.seat.me.0.logs
 
-  pub its_log : (p : LastingPass) → Is p → p.seat.me.0.logs ≡ log_of p ∷ []
+  pub its_log : (p : LastingPass) → IsPassOf id k p → p.seat.me.0.logs ≡ log_of p ∷ []
   its_log p fits = let one = fits.seated.at.pass.1 in one ∙ ap (λ (x : Log). x ∷ []) (sym (ap first_log one))
 
-  module _ (ps : List LastingPass) (each : (p : LastingPass) → Contains ps p → Is p) (count : length ps ≡ k.passes)
+  module _ (ps : List LastingPass) (each : (p : LastingPass) → Contains ps p → IsPassOf id k p) (count : length ps ≡ k.passes)
       {s : Shared} (r : Agrees k s) (seat : ℕ) {v : View} (at : get_elem? s.views seat ≡ some v) (logs_are : v.logs ≡ logs_in (reverse ps))
       (idle : HasNoFile v.work) where
-    abbrev all : AreGathered seats k s.views logs_at log_of ps
+    abbrev all : AreGathered seats k s.views (λ (p : LastingPass). p.seat.me.0.logs) log_of ps
     all = record { one = λ p h. its_log p (each p h); count = count; seat = seat; view = v; at = at; are = logs_are }
 
     pub all_idle : (i : ℕ) (u : View) → get_elem? s.views i ≡ some u → HasNoFile u.work

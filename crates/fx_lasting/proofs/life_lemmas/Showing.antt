@@ -4,21 +4,20 @@ use Rattle.fx_lasting.proofs.Words.{◌≡◌, ℕ, ◌+◌, ◌≤◌, [], ◌�
 use Rattle.fx_lasting.proofs.Words.{get_elem?, ⊎_elim, at_set, sum_set, contains_only, Contains, IsSeenBy, part_of_pass}
 use Rattle.fx_lasting.proofs.Words.{LogAgrees, ViewAgrees, Agrees, Shared, Log, Start, View}
 use Rattle.fx_lasting.proofs.Words.{IsInside, Runs, IsHistory, taken_of, held_of}
-use Rattle.fx_lasting.proofs.Words.{first_log, view_of, StockAgrees, TableId, LastingPass, IsPassOf, opening_of, doing_in}
+use Rattle.fx_lasting.proofs.Words.{first_log, view_of, StockAgrees, TableId, LastingPass, IsPassOf, opening_of}
 use Rattle.fx_lasting.proofs.Words.{contains_alone, learned_so, Splits, Seat}
-use Rattle.fx_lasting.proofs.Words.{Closed, Option, Adds, no_use, Learns}
+use Rattle.fx_lasting.proofs.Words.{Closed, Option, no_use, Learns}
 use Rattle.fx_lasting.specs.life.Showing.{HasLearned}
 use Rattle.fx_lasting.proofs.Frames.{owner_same}
 use Rattle.table_range.proofs.Counting.{counts_same, moved_one}
 use Rattle.fx_lasting.proofs.Keeping.{few_in_range}
-use Rattle.fx_lasting.proofs.Words.{HasSeen, its_pass, seats, shown_view}
+use Rattle.fx_lasting.proofs.Words.{its_pass, seats, shown_view}
 use Rattle.fx_lasting.proofs.life_lemmas.Openings.{laws}
 use Rattle.fx_lasting.proofs.life_lemmas.Seats.{is_rule}
 use Rattle.table_seats.proofs.Moving.{may_show as seats_show}
 use Rattle.table_seats.proofs.Together.{known, learned as seats_learn}
 use Rattle.fx_lasting.proofs.life_lemmas.Reseating.{reseat}
 use Rattle.fx_lasting.proofs.Passing.{adds_so, still_pass, at_rest}
-use Rattle.fx_seen.specs.Kept.{MayLearn}
 
 -- a seat with one pass may show what the pass has seen
 pub may_show : (k : Start) (id : ℕ) (v : View) {x : Log} → v.logs ≡ x ∷ [] → Splits (Agrees k) id v v (shown_view seats v)
@@ -29,9 +28,6 @@ module _ (k : Start) (id : ℕ) (v w : View) (x : Log) (one : v.logs ≡ x ∷ [
     (at : get_elem? s.views id ≡ some v) (other : ℕ) (there : get_elem? s.views other ≡ some w) where
   its_log : LogAgrees k r.history s.words r.phase r.debt r.deed v.work v.glance x
   its_log = (r.holds.views id v at).logs x (contains_alone one)
-
-  passed : HasSeen seats r.history x
-  passed = its_pass r.life id at one
 
   abbrev log : Log
   log = record x { front = r.history }
@@ -73,7 +69,7 @@ module _ (k : Start) (id : ℕ) (v w : View) (x : Log) (one : v.logs ≡ x ∷ [
   }
 
   learns_so : HasLearned v w learned
-  learns_so = let first : first_log v.logs ≡ x = ap first_log one in record {
+  learns_so = let first : first_log v.logs ≡ x = ap first_log one in let passed = its_pass r.life id at one in record {
     runs = record {
       one = (log, refl);
       number = ap (λ (z : Log). z.number) (sym first);
@@ -95,26 +91,17 @@ module _ (k : Start) (id : ℕ) (v w : View) (x : Log) (one : v.logs ≡ x ∷ [
     shown = known r.life other w there;
   }
 
-  may : (z : View) × Agrees k record { words = s.words; homes = s.homes; views = set s.views id z } × HasLearned v w z
-  may = (learned, learned_agrees, learns_so)
-
-pub may_learn : (k : Start) (id : ℕ) (v w : View) {x : Log} → v.logs ≡ x ∷ [] → v.start ≡ k → IsInside v.start v.work → MayLearn (Agrees k) id v w (HasLearned v w)
-may_learn k id v w {x} one begun within s r at other there = may k id v w x one begun within s r at other there
+  pub may_learn : (z : View) × Agrees k record { words = s.words; homes = s.homes; views = set s.views id z } × HasLearned v w z
+  may_learn = (learned, learned_agrees, learns_so)
 
 -- the pass that has learned
 module _ {id : TableId} {k : Start} {p : LastingPass} (fits : IsPassOf id k p) (w : View) (seat : Seat (Option Closed) View)
     (table : seat.table_id ≡ p.seat.table_id) (slots : seat.me.1 ≡ p.seat.me.1) (learns : HasLearned p.seat.me.0 w seat.me.0) where
-  abbrev q : LastingPass
-  q = record p { seat = seat }
-
   runs : Runs p.seat.me [] p.seat.me.0.work p.seat.me.0.glance p.seat.me.0.change 0 seat.me
   runs = assumption learns.runs
 
-  adds : Adds (opening_of k) (view_of p) [] (doing_in p.seat.me.0.work) no_use (view_of q)
-  adds = adds_so fits.seated runs no_use
-
-  pub learned_pass : IsPassOf id k q × Learns (opening_of k) w.known (view_of p) (view_of q)
+  pub learned_pass : IsPassOf id k (record p { seat = seat }) × Learns (opening_of k) w.known (view_of p) (view_of (record p { seat = seat }))
   learned_pass = (
-    still_pass fits.seated q (at_rest fits runs) (refl, refl) table (slots ∙ fits.seated.places) (refl, fits.seated.next) fits.knows,
-    learned_so (opening_of k) w.known (view_of p) (view_of q) adds learns.shown,
+    still_pass fits.seated (record p { seat = seat }) (at_rest fits runs) (refl, refl) table (slots ∙ fits.seated.places) (refl, fits.seated.next) fits.knows,
+    learned_so (opening_of k) w.known (view_of p) _ (adds_so fits.seated runs no_use) learns.shown,
   )

@@ -8,14 +8,13 @@ ghost use Rattle.fx_lasting.specs.life.Lives.{IsIdleSeatOf, logs_in, AllAreIdle,
 ghost use Rattle.fx_lasting.specs.Tables.{view_of, opening_of_table, IsPassOfTable};
 
 use crate::fields::file_node_of;
-use crate::kinds::Gather;
 use crate::life::layout::slot_place;
 use crate::pass::LastingPass;
 use crate::table::LastingTable;
 use crate::view::View;
 use atomic_table::Seat;
 use fx_base::OpenFile;
-use table_seats::take_home;
+use table_seats::{Gather, free_empty, take_home};
 
 impl LastingTable {
     /// Closes the table, after all its passes have come back, idle (`is_idle`), and returns its
@@ -98,7 +97,6 @@ impl LastingTable {
             first_node: _,
             group_bits: _,
         } = self;
-        let count = table.slot_count();
         let mut closed = table.close_with(seat);
         for slot in 0..size {
             if let Some(node) = file_node_of(closed.word(slot_place(slot))) {
@@ -107,11 +105,7 @@ impl LastingTable {
                 }
             }
         }
-        for place in 0..count {
-            let home = closed.take(place);
-            let None = home else { unreachable!() };
-        }
-        closed.free();
+        free_empty(closed);
         files
     }
 

@@ -18,7 +18,6 @@ ghost use Rattle.fx_lasting.specs.declared.life.layout.TheConstants.{MOST_PASSES
 ghost use Rattle.fx_lasting.specs.declared.life.layout.TheConstants.{STOCK_SPACING};
 
 use crate::fields::{BORN, empty_word, file_word};
-use crate::kinds::Deal;
 use crate::life::layout::{
     MOST_INSTALLING, MOST_PASSES, MOST_SLOTS, STOCK_SPACING, first_node, node_place, nodes_for,
     number_place, slot_place, stock_start, tag_place, words_for,
@@ -34,6 +33,7 @@ use fx_table::{move_out, put_all};
 use std::alloc::Global;
 use std::snapshot::Snapshot;
 use table_range::{group_bits, group_len, group_place, group_size, groups_in};
+use table_seats::Deal;
 
 impl LastingTable {
     /// Shares a settled table (`PlainTable::is_settled`) between `passes` passes, 1 to

@@ -5,12 +5,12 @@ ghost use Rattle.fx_table.specs.Showing.{Learns};
 ghost use Rattle.fx_lasting.specs.Tables.{view_of, opening_of_table, IsPassOfTable, steps_taken};
 ghost use Rattle.fx_lasting.specs.life.Showing.{shown_of, IsSeenOf};
 
-use crate::kinds::{Learn, Show};
 use crate::pass::LastingPass;
 use crate::table::LastingTable;
 use crate::view::View;
 use fx_seen::{Seen, learn, show};
 use fx_table::RealTime;
+use table_seats::{Learn, Show};
 
 /// The history that a pass of a [`LastingTable`] had seen when it showed it. It has no bytes.
 #[derive(Drop)]

@@ -1,5 +1,5 @@
 use Rattle.fx_lasting.proofs.Words.{vec_len, vec_capacity, length, ◌+◌, ◌≤◌, ◌≡◌, ℕ, List, sym, refl, ap, ◌∙◌, arith, rules, Option, None, some}
-use Rattle.fx_lasting.proofs.Words.{get_elem?, slots_items, Closed, file_node_in, slot_place, false, get_or-set_other, slots_filled, each_set}
+use Rattle.fx_lasting.proofs.Words.{get_elem?, slots_items, file_node_in, slot_place}
 use Rattle.fx_lasting.proofs.Words.{read_at, none_left, files_at_slots}
 use Rattle.fx_lasting.proofs.life_lemmas.Listed.{none_listed, one_listed, none_is_there, none_named_here}
 use Rattle.fx_lasting.proofs.life_lemmas.HomeComing.{node_at, home_at_end, leaves_at_end}
@@ -65,20 +65,9 @@ loop-slot-preserved c =
       ))
     ]
 
-pub loop-place-preserved : goal.loop-place-preserved
-loop-place-preserved c = let i = c.loop-place.invariant in let o = c.in-None.ensures.others in record {
-  items = o.0 ∙ i.items;
-  count = o.2 ∙ i.count;
-  filled = λ k l u. rw o.1 (get_or-set_other (slots_filled c.loop-place.closed.slots) c.loop-place.place k false false (λ same. omega (arith, l, same))
-      ∙ i.filled k (omega (arith, l)) (omega (arith, u, o.2)));
-  taken = λ k l. rw o.1 (each_set (λ _ b. b ≡ false) (slots_filled c.loop-place.closed.slots) c.loop-place.place false false (search rules) refl k
-      (λ other. i.taken k (omega (arith, l, other))));
-}
-
-pub unreachable-requires : goal.unreachable-requires
-unreachable-requires c =
-    absurd (none_left c.args.self.size _ c.loop-slot.invariant.listed.coming (omega (arith, c.loop-slot-test.false)) _
-    (ap (λ (xs : List (Option Closed)). get_elem? xs c.loop-place.place) (sym c.loop-place.invariant.items) ∙ c.in_default-home.ensures.value))
+pub free_empty-requires-clause-empty : goal.free_empty-requires-clause-empty
+free_empty-requires-clause-empty c place file there =
+    none_left c.args.self.size _ c.loop-slot.invariant.listed.coming (omega (arith, c.loop-slot-test.false)) place there
 
 pub returns-clause-left : goal.returns-clause-left
 returns-clause-left c =

@@ -7,7 +7,7 @@ learn-requires-clause-table c = c.requires.fits.seated.table
 
 pub learn-requires-clause-may : goal.learn-requires-clause-may
 learn-requires-clause-may c = let s = c.requires.fits.seated in
-    may_learn _ _ _ _ s.at.pass.1 s.at.pass.0 (subst (λ (z : Start). IsInside z c.args.pass.now.seat.me.0.work) (sym s.at.pass.0) s.at.inside)
+    may_learn _ _ _ _ _ s.at.pass.1 s.at.pass.0 (subst (λ (z : Start). IsInside z c.args.pass.now.seat.me.0.work) (sym s.at.pass.0) s.at.inside)
 
 pub returns-clause-fits : goal.returns-clause-fits
 returns-clause-fits c = let e = c.learn.ensures in (learned_pass c.requires.fits c.args.seen.now.seen.view c.learn.new.seat e.table e.slots e.learned).0
