@@ -9,22 +9,18 @@ WAYS = ("stale", "full", "take", "untake", "lost")
 
 
 class Call:
-    """A call: its requests, the number of accesses that are made, the answers so far, and the number of answers that were seen."""
+    """A call of one request: its number, its kind and slot, and its answer, or None until its access is made."""
 
-    def __init__(self, number, requests):
-        self.number, self.requests = number, requests
-        self.entry, self.answers, self.seen = 0, [], 0
-
-    def is_made(self):
-        return len(self.answers) == len(self.requests)
+    def __init__(self, number, kind, slot):
+        self.number, self.kind, self.slot, self.answer = number, kind, slot, None
 
 
 class Log:
     """A log of `calls` calls, `width` at a time, at `slots` slots. All calls end, and the log is settled, after each `settle` calls, or
-    never for 0. With `has_chains` the calls are chains of up to three requests, updates and reads, else single requests and looks."""
+    never for 0. Each call is a single request or a look."""
 
-    def __init__(self, calls, width, slots, settle, seed, has_chains=False):
-        self.random, self.size, self.has_chains = random.Random(seed), slots, has_chains
+    def __init__(self, calls, width, slots, settle, seed):
+        self.random, self.size = random.Random(seed), slots
         self.slots, self.held, self.removed, self.running = [None] * slots, {}, [], []
         self.lines = [f"file {name} {content}" for name, content in NAMES.items()] + [f"call 1 sparse {slots}", "done 1.1 0"]
         self.next = 2
@@ -41,33 +37,13 @@ class Log:
                 self.close(len(self.removed))
                 self.lines.append("settled")
 
-    def request(self):
-        share, slot = self.random.random(), self.random.randrange(self.size)
-        if not self.has_chains:
-            kind = "look" if share < 0.5 else "open" if share < 0.7 else "any" if share < 0.8 else "close"
-            return kind, slot, ()
-        kind = "read" if share < 0.2 else "open" if share < 0.5 else "any" if share < 0.65 else "close" if share < 0.85 else "update"
-        entries = tuple(self.random.choice((-1, 0, 1)) for _ in range(min(self.size, self.random.choice((1, 2)))))
-        return kind, self.random.randrange(max(1, self.size - 1)) if kind == "update" else slot, entries
-
-    def text(self, call, request):
-        kind, slot, entries = request
-        name = "vw"[call % 2]
-        return {
-            "look": f"look {slot}",
-            "read": f"read {slot} 0 2",
-            "open": f"open {name} at {slot}",
-            "any": f"open {name} any",
-            "close": f"close {slot}",
-            "update": f"update {slot} {','.join(map(str, entries))}",
-        }[kind]
-
     def begin(self):
-        requests = [self.request() for _ in range(self.random.choice((1, 1, 2, 3)) if self.has_chains else 1)]
-        call, self.next = self.next, self.next + 1
-        self.running.append(Call(call, requests))
-        words = " hardlink ; ".join(self.text(call, it) for it in requests)
-        self.lines.append(f"call {call} {words}")
+        share, slot, name = self.random.random(), self.random.randrange(self.size), "vw"[self.next % 2]
+        kind = "look" if share < 0.5 else "open" if share < 0.7 else "any" if share < 0.8 else "close"
+        words = {"look": f"look {slot}", "open": f"open {name} at {slot}", "any": f"open {name} any", "close": f"close {slot}"}[kind]
+        self.running.append(Call(self.next, kind, slot))
+        self.lines.append(f"call {self.next} {words}")
+        self.next += 1
 
     def put(self, slot, file):
         if self.slots[slot]:
@@ -75,54 +51,38 @@ class Log:
         self.slots[slot] = file
 
     def access(self):
-        """Makes the next access of some call."""
-        ready = [it for it in self.running if not it.is_made()]
+        """Makes the access of some call."""
+        ready = [it for it in self.running if it.answer is None]
         if not ready:
             return
         call = self.random.choice(ready)
-        kind, slot, entries = call.requests[len(call.answers)]
-        member, name = len(call.answers) + 1, call.number % 2
-        found = self.slots[slot]
-        if kind == "look":
-            answer = f"0 {found[0]}" if found else EBADF
+        found, file = self.slots[call.slot], (f"{call.number}.1.0", call.number % 2)
+        if call.kind == "look":
+            call.answer = f"0 {found[0]}" if found else EBADF
             if found:
                 self.held[call.number] = found[0]
-        elif kind == "read":
-            answer = f"{len(list(NAMES.values())[found[1]]) // 2} {list(NAMES.values())[found[1]]}" if found else EBADF
-        elif kind == "open":
-            answer = "0"
-            self.put(slot, (f"{call.number}.{member}.0", name))
-        elif kind == "any":
-            free = [at for at, file in enumerate(self.slots) if file is None]
-            answer = str(self.random.choice(free)) if free else ENFILE
+        elif call.kind == "open":
+            call.answer = "0"
+            self.put(call.slot, file)
+        elif call.kind == "any":
+            free = [at for at, it in enumerate(self.slots) if it is None]
+            call.answer = str(self.random.choice(free)) if free else ENFILE
             if free:
-                self.slots[int(answer)] = (f"{call.number}.{member}.0", name)
-        elif kind == "close":
-            answer = "0" if found else EBADF
-            self.put(slot, None)
+                self.slots[int(call.answer)] = file
         else:
-            entry = entries[call.entry]
-            self.put(slot + call.entry, None if entry < 0 else (f"{call.number}.{member}.{call.entry}", entry))
-            call.entry += 1
-            if call.entry < len(entries):
-                return
-            answer = str(len(entries))
-        call.answers.append(answer)
-        call.entry = 0
+            call.answer = "0" if found else EBADF
+            self.put(call.slot, None)
 
     def answer(self, width):
-        """Writes the next answer of some call, if its access is made."""
+        """Writes the answer of some call whose access is made."""
         for call in self.running:
-            if len(call.answers) == call.seen or self.random.random() >= 0.6 and len(self.running) < width:
+            if call.answer is None or self.random.random() >= 0.6 and len(self.running) < width:
                 continue
-            answer = call.answers[call.seen]
-            call.seen += 1
-            self.lines.append(f"done {call.number}.{call.seen} {answer}")
-            if call.requests[0][0] == "look" and answer != EBADF:
+            self.lines.append(f"done {call.number}.1 {call.answer}")
+            if call.number in self.held:
                 self.lines.append(f"free {call.number}")
                 del self.held[call.number]
-            if call.seen == len(call.requests):
-                self.running.remove(call)
+            self.running.remove(call)
             return
 
     def close(self, most):
