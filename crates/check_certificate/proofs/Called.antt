@@ -1,9 +1,8 @@
 -- The calls of a log that make the accesses of a flight, and the answers of their members.
-use Rattle.check_certificate.proofs.Words.{◌≡◌, ◌⊎◌, ℕ, zero, suc, ◌+◌, ◌-◌, ◌<◌, List, [], ◌∷◌, ◌++◌, length, refl, sym, ap, ◌∙◌, arith}
-use Rattle.check_certificate.proofs.Words.{⊎_elim, append_assoc, Option, Some, slice_get, Moment, Logged, Accesses, IsOlderPart}
-use Rattle.check_certificate.proofs.Words.{Access, IsAccessAt, Identity, Happening, Completed}
-use Rattle.check_certificate.proofs.Words.{Contains-append_right, IsBegun, MayAccess, contains_tail, WasLogged, Called, Answered, made_by, Asked, Contains}
-use Rattle.check_certificate.proofs.Words.{Looks, take}
+use Rattle.check_certificate.proofs.Words.{◌≡◌, ◌⊎◌, ℕ, zero, suc, ◌+◌, ◌-◌, ◌<◌, List, [], ◌∷◌, ◌++◌, length, refl, sym, ap, ◌∙◌, arith, ⊎_elim}
+use Rattle.check_certificate.proofs.Words.{append_assoc, Option, Some, slice_get, Moment, Logged, Accesses, IsOlderPart, Access, IsAccessAt, Identity}
+use Rattle.check_certificate.proofs.Words.{Happening, Completed, Contains-append_right, IsBegun, MayAccess, contains_tail, WasLogged, Called}
+use Rattle.check_certificate.proofs.Words.{Answered, made_by, Asked, Contains, Looks, take}
 use Rattle.check_certificate.proofs.Intended.{IsIntended, intended}
 use Rattle.check_certificate.proofs.Orders.{IsHere, flies, here, may_at, older, ring, s}
 use Rattle.check_certificate.proofs.Parts.{part_of_part}

@@ -1,16 +1,15 @@
 -- Each flight has times of all points.
-use Rattle.check_certificate.proofs.Words.{◌≡◌, ◌⊎◌, ℕ, zero, ◌+◌, ◌≤◌, List, [], ◌∷◌, ◌++◌, length, refl, sym, ap, ◌∙◌, arith, inl, inr, suc}
-use Rattle.check_certificate.proofs.Words.{⊎_elim, append_assoc, length-append, Some, Moment, Logged, Accesses, IsOlderPart, Access, IsPut}
-use Rattle.check_certificate.proofs.Words.{IsLeftAt, IsEventTime, IsPutTime, IsGoneTime, AreTimes, Identity, Completed}
-use Rattle.check_certificate.proofs.Words.{IsFlight, FlightSetting, RingState, Table, table_of, table_left_by, log_of, Happening, MayFollow, Puts, Allocates}
-use Rattle.check_certificate.proofs.Words.{Looks, Clears, Takes, FindsFull, true, false, cases_Bool}
+use Rattle.check_certificate.proofs.Words.{◌≡◌, ◌⊎◌, ℕ, zero, ◌+◌, ◌≤◌, List, [], ◌∷◌, ◌++◌, length, refl, sym, ap, ◌∙◌, arith, inl, inr, suc, ⊎_elim}
+use Rattle.check_certificate.proofs.Words.{append_assoc, length-append, Some, Moment, Logged, Accesses, IsOlderPart, Access, IsPut, IsLeftAt}
+use Rattle.check_certificate.proofs.Words.{IsEventTime, IsPutTime, IsGoneTime, AreTimes, Identity, Completed, IsFlight, FlightSetting, RingState}
+use Rattle.check_certificate.proofs.Words.{Table, table_of, table_left_by, log_of, Happening, MayFollow, Puts, Allocates, Looks, Clears, Takes}
+use Rattle.check_certificate.proofs.Words.{FindsFull, true, false, cases_Bool}
 use Rattle.check_certificate.proofs.Life.{IsPutAt, put_later}
 use Rattle.check_certificate.proofs.Marks.{put_once}
 use Rattle.check_certificate.proofs.Members.{access_times}
 use Rattle.check_certificate.proofs.Parts.{before_end, one_more, part_cases, part_is_flight, part_length, whole}
 use Rattle.check_certificate.specs.declared.certificate.Point.{Point}
-use Rattle.check_certificate.specs.declared.certificate.Point.TheVariants.{Event, Gone, Put}
-use Rattle.check_certificate.specs.declared.certificate.Point.TheVariants.{Access as At}
+use Rattle.check_certificate.specs.declared.certificate.Point.TheVariants.{Event, Gone, Put, Access as At}
 use Rattle.fx_flight.proofs.Beginnings.{lasts}
 use Rattle.fx_flight.specs.Events.{first_of_call}
 use Rattle.fx_order.proofs.Apart.{file_Decides, option_Decides, same_file}

@@ -1,10 +1,9 @@
 -- Each rule of certificates adds an order that every flight keeps.
-use Rattle.check_certificate.proofs.Words.{◌≡◌, ◌⊎◌, ℕ, ◌+◌, ◌-◌, ◌<◌, ◌≤◌, List, [], ◌∷◌, ◌++◌, length, take, refl, sym, ap, ◌∙◌, arith}
-use Rattle.check_certificate.proofs.Words.{Some, None, Option, ⊎_elim, Contains, contains_head}
-use Rattle.check_certificate.proofs.Words.{cases_lt, slice_get, Moment, Logged, Accesses, Access, IsLeftAt, true, false}
-use Rattle.check_certificate.proofs.Words.{Identity, IsOlderPart, Table, table_with, table_left_by, Happening, WasLogged}
-use Rattle.check_certificate.proofs.Words.{Permits, Answered, Called, LookAnswered, LookCalled, Freed, FileClosed, AllSettled, IsPut, Allocates, Clears, FindsFull, Looks, Puts, Takes}
-use Rattle.check_certificate.proofs.Words.{zero, suc, contains_tail, if◌then◌else◌, subst}
+use Rattle.check_certificate.proofs.Words.{◌≡◌, ◌⊎◌, ℕ, ◌+◌, ◌-◌, ◌<◌, ◌≤◌, List, [], ◌∷◌, ◌++◌, length, take, refl, sym, ap, ◌∙◌, arith, Some, None}
+use Rattle.check_certificate.proofs.Words.{Option, ⊎_elim, Contains, contains_head, cases_lt, slice_get, Moment, Logged, Accesses, Access, IsLeftAt}
+use Rattle.check_certificate.proofs.Words.{true, false, Identity, IsOlderPart, Table, table_with, table_left_by, Happening, WasLogged, Permits}
+use Rattle.check_certificate.proofs.Words.{Answered, Called, LookAnswered, LookCalled, Freed, FileClosed, AllSettled, IsPut, Allocates, Clears}
+use Rattle.check_certificate.proofs.Words.{FindsFull, Looks, Puts, Takes, zero, suc, contains_tail, if◌then◌else◌, subst}
 use Rattle.check_certificate.proofs.Existing.{times_of_flight}
 use Rattle.check_certificate.proofs.Leaving.{same_chain, taken_gone, there_after, there_or_taken}
 use Rattle.check_certificate.proofs.Life.{IsPutAt, is_gone, put_before, put_here}
@@ -15,8 +14,7 @@ use Rattle.check_certificate.specs.Forced.{IsForced, IsOfCall, IsContradicted, I
 use Rattle.check_certificate.specs.Evidence.{IsEventAt, IsAccessMade, IsEvident, left_at, slot_count}
 use Rattle.check_certificate.specs.declared.beginning.LogBeginning.{LogBeginning}
 use Rattle.check_certificate.specs.declared.certificate.Point.{Point}
-use Rattle.check_certificate.specs.declared.certificate.Point.TheVariants.{Event, Gone, Put}
-use Rattle.check_certificate.specs.declared.certificate.Point.TheVariants.{Access as At}
+use Rattle.check_certificate.specs.declared.certificate.Point.TheVariants.{Event, Gone, Put, Access as At}
 use Rattle.check_certificate.specs.declared.certificate.PointOrder.{PointOrder}
 use Rattle.check_certificate.specs.declared.evidence.Evidence.{Evidence}
 use Rattle.check_certificate.specs.declared.evidence.Evidence.TheVariants.{Empties, Finds, Full, Installs, Never, Sees, Removes}

@@ -1,9 +1,8 @@
 -- An access that finds a file at its slot: some file was installed there before.
-use Rattle.check_certificate.proofs.Words.{◌≡◌, ◌⊎◌, ℕ, ◌+◌, ◌-◌, ◌<◌, ◌≤◌, List, [], ◌∷◌, ◌++◌, refl, sym, ◌∙◌, arith, inl, inr, subst}
-use Rattle.check_certificate.proofs.Words.{⊎_elim, append_assoc, Option, Some, None, slice_get, Moment, Logged, Accesses, IsOlderPart}
-use Rattle.check_certificate.proofs.Words.{Access, IsAccessAt, IsPut, Identity, Table, table_with, table_left_by, Happening, Completed}
-use Rattle.check_certificate.proofs.Words.{Answered, made_by, Permits}
-use Rattle.check_certificate.proofs.Words.{Looks, Takes, FindsFull, Puts, Allocates, Clears, Submitted, true, cases_Bool, Has, placed}
+use Rattle.check_certificate.proofs.Words.{◌≡◌, ◌⊎◌, ℕ, ◌+◌, ◌-◌, ◌<◌, ◌≤◌, List, [], ◌∷◌, ◌++◌, refl, sym, ◌∙◌, arith, inl, inr, subst, ⊎_elim}
+use Rattle.check_certificate.proofs.Words.{append_assoc, Option, Some, None, slice_get, Moment, Logged, Accesses, IsOlderPart, Access, IsAccessAt}
+use Rattle.check_certificate.proofs.Words.{IsPut, Identity, Table, table_with, table_left_by, Happening, Completed, Answered, made_by, Permits, Looks}
+use Rattle.check_certificate.proofs.Words.{Takes, FindsFull, Puts, Allocates, Clears, Submitted, true, cases_Bool, Has, placed}
 use Rattle.check_certificate.proofs.Forcing.{loose_order, not_after, strict_from, strict_order}
 use Rattle.check_certificate.proofs.Intended.{chain_number, may_install}
 use Rattle.check_certificate.proofs.Leaving.{same_access, same_slot}
@@ -20,8 +19,7 @@ use Rattle.check_certificate.specs.declared.certificate.OnlyFile.TheVariants.{Go
 use Rattle.check_certificate.specs.declared.walk.WalkAim.TheVariants.{Finds as Aimed}
 use Rattle.check_certificate.specs.declared.beginning.LogBeginning.{LogBeginning}
 use Rattle.check_certificate.specs.declared.certificate.Holding.{Holding}
-use Rattle.check_certificate.specs.declared.certificate.Point.TheVariants.{Event, Gone, Put}
-use Rattle.check_certificate.specs.declared.certificate.Point.TheVariants.{Access as At}
+use Rattle.check_certificate.specs.declared.certificate.Point.TheVariants.{Event, Gone, Put, Access as At}
 use Rattle.check_certificate.specs.declared.evidence.Evidence.{Evidence}
 use Rattle.check_certificate.specs.declared.evidence.Evidence.TheVariants.{Empties, Finds, Full, Installs, Never, Sees, Removes}
 use Rattle.fx_base.specs.Catalogue.{IsCatalogue}

@@ -1,16 +1,14 @@
 -- The rules of certificates: what each flight's times are like.
-use Rattle.check_certificate.proofs.Words.{◌≡◌, ◌⊎◌, ℕ, zero, ◌+◌, ◌-◌, ◌<◌, List, [], ◌∷◌, ◌++◌, length, refl, sym, ap, ◌∙◌, arith, suc}
-use Rattle.check_certificate.proofs.Words.{Some, None, Option, ⊎_elim, length-append, Contains, contains_head, Contains-append_right, subst}
-use Rattle.check_certificate.proofs.Words.{cases_lt, slice_get, Moment, Logged, IsOlderPart, Access, IsAccessAt}
-use Rattle.check_certificate.proofs.Words.{AreAccessTimes, IsEventTime, Identity, FlightSetting, IsFlight}
-use Rattle.check_certificate.proofs.Words.{Table, table_of, log_of, made_by, Happening, MayFollow, MayAccess, WasLogged}
-use Rattle.check_certificate.proofs.Words.{Answered, Called, LookAnswered, LookCalled, Permits, Submitted, table_left_by}
+use Rattle.check_certificate.proofs.Words.{◌≡◌, ◌⊎◌, ℕ, zero, ◌+◌, ◌-◌, ◌<◌, List, [], ◌∷◌, ◌++◌, length, refl, sym, ap, ◌∙◌, arith, suc, Some, None}
+use Rattle.check_certificate.proofs.Words.{Option, ⊎_elim, length-append, Contains, contains_head, Contains-append_right, subst, cases_lt, slice_get}
+use Rattle.check_certificate.proofs.Words.{Moment, Logged, IsOlderPart, Access, IsAccessAt, AreAccessTimes, IsEventTime, Identity, FlightSetting}
+use Rattle.check_certificate.proofs.Words.{IsFlight, Table, table_of, log_of, made_by, Happening, MayFollow, MayAccess, WasLogged, Answered, Called}
+use Rattle.check_certificate.proofs.Words.{LookAnswered, LookCalled, Permits, Submitted, table_left_by}
 use Rattle.check_certificate.proofs.Parts.{access_of_part, before_end, part_is_flight, part_of_part, shorter}
 use Rattle.check_certificate.specs.Forced.{IsOfCall, TimedFlight, is_of_no_call, is_registered, log_of_beginning, ring_of_beginning}
 use Rattle.check_certificate.specs.Evidence.{IsEventAt, IsAccessMade, IsEvident, IsShownBy}
 use Rattle.check_certificate.specs.declared.beginning.LogBeginning.{LogBeginning}
-use Rattle.check_certificate.specs.declared.certificate.Point.TheVariants.{Event}
-use Rattle.check_certificate.specs.declared.certificate.Point.TheVariants.{Access as At}
+use Rattle.check_certificate.specs.declared.certificate.Point.TheVariants.{Event, Access as At}
 use Rattle.check_certificate.specs.declared.evidence.Evidence.{Evidence}
 use Rattle.fx_flight.proofs.InTime.{in_log, log_of-parts}
 use Rattle.fx_flight.proofs.Numbers.{new_number, one_call}

@@ -1,9 +1,9 @@
 -- A file that leaves its slot is taken by an access: which one it can be.
 use Rattle.check_certificate.proofs.Words.{◌≡◌, ◌⊎◌, ℕ, ◌+◌, ◌-◌, ◌<◌, ◌≤◌, List, [], ◌∷◌, ◌++◌, length, refl, sym, ap, ◌∙◌, arith, inl, inr, subst}
 use Rattle.check_certificate.proofs.Words.{⊎_elim, cases_lt, length-append, Option, Some, None, slice_get, Moment, Logged, Accesses, IsOlderPart}
-use Rattle.check_certificate.proofs.Words.{Access, IsAccessAt, IsPut, IsLeftAt, Identity, Table, table_with, table_left_by, Happening, Completed, FileEntry}
-use Rattle.check_certificate.proofs.Words.{Answered, made_by, by_equality, if◌then◌else◌, Permits, Place, IsRequestDone, true}
-use Rattle.check_certificate.proofs.Words.{Looks, Takes, FindsFull, Puts, Allocates, Clears, either_option}
+use Rattle.check_certificate.proofs.Words.{Access, IsAccessAt, IsPut, IsLeftAt, Identity, Table, table_with, table_left_by, Happening, Completed}
+use Rattle.check_certificate.proofs.Words.{FileEntry, Answered, made_by, by_equality, if◌then◌else◌, Permits, Place, IsRequestDone, true, Looks}
+use Rattle.check_certificate.proofs.Words.{Takes, FindsFull, Puts, Allocates, Clears, either_option}
 use Rattle.check_certificate.proofs.Called.{IsOfLog, answer_is, of_log}
 use Rattle.check_certificate.proofs.Forcing.{apart, call_id, event_at, loose_order, not_after, strict_from, strict_order, unless_after, weaker}
 use Rattle.check_certificate.proofs.Intended.{may_install}
@@ -21,8 +21,7 @@ use Rattle.check_certificate.specs.Walked.{IsWalked}
 use Rattle.check_certificate.specs.declared.beginning.LogBeginning.{LogBeginning}
 use Rattle.check_certificate.specs.declared.certificate.Point.{Point}
 use Rattle.check_certificate.specs.declared.certificate.PointOrder.{PointOrder}
-use Rattle.check_certificate.specs.declared.certificate.Point.TheVariants.{Event, Gone, Put}
-use Rattle.check_certificate.specs.declared.certificate.Point.TheVariants.{Access as At}
+use Rattle.check_certificate.specs.declared.certificate.Point.TheVariants.{Event, Gone, Put, Access as At}
 use Rattle.check_certificate.specs.declared.evidence.Evidence.{Evidence}
 use Rattle.check_certificate.specs.declared.walk.Landing.{Landing}
 use Rattle.check_certificate.specs.declared.walk.Leaving.{Leaving}

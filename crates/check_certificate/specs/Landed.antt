@@ -4,8 +4,7 @@ use Rattle.fx_chain.specs.declared.intent.Intent.{Intent}
 use Rattle.fx_chain.specs.declared.intent.Intent.TheVariants.{Put, Allocate}
 use Rattle.check_certificate.specs.Forced.{IsForced}
 use Rattle.check_certificate.specs.declared.beginning.LogBeginning.{LogBeginning}
-use Rattle.check_certificate.specs.declared.certificate.Point.TheVariants.{Event}
-use Rattle.check_certificate.specs.declared.certificate.Point.TheVariants.{Put as Installed}
+use Rattle.check_certificate.specs.declared.certificate.Point.TheVariants.{Event, Put as Installed}
 use Rattle.check_certificate.specs.declared.walk.Landing.{Landing}
 
 -- the file was installed before the event

@@ -1,10 +1,9 @@
 -- A pass shows what it has seen, and another pass learns it: the rule holds afterwards. Neither is
 -- an atomic step.
 use Rattle.fx_baton.proofs.Words.{◌≡◌, ℕ, List, [], ◌∷◌, sym, refl, ap, ◌∙◌, subst, inl, inr, ⊎_elim, some, get_elem?, set, set_else, at_set}
-use Rattle.fx_baton.proofs.Words.{Contents, state_of, IsSeenBy, Event, Log, View, Start, Shared}
-use Rattle.fx_baton.proofs.Words.{IsHome, IsAway, IsKept, Splits, ◌≢◌, None, none-some, BatonPass, TableId, Seat, IsPassOf, IsFront, PassView}
-use Rattle.fx_baton.proofs.Words.{HasDrawnInTurn, opening_of, first_own, view_of, Seated, IsLegal, begin_of, part_of_pass, some-injective}
-use Rattle.fx_baton.proofs.Words.{its_pass, started, seats, front_in, shown_view}
+use Rattle.fx_baton.proofs.Words.{Contents, state_of, IsSeenBy, Event, Log, View, Start, Shared, IsHome, IsAway, IsKept, Splits, ◌≢◌, None, none-some}
+use Rattle.fx_baton.proofs.Words.{BatonPass, TableId, Seat, IsPassOf, IsFront, PassView, HasDrawnInTurn, opening_of, first_own, view_of, Seated}
+use Rattle.fx_baton.proofs.Words.{IsLegal, begin_of, part_of_pass, some-injective, its_pass, started, seats, front_in, shown_view}
 use Rattle.fx_baton.specs.Showing.{HasLearned}
 use Rattle.fx_baton.proofs.SeatsKeepRule.{is_rule, laws}
 use Rattle.fx_baton.proofs.StepsKeepRule.{Turns, keeps_rule}

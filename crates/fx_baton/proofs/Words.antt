@@ -5,11 +5,11 @@ pub use Rattle.atomic_table.specs.Table.{Allows, Joins, Splits, gives, keeps, re
 pub use Rattle.atomic_table.specs.declared.shared.Seat.{Seat}
 pub use Rattle.fx_base.specs.declared.open_file.Closed.{Closed}
 pub use Rattle.fx_baton.specs.Lives.{IsIdleSeatOf, IsNewPass, logs_in}
-pub use Rattle.fx_baton.specs.Passes.{HasCalled, HasGivenBack, HasSeenMore, HasTable, IsPassOf, UsesNext, first_own, is_idle, next_of}
-pub use Rattle.fx_baton.specs.Passes.{pass_after, view_of}
+pub use Rattle.fx_baton.specs.Passes.{HasCalled, HasGivenBack, HasSeenMore, HasTable, IsPassOf, UsesNext, first_own, is_idle, next_of, pass_after}
+pub use Rattle.fx_baton.specs.Passes.{view_of}
 pub use Rattle.fx_baton.specs.Rule.{PutsBack, Grabs, HasFreshNumbers, IsAway, IsHome, IsKept, IsLog, IsTurn, IsView, Knows, Seated, Shared, Takes}
-pub use Rattle.fx_baton.specs.Rule.{begin_of, file_held, file_in_hand, holds_by, leaving_count, lent_view, seats}
-pub use Rattle.fx_baton.specs.Rule.{log_after, opening_of, removals_by, view_after}
+pub use Rattle.fx_baton.specs.Rule.{begin_of, file_held, file_in_hand, holds_by, leaving_count, lent_view, seats, log_after, opening_of, removals_by}
+pub use Rattle.fx_baton.specs.Rule.{view_after}
 pub use Rattle.fx_baton.specs.Tables.{IsPassOfTable}
 pub use Rattle.fx_baton.specs.declared.pass.BatonPass.{BatonPass}
 pub use Rattle.fx_baton.specs.declared.view.Call.{Call}
@@ -27,9 +27,8 @@ pub use Rattle.fx_plain.specs.declared.event.File.{File}
 pub use Rattle.fx_plain.specs.declared.node.Node.{Node}
 pub use Rattle.fx_table.proofs.Calls.{seen_again, seen_further, new_here, cleared_so, placed_so, taken_so, prepared_again}
 pub use Rattle.fx_table.proofs.Histories.{held_mine, held_other, legal_then, one_author, part_mine, part_other}
-pub use Rattle.fx_table.proofs.SumLemmas.{contains_head, contains_map, contains_mapped, contains_none, contains_only}
-pub use Rattle.fx_table.proofs.SumLemmas.{bit_here, once_is, one_if, one_less_at, one_more_at, sum_at, sum_le_at}
-pub use Rattle.fx_table.proofs.SumLemmas.{sum_map, sum_set, sum_zero_at, stands_at}
+pub use Rattle.fx_table.proofs.SumLemmas.{contains_head, contains_map, contains_mapped, contains_none, contains_only, bit_here, once_is, one_if}
+pub use Rattle.fx_table.proofs.SumLemmas.{one_less_at, one_more_at, sum_at, sum_le_at, sum_map, sum_set, sum_zero_at, stands_at}
 pub use Rattle.fx_table.proofs.Chains.{all_are_drawn, drawn_few, drawn_inside, next_is_its_own, fits, one_dealt, all_dealt}
 pub use Rattle.fx_table.specs.Closing.{ClosesTable, times_drawn}
 pub use Rattle.fx_table.specs.Files.{HasFile}
@@ -39,9 +38,8 @@ pub use Rattle.fx_table.specs.Pass.{IsFront, IsHoldOf, IsRetiredOf, PassView, ho
 pub use Rattle.fx_table.specs.Turns.{HasDrawnInTurn}
 pub use Rattle.fx_table.specs.declared.values.Task.{Task}
 pub use Rattle.fx_table.specs.declared.values.Task.TheVariants.{Holding, Idle, Retiring}
-pub use Rattle.std.proofs.Common.{Bool, List, [], ap, arith, cond, eqb, false, get_or, inl, inr, length, map, refl, reverse}
-pub use Rattle.std.proofs.Common.{rules, set, subst, sym, true, vec_capacity, ℕ, ⊎_elim, ◌*◌, ◌++◌, ◌+◌, ◌-◌, ◌<◌, ◌∙◌, ◌∷◌, ◌≡◌, ◌≢◌, ◌≤◌}
-pub use Rattle.std.proofs.Common.{◌⊎◌}
+pub use Rattle.std.proofs.Common.{Bool, List, [], ap, arith, cond, eqb, false, get_or, inl, inr, length, map, refl, reverse, rules, set, subst, sym}
+pub use Rattle.std.proofs.Common.{true, vec_capacity, ℕ, ⊎_elim, ◌*◌, ◌++◌, ◌+◌, ◌-◌, ◌<◌, ◌∙◌, ◌∷◌, ◌≡◌, ◌≢◌, ◌≤◌, ◌⊎◌}
 pub use Rattle.std.specs.Prelude.{Contains, None, Option, Some, if◌then◌else◌, is_some, not, option_map, sum_by, ◌&&◌, ◌==◌}
 pub use lib.ListN.{get_elem?}
 pub use mathlib.Core.Logic.{dite}

@@ -11,8 +11,7 @@ use Rattle.fx_baton.specs.declared.view.Log.{Log}
 use Rattle.fx_baton.specs.declared.view.View.{View}
 use Rattle.fx_baton.specs.declared.view.Start.{Start}
 use Rattle.table_seats.specs.Seats.{without_first, first_alone, joined, spent}
-use Rattle.fx_baton.specs.Rule.{IsKept, seats}
-use Rattle.fx_baton.specs.Rule.{Grabs, PutsBack, IsTurn}
+use Rattle.fx_baton.specs.Rule.{IsKept, seats, Grabs, PutsBack, IsTurn}
 
 abbrev pub SplitsKeep : Type 0
 SplitsKeep =

@@ -4,9 +4,8 @@ use Rattle.fx_counted.proofs.Words.{none, get_elem?, takes, gives, rest, step, s
 use Rattle.fx_counted.proofs.Words.{born, Home, NodeAgrees, OwnerAgrees, WorkAgrees, PlacesNext, word_of, place_of, opening_of, first_log, pass_of}
 use Rattle.fx_counted.proofs.Words.{IsNumber, state_after_all, end_in, next_in, held_in, placing, holding, Phase, spare, placed, closed, owner}
 use Rattle.fx_counted.proofs.Words.{file_in, Stepped, View, Idle, Placing, Holding, Emptying, looks, mul-le-mul_left, BirthsKeep, RestsKeep, Births}
-use Rattle.fx_counted.proofs.Words.{Rests, inl, Between, Work, changed_here, changed_else, length-set, Agrees, Shared, ◌⊎◌}
+use Rattle.fx_counted.proofs.Words.{Rests, inl, Between, Work, changed_here, changed_else, length-set, Agrees, Shared, ◌⊎◌, Log, shown}
 use Rattle.fx_counted.proofs.Steps.{grows_none, each_changed, busy, does_now, Turn, turn_of, word_at, its_log, its_work, by_turn, went, tells_none}
-use Rattle.fx_counted.proofs.Words.{Log, shown}
 use Rattle.fx_counted.proofs.Steps.{one_same, near, far, MayTurn, node_agrees, in_phase}
 use mathlib.Core.Option as maybe
 

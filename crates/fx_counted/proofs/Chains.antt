@@ -5,11 +5,10 @@ use Rattle.fx_counted.proofs.Words.{⊎_elim, dite, none, ℕ_discrete, dec_le, 
 use Rattle.fx_counted.proofs.Words.{sum_le_at, OwnerAgrees, PlacesNext, WorkAgrees, DrawsCount, word_of, control_place, draw_place, slot_place}
 use Rattle.fx_counted.proofs.Words.{opening_of, chain_in, shown, first_log, drawn_of, ended_of, once, placing, Phase, unborn, spare, owner, file_in}
 use Rattle.fx_counted.proofs.Words.{Log, View, Idle, mul-add, mul-le-mul_left, Draws, DrawsKeep, first_or, DrawsChain, next_in, end_in, chain_given}
-use Rattle.fx_counted.proofs.Words.{Between, one_if, times, bit_here, once_is, once_more, length-set, count_by-le-length, bit_else}
-use Rattle.fx_counted.proofs.Steps.{passed, owner_same, grows_none, Turn, turn_of, word_at, now, its_log, step_kept, by_turn, Made, near, far, slot_same}
-use Rattle.fx_counted.proofs.Steps.{control_same, NodeIn}
+use Rattle.fx_counted.proofs.Words.{Between, one_if, times, bit_here, once_is, once_more, length-set, count_by-le-length, bit_else, of_one}
+use Rattle.fx_counted.proofs.Steps.{passed, owner_same, grows_none, Turn, turn_of, word_at, now, its_log, step_kept, by_turn, Made, near, far}
+use Rattle.fx_counted.proofs.Steps.{slot_same, control_same, NodeIn}
 use Rattle.table_seats.proofs.Gathered.{total_of_seat}
-use Rattle.fx_counted.proofs.Words.{of_one}
 
 -- the phases, where the numbers from lo to below hi are the pass's
 abbrev given_out : ℕ → ℕ → ℕ → (ℕ → Phase) → ℕ → Phase

@@ -1,10 +1,9 @@
 -- The end, when one seat has all passes, and all are idle: the state is settled, and the events of
 -- all passes are one history.
-use Rattle.fx_counted.proofs.Words.{sum_zero_at, numbers_for, ◌≡◌, ℕ, ◌<◌, ◌≤◌, map, sym, ap, ◌∙◌, arith, ◌⊎◌, ⊎_elim, Option, Some, None}
-use Rattle.fx_counted.proofs.Words.{some, get_elem?, Closed, State, IsSettled, numbered, File, start_of, Does, OwnerAgrees, Agrees}
-use Rattle.fx_counted.proofs.Words.{place_of, Shared, opening_of, slots_of, IsNumber, state_after_all, held_of, holding, Phase, placed}
-use Rattle.fx_counted.proofs.Words.{seated, leaving, retired, emptied, Start, View, Work, Idle, action_of, Between, inside_behind}
-use Rattle.fx_counted.proofs.Words.{opens_inside}
+use Rattle.fx_counted.proofs.Words.{sum_zero_at, numbers_for, ◌≡◌, ℕ, ◌<◌, ◌≤◌, map, sym, ap, ◌∙◌, arith, ◌⊎◌, ⊎_elim, Option, Some, None, some}
+use Rattle.fx_counted.proofs.Words.{get_elem?, Closed, State, IsSettled, numbered, File, start_of, Does, OwnerAgrees, Agrees, place_of, Shared}
+use Rattle.fx_counted.proofs.Words.{opening_of, slots_of, IsNumber, state_after_all, held_of, holding, Phase, placed, seated, leaving, retired}
+use Rattle.fx_counted.proofs.Words.{emptied, Start, View, Work, Idle, action_of, Between, inside_behind, opens_inside}
 use Rattle.fx_counted.proofs.Frames.{same_shape}
 use Rattle.fx_counted.proofs.Keeping.{NodeIn, in_phase, seat_in}
 

@@ -3,13 +3,13 @@ use Rattle.fx_counted.proofs.Words.{count_by-le-length, sum_by, ◌≡◌, ℕ, 
 use Rattle.fx_counted.proofs.Words.{node_in, Agrees, Names, WorkAgrees, lengths, changes_of, looks, all_looks, Shared, looks_of, ended_of, Start}
 use Rattle.fx_counted.proofs.Words.{Retiring, Between, IsSeated, mul-le-mul_right, zero, suc, ◌*◌, ◌<◌, List, length, refl, ap, slice_index, State}
 use Rattle.fx_counted.proofs.Words.{file_numbered, full_in, first_at, control_place, draw_place, slot_place, words_for, word_for, node_for}
-use Rattle.fx_counted.proofs.Words.{control_word_of, [], ◌∷◌, dite, some, get_elem?, Closed, state_of, identity_of, dec_le}
-use Rattle.fx_counted.proofs.Words.{MAX_CHAINS, chain_numbers, AreFirstWords, AreFirstHomes, home_place, homes_for, home_for, OpensWith, MAX_PASSES}
-use Rattle.fx_counted.proofs.Words.{first_file, node_place, Bool, nat_lt, cond, map, eqb, lt-ltb, le-ltb, ⊎_elim, count_by, sum_by-cons}
-use Rattle.fx_counted.proofs.Words.{some-injective, some-ne-none, numbered, numbers_for, range_of, born, SlotAgrees, NodeAgrees, OwnerAgrees}
-use Rattle.fx_counted.proofs.Words.{HasLaws, LogAgrees, ViewAgrees, new_logs, word_of, place_of, opening_of, slots_of, IsNumber, state_after_all, new_log}
-use Rattle.fx_counted.proofs.Words.{Phase, unborn, seated, closed, Log, View, Idle, ◌&&◌, length-map, at_map, first_view, contains_map, sum_zero}
-use Rattle.fx_counted.proofs.Words.{one_if, once_is, range_with_len, full_few, not, numbered_anew}
+use Rattle.fx_counted.proofs.Words.{control_word_of, [], ◌∷◌, dite, some, get_elem?, Closed, state_of, identity_of, dec_le, MAX_CHAINS, chain_numbers}
+use Rattle.fx_counted.proofs.Words.{AreFirstWords, AreFirstHomes, home_place, homes_for, home_for, OpensWith, MAX_PASSES, first_file, node_place}
+use Rattle.fx_counted.proofs.Words.{Bool, nat_lt, cond, map, eqb, lt-ltb, le-ltb, ⊎_elim, count_by, sum_by-cons, some-injective, some-ne-none}
+use Rattle.fx_counted.proofs.Words.{numbered, numbers_for, range_of, born, SlotAgrees, NodeAgrees, OwnerAgrees, HasLaws, LogAgrees, ViewAgrees}
+use Rattle.fx_counted.proofs.Words.{new_logs, word_of, place_of, opening_of, slots_of, IsNumber, state_after_all, new_log, Phase, unborn, seated}
+use Rattle.fx_counted.proofs.Words.{closed, Log, View, Idle, ◌&&◌, length-map, at_map, first_view, contains_map, sum_zero, one_if, once_is}
+use Rattle.fx_counted.proofs.Words.{range_with_len, full_few, not, numbered_anew, seats}
 use Rattle.fx_counted.specs.Bounds.{AreBounded, slot_word_in, node_word_in}
 use Rattle.fx_counted.proofs.ControlSteps.{few_changes, few_full, few_added, few_removed}
 use Rattle.fx_counted.proofs.Frames.{looks_few}
@@ -18,7 +18,6 @@ use Rattle.fx_counted.proofs.Calling.{node_is}
 use Rattle.fx_counted.proofs.Places.{high_node, low_home, high_home}
 use Rattle.fx_table.proofs.Shells.{in_place, none_outside}
 use Rattle.atomic_table.specs.Table.{opening as table_opening}
-use Rattle.fx_counted.proofs.Words.{seats}
 use Rattle.table_seats.proofs.Together.{opens as seats_open}
 
 pub laws : HasLaws seats

@@ -1,17 +1,13 @@
 -- Seats that are split off and joined, passes as they are dealt out, and all of them in one seat
 -- again.
-use Rattle.fx_counted.proofs.Words.{◌≡◌, ℕ, List, length, sym, refl, ap, ◌∙◌, subst, arith, ⊎_elim, sum_by, sum_by-append}
-use Rattle.fx_counted.proofs.Words.{WorkAgrees, LogAgrees, Agrees, in_change, added, removed_by, Shared, holding, Outside, Log, Start, View, Work}
-use Rattle.fx_counted.proofs.Words.{Idle, Change, SplitsKeep, JoinsKeep, Between, one_if, times, ◌*◌, ◌≤◌, [], ◌∷◌, Option}
-use Rattle.fx_counted.proofs.Words.{TableId, Seat, Closed, first_alone, IsIdle, dealt, Sat, new_log, pass_of, view_of, IsPassOf}
-use Rattle.fx_counted.proofs.Words.{is_idle, CountedPass, new_pass, IsNewPass, some, get_elem?, Contains, Contents, state_of}
-use Rattle.fx_counted.proofs.Words.{IsSettled, ClosesTable, times_drawn, HasSameFiles, PassView, contains_head, contains_map}
-use Rattle.fx_counted.proofs.Words.{contains_mapped, sum_map, sum_of, found_sum, logs_in, opening_of}
-use Rattle.fx_counted.proofs.Words.{state_after_all, first_log, once, ◌<◌, map, reverse, once_is, ◌++◌}
-use Rattle.fx_counted.proofs.Words.{held_in, append-nil, IsSettledSoFar}
-use Rattle.fx_counted.proofs.Words.{some_there, some_times}
+use Rattle.fx_counted.proofs.Words.{◌≡◌, ℕ, List, length, sym, refl, ap, ◌∙◌, subst, arith, ⊎_elim, sum_by, sum_by-append, WorkAgrees, LogAgrees}
+use Rattle.fx_counted.proofs.Words.{Agrees, in_change, added, removed_by, Shared, holding, Outside, Log, Start, View, Work, Idle, Change, SplitsKeep}
+use Rattle.fx_counted.proofs.Words.{JoinsKeep, Between, one_if, times, ◌*◌, ◌≤◌, [], ◌∷◌, Option, TableId, Seat, Closed, first_alone, IsIdle, dealt}
+use Rattle.fx_counted.proofs.Words.{Sat, new_log, pass_of, view_of, IsPassOf, is_idle, CountedPass, new_pass, IsNewPass, some, get_elem?, Contains}
+use Rattle.fx_counted.proofs.Words.{Contents, state_of, IsSettled, ClosesTable, times_drawn, HasSameFiles, PassView, contains_head, contains_map}
+use Rattle.fx_counted.proofs.Words.{contains_mapped, sum_map, sum_of, found_sum, logs_in, opening_of, state_after_all, first_log, once, ◌<◌, map}
+use Rattle.fx_counted.proofs.Words.{reverse, once_is, ◌++◌, held_in, append-nil, IsSettledSoFar, some_there, some_times, AreGathered, Moves, seats}
 use Rattle.fx_counted.proofs.Openings.{laws}
-use Rattle.fx_counted.proofs.Words.{AreGathered, Moves, seats}
 use Rattle.table_seats.proofs.Gathered.{each_rests, its_log as gathered_log, of_only, total, whole as gathered_whole}
 use Rattle.table_seats.proofs.Moving.{IsRule, alone_is_dealt, may_join, may_split}
 use Rattle.table_seats.proofs.Together.{reseated as seats_reseated}

@@ -1,8 +1,8 @@
 -- A pass shows what it has seen, and another pass learns it: the rule holds afterwards. Neither is
 -- an atomic step.
-use Rattle.fx_counted.proofs.Words.{◌≡◌, ℕ, ◌+◌, ◌≤◌, [], ◌∷◌, sym, refl, ap, ◌∙◌, subst, arith, ⊎_elim}
-use Rattle.fx_counted.proofs.Words.{LogAgrees, Agrees, Shared, Log, Start, View, Between, Seat, Closed, TableId, CountedPass, IsPassOf}
-use Rattle.fx_counted.proofs.Words.{contains_only, first_log, view_of, opening_of, some, get_elem?, Option}
+use Rattle.fx_counted.proofs.Words.{◌≡◌, ℕ, ◌+◌, ◌≤◌, [], ◌∷◌, sym, refl, ap, ◌∙◌, subst, arith, ⊎_elim, LogAgrees, Agrees, Shared, Log, Start, View}
+use Rattle.fx_counted.proofs.Words.{Between, Seat, Closed, TableId, CountedPass, IsPassOf, contains_only, first_log, view_of, opening_of, some}
+use Rattle.fx_counted.proofs.Words.{get_elem?, Option, its_pass, seats, shown_view, total_same}
 use Rattle.std.proofs.Common.{set}
 use Rattle.atomic_table.proofs.Lists.{at_set}
 use Rattle.atomic_table.specs.Table.{Splits}
@@ -18,7 +18,6 @@ use Rattle.fx_counted.specs.Goes.{Goes}
 use Rattle.fx_counted.specs.Passes.{held_of, shown, doing_in}
 use Rattle.fx_counted.specs.Showing.{HasLearned}
 use Rattle.fx_counted.specs.Effects.{IsInside}
-use Rattle.fx_counted.proofs.Words.{its_pass, seats, shown_view, total_same}
 use Rattle.fx_counted.proofs.Openings.{laws}
 use Rattle.fx_counted.proofs.Seats.{is_rule}
 use Rattle.fx_counted.proofs.Frames.{owner_same, control_same, draws_same}

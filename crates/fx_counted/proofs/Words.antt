@@ -22,8 +22,8 @@ pub use Rattle.fx_counted.specs.Lives.{AllAreIdle, IsIdleSeatOf, IsNewPass, Leav
 pub use Rattle.fx_counted.specs.Moves.{HasPlace}
 pub use Rattle.fx_counted.specs.Opens.{OpensWith, first_file, home_for, node_for, word_for}
 pub use Rattle.fx_counted.specs.Passes.{IsNumber, Sat, Shared, chain_in, chain_numbers, doing_in, drawn_of, end_in, first_log, first_or, held_in}
-pub use Rattle.fx_counted.specs.Passes.{held_of, holding, looks_of, new_log, next_in, opening_of, pass_of, placing, shown, slots_of}
-pub use Rattle.fx_counted.specs.Passes.{state_after_all, steps_of, ended_of}
+pub use Rattle.fx_counted.specs.Passes.{held_of, holding, looks_of, new_log, next_in, opening_of, pass_of, placing, shown, slots_of, state_after_all}
+pub use Rattle.fx_counted.specs.Passes.{steps_of, ended_of}
 pub use Rattle.fx_counted.specs.Phases.{Phase, closed, emptied, file_in, leaving, owner, placed, retired, seated, spare, unborn}
 pub use Rattle.fx_counted.specs.Searching.{HasAllocated, HasFoundAllFull, IsPlacing, Proceeds, StillPlaces, Tries}
 pub use Rattle.fx_counted.specs.Tables.{IsBetweenCalls, IsPassOf, IsPassOfTable, is_idle, opening_of_table, view_of}
@@ -48,10 +48,9 @@ pub use Rattle.fx_plain.specs.declared.event.Action.{Action}
 pub use Rattle.fx_plain.specs.declared.event.Action.TheVariants.{Allocate, Clear, Close, Full, Look, Put, Release, Take}
 pub use Rattle.fx_plain.specs.declared.event.Event.{Event}
 pub use Rattle.fx_plain.specs.declared.event.File.{File}
-pub use Rattle.fx_table.proofs.SumLemmas.{contains_head, contains_map, contains_mapped, contains_only}
-pub use Rattle.fx_table.proofs.SumLemmas.{each_all, read_at, stands_at, bit_else, bit_here, once_is, once_more}
-pub use Rattle.fx_table.proofs.SumLemmas.{one_if, one_less_at, one_more_at, times, found_sum, sum_at, sum_le_at, sum_map, sum_of, sum_set}
-pub use Rattle.fx_table.proofs.SumLemmas.{sum_two, sum_zero, sum_zero_at}
+pub use Rattle.fx_table.proofs.SumLemmas.{contains_head, contains_map, contains_mapped, contains_only, each_all, read_at, stands_at, bit_else}
+pub use Rattle.fx_table.proofs.SumLemmas.{bit_here, once_is, once_more, one_if, one_less_at, one_more_at, times, found_sum, sum_at, sum_le_at}
+pub use Rattle.fx_table.proofs.SumLemmas.{sum_map, sum_of, sum_set, sum_two, sum_zero, sum_zero_at}
 pub use Rattle.fx_table.proofs.FullSlots.{full_all, full_else, full_few, full_here}
 pub use Rattle.fx_table.specs.FullSlots.{first_at, full_in, if_full}
 pub use Rattle.fx_table.specs.Shells.{AreBack, AreFirstHomes}
@@ -68,10 +67,10 @@ pub use Rattle.fx_table.specs.declared.values.Task.TheVariants.{Holding, Idle, R
 pub use Rattle.fx_words.proofs.Parts.{entry_made, entry_more, name_made, name_more, named_suc, takes_made, takes_more}
 pub use Rattle.fx_words.specs.Words.{born, control_word_of, end_amount_of, entry_in, full_word_of, name_in, named, node_in, one_change}
 pub use Rattle.fx_words.specs.Words.{retire_amount_of, slot_word_of, takes_in}
-pub use Rattle.std.proofs.Common.{Bool, IsSome, List, None, Option, Some, [], ap, arith, cond, eq-eqb, eqb, false, get_or}
-pub use Rattle.std.proofs.Common.{get_or-set_other, get_or-set_same, inl, inr, le-ltb, length, length-set, lt-ltb, map, nat_eq, nat_lt}
-pub use Rattle.std.proofs.Common.{refl, reverse, rules, set, slice_index, subst, suc, sym, true, vec_capacity, zero, ℕ, ⊎_elim, ◌%◌, ◌&&◌, ◌*◌}
-pub use Rattle.std.proofs.Common.{◌++◌, ◌+◌, ◌-◌, ◌/◌, ◌<◌, ◌^◌, ◌∙◌, ◌∷◌, ◌≡◌, ◌≢◌, ◌≤◌, ◌⊎◌, not}
+pub use Rattle.std.proofs.Common.{Bool, IsSome, List, None, Option, Some, [], ap, arith, cond, eq-eqb, eqb, false, get_or, get_or-set_other}
+pub use Rattle.std.proofs.Common.{get_or-set_same, inl, inr, le-ltb, length, length-set, lt-ltb, map, nat_eq, nat_lt, refl, reverse, rules, set}
+pub use Rattle.std.proofs.Common.{slice_index, subst, suc, sym, true, vec_capacity, zero, ℕ, ⊎_elim, ◌%◌, ◌&&◌, ◌*◌, ◌++◌, ◌+◌, ◌-◌, ◌/◌, ◌<◌, ◌^◌}
+pub use Rattle.std.proofs.Common.{◌∙◌, ◌∷◌, ◌≡◌, ◌≢◌, ◌≤◌, ◌⊎◌, not}
 pub use Rattle.std.proofs.Math.Nat.{mul-add, mul-le-mul_left, mul-le-mul_right}
 pub use Rattle.std.proofs.lemmas.List.{append-nil, length-map, set-get_or}
 pub use Rattle.std.proofs.lemmas.List.Elements.{All-contains, Contains-append_left}

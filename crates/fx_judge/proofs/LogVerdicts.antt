@@ -1,11 +1,10 @@
 -- The number of a verdict, as a statement of a log.
 use Rattle.fx_judge.proofs.Words.{◌≡◌, ◌↔◌, ℕ, ◌+◌, ◌≤◌, List, [], take, ap, sym, refl, subst, ◌∙◌, arith, Option, Some, None, take-map, Table}
 use Rattle.fx_judge.proofs.Words.{ring_of_slots, table_of_slots, Slots, RingState, new_ring, Happening, all_happenings, happening_of, LogEvent}
-use Rattle.fx_judge.proofs.Words.{HasNoFlightBy, AreLogEvents, HasNotHappened, IsNumberOf, IsReadable}
-use Rattle.fx_judge.proofs.Words.{IsFlightVerdict, PassedLog, events_passed, ring_passed, FAULTY, LEGAL, NOT_LEGAL, UNDECIDED}
+use Rattle.fx_judge.proofs.Words.{HasNoFlightBy, AreLogEvents, HasNotHappened, IsNumberOf, IsReadable, IsFlightVerdict, PassedLog, events_passed}
+use Rattle.fx_judge.proofs.Words.{ring_passed, FAULTY, LEGAL, NOT_LEGAL, UNDECIDED, Bool, false, HasNotHappenedBy, MayHaveHappened, MayHaveHappenedBy}
 use Rattle.fx_judge.specs.Logs.{IsLogRefusal, IsLogVerdict, IsReadLog}
 use Rattle.fx_judge.specs.declared.logs.ReadLog.{ReadLog}
-use Rattle.fx_judge.proofs.Words.{Bool, false, HasNotHappenedBy, MayHaveHappened, MayHaveHappenedBy}
 use Rattle.check_flight.proofs.Words.{false≢true, inl, inr, ◌<◌, ◌⊎◌}
 use Rattle.std.specs.Prelude.{◌≢◌}
 use Rattle.fx_flight.specs.Whole.{IsLegalBy}

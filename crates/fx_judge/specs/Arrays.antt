@@ -10,12 +10,10 @@ use Rattle.fx_chain.specs.declared.completion.Place.{Place}
 use Rattle.fx_chain.specs.declared.request.Target.TheVariants.{Slot, Any}
 use Rattle.fx_flight.specs.Events.{Happening, Called, Answered, LookCalled, LookAnswered, Freed}
 use Rattle.fx_flight.specs.Events.{FileClosed, AllSettled}
-use Rattle.fx_judge.specs.declared.codes.TheConstants.{EVENT_CALL, EVENT_DONE}
-use Rattle.fx_judge.specs.declared.codes.TheConstants.{EVENT_LOOK, EVENT_FOUND, EVENT_EMPTY}
-use Rattle.fx_judge.specs.declared.codes.TheConstants.{EVENT_FREE, EVENT_CLOSED}
-use Rattle.fx_judge.specs.declared.codes.TheConstants.{REQUEST_OPEN, REQUEST_OPEN_ANY}
-use Rattle.fx_judge.specs.declared.codes.TheConstants.{REQUEST_READ, REQUEST_CLOSE}
-use Rattle.fx_judge.specs.declared.codes.TheConstants.{REQUEST_UPDATE}
+use Rattle.fx_judge.specs.declared.codes.TheConstants.{EVENT_CALL, EVENT_DONE, EVENT_LOOK}
+use Rattle.fx_judge.specs.declared.codes.TheConstants.{EVENT_FOUND, EVENT_EMPTY, EVENT_FREE}
+use Rattle.fx_judge.specs.declared.codes.TheConstants.{EVENT_CLOSED, REQUEST_OPEN, REQUEST_OPEN_ANY}
+use Rattle.fx_judge.specs.declared.codes.TheConstants.{REQUEST_READ, REQUEST_CLOSE, REQUEST_UPDATE}
 use Rattle.fx_judge.specs.declared.events.YachtEvent.{YachtEvent}
 use Rattle.fx_judge.specs.declared.events.YachtRequest.{YachtRequest}
 use Rattle.fx_judge.specs.declared.arrays.LogArrays.{LogArrays}

@@ -4,12 +4,11 @@ use Rattle.std.specs.Prelude.{Option, Some, None, if◌then◌else◌}
 use Rattle.fx_judge.specs.Arrays.{Arrays, part_from}
 use Rattle.fx_judge.specs.declared.codes.TheConstants.{EVENT_CALL, EVENT_DONE, EVENT_LOOK}
 use Rattle.fx_judge.specs.declared.codes.TheConstants.{EVENT_FOUND, EVENT_EMPTY, EVENT_FREE}
-use Rattle.fx_judge.specs.declared.codes.TheConstants.{EVENT_CLOSED, EVENT_SETTLED}
-use Rattle.fx_judge.specs.declared.codes.TheConstants.{FLAW_EVENT, FLAW_REQUEST, FLAW_FLAGS}
-use Rattle.fx_judge.specs.declared.codes.TheConstants.{FLAW_FILE, FLAW_RANGE, REQUEST_OPEN}
-use Rattle.fx_judge.specs.declared.codes.TheConstants.{REQUEST_OPEN_ANY, REQUEST_OPEN_MISSING}
-use Rattle.fx_judge.specs.declared.codes.TheConstants.{REQUEST_READ, REQUEST_CLOSE}
-use Rattle.fx_judge.specs.declared.codes.TheConstants.{REQUEST_UPDATE}
+use Rattle.fx_judge.specs.declared.codes.TheConstants.{EVENT_CLOSED, EVENT_SETTLED, FLAW_EVENT}
+use Rattle.fx_judge.specs.declared.codes.TheConstants.{FLAW_REQUEST, FLAW_FLAGS, FLAW_FILE}
+use Rattle.fx_judge.specs.declared.codes.TheConstants.{FLAW_RANGE, REQUEST_OPEN, REQUEST_OPEN_ANY}
+use Rattle.fx_judge.specs.declared.codes.TheConstants.{REQUEST_OPEN_MISSING, REQUEST_READ}
+use Rattle.fx_judge.specs.declared.codes.TheConstants.{REQUEST_CLOSE, REQUEST_UPDATE}
 use Rattle.fx_judge.specs.declared.events.YachtEvent.{YachtEvent}
 use Rattle.fx_judge.specs.declared.events.YachtRequest.{YachtRequest}
 use Rattle.fx_judge.specs.declared.flaws.LogFlaw.{LogFlaw}

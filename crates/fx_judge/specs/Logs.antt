@@ -23,11 +23,10 @@ use Rattle.fx_judge.specs.Flaws.{flaw_of_log}
 use Rattle.fx_judge.specs.Verdicts.{HasFaultOnLine}
 use Rattle.fx_judge.specs.declared.codes.TheConstants.{LEGAL, NOT_LEGAL, UNDECIDED, FAULTY}
 use Rattle.fx_judge.specs.declared.codes.TheConstants.{BAD_SCRIPT, MALFORMED, MOST_LOG_SLOTS}
-use Rattle.fx_judge.specs.declared.codes.TheConstants.{TOO_MANY_SLOTS}
-use Rattle.fx_judge.specs.declared.codes.TheConstants.{FAULT_WRONG_NUMBER, FAULT_NOT_ONE_CHAIN}
-use Rattle.fx_judge.specs.declared.codes.TheConstants.{FAULT_NOT_CALLED, FAULT_OUT_OF_TURN}
-use Rattle.fx_judge.specs.declared.codes.TheConstants.{FAULT_ANSWERED_TWICE, FAULT_NOT_HELD}
-use Rattle.fx_judge.specs.declared.codes.TheConstants.{FAULT_STILL_OPEN}
+use Rattle.fx_judge.specs.declared.codes.TheConstants.{TOO_MANY_SLOTS, FAULT_WRONG_NUMBER}
+use Rattle.fx_judge.specs.declared.codes.TheConstants.{FAULT_NOT_ONE_CHAIN, FAULT_NOT_CALLED}
+use Rattle.fx_judge.specs.declared.codes.TheConstants.{FAULT_OUT_OF_TURN, FAULT_ANSWERED_TWICE}
+use Rattle.fx_judge.specs.declared.codes.TheConstants.{FAULT_NOT_HELD, FAULT_STILL_OPEN}
 use Rattle.fx_judge.specs.declared.events.YachtEvent.{YachtEvent}
 use Rattle.fx_judge.specs.declared.events.YachtRequest.{YachtRequest}
 use Rattle.fx_judge.specs.declared.flights.YachtJudgement.{YachtJudgement}

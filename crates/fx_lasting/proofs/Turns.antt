@@ -1,12 +1,8 @@
 -- The turn of a seat with one pass, and what each law of a step asks of it.
-use Rattle.fx_lasting.proofs.Words.{◌≡◌, ◌≢◌, ℕ, ◌+◌, ◌<◌, ◌≤◌, List, [], ◌∷◌, set, sym}
-use Rattle.fx_lasting.proofs.Words.{refl, ap, subst, arith, get_or, Option, some, get_elem?, Closed, Event}
-use Rattle.fx_lasting.proofs.Words.{Bool, Allows, stepped, Act, Valid, carried_after}
-use Rattle.fx_lasting.proofs.Words.{Agrees}
-use Rattle.fx_lasting.proofs.Words.{slot_place, Shared, range_at_start}
-use Rattle.fx_lasting.proofs.Words.{Sat, HasPass}
-use Rattle.fx_lasting.proofs.Words.{Change, Glance, Log, Start, View, Work}
-use Rattle.fx_lasting.proofs.Words.{Watch, Survey, Labels, Written, tag_word_of, number_word_of, MOST_SLOTS}
+use Rattle.fx_lasting.proofs.Words.{◌≡◌, ◌≢◌, ℕ, ◌+◌, ◌<◌, ◌≤◌, List, [], ◌∷◌, set, sym, refl, ap, subst, arith, get_or, Option, some, get_elem?}
+use Rattle.fx_lasting.proofs.Words.{Closed, Event, Bool, Allows, stepped, Act, Valid, carried_after, Agrees, slot_place, Shared, range_at_start, Sat}
+use Rattle.fx_lasting.proofs.Words.{HasPass, Change, Glance, Log, Start, View, Work, Watch, Survey, Labels, Written, tag_word_of, number_word_of}
+use Rattle.fx_lasting.proofs.Words.{MOST_SLOTS}
 use mathlib.Core.Option as maybe
 
 abbrev pub Homes : Type 0

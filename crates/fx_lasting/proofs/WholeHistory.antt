@@ -1,13 +1,12 @@
 -- One history has what all passes did, and each removed file that is open has a user.
-use Rattle.fx_lasting.proofs.Words.{its_pass, Renewing, Nearing, Relieving, StillNames}
-use Rattle.fx_lasting.proofs.Frames.{alone_cases}
-use Rattle.fx_lasting.proofs.Words.{contents_of, ◌≡◌, ℕ, suc, ◌+◌, ◌<◌, ◌≤◌, List, [], ◌∷◌, length, sym, refl, ap, ◌∙◌}
-use Rattle.fx_lasting.proofs.Words.{subst, arith, Some, None, some, get_elem?, ⊎_elim, dite, dec_le, eqb, Bool, true, false, cond, at_index}
-use Rattle.fx_lasting.proofs.Words.{found_sum, File, Agrees, NodeAgrees, WorkAgrees, HoldAgrees, HoldsAt, OwnerAgrees, Shared, Start, View, Work}
-use Rattle.fx_lasting.proofs.Words.{Phase, Idle, Announced, Counted, Guarded, Owing, Yielding, Searching, Placing, Retiring, Emptying, Keeping}
-use Rattle.fx_lasting.proofs.Words.{seated, leaving, retired, file_in, removed_in, file_if_numbered, eq-eqb, taken_of, taking}
+use Rattle.fx_lasting.proofs.Words.{its_pass, Renewing, Nearing, Relieving, StillNames, contents_of, ◌≡◌, ℕ, suc, ◌+◌, ◌<◌, ◌≤◌, List, [], ◌∷◌}
+use Rattle.fx_lasting.proofs.Words.{length, sym, refl, ap, ◌∙◌, subst, arith, Some, None, some, get_elem?, ⊎_elim, dite, dec_le, eqb, Bool, true}
+use Rattle.fx_lasting.proofs.Words.{false, cond, at_index, found_sum, File, Agrees, NodeAgrees, WorkAgrees, HoldAgrees, HoldsAt, OwnerAgrees, Shared}
+use Rattle.fx_lasting.proofs.Words.{Start, View, Work, Phase, Idle, Announced, Counted, Guarded, Owing, Yielding, Searching, Placing, Retiring}
+use Rattle.fx_lasting.proofs.Words.{Emptying, Keeping, seated, leaving, retired, file_in, removed_in, file_if_numbered, eq-eqb, taken_of, taking}
 use Rattle.fx_lasting.proofs.Words.{owed, count_in, sum_by, bit_else, slots_of, nodes_of, word_of, state_after_all, state_at_start, node_of_number}
-use Rattle.fx_lasting.proofs.Words.{state_of, lt-ltb, ℕ_discrete, not, eqb-true, named_same, opening_is_start, numbered_anew, PassView}
+use Rattle.fx_lasting.proofs.Words.{state_of, lt-ltb, ℕ_discrete, not, eqb-true, named_same, opening_is_start, numbered_anew, PassView, find_pass}
+use Rattle.fx_lasting.proofs.Frames.{alone_cases}
 use Rattle.fx_plain.proofs.Cells.{named}
 use Rattle.fx_plain.proofs.LawHolds.{tally, tally_start, tally_all, placed_one, present, closed_at_most_once}
 use Rattle.fx_plain.specs.Laws.{IsStart, closes_of}
@@ -15,7 +14,6 @@ use Rattle.fx_lasting.proofs.Counts.{owed_found}
 use Rattle.fx_lasting.proofs.Histories.{same_shape}
 use Rattle.fx_lasting.proofs.hold_lemmas.Holds.{holds_at}
 use Rattle.fx_lasting.proofs.Keeping.{word_at, slot_word}
-use Rattle.fx_lasting.proofs.Words.{find_pass}
 use Rattle.fx_lasting.specs.WholeHistory.{IsPassAt, IsPartOf, IsOfAllPasses, Uses, HasUser}
 
 -- the passes begin in a state from which the laws of histories speak

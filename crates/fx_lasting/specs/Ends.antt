@@ -1,6 +1,6 @@
 -- The short runs of steps that calls are made of: what they return, and the pass after them.
-use Rattle.std.specs.Prelude.{◌≡◌, ℕ, Bool, true, false, List, [], Option, Some, None, Result}
-use Rattle.std.specs.Prelude.{Ok, Err}
+use Rattle.std.specs.Prelude.{◌≡◌, ℕ, Bool, true, false, List, [], Option, Some, None, Result, Ok}
+use Rattle.std.specs.Prelude.{Err}
 use mathlib.Core.Option.{some}
 use lib.ListN.{get_elem?}
 use Rattle.fx_base.specs.Identity.{Identity}
@@ -17,8 +17,7 @@ use Rattle.fx_lasting.specs.Runs.{Runs}
 use Rattle.fx_lasting.specs.Tables.{hold_at}
 use Rattle.fx_lasting.specs.declared.view.Glance.TheVariants.{None as Nothing, Cold}
 use Rattle.fx_lasting.specs.declared.view.Work.{Work}
-use Rattle.fx_lasting.specs.declared.view.Work.TheVariants.{Idle, Counted}
-use Rattle.fx_lasting.specs.declared.view.Work.TheVariants.{Emptying, Keeping}
+use Rattle.fx_lasting.specs.declared.view.Work.TheVariants.{Idle, Counted, Emptying, Keeping}
 
 -- some steps in a row, which leave its look-up and its account with the groups' words as they were
 abbrev pub Does : Sat → List Action → Work → ℕ → Sat → Type 0

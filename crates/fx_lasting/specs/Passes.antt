@@ -1,8 +1,7 @@
 -- Views of passes, and their sums.
-use Rattle.std.specs.Prelude.{◌≡◌, ℕ, ◌%◌, ◌⊎◌, ◌==◌, not, nat_lt, List}
-use Rattle.std.specs.Prelude.{[], ◌∷◌, map, Option, option_map, unwrap_or, replicate}
-use Rattle.std.specs.Prelude.{Some, None}
-use Rattle.std.specs.Prelude.{length, if◌then◌else◌, Bool, true, false}
+use Rattle.std.specs.Prelude.{◌≡◌, ℕ, ◌%◌, ◌⊎◌, ◌==◌, not, nat_lt, List, [], ◌∷◌, map, Option}
+use Rattle.std.specs.Prelude.{option_map, unwrap_or, replicate, Some, None, length, if◌then◌else◌}
+use Rattle.std.specs.Prelude.{Bool, true, false}
 use Rattle.atomic_table.specs.Table.{State as TableState, Me}
 use Rattle.fx_base.specs.Identity.{Identity}
 use Rattle.fx_plain.specs.Contents.{Contents, state_of}
@@ -20,9 +19,9 @@ use Rattle.fx_lasting.specs.declared.view.Watch.{Watch}
 use Rattle.fx_lasting.specs.declared.life.layout.TheConstants.{MOST_SLOTS}
 use Rattle.fx_lasting.specs.declared.view.Work.{Work}
 use Rattle.fx_lasting.specs.declared.view.Work.TheVariants.{Idle, Counted, Guarded, Yielding}
+use Rattle.fx_lasting.specs.declared.view.Work.TheVariants.{Searching, Placing, Renewing, Nearing}
+use Rattle.fx_lasting.specs.declared.view.Work.TheVariants.{Relieving}
 use Rattle.fx_lasting.specs.declared.view.Placement.{Placement}
-use Rattle.fx_lasting.specs.declared.view.Work.TheVariants.{Searching, Placing, Renewing}
-use Rattle.fx_lasting.specs.declared.view.Work.TheVariants.{Nearing, Relieving}
 
 -- the table as steps see it: a place has an open file or none
 abbrev pub Shared : Type 0

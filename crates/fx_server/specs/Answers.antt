@@ -4,10 +4,9 @@ use Rattle.std.specs.Prelude.{◌≡◌, ℕ, ℤ, Option, None, Result}
 use Rattle.fx_lasting.specs.declared.key.Key.{Key}
 use Rattle.fx_server.specs.ByKey.{FindsByKey, RemovesByKey, ReplacesByKeyNext}
 use Rattle.fx_server.specs.Installing.{DrawsNone, FindsNext, PutsNext, PutsAnyNext, PutsEmptyKept}
-use Rattle.fx_server.specs.Outcomes.{done_code, slot_code, slot_number, release_code}
-use Rattle.fx_server.specs.Outcomes.{released_tag, found_code}
-use Rattle.fx_server.specs.Outcomes.{found_outcome, removal_code, removed_outcome, placed_code}
-use Rattle.fx_server.specs.Outcomes.{placed_outcome}
+use Rattle.fx_server.specs.Outcomes.{done_code, slot_code, slot_number, release_code, released_tag}
+use Rattle.fx_server.specs.Outcomes.{found_code, found_outcome, removal_code, removed_outcome}
+use Rattle.fx_server.specs.Outcomes.{placed_code, placed_outcome}
 use Rattle.fx_server.specs.Workers.{IsGood, LooksUp, ReleasesHeld, RemovesFrom}
 use Rattle.fx_server.specs.declared.answers.CoreOutcome.{CoreOutcome}
 use Rattle.fx_server.specs.declared.answers.LookAnswer.{LookAnswer}

@@ -1,11 +1,10 @@
 -- The seats of a table stay together when one of them makes a step, when passes move between idle
 -- seats, and at the opening.
 use Rattle.table_seats.proofs.Words.{◌≡◌, ◌≢◌, ℕ, ◌+◌, ◌<◌, ◌≤◌, List, [], ◌∷◌, length, set, sym, refl, ap, ◌∙◌, subst, arith, inl, inr, ⊎_elim}
-use Rattle.table_seats.proofs.Words.{Contains, count_by, sum_by, some, get_elem?, at_set, Event, IsLegal, IsSeenBy, seen_again}
-use Rattle.table_seats.proofs.Words.{Grows, grows_none, AreReseated, IsAnew, bit_here, contains_alone, contains_map, contains_only, counted_once}
-use Rattle.table_seats.proofs.Words.{found_by, found_sum, once_is, one_if, sum_at, sum_of, sum_set, sum_two, start_of, state_at, length-append}
-use Rattle.table_seats.proofs.Words.{length-map-range_with_len, sum_by-append, range_with_len, Seats, first_view, HasSeen, IsSeated, Together, lengths}
-use Rattle.table_seats.proofs.Words.{eqb, logs_of, map}
+use Rattle.table_seats.proofs.Words.{Contains, count_by, sum_by, some, get_elem?, at_set, Event, IsLegal, IsSeenBy, seen_again, Grows, grows_none}
+use Rattle.table_seats.proofs.Words.{AreReseated, IsAnew, bit_here, contains_alone, contains_map, contains_only, counted_once, found_by, found_sum}
+use Rattle.table_seats.proofs.Words.{once_is, one_if, sum_at, sum_of, sum_set, sum_two, start_of, state_at, length-append, length-map-range_with_len}
+use Rattle.table_seats.proofs.Words.{sum_by-append, range_with_len, Seats, first_view, HasSeen, IsSeated, Together, lengths, eqb, logs_of, map}
 use Rattle.atomic_table.proofs.Lists.{at_index}
 use Rattle.fx_seen.proofs.Views.{OfEach, of_one as of_one_view, of_replaced}
 

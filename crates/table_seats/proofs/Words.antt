@@ -8,15 +8,14 @@ pub use Rattle.fx_table.proofs.Calls.{seen_again, seen_from_start}
 pub use Rattle.fx_table.proofs.Growing.{Grows, grows_none}
 pub use Rattle.fx_table.proofs.Histories.{IsWhole}
 pub use Rattle.fx_table.proofs.Seats.{AreReseated, IsAnew, appended, each_seat, joined as seats_joined, logs_are, only_here, split, sum_gathered}
-pub use Rattle.fx_table.proofs.SumLemmas.{bit_here, contains_alone, contains_map, contains_mapped, contains_none, contains_only}
-pub use Rattle.fx_table.proofs.SumLemmas.{contains_reverse, contains_reversed, counted_once, found_by, found_sum, once_is, one_if, sum_at, sum_of}
-pub use Rattle.fx_table.proofs.SumLemmas.{sum_set, sum_two}
+pub use Rattle.fx_table.proofs.SumLemmas.{bit_here, contains_alone, contains_map, contains_mapped, contains_none, contains_only, contains_reverse}
+pub use Rattle.fx_table.proofs.SumLemmas.{contains_reversed, counted_once, found_by, found_sum, once_is, one_if, sum_at, sum_of, sum_set, sum_two}
 pub use Rattle.fx_table.specs.Closing.{times_drawn}
 pub use Rattle.fx_table.specs.Numbers.{once}
 pub use Rattle.fx_table.specs.Opening.{start_of, state_at}
 pub use Rattle.fx_table.specs.Pass.{PassView}
-pub use Rattle.std.proofs.Common.{All, List, [], ap, arith, drop, eqb, get_or, inl, inr, length, length-append, map, refl, reverse, set}
-pub use Rattle.std.proofs.Common.{subst, sym, take, true, ℕ, ⊎_elim, ◌++◌, ◌+◌, ◌<◌, ◌∙◌, ◌∷◌, ◌≡◌, ◌≢◌, ◌≤◌}
+pub use Rattle.std.proofs.Common.{All, List, [], ap, arith, drop, eqb, get_or, inl, inr, length, length-append, map, refl, reverse, set, subst, sym}
+pub use Rattle.std.proofs.Common.{take, true, ℕ, ⊎_elim, ◌++◌, ◌+◌, ◌<◌, ◌∙◌, ◌∷◌, ◌≡◌, ◌≢◌, ◌≤◌}
 pub use Rattle.std.proofs.lemmas.List.{length-map, length-reverse, set-get_or}
 pub use Rattle.fx_table.proofs.Chains.{in_part, first_left, last_left}
 pub use Rattle.std.proofs.lemmas.List.FromFn.{length-map-range_with_len}

@@ -1,10 +1,9 @@
 -- The file at a slot is the one that passes hold on its node.
-use Rattle.fx_lasting.proofs.Words.{Renewing, Relieving, ◌≡◌, ℕ, ◌<◌, List, [], ◌∷◌, sym, refl, ap, ◌∙◌, subst, Option, Some, None, ⊎_elim, File, Event, Start, Shared}
-use Rattle.fx_lasting.proofs.Words.{Work, Agrees, WorkAgrees, HoldsAt, Counted, Guarded, Yielding, held_in, held_by, held_after, part_of_pass}
-use Rattle.fx_lasting.proofs.Words.{state_after_all, slots_of, node_of_number, file_in, once_is, IsSeated, eq-eqb, ne_eqb, dite, ℕ_discrete}
-use Rattle.fx_lasting.proofs.Words.{IsOneOnItsNode}
+use Rattle.fx_lasting.proofs.Words.{Renewing, Relieving, ◌≡◌, ℕ, ◌<◌, List, [], ◌∷◌, sym, refl, ap, ◌∙◌, subst, Option, Some, None, ⊎_elim, File}
+use Rattle.fx_lasting.proofs.Words.{Event, Start, Shared, Work, Agrees, WorkAgrees, HoldsAt, Counted, Guarded, Yielding, held_in, held_by, held_after}
+use Rattle.fx_lasting.proofs.Words.{part_of_pass, state_after_all, slots_of, node_of_number, file_in, once_is, IsSeated, eq-eqb, ne_eqb, dite}
+use Rattle.fx_lasting.proofs.Words.{ℕ_discrete, IsOneOnItsNode, find_pass}
 use Rattle.fx_lasting.proofs.hold_lemmas.Holds.{on_node}
-use Rattle.fx_lasting.proofs.Words.{find_pass}
 
 -- what a pass holds is said by its own part of the history
 pub held_in_part : (h : List Event) (p : ℕ) → held_by h p ≡ held_by (part_of_pass p h) p

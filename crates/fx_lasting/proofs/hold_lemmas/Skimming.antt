@@ -4,10 +4,9 @@ use Rattle.fx_lasting.proofs.Words.{Renewing, Nearing, Relieving, StillNames, fa
 use Rattle.fx_lasting.proofs.Words.{subst, arith, Option, none, keeps, Closed, File, HoldAgrees, GuardAgrees, MayBeUncharged, hold_word_of, leaving}
 use Rattle.fx_lasting.proofs.Words.{Work, Idle, Announced, Counted, Guarded, Owing, Yielding, Searching, Placing, Retiring, Emptying, Keeping, step}
 use Rattle.fx_lasting.proofs.Words.{dite, dec_le, ⊎_elim, set-get_or, Round, round_from, IsToVisit, IsPassed, IsListedIn, list_place, Skims}
-use Rattle.fx_lasting.proofs.Words.{SkimsKeep, Goes, changed_at, true, Bool, IsAllowed}
+use Rattle.fx_lasting.proofs.Words.{SkimsKeep, Goes, changed_at, true, Bool, IsAllowed, find_pass}
 use Rattle.fx_lasting.proofs.Histories.{each_changed}
 use Rattle.fx_lasting.proofs.Keeping.{Turn, turn_of, its_log, word_at, slot_word, Made, by_turn, w}
-use Rattle.fx_lasting.proofs.Words.{find_pass}
 use Rattle.fx_lasting.proofs.hold_lemmas.RoundSteps.{its, node, retiring_same, round_after, RoundStep, round_kept, goes, reads}
 
 -- a pass whose hold word isn't 0 is listed

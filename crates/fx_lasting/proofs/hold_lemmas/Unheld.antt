@@ -1,12 +1,11 @@
 -- When nothing is counted and nothing is owed to a node any more, nobody holds its file.
-use Rattle.fx_lasting.proofs.Words.{Renewing, Relieving, Contains, contains_head, ◌≡◌, ◌≢◌, ℕ, ◌+◌, ◌<◌, ◌≤◌, List, [], ◌∷◌, sym, refl, ap, ◌∙◌, subst, arith, Some, File}
-use Rattle.fx_lasting.proofs.Words.{some, get_elem?, ⊎_elim, dite, ℕ_discrete, eq-eqb, ne_eqb, sum_by, sum_two, sum_only, NodeAgrees, WorkAgrees}
-use Rattle.fx_lasting.proofs.Words.{HoldAgrees, GuardAgrees, MayBeUncharged, HoldsAt, slots_of, nodes_of, word_of, hold_word_of, state_after_all}
-use Rattle.fx_lasting.proofs.Words.{held_in, held_of, taken_of, taking, if_file, owed, count_in, Phase, seated, leaving, retired, file_in, Log, View}
-use Rattle.fx_lasting.proofs.Words.{Work, Counted, Guarded, Yielding}
+use Rattle.fx_lasting.proofs.Words.{Renewing, Relieving, Contains, contains_head, ◌≡◌, ◌≢◌, ℕ, ◌+◌, ◌<◌, ◌≤◌, List, [], ◌∷◌, sym, refl, ap, ◌∙◌}
+use Rattle.fx_lasting.proofs.Words.{subst, arith, Some, File, some, get_elem?, ⊎_elim, dite, ℕ_discrete, eq-eqb, ne_eqb, sum_by, sum_two, sum_only}
+use Rattle.fx_lasting.proofs.Words.{NodeAgrees, WorkAgrees, HoldAgrees, GuardAgrees, MayBeUncharged, HoldsAt, slots_of, nodes_of, word_of}
+use Rattle.fx_lasting.proofs.Words.{hold_word_of, state_after_all, held_in, held_of, taken_of, taking, if_file, owed, count_in, Phase, seated}
+use Rattle.fx_lasting.proofs.Words.{leaving, retired, file_in, Log, View, Work, Counted, Guarded, Yielding, not_there, its_range}
 use Rattle.fx_lasting.proofs.Counts.{owed_at}
 use Rattle.fx_lasting.proofs.Keeping.{Turn, word_at, slot_word}
-use Rattle.fx_lasting.proofs.Words.{not_there, its_range}
 
 module _ (turn : Turn) where
   open turn use {st, v, r, id, x, here, one}

@@ -1,20 +1,17 @@
 -- A pass that removed a hot file visits the hold words of the others: where one names the node, the
 -- pass charges it.
-use Rattle.fx_lasting.proofs.Words.{Nearing, Relieving, StillNames, Bool, true, false, Round, round_at, IsToVisit, IsPassed, ◌≡◌, ◌≢◌, ℕ, ◌+◌}
-use Rattle.fx_lasting.proofs.Words.{◌<◌, ◌≤◌, List, [], set, sym, refl, ap, ◌∙◌, subst, arith, Option, none, keeps, Closed, File}
-use Rattle.fx_lasting.proofs.Words.{HoldAgrees, GuardAgrees, MayBeUncharged, slots_of, hold_word_of}
-use Rattle.fx_lasting.proofs.Words.{owed, Phase, leaving, changed_at, changed_here, changed_else, Work, Announced}
-use Rattle.fx_lasting.proofs.Words.{Guarded, Owing, Yielding, Retiring, Visits, Charges, VisitsKeep, ChargesKeep, step, inr, ⊎_elim, dite, ℕ_discrete}
-use Rattle.fx_lasting.proofs.Words.{eqb, one_if, announced, charge, set-get_or, exchanged, bit_here, bit_else, NamesNode, Goes, Start, dec_le}
-use Rattle.fx_lasting.proofs.Words.{Agrees, either}
+use Rattle.fx_lasting.proofs.Words.{Nearing, Relieving, StillNames, Bool, true, false, Round, round_at, IsToVisit, IsPassed, ◌≡◌, ◌≢◌, ℕ, ◌+◌, ◌<◌}
+use Rattle.fx_lasting.proofs.Words.{◌≤◌, List, [], set, sym, refl, ap, ◌∙◌, subst, arith, Option, none, keeps, Closed, File, HoldAgrees, GuardAgrees}
+use Rattle.fx_lasting.proofs.Words.{MayBeUncharged, slots_of, hold_word_of, owed, Phase, leaving, changed_at, changed_here, changed_else, Work}
+use Rattle.fx_lasting.proofs.Words.{Announced, Guarded, Owing, Yielding, Retiring, Visits, Charges, VisitsKeep, ChargesKeep, step, inr, ⊎_elim, dite}
+use Rattle.fx_lasting.proofs.Words.{ℕ_discrete, eqb, one_if, announced, charge, set-get_or, exchanged, bit_here, bit_else, NamesNode, Goes, Start}
+use Rattle.fx_lasting.proofs.Words.{dec_le, Agrees, either, find_pass}
 use Rattle.fx_lasting.proofs.Counts.{owed_changed}
 use Rattle.fx_lasting.proofs.Histories.{each_changed}
 use Rattle.fx_lasting.proofs.Frames.{covers_same}
 use Rattle.fx_lasting.proofs.Keeping.{Turn, turn_of, word_at, slot_word, Made, by_turn, its_log, w}
-use Rattle.fx_lasting.proofs.Words.{find_pass}
 use Rattle.fx_lasting.proofs.node_lemmas.NodeSteps.{guards_else}
-use Rattle.fx_lasting.proofs.Places.{hold_words, hold_here, hold_node, hold_slot, hold_else, hold_label, pass_back}
-use Rattle.fx_lasting.proofs.Places.{hold_leaves}
+use Rattle.fx_lasting.proofs.Places.{hold_words, hold_here, hold_node, hold_slot, hold_else, hold_label, pass_back, hold_leaves}
 use Rattle.fx_lasting.proofs.hold_lemmas.RoundSteps.{its, node, retiring_same, round_after, RoundStep, round_kept, goes, reads}
 
 module _ (turn : Turn) (f : File) (n t : ℕ) (nx : Round) (m : ℕ) (works : turn.v.work ≡ Retiring f n t nx m) (down : nx.guarded ≡ false) where

@@ -4,13 +4,12 @@ use Rattle.fx_lasting.proofs.Words.{contents_of, ◌≡◌, ℕ, suc, ◌<◌, �
 use Rattle.fx_lasting.proofs.Words.{dec_le, get_elem?, Closed, State, IsSettled, File, sum_zero_at, ℕ_discrete, Does, OwnerAgrees, NodeAgrees, Agrees}
 use Rattle.fx_lasting.proofs.Words.{Shared, slots_of, nodes_of, word_of, state_after_all, state_at_start, held_of, if_file, taken_of, owed, count_in}
 use Rattle.fx_lasting.proofs.Words.{Phase, free, placed, seated, leaving, retired, emptied, kept, removed_in, Start, View, Work, HasNoFile, IsSeated}
-use Rattle.fx_lasting.proofs.Words.{action_of, refl, inside_behind, opens_inside}
+use Rattle.fx_lasting.proofs.Words.{action_of, refl, inside_behind, opens_inside, find_pass}
 use Rattle.fx_lasting.proofs.node_lemmas.Choosing.{no_file, no_take, not_busy, holds_none}
 use Rattle.fx_lasting.proofs.Frames.{busy, busy_alone}
 use Rattle.fx_lasting.proofs.Counts.{owed_found}
 use Rattle.fx_lasting.proofs.Histories.{same_shape}
 use Rattle.fx_lasting.proofs.Keeping.{word_at, slot_word}
-use Rattle.fx_lasting.proofs.Words.{find_pass}
 
 -- no pass does anything
 module _ {k : Start} {s : Shared} (r : Agrees k s) (all_idle : (i : ℕ) (u : View) → get_elem? s.views i ≡ some u → HasNoFile u.work) where

@@ -1,13 +1,11 @@
 -- Passes as they are dealt out, and all of them in one seat again: what the one history says of
 -- each.
-use Rattle.fx_lasting.proofs.Words.{pass_in, ◌≡◌, ℕ, ◌≤◌, List, [], ◌∷◌, sym, refl, ap, ◌∙◌, subst, arith, Option, All, TableId}
-use Rattle.fx_lasting.proofs.Words.{map, length, reverse, Closed, Sat, new_log, pass_of, view_of, IsPassOf, IsSeatOf, Knows, LastingPass, Log, Start}
-use Rattle.fx_lasting.proofs.Words.{View, IsNewPass, dealt, numbers_of_pass, first_stock, some, get_elem?, Contains, sum_by, Contents, state_of}
-use Rattle.fx_lasting.proofs.Words.{IsSettled, contains_head, contains_map, Agrees, logs_in, Shared, opening_of, state_after_all}
-use Rattle.fx_lasting.proofs.Words.{first_log, HasNoFile, inl, IsAtWork, IsHistory, true, false, Seat}
-use Rattle.fx_lasting.proofs.Words.{first_alone, first_passes, as_first, ClosesTable, times_drawn, HasSameFiles, PassView}
-use Rattle.fx_lasting.proofs.Words.{new_pass, new_passes, IsReady, fits}
-use Rattle.fx_lasting.proofs.Words.{contains_tail, contains_none, sum_zero, sum_map}
+use Rattle.fx_lasting.proofs.Words.{pass_in, ◌≡◌, ℕ, ◌≤◌, List, [], ◌∷◌, sym, refl, ap, ◌∙◌, subst, arith, Option, All, TableId, map, length, reverse}
+use Rattle.fx_lasting.proofs.Words.{Closed, Sat, new_log, pass_of, view_of, IsPassOf, IsSeatOf, Knows, LastingPass, Log, Start, View, IsNewPass}
+use Rattle.fx_lasting.proofs.Words.{dealt, numbers_of_pass, first_stock, some, get_elem?, Contains, sum_by, Contents, state_of, IsSettled}
+use Rattle.fx_lasting.proofs.Words.{contains_head, contains_map, Agrees, logs_in, Shared, opening_of, state_after_all, first_log, HasNoFile, inl}
+use Rattle.fx_lasting.proofs.Words.{IsAtWork, IsHistory, true, false, Seat, first_alone, first_passes, as_first, ClosesTable, times_drawn}
+use Rattle.fx_lasting.proofs.Words.{HasSameFiles, PassView, new_pass, new_passes, IsReady, fits, contains_tail, contains_none, sum_zero, sum_map}
 use Rattle.fx_lasting.proofs.Words.{AreGathered, seats}
 use Rattle.table_seats.proofs.Gathered.{each_rests, whole as gathered_whole}
 use Rattle.table_seats.proofs.Moving.{alone_is_dealt}

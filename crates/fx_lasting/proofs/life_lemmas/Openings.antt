@@ -3,17 +3,15 @@ use Rattle.fx_lasting.proofs.Words.{contents_of, ◌≡◌, ℕ, zero, suc, ◌+
 use Rattle.fx_lasting.proofs.Words.{arith, lt-ltb, le-ltb, Option, Some, None, slice_index, dite, some, some-injective, some-ne-none, dec_le}
 use Rattle.fx_lasting.proofs.Words.{get_elem?, Closed, state_of, State, File, birth_word, full_name_made, file_entry_made, file_takes_made}
 use Rattle.fx_lasting.proofs.Words.{SlotAgrees, NodeAgrees, OwnerAgrees, LogAgrees, ViewAgrees, Agrees, new_logs, word_of, slot_place, count_in}
-use Rattle.fx_lasting.proofs.Words.{slots_of, nodes_of, state_after_all, new_log, Phase, free, seated, Log, Start, View, Idle}
-use Rattle.fx_lasting.proofs.Words.{Nothing, length-map, at_map, first_view, contains_map, once_is, counted_once, range_with_len, one_if, removed_in}
-use Rattle.fx_lasting.proofs.Words.{owed, ne_eqb, false, Contains, eqb, sum_of, word_for, node_for, home_for, OpensWith}
-use Rattle.fx_lasting.proofs.Words.{first_file, bit_here, node_of_number, bit_of, IsListedIn, Labels, written_in, bit_at-zero, not, mod-eq_of_lt}
-use Rattle.fx_lasting.proofs.Words.{opening, untouched, list_place, numbered_anew, ◌-◌, ◌*◌}
-use Rattle.fx_lasting.proofs.Words.{◌/◌, ◌%◌, Whereabouts, at_slot, in_stock, NamesItsNode, IsStockOf, StockAgrees, name_in, name_made}
+use Rattle.fx_lasting.proofs.Words.{slots_of, nodes_of, state_after_all, new_log, Phase, free, seated, Log, Start, View, Idle, Nothing, length-map}
+use Rattle.fx_lasting.proofs.Words.{at_map, first_view, contains_map, once_is, counted_once, range_with_len, one_if, removed_in, owed, ne_eqb, false}
+use Rattle.fx_lasting.proofs.Words.{Contains, eqb, sum_of, word_for, node_for, home_for, OpensWith, first_file, bit_here, node_of_number, bit_of}
+use Rattle.fx_lasting.proofs.Words.{IsListedIn, Labels, written_in, bit_at-zero, not, mod-eq_of_lt, opening, untouched, list_place, numbered_anew}
+use Rattle.fx_lasting.proofs.Words.{◌-◌, ◌*◌, ◌/◌, ◌%◌, Whereabouts, at_slot, in_stock, NamesItsNode, IsStockOf, StockAgrees, name_in, name_made}
 use Rattle.fx_lasting.proofs.Words.{empty_name_made, empty_file_made, empty_takes_made, file_heat_made, stock_start, stock_for, first_stock}
-use Rattle.fx_lasting.proofs.Words.{mul-le-mul_right, length-range_with_len, div-mul-add, mod-mul-add, suc-mul}
+use Rattle.fx_lasting.proofs.Words.{mul-le-mul_right, length-range_with_len, div-mul-add, mod-mul-add, suc-mul, HasLaws, seats}
 use Rattle.fx_lasting.proofs.Counts.{tally_none, tally_same}
 use Rattle.table_range.proofs.Counting.{counts_alone}
-use Rattle.fx_lasting.proofs.Words.{HasLaws, seats}
 use Rattle.table_seats.proofs.Together.{opens as seats_open}
 
 pub laws : HasLaws seats

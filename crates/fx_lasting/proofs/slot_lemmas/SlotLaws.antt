@@ -1,14 +1,12 @@
 -- An installation, a clear, a take and an exchange keep the rule.
 use Rattle.fx_lasting.proofs.Words.{IsIn, Round, first_visit, new_round, ◌≡◌, ◌≢◌, ℕ, ◌+◌, ◌^◌, ◌<◌, List, [], ◌∷◌, set, sym, refl, ap, ◌∙◌, subst}
-use Rattle.fx_lasting.proofs.Words.{arith, Option, Some, None, none, some, keeps, gives, rest, get_elem?, false, eqb, Closed, File, numbered}
-use Rattle.fx_lasting.proofs.Words.{Event, Action, Put, Clear, Take, Allocate, ◌▷◌, State, with_removed, changed_at, pass_event}
-use Rattle.fx_lasting.proofs.Words.{held_by, Agrees, WorkAgrees, IsHistory, state_after_all, slots_of, nodes_of, slot_place, full_name_in}
-use Rattle.fx_lasting.proofs.Words.{file_word_of, taking, held_in, if_file, placed, Idle, Placing, Removes, Installs}
-use Rattle.fx_lasting.proofs.Words.{Exchanges, Stepped, IsOffCount, IsInRange, ClearsKeep, TakesOutKeep, InstallsKeep, ExchangesKeep, account}
-use Rattle.fx_lasting.proofs.Words.{uncounted, group_of, range_at_start, Outside, Bool, true, step, exchanged, retiring_work, ◌*◌, ◌-◌, ◌≤◌}
-use Rattle.fx_lasting.proofs.Words.{HasNoFile, IsInStock, as_swapped, first_log, name_in, name_mask, bit_and}
-use Rattle.fx_lasting.proofs.Words.{mask_leaves_name, mod-mul-add, le-mul_of_pos_right, Placement, label_of, as_written, either}
-use Rattle.fx_lasting.proofs.Words.{put_back, ActsAt}
+use Rattle.fx_lasting.proofs.Words.{arith, Option, Some, None, none, some, keeps, gives, rest, get_elem?, false, eqb, Closed, File, numbered, Event}
+use Rattle.fx_lasting.proofs.Words.{Action, Put, Clear, Take, Allocate, ◌▷◌, State, with_removed, changed_at, pass_event, held_by, Agrees, WorkAgrees}
+use Rattle.fx_lasting.proofs.Words.{IsHistory, state_after_all, slots_of, nodes_of, slot_place, full_name_in, file_word_of, taking, held_in, if_file}
+use Rattle.fx_lasting.proofs.Words.{placed, Idle, Placing, Removes, Installs, Exchanges, Stepped, IsOffCount, IsInRange, ClearsKeep, TakesOutKeep}
+use Rattle.fx_lasting.proofs.Words.{InstallsKeep, ExchangesKeep, account, uncounted, group_of, range_at_start, Outside, Bool, true, step, exchanged}
+use Rattle.fx_lasting.proofs.Words.{retiring_work, ◌*◌, ◌-◌, ◌≤◌, HasNoFile, IsInStock, as_swapped, first_log, name_in, name_mask, bit_and}
+use Rattle.fx_lasting.proofs.Words.{mask_leaves_name, mod-mul-add, le-mul_of_pos_right, Placement, label_of, as_written, either, put_back, ActsAt}
 use Rattle.fx_lasting.proofs.slot_lemmas.Emptying.{left, left_agrees, left_tells}
 use Rattle.fx_lasting.proofs.slot_lemmas.Installing.{put_after, put_agrees, put_tells}
 use Rattle.fx_lasting.proofs.node_lemmas.StockMoves.{names_a_node}

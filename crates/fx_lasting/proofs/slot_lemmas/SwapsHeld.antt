@@ -1,13 +1,12 @@
 -- A removal by a pass that holds the slot's file keeps the rule: the hold ends with the step, and
 -- the removal counts the takes without the pass's own.
-use Rattle.fx_lasting.proofs.Words.{◌≡◌, ℕ, ◌+◌, ◌-◌, ◌<◌, List, [], sym, refl, ap, ◌∙◌, subst, arith, Option, Some, None, none, some}
-use Rattle.fx_lasting.proofs.Words.{keeps, get_elem?, eqb, either, Closed, File, Event, Action, Release, Take, ◌▷◌}
-use Rattle.fx_lasting.proofs.Words.{WorkAgrees, HoldsAt, node_of_number, state_after_all, slots_of, slot_place}
-use Rattle.fx_lasting.proofs.Words.{full_name_in, name_in, Names, taking, held_in, bit_here}
-use Rattle.fx_lasting.proofs.Words.{bit_else, Counted, Stepped, IsOffCount, account, range_at_start, step, exchanged}
-use Rattle.fx_lasting.proofs.Words.{IsInStock, as_swapped, first_log}
-use Rattle.fx_lasting.proofs.Words.{empty_word_of, without_file}
-use Rattle.fx_lasting.proofs.Words.{SwapsHeld, TakesHeld, SwapsHeldKeep, TakesHeldKeep}
+use Rattle.fx_lasting.proofs.Words.{◌≡◌, ℕ, ◌+◌, ◌-◌, ◌<◌, List, [], sym, refl, ap, ◌∙◌, subst, arith, Option, Some, None, none, some, keeps}
+use Rattle.fx_lasting.proofs.Words.{get_elem?, eqb, either, Closed, File, Event, Action, Release, Take, ◌▷◌, WorkAgrees, HoldsAt, node_of_number}
+use Rattle.fx_lasting.proofs.Words.{state_after_all, slots_of, slot_place, full_name_in, name_in, Names, taking, held_in, bit_here, bit_else, Counted}
+use Rattle.fx_lasting.proofs.Words.{Stepped, IsOffCount, account, range_at_start, step, exchanged, IsInStock, as_swapped, first_log, empty_word_of}
+use Rattle.fx_lasting.proofs.Words.{without_file, SwapsHeld, TakesHeld, SwapsHeldKeep, TakesHeldKeep, Bool, true, false, Round, HoldsAlone, Guarded}
+use Rattle.fx_lasting.proofs.Words.{HoldAgrees, GuardAgrees, IsAllowed, Work, ⊎_elim, hold_word_of, guarded_round, first_visit, new_round}
+use Rattle.fx_lasting.proofs.Words.{leaving_work, is_guarding}
 use Rattle.fx_lasting.proofs.node_lemmas.StockMoves.{names_a_node}
 use Rattle.fx_lasting.proofs.Histories.{legal_more, same_shape}
 use Rattle.fx_lasting.proofs.Frames.{busy}
@@ -16,10 +15,8 @@ use Rattle.fx_lasting.proofs.Places.{slot_back}
 use Rattle.fx_lasting.proofs.slot_lemmas.Sights.{seen_instead}
 use Rattle.fx_lasting.proofs.slot_lemmas.Swaps.{found, Ends}
 use Rattle.fx_lasting.proofs.slot_lemmas.Emptying.{left, left_agrees, left_tells, moved, moved_agrees, moved_tells}
-use Rattle.fx_lasting.proofs.slot_lemmas.HeldSlots.{there as held_there, by_number as held_by_number, legal₀, IsHeld, by_take, by_guard}
-use Rattle.fx_lasting.proofs.slot_lemmas.HeldSlots.{h₁, own_part, ends_held, leaves_so, own_hold}
-use Rattle.fx_lasting.proofs.Words.{Bool, true, false, Round, HoldsAlone, Guarded, HoldAgrees, GuardAgrees, IsAllowed, Work, ⊎_elim, hold_word_of}
-use Rattle.fx_lasting.proofs.Words.{guarded_round, first_visit, new_round, leaving_work, is_guarding}
+use Rattle.fx_lasting.proofs.slot_lemmas.HeldSlots.{there as held_there, by_number as held_by_number, legal₀, IsHeld, by_take, by_guard, h₁, own_part}
+use Rattle.fx_lasting.proofs.slot_lemmas.HeldSlots.{ends_held, leaves_so, own_hold}
 
 -- the file that a pass holds alone
 pub held_alone : {d : Work} {f : File} {n : ℕ} → HoldsAlone d f n → held_in d ≡ Some f

@@ -1,7 +1,6 @@
 -- The rule of passes: what each works with, which files it holds, and how.
 use Rattle.std.specs.Prelude.{◌≡◌, ◌≢◌, ℕ, ◌+◌, ◌-◌, ◌/◌, ◌<◌, ◌≤◌, ◌⊎◌, Bool, true, false, List}
-use Rattle.std.specs.Prelude.{Some}
-use Rattle.std.specs.Prelude.{Contains, sum_by, slice_index}
+use Rattle.std.specs.Prelude.{Some, Contains, sum_by, slice_index}
 use Rattle.std.specs.Int.{bit_at}
 use mathlib.Core.Option.{some}
 use lib.ListN.{get_elem?}

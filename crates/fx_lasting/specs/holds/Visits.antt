@@ -1,6 +1,5 @@
 -- The round of a retirement through the hold words of the other passes.
-use Rattle.std.specs.Prelude.{◌≡◌, ℕ, ◌+◌, ◌-◌, ◌*◌, ◌/◌, ◌<◌, ◌≤◌, Bool, false, []}
-use Rattle.std.specs.Prelude.{if◌then◌else◌}
+use Rattle.std.specs.Prelude.{◌≡◌, ℕ, ◌+◌, ◌-◌, ◌*◌, ◌/◌, ◌<◌, ◌≤◌, Bool, false, [], if◌then◌else◌}
 use Rattle.fx_plain.specs.declared.event.File.{File}
 use Rattle.fx_lasting.specs.Ends.{Does}
 use Rattle.fx_lasting.specs.Laws.{IsPassed}

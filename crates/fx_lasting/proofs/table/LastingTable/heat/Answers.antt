@@ -1,5 +1,4 @@
-use Rattle.fx_lasting.proofs.Words.{cold_takes, ap, ◌∙◌, arith, cond, Bool, Nothing, Heating, le-ltb, count_in}
-use Rattle.fx_lasting.proofs.Words.{◌≤◌}
+use Rattle.fx_lasting.proofs.Words.{cold_takes, ap, ◌∙◌, arith, cond, Bool, Nothing, Heating, le-ltb, count_in, ◌≤◌}
 use Rattle.fx_lasting.proofs.Calling.{slot_inside}
 use Rattle.fx_lasting.proofs.hold_lemmas.Taking.{heats_keep}
 use Rattle.fx_lasting.proofs.Running.{listed_is}
