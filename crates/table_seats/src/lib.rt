@@ -32,9 +32,9 @@ pub fn take_home(closed: &mut Closed<Option<OpenFile>, Global>, place: usize) ->
     ensures full { IsFull closed.new.slots }
     ensures words { closed.new.words ≡ closed.old.words }
 {
-    let home = closed.take(place);
+    let content = closed.take(place);
     closed.slots.put(place, None);
-    home
+    content
 }
 
 /// Frees a table that was closed, all of whose places are empty.
