@@ -171,31 +171,34 @@ def is_put(point):
 
 
 class Reason:
-    """The steps of a reason up to some step: `known` has the order of each."""
+    """The steps of a reason up to some step: `known` has the order of each. The rules are methods. Each gets the lines and the access of a step,
+    the orders of its premises, and the points that it says it orders, which alone name some files and slots; and returns the order that the
+    step adds: both points, and whether they differ in time."""
 
     def __init__(self, log):
         self.log, self.known = log, []
 
-    def order(self, rule, lines, access, premises, named=()):
-        """Returns the order that a step adds: both points, and whether they differ in time. `named` has what its order alone names."""
+    def order(self, rule, lines, access, premises, points):
+        """Returns the order that a step adds."""
         wanted = getattr(self, "_" + rule.replace("-", "_"), None)
         want(wanted, f"there is no rule {rule}")
         want(all(0 <= it < len(self.known) for it in premises), "an earlier step is none")
-        return wanted(lines, access, [self.known[it] for it in premises], *named)
+        return wanted(lines, access, [self.known[it] for it in premises], points)
 
-    def _events(self, lines, access, premises):
+    def _events(self, lines, access, premises, points):
         want(lines[0] < lines[1] and self.log.events.keys() >= set(lines), "the lines are in another order, or no events")
         return (EVENT, lines[0]), (EVENT, lines[1]), True
 
-    def _begins(self, lines, access, premises):
+    def _begins(self, lines, access, premises, points):
         self.log.access(*lines, access)
         return (EVENT, lines[0]), (ACCESS, lines[1], access), True
 
-    def _ends(self, lines, access, premises):
+    def _ends(self, lines, access, premises, points):
         self.log.access(*lines, access)
         return (ACCESS, lines[1], access), (EVENT, lines[1]), True
 
-    def _calls(self, lines, access, premises, file):
+    def _calls(self, lines, access, premises, points):
+        file = points[1][1]
         want(self.log.call_at(lines[0]) == file[0], f"line {lines[0]} doesn't call what installs {file}")
         return (EVENT, lines[0]), (PUT, file), True
 
@@ -206,10 +209,10 @@ class Reason:
         want(left and left[1] and left[1][:2] == (call, member), "the access installs no file")
         return left
 
-    def _installs(self, lines, access, premises):
+    def _installs(self, lines, access, premises, points):
         return (PUT, self._installed(lines, access)[1]), (EVENT, lines[1]), True
 
-    def _places(self, lines, access, premises):
+    def _places(self, lines, access, premises, points):
         slot, file = self._installed(lines, access)
         return (PUT, file), (GONE, file, slot), True
 
@@ -220,10 +223,10 @@ class Reason:
         want(left and left[1] == file, "the look found no file")
         return left
 
-    def _follows(self, lines, access, premises):
+    def _follows(self, lines, access, premises, points):
         return (PUT, self._found(lines)[1]), (ACCESS, lines[1], 0), True
 
-    def _finds(self, lines, access, premises):
+    def _finds(self, lines, access, premises, points):
         slot, file = self._found(lines)
         return (ACCESS, lines[1], 0), (GONE, file, slot), True
 
@@ -231,10 +234,10 @@ class Reason:
         want(line in self.log.closes, f"line {line} closes no file")
         return self.log.closes[line]
 
-    def _closes(self, lines, access, premises, slot):
-        return (GONE, self._closed(lines[0]), slot), (EVENT, lines[0]), True
+    def _closes(self, lines, access, premises, points):
+        return (GONE, self._closed(lines[0]), points[0][2]), (EVENT, lines[0]), True
 
-    def _settles(self, lines, access, premises):
+    def _settles(self, lines, access, premises, points):
         (line,) = lines
         (put, event, is_before), (there, gone, is_there) = premises
         want(self.log.event_at(line, "settled") and is_before and event == (EVENT, line), "nothing is settled after the installation")
@@ -242,14 +245,14 @@ class Reason:
         want(all(file != gone[1] for at, file in self.log.closes.items() if at < line), "the file was closed before")
         return (EVENT, line), gone, True
 
-    def _empties(self, lines, access, premises):
+    def _empties(self, lines, access, premises, points):
         ((put, point, _),) = premises
         file, left = is_put(put), self.log.access(*lines, access)
         want(point == (ACCESS, lines[1], access), "the file isn't known to be installed before")
         want(left and left[1] != file, "the access doesn't leave the slot without the file")
         return (GONE, file, left[0]), (ACCESS, lines[1], access), False
 
-    def _precedes(self, lines, access, premises):
+    def _precedes(self, lines, access, premises, points):
         ((point, gone, is_strict),) = premises
         left = self.log.access(*lines, access)
         want(is_strict and point == (ACCESS, lines[1], access) and gone[0] == GONE, "the file isn't known to be there later")
@@ -262,38 +265,38 @@ class Reason:
         want(is_strict and gone[0] == GONE and put == (PUT, gone[1]), "the file isn't known to be at the slot")
         return gone[1], gone[2]
 
-    def _displaces(self, lines, access, premises):
+    def _displaces(self, lines, access, premises, points):
         (put, later, _), placed = premises
         file, (other, slot) = is_put(put), self._placed(placed)
         want(later == (PUT, other) and file != other, "the other file isn't known to be installed later")
         return (GONE, file, slot), (PUT, other), False
 
-    def _outlives(self, lines, access, premises):
+    def _outlives(self, lines, access, premises, points):
         (put, gone, is_strict), placed = premises
         other, slot = self._placed(placed)
         want(is_strict and put == (PUT, other) and gone[0] == GONE and gone[2] == slot and gone[1] != other, "the file isn't known to be there later")
         return (PUT, other), (PUT, gone[1]), True
 
-    def _then(self, lines, access, premises):
+    def _then(self, lines, access, premises, points):
         (before, middle, is_strict), (same, after, is_later) = premises
         want(middle == same, "the second order begins elsewhere")
         return before, after, is_strict or is_later
 
-    def _finds_closed(self, lines, access, premises):
+    def _finds_closed(self, lines, access, premises, points):
         want(lines[0] < lines[1] and self._closed(lines[0]) == self.log.found_at(lines[1])[1], "the file was not closed before")
         return (EVENT, lines[1]), (EVENT, lines[1]), True
 
-    def _closes_twice(self, lines, access, premises):
+    def _closes_twice(self, lines, access, premises, points):
         want(lines[0] < lines[1] and self._closed(lines[0]) == self._closed(lines[1]), "another file was closed")
         return (EVENT, lines[1]), (EVENT, lines[1]), True
 
-    def _closes_held(self, lines, access, premises):
+    def _closes_held(self, lines, access, premises, points):
         look, file = self.log.found_at(lines[0])
         want(lines[0] < lines[1] and self._closed(lines[1]) == file, "another file was closed, or before the look")
         want(all((it.word, it.call) != ("free", look) for it in self.log.all if it.line < lines[1]), "the look doesn't hold the file")
         return (EVENT, lines[1]), (EVENT, lines[1]), True
 
-    def _cant_answer(self, lines, access, premises):
+    def _cant_answer(self, lines, access, premises, points):
         call, member, result, more = self.log.answer_at(lines[1])
         want(self.log.call_at(lines[0]) == call and self.log.chain(call)[0].kind != "look", "another call is answered, or a look")
         want(result != -12 and (result != CANCELED or member == 1), "a member may lack memory, or be canceled after another one")
@@ -321,12 +324,14 @@ class Reason:
             return True
         return any(line < called and left != file for called, left in self.log.left_before(slot, call_line))
 
-    def _lands(self, lines, access, premises, slot):
+    def _lands(self, lines, access, premises, points):
+        slot = points[1][2]
         put, may = self._landing(premises, slot)
         want(may and self.log.read.file_of(put[1]) >= 0 and self.log.request(*put[1][:2]).slot is not None, "it isn't the only slot")
         return put, (GONE, put[1], slot), True
 
-    def _misses(self, lines, access, premises, slot):
+    def _misses(self, lines, access, premises, points):
+        slot = points[0][2]
         put, may = self._landing(premises, slot)
         want(not may, "the file may be installed there")
         return (GONE, put[1], slot), put, False
@@ -338,10 +343,10 @@ class Reason:
         want(is_before and event[0] == EVENT, "the file isn't known to be installed")
         return put, file in self.log.installs(slot, event[1])
 
-    def _existed(self, lines, access, premises):
+    def _existed(self, lines, access, premises, points):
         return (PUT, self._closed(lines[0])), (EVENT, lines[0]), True
 
-    def _stays(self, lines, access, premises):
+    def _stays(self, lines, access, premises, points):
         ((since, gone, is_there),) = premises
         want(is_there and since[0] == EVENT and gone[0] == GONE and lines[0] in self.log.events, "the file isn't known to be there")
         self._want_taker(None, since[1], gone, lines[0])
@@ -376,7 +381,7 @@ class Reason:
             return True
         return taker in times or (gone, (EVENT, self.log.calls[call]), True) in self.known
 
-    def _differs(self, lines, access, premises):
+    def _differs(self, lines, access, premises, points):
         ((before, after, _),) = premises
         want(before[0] == after[0] == ACCESS and self.log.call_at(lines[0]) != self.log.call_at(lines[1]), "they are no accesses of two calls")
         self.log.access(lines[0], *before[1:])
@@ -398,12 +403,8 @@ def complaint(text, facts, tags=False):
         reason = Reason(Log(text, tags))
         for nth, (rule, lines, access, premises, before, after, is_strict) in enumerate(facts):
             order = before, after, is_strict
-            # the file of a call and the slot of a close are named by the order alone
-            points = order[:2],
-            named = {"calls": order[1][1:2], "closes": order[0][2:3], "lands": order[1][2:3], "misses": order[0][2:3], "holds": points,
-                     "takes": points, "taken-by": points}.get(rule, ())
             try:
-                adds = reason.order(rule, lines, access, premises, named)
+                adds = reason.order(rule, lines, access, premises, (before, after))
                 want(adds == order, f"it adds {adds}, not {order}")
             except (Wrong, ValueError, IndexError, KeyError, TypeError) as why:
                 return f"step {nth}, {rule} of lines {list(lines)}: {why}"
