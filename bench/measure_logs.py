@@ -46,31 +46,22 @@ class Judged:
         return f"{len(self.steps)} steps {self.reason_seconds:.2f}"
 
 
-class Targets:
-    """The targets, and those that are missed."""
-
-    def __init__(self):
-        self.missed = []
-
-    def want(self, holds, what):
-        if not holds:
-            self.missed.append(what)
-
-
-def rows(calls, targets):
+def rows(calls, missed):
     for width in OPEN:
         lines = Log(calls, width, SLOTS, 0, width).lines
         legal, wrong = Judged(lines), Judged(spoiled(lines, "stale", NEAR_END))
         ratio = wrong.seconds / legal.seconds
         print(f"{calls} calls, {width} open: {legal.word} {legal.seconds:.2f}, {wrong.word} {wrong.seconds:.2f}, ratio {ratio:.2f}; {wrong.reason()}")
-        targets.want((legal.word, wrong.word) == ("legal", "not legal") and ratio <= RATIO, f"ratio {ratio:.2f} at {width} open calls")
+        if (legal.word, wrong.word) != ("legal", "not legal") or ratio > RATIO:
+            missed.append(f"ratio {ratio:.2f} at {width} open calls")
 
 
-def long_row(targets):
+def long_row(missed):
     lines = spoiled(Log(LONG_CALLS, LONG_OPEN, SLOTS, 0, 1).lines, "stale", NEAR_END)
     it = Judged(lines)
     print(f"{LONG_CALLS} calls, {LONG_OPEN} open, {len(lines)} lines: {it.word} {it.seconds:.2f}; {it.reason()}")
-    targets.want(it.word == "not legal" and it.seconds <= SECONDS, f"{it.seconds:.2f} s for {LONG_CALLS} calls")
+    if it.word != "not legal" or it.seconds > SECONDS:
+        missed.append(f"{it.seconds:.2f} s for {LONG_CALLS} calls")
 
 
 def legal_rows():
@@ -83,7 +74,7 @@ def legal_rows():
         print(f"{calls} calls, {LEGAL_OPEN} open, {len(lines)} lines: {it.word} {it.seconds:.2f}, ratio {it.seconds / first:.1f}")
 
 
-def shares(count, targets):
+def shares(count, missed):
     for way in WAYS:
         words = collections.Counter()
         for seed in range(1, count + 1):
@@ -95,18 +86,17 @@ def shares(count, targets):
                 words[it.word] += 1
                 words["with a reason"] += bool(it.steps)
         print(f"{way}: {dict(words)}")
-        targets.want(words["with a reason"] * 100 >= SHARE * words["not legal"], f"{words['with a reason']} reasons of {words['not legal']}: {way}")
+        if words["with a reason"] * 100 < SHARE * words["not legal"]:
+            missed.append(f"{words['with a reason']} reasons of {words['not legal']}: {way}")
 
 
 def command():
     asked = arguments(__doc__, flags="targets", numbers={"calls": 5_000, "count": 60})
-    targets = Targets()
-    rows(asked.calls, targets)
-    long_row(targets)
+    missed = []
+    rows(asked.calls, missed)
+    long_row(missed)
     legal_rows()
-    shares(asked.count, targets)
-    if not asked.targets:
-        return 0
-    for what in targets.missed:
+    shares(asked.count, missed)
+    for what in missed if asked.targets else ():
         print(f"missed: {what}")
-    return bool(targets.missed)
+    return asked.targets and bool(missed)
