@@ -126,7 +126,8 @@ def found(path, pattern):
 
 
 def number(path, pattern):
-    return int(found(path, pattern).replace(",", ""))
+    """Returns the number that a pattern finds in a file, without decimals."""
+    return round(float(found(path, pattern).replace(",", "")))
 
 
 def on_four_threads(pattern):
@@ -217,12 +218,6 @@ def judged_one(name, decimals=2):
     return f"{float(seconds):.{decimals}f} s and {memory}"
 
 
-def loads(path):
-    """Returns the least and the greatest load of the machine that a kept log has."""
-    those = sorted(round(float(it)) for it in re.findall(r"\ba load of ([\d.]+)", read(path)))
-    return " to ".join(dict.fromkeys(map(str, [those[0], those[-1]])))
-
-
 def stale(calls):
     """Returns the wrong logs of this many calls in bench/recording.txt, of tables whose looks are stale more and more seldom."""
     return " | ".join(str(row[1]) for row in of_wrong("stale") if row[-1] == calls)
@@ -270,8 +265,3 @@ def seconds(*roots):
 
 def minutes(*roots):
     return round(seconds(*roots) / 60)
-
-
-def whole(path, pattern):
-    """Returns the number that a pattern finds in a kept log, without decimals."""
-    return round(float(found(path, pattern)))
