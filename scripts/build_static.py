@@ -5,6 +5,7 @@ gate's: it proves the crates but builds no static library, and this waits until 
 gate, LOG the gate's output."""
 import os
 import re
+import shutil
 import subprocess
 import sys
 import tempfile
@@ -12,7 +13,7 @@ import time
 
 from scripts.crate_times import crates, needed
 from scripts.proved import Gate, copy_below
-from scripts.repository import ROOT, SOURCES, files_of
+from scripts.repository import ROOT, SOURCES, files_of, is_newer
 
 # the words of the toolchain that choose a machine
 TARGETS = {"x86_64": [], "aarch64": ["--target", "aarch64-unknown-linux-gnu"]}
@@ -31,10 +32,7 @@ def has_all_below(gate, name, below):
 
 def is_kept(path, name, below):
     """Checks whether the static library is newer than each source of its crates."""
-    if not os.path.exists(path):
-        return False
-    files = [f"{ROOT}/crates.txt", f"{ROOT}/HANDLES", *(it for crate in needed(name, below) for it in files_of(crate, *SOURCES))]
-    return all(os.path.getmtime(it) <= os.path.getmtime(path) for it in files)
+    return is_newer(path, ["crates.txt", "HANDLES", *(it for crate in needed(name, below) for it in files_of(crate, *SOURCES))])
 
 
 def path_of(name, machine):
@@ -45,8 +43,7 @@ def keep(built, path, began):
     """Copies what was built to a path. It gets the time at which the build began, so that a source that was changed since counts as newer."""
     os.makedirs(os.path.dirname(path), exist_ok=True)
     new = f"{path}.{os.getpid()}"
-    with open(built, "rb") as file, open(new, "wb") as kept:
-        kept.write(file.read())
+    shutil.copyfile(built, new)
     os.utime(new, (began, began))
     os.replace(new, path)
 

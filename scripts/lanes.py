@@ -22,7 +22,7 @@ import time
 from scripts import refusals
 from scripts.crate_times import KEPT, UNMEASURED, behind, crates, expected, in_words, measured, needed, static_libraries
 from scripts.proved import copy_below, take_back
-from scripts.repository import ROOT, SOURCES, files_of
+from scripts.repository import ROOT, SOURCES, files_of, is_newer
 
 LOG = "build/program.log"
 STARTED = "build/program.started"
@@ -52,10 +52,7 @@ def memory():
 
 def is_kept(name, below, kept):
     """Checks whether the proof of a crate is newer than its files, and so is that of each dependency."""
-    built = f"crates/{name}/out/rlib/{name}.rlib"
-    if not os.path.exists(built) or not all(it in kept for it in below[name]):
-        return False
-    return all(os.path.getmtime(it) <= os.path.getmtime(built) for it in files_of(name, *SOURCES))
+    return all(it in kept for it in below[name]) and is_newer(f"crates/{name}/out/rlib/{name}.rlib", files_of(name, *SOURCES))
 
 
 class Job:
@@ -225,11 +222,7 @@ class Lanes:
 
 def is_built(name):
     """Checks whether a program is newer than all sources, as scripts/build-program does."""
-    built = f"bin/{name}"
-    if not os.path.exists(built):
-        return False
-    files = [it for crate in crates() for it in files_of(crate, *SOURCES)]
-    return all(os.path.getmtime(it) <= os.path.getmtime(built) for it in ["crates.txt", "HANDLES", *files])
+    return is_newer(f"bin/{name}", ["crates.txt", "HANDLES", *files_of("*", *SOURCES)])
 
 
 def plan(words):

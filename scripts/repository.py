@@ -32,6 +32,11 @@ def write(path, content):
         file.write(content if isinstance(content, bytes) else content.encode())
 
 
+def is_newer(path, files):
+    """Checks whether a file exists and is at least as new as each of `files`."""
+    return os.path.exists(path) and all(os.path.getmtime(it) <= os.path.getmtime(path) for it in files)
+
+
 def keep(name, script, text):
     """Keeps a script and its text, on which something was found wrong. Returns their paths, which are relative below this folder."""
     paths = [os.path.join(BUILD, f"{os.path.basename(name)}.{ending}") for ending in ("script", "text")]
