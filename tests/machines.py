@@ -33,12 +33,6 @@ def answer(number, text=b"", status=0, message=b""):
     send(b"%d %d %d %d\n" % (number, status, len(text), len(message)) + text + message)
 
 
-def write_on_console(line):
-    """Writes to the first serial port, which is a file."""
-    with open(next(it for it in sys.argv if it.startswith("file:")).removeprefix("file:"), "a", encoding="utf-8") as console:
-        console.write(f"{line}\n")
-
-
 def text_of(kind, given):
     text = play(given)[0]
     return (re.sub(r"^1\.1\.1 .*", "1.1.1 -77", text, count=1, flags=re.MULTILINE) if kind == "wrong" else text).encode()
@@ -56,7 +50,9 @@ def command():
         if not given and kind == "lacks-io-uring":
             answer(number, b"", NO_IO_URING, b"there is no io_uring")
         elif given and kind == "oopses":
-            write_on_console("BUG: kernel NULL pointer dereference")
+            # the first serial port is a file
+            with open(next(it for it in sys.argv if it.startswith("file:")).removeprefix("file:"), "a", encoding="utf-8") as console:
+                console.write("BUG: kernel NULL pointer dereference\n")
             return 0
         else:
             kept.append((number, text_of(kind, given)))
