@@ -110,16 +110,15 @@ def spoiled(lines, way, share):
     at = next((k for k in range(int(share * len(lines)), len(lines)) if fits(lines[k])), None)
     if at is None:
         return None
-    place = lines[at].split()[1]
     if way == "lost":
         return lines[:at] + lines[at + 1:]
-    if way == "take":
-        return [*lines[:at], f"done {place} 0", *lines[at + 1:]]
-    if way == "untake":
-        return [*lines[:at], f"done {place} {EBADF}", *lines[at + 1:]]
+    place, answer = lines[at].split()[1], {"take": "0", "untake": EBADF, "full": ENFILE}.get(way)
+    answered = [*lines[:at], f"done {place} {answer}", *lines[at + 1:]]
+    if way in ("take", "untake"):
+        return answered
     if way == "full":
         gone = {it.split()[1].split(".")[0] for it in lines if it.startswith("done") and it.endswith(f" {place}.0")}
-        left = [it for it in [*lines[:at], f"done {place} {ENFILE}", *lines[at + 1:]] if f" {place}.0" not in it]
+        left = [it for it in answered if f" {place}.0" not in it]
         return [it for it in left if not (it.split()[0] in ("call", "free") and it.split()[1] in gone)]
     # a look answers the file that an earlier look of its slot found
     before = next((it.split()[3] for it in reversed(lines[: at - 30]) if of(it) == of(lines[at]) and len(it.split()) == 4
