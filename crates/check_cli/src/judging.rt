@@ -3,7 +3,7 @@
 ghost use Rattle.std.specs.Prelude.{IfOk};
 ghost use Rattle.check_judge.specs.Judged.{IsJudged};
 
-use check_explain::{Facts, Lines, Question, cut_word};
+use check_explain::{Facts, Lines, Question, Words, cut_word};
 use check_judge::{Break, Fault, Judgement, judge, judge_from};
 use check_lines::copy_of;
 use check_search::Limits;
@@ -79,14 +79,19 @@ fn after_expected(
     broken: &Break,
     expected: &str,
 ) -> Result<Option<(RingSlots, usize)>, NoMemory> {
-    // this text breaks after the call's lines, and the break has the ring: only an empty
-    // submission, which has one state, prints nothing
+    // nothing prints an empty line, so this text breaks after the call's lines, and the break
+    // has the ring
+    let mut text = Words::new(question.alloc);
+    text.say(expected);
+    text.say("\n");
+    // an empty submission after the call has one state, and prints nothing
     let limits = Limits {
         states: 1,
         bytes: EMPTY_BYTES,
     };
     let (alloc, commands) = (question.alloc, broken.commands);
-    let (text, ring) = (expected.as_bytes(), copy_of(alloc, &broken.ring)?);
+    let text = text.text()?.as_bytes();
+    let ring = copy_of(alloc, &broken.ring)?;
     match judge_from(alloc, question.script, commands, ring, text, limits)? {
         Some(Judgement::NotLegal(next)) if next.commands > 0 => {
             Ok(Some((next.ring, next.commands)))

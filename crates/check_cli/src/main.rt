@@ -6,7 +6,7 @@ mod judging;
 mod lists;
 mod verdict;
 
-use check_explain::{History, Question, Words};
+use check_explain::{History, Question, Words, asked_lines};
 use check_judge::Judgement;
 use check_lines::place_of;
 use check_search::Limits;
@@ -123,10 +123,11 @@ fn print_verdict(
     source: &[u8],
 ) -> Result<u8, NoVerdict> {
     let text = read_path(rt, path)?;
+    let asked = asked_lines(rt.alloc(), source)?;
     let question = Question {
         alloc: rt.alloc(),
         script,
-        source,
+        asked: &asked,
         text: &text,
     };
     let judgement = judged(rt, script, &text, limits_of(settings))?;

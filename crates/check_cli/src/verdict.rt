@@ -28,7 +28,9 @@ fn push_command(report: &mut Words, question: &Question<'_>, commands: usize) {
         return report.say("not legal: the end of the script; ");
     }
     let command = commands.saturating_add(1);
-    let line = question.asked_after(command).before as u64;
+    let rest = question.asked_after(command).len();
+    let last = question.asked.len().saturating_sub(rest).saturating_sub(1);
+    let line = question.asked.get(last).map_or(0, |line| line.number);
     report.count("not legal: command ", command as u64, "");
     report.count(", line ", line, " of the script; ");
 }

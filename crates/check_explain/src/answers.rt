@@ -1,7 +1,7 @@
 //! The answers that a request may give, whatever the other requests answer (docs/inside/MODEL.md,
 //! "What a request answers").
+use crate::case::{Act, Row, result_of, slots_of};
 use crate::facts::Facts;
-use crate::rows::{Act, Row, result_of, slots_of};
 use crate::words::{Words, name_of, sign_before};
 use fx_base::Errno;
 use fx_chain::{Completion, Intent};
@@ -71,7 +71,7 @@ fn add_left(facts: &Facts<'_>, act: &Act, left: &mut [Vec<Left>]) -> Result<(), 
     if act.asked.is_some() {
         by = Some(facts.chain_of(act.line));
     }
-    let (first, end) = slots_of(act.asked, facts.slots.range);
+    let (first, end) = slots_of(act.asked, facts.case.slots.range);
     for slot in first..end {
         if let Some(there) = left.get_mut(slot as usize) {
             add_content(there, content, by)?;
@@ -82,9 +82,9 @@ fn add_left(facts: &Facts<'_>, act: &Act, left: &mut [Vec<Left>]) -> Result<(), 
 
 /// Returns for each slot the contents that requests leave there, each once.
 pub(crate) fn left_at_slots(facts: &Facts<'_>) -> Result<Vec<Vec<Left>>, AllocError> {
-    let mut left: Vec<Vec<Left>> = Vec::new(facts.alloc);
-    for _ in 0..facts.size() {
-        left.push(Vec::new(facts.alloc))?;
+    let mut left: Vec<Vec<Left>> = Vec::new(facts.case.alloc);
+    for _ in 0..facts.case.size() {
+        left.push(Vec::new(facts.case.alloc))?;
     }
     for act in &facts.acts {
         add_left(facts, act, &mut left)?;
@@ -95,7 +95,7 @@ pub(crate) fn left_at_slots(facts: &Facts<'_>) -> Result<Vec<Vec<Left>>, AllocEr
 // Returns the content that a slot has before a request if no other chain changes it: that of the
 // last earlier member of its chain, or else that before the submission.
 fn content_before(facts: &Facts<'_>, row: &Row<'_>, slot: u32) -> Option<u8> {
-    let mut content = match facts.slots.at.get(slot as usize) {
+    let mut content = match facts.case.slots.at.get(slot as usize) {
         Some(Some(file)) => Some(file.entry),
         _ => None,
     };
@@ -112,7 +112,7 @@ fn content_before(facts: &Facts<'_>, row: &Row<'_>, slot: u32) -> Option<u8> {
 
 // Checks whether a slot had a file before the submission, or a request that names it installs one.
 fn may_have_file(facts: &Facts<'_>, slot: u32) -> bool {
-    if let Some(Some(_)) = facts.slots.at.get(slot as usize) {
+    if let Some(Some(_)) = facts.case.slots.at.get(slot as usize) {
         return true;
     }
     let mut acts = facts.acts.iter();
@@ -130,7 +130,7 @@ pub(crate) fn read(
     bytes.clear();
     match entry {
         Some(entry) => {
-            let catalogue = facts.catalogue;
+            let catalogue = facts.case.catalogue;
             row.request.read_into(catalogue, entry, bytes).is_ok()
         }
         None => true,
@@ -146,7 +146,7 @@ fn say_answer(facts: &Facts<'_>, row: &Row<'_>, answer: &ValidAnswer, words: &mu
         words.result(answer.last);
     }
     if let Some(entry) = answer.entry {
-        let mut bytes = Vec::new(facts.alloc);
+        let mut bytes = Vec::new(facts.case.alloc);
         words.is_whole &= read(facts, row, answer.entry, &mut bytes);
         words.got(bytes.get(..SHOWN).unwrap_or(&bytes));
         words.say(if bytes.len() > SHOWN {
@@ -154,7 +154,7 @@ fn say_answer(facts: &Facts<'_>, row: &Row<'_>, answer: &ValidAnswer, words: &mu
         } else {
             " of "
         });
-        words.say(name_of(facts.catalogue, entry));
+        words.say(name_of(facts.case.catalogue, entry));
     }
 }
 
@@ -164,8 +164,8 @@ impl<'a> Answers<'a> {
         Answers {
             facts,
             left,
-            list: Vec::new(facts.alloc),
-            bytes: Vec::new(facts.alloc),
+            list: Vec::new(facts.case.alloc),
+            bytes: Vec::new(facts.case.alloc),
             is_whole: true,
         }
     }
@@ -195,7 +195,7 @@ impl<'a> Answers<'a> {
     // Appends the answers of an open at any slot of the allocation range.
     fn push_open(&mut self) {
         let facts = self.facts;
-        let (first, count) = facts.slots.range;
+        let (first, count) = facts.case.slots.range;
         if count > 0 {
             let last = first.saturating_add(count).saturating_sub(1);
             let first = i32::try_from(first).unwrap_or(i32::MAX);
@@ -273,7 +273,7 @@ impl<'a> Answers<'a> {
     // an access that names it and installs a file, or an open at any slot.
     fn may_be_full(&self, row: &Row<'_>) -> bool {
         let facts = self.facts;
-        let (first, end) = slots_of(None, facts.slots.range);
+        let (first, end) = slots_of(None, facts.case.slots.range);
         let empty = (first..end).filter(|slot| !may_have_file(facts, *slot));
         let acts = facts.acts.iter();
         let opens = acts.filter(|act| act.asked.is_none() && act.line != row.at);
@@ -286,7 +286,7 @@ impl<'a> Answers<'a> {
             let it = Completion {
                 place: row.place,
                 res: answer.first,
-                got: Vec::new(self.facts.alloc),
+                got: Vec::new(self.facts.case.alloc),
             };
             let is_full = it.is_refusal(row.place, Errno::ENFILE);
             if row.request.severs(&it) && (!is_full || self.may_be_full(row)) {

@@ -1,7 +1,7 @@
 //! The claims of a submission's lines about some slots, for a search.
+use crate::case::{Act, slots_of};
 use crate::complaint::Complaint;
 use crate::facts::Facts;
-use crate::rows::{Act, slots_of};
 use check_search::{Cell, Claim, Condition, Leaves, Resident, Strand};
 use fx_base::NoMemory;
 use fx_chain::Intent;
@@ -62,8 +62,14 @@ impl ClaimsView<'_> {
     /// Checks whether an access is at a slot that is looked at. One that has no slot is at each
     /// slot of the allocation range.
     pub(crate) fn has(&self, act: &Act) -> bool {
-        let (first, end) = slots_of(act.slot, self.facts.slots.range);
-        (first..end).any(|slot| self.has_slot(slot))
+        let facts = self.facts;
+        let (first, end) = slots_of(act.slot, facts.case.slots.range);
+        for slot in first..end {
+            if self.has_slot(slot) {
+                return true;
+            }
+        }
+        false
     }
 
     // Adds the lines whose accesses depend on the slots, and, unless `depends`, those whose
@@ -115,8 +121,8 @@ impl ClaimsView<'_> {
     // the file's bytes.
     fn fits_of(&self, line: usize) -> Result<[bool; 256], NoMemory> {
         let facts = self.facts;
-        let (catalogue, mut fits) = (facts.catalogue, [false; 256]);
-        let mut bytes = Vec::new(facts.alloc);
+        let (catalogue, mut fits) = (facts.case.catalogue, [false; 256]);
+        let mut bytes = Vec::new(facts.case.alloc);
         if let Some(row) = facts.rows.get(line)
             && let Some(it) = &row.answer
         {
@@ -156,7 +162,7 @@ impl ClaimsView<'_> {
 
     // Returns the claims of each chain about the slots that are looked at.
     fn strands(&self) -> Result<Vec<Strand>, NoMemory> {
-        let (alloc, mut strands) = (self.facts.alloc, Vec::new(self.facts.alloc));
+        let (alloc, mut strands) = (self.facts.case.alloc, Vec::new(self.facts.case.alloc));
         for act in &self.facts.acts {
             if self.has(act)
                 && let Some(claim) = self.claim_of(act)?
@@ -169,9 +175,9 @@ impl ClaimsView<'_> {
 
     // Returns the slots that are looked at, as they are before the submission.
     fn cells(&self) -> Result<Vec<Cell>, NoMemory> {
-        let (mut cells, mut number, mut slot) = (Vec::new(self.facts.alloc), 0usize, 0u32);
+        let (mut cells, mut number, mut slot) = (Vec::new(self.facts.case.alloc), 0usize, 0u32);
         let facts = self.facts;
-        let slots = facts.slots;
+        let slots = facts.case.slots;
         let (first, end) = slots_of(None, slots.range);
         for found in &slots.at {
             let mut file = None;
@@ -199,7 +205,7 @@ impl ClaimsView<'_> {
         if matches!(self.stays, Stays::Swept) {
             for cell in &cells {
                 let sweep = Claim::At(cell.slot, Condition::Anything, Leaves::Empty);
-                let claims = vec![in self.facts.alloc; sweep]?;
+                let claims = vec![in self.facts.case.alloc; sweep]?;
                 strands.push(Strand { chain: 0, claims })?;
             }
         }

@@ -40,7 +40,7 @@ impl Facts<'_> {
     /// # Errors
     /// `NoMemory` if an allocation fails.
     pub fn explain(&self, slot: Option<u32>) -> Result<Option<Complaint>, NoMemory> {
-        let alloc = self.alloc;
+        let alloc = self.case.alloc;
         let mut out = Complaint {
             lines: Vec::new(alloc),
             expected: Words::new(alloc),

@@ -37,16 +37,18 @@ struct Contradiction<'a> {
     is_sure: bool,
     // The number of states that are left.
     states: usize,
+    // False if an allocation failed.
+    is_whole: bool,
 }
 
 impl<'a> Contradiction<'a> {
     // Returns the search before any slot is looked at.
     fn new(facts: &'a Facts<'a>) -> Result<Contradiction<'a>, NoMemory> {
-        let alloc = facts.alloc;
+        let alloc = facts.case.alloc;
         Ok(Contradiction {
             view: ClaimsView {
                 facts,
-                slots: vec![in alloc; true; facts.size()]?,
+                slots: vec![in alloc; true; facts.case.size()]?,
                 out: vec![in alloc; false; facts.rows.len()]?,
                 stays: Stays::AsClosed,
                 chosen: vec![in alloc; false; facts.files.len()]?,
@@ -55,14 +57,14 @@ impl<'a> Contradiction<'a> {
             rests_on_closes: false,
             is_sure: true,
             states: STATES,
+            is_whole: true,
         })
     }
 
-    // Searches for an order of the lines that aren't left out, if these files stay. Returns true if
-    // no order exists, or `None` if the search reaches a limit.
-    fn search(&mut self, stays: Stays) -> Result<Option<bool>, NoMemory> {
-        self.view.stays = stays;
-        let alloc = self.view.facts.alloc;
+    // Searches for an order of the lines that aren't left out. Returns true if no order exists, or
+    // `None` if the search reaches a limit.
+    fn searched(&mut self) -> Result<Option<bool>, NoMemory> {
+        let alloc = self.view.facts.case.alloc;
         let (cells, strands) = self.view.question()?;
         let steps = Steps::new(alloc, &strands, &cells)?;
         let limits = Limits {
@@ -77,6 +79,14 @@ impl<'a> Contradiction<'a> {
             Found::Order(_) => Some(false),
             Found::Stopped(_) => None,
         })
+    }
+
+    // Searches as `searched` does, if these files stay. Returns `None` also if an allocation fails.
+    fn search(&mut self, stays: Stays) -> Option<bool> {
+        self.view.stays = stays;
+        let seen = self.searched();
+        self.is_whole &= seen.is_ok();
+        seen.unwrap_or(None)
     }
 
     // Returns the number of choices of the file that stays at a slot, if any: one if the slot isn't
@@ -95,10 +105,10 @@ impl<'a> Contradiction<'a> {
     }
 
     // Searches with the files of a choice, by its number from 0: one of each slot stays, or none.
-    fn search_choice(&mut self, choice: usize) -> Result<Option<bool>, NoMemory> {
+    fn search_choice(&mut self, choice: usize) -> Option<bool> {
         let facts = self.view.facts;
         let mut rest = choice;
-        for slot in 0..facts.size() {
+        for slot in 0..facts.case.size() {
             let count = self.choices_at(slot);
             let mut before = rest % count;
             rest /= count;
@@ -117,51 +127,51 @@ impl<'a> Contradiction<'a> {
     // Checks whether the lines that aren't left out have no order, whichever file of each slot
     // stays: by all choices of one file, or none, that stays there. Returns `None` if that isn't
     // seen.
-    fn has_no_order_at_all(&mut self) -> Result<Option<bool>, NoMemory> {
-        if self.search(Stays::Swept)? == Some(true) {
-            return Ok(Some(true));
+    fn has_no_order_at_all(&mut self) -> Option<bool> {
+        if self.search(Stays::Swept) == Some(true) {
+            return Some(true);
         }
         let mut choices = 1usize;
         for slot in 0..self.view.slots.len() {
             choices = choices.saturating_mul(self.choices_at(slot));
         }
         if choices > MOST_CHOICES && self.has_many {
-            return Ok(None);
+            return None;
         }
         for choice in 0..choices {
-            let seen = self.search_choice(choice)?;
+            let seen = self.search_choice(choice);
             if seen != Some(true) {
-                return Ok(seen);
+                return seen;
             }
         }
-        Ok(Some(true))
+        Some(true)
     }
 
     // Looks at some slots. Returns whether the lines are seen to have no order there, whichever
     // files are closed, or else by the text.
-    fn look_at(&mut self, slots: &[usize]) -> Result<bool, NoMemory> {
+    fn look_at(&mut self, slots: &[usize]) -> bool {
         for (slot, has) in self.view.slots.iter_mut().enumerate() {
             *has = slots.contains(&slot);
         }
         self.has_many = slots.len() > 1;
         self.rests_on_closes = true;
-        if self.search(Stays::AsClosed)? != Some(true) {
-            return Ok(false);
+        if self.search(Stays::AsClosed) != Some(true) {
+            return false;
         }
-        self.rests_on_closes = self.has_no_order_at_all()? != Some(true);
-        Ok(true)
+        self.rests_on_closes = self.has_no_order_at_all() != Some(true);
+        true
     }
 
     // Looks at the first slots that chains join and at which the lines have no order. Returns
     // whether there are such slots.
     fn look_at_parts(&mut self) -> Result<bool, NoMemory> {
-        let facts = self.view.facts;
-        let mut chains: Vec<Vec<Claim>> = Vec::new(facts.alloc);
+        let case = self.view.facts.case;
+        let mut chains: Vec<Vec<Claim>> = Vec::new(case.alloc);
         for it in self.view.question()?.1 {
             chains.push(it.claims)?;
         }
-        for part in &components(facts.alloc, facts.size(), facts.slots.range, &chains)? {
-            if part.len() > 1 && self.look_at(part)? {
+        for part in &components(case.alloc, case.size(), case.slots.range, &chains)? {
+            if part.len() > 1 && self.look_at(part) {
                 return Ok(true);
             }
         }
@@ -169,16 +179,16 @@ impl<'a> Contradiction<'a> {
     }
 
     // Leaves out each read and each close that isn't needed.
-    fn leave_out(&mut self) -> Result<(), NoMemory> {
+    fn leave_out(&mut self) {
         let facts = self.view.facts;
         for act in &facts.acts {
             let is_optional = act.found.is_some() && act.file.is_none() && act.slot.is_some();
             let line = act.line;
             if is_optional && line < self.view.out.len() && self.view.has(act) {
                 self.view.out[line] = true;
-                let mut seen = self.search(Stays::AsClosed)?;
+                let mut seen = self.search(Stays::AsClosed);
                 if seen != Some(false) && !self.rests_on_closes {
-                    seen = self.has_no_order_at_all()?;
+                    seen = self.has_no_order_at_all();
                 }
                 self.is_sure = self.is_sure && seen.is_some();
                 if let Some(is_out) = self.view.out.get_mut(line) {
@@ -186,7 +196,6 @@ impl<'a> Contradiction<'a> {
                 }
             }
         }
-        Ok(())
     }
 
     // Checks whether a line is named, or a later one of its chain.
@@ -219,14 +228,18 @@ impl<'a> Contradiction<'a> {
     // Returns whether slots are looked at.
     fn look(&mut self, slot: Option<u32>) -> Result<bool, NoMemory> {
         let is_found = match slot {
-            Some(slot) => self.look_at(&[slot as usize])?,
+            Some(slot) => self.look_at(&[slot as usize]),
             None => self.look_at_parts()?,
         };
         self.is_sure = is_found;
         if is_found {
-            self.leave_out()?;
+            self.leave_out();
         }
-        Ok(is_found || slot.is_some())
+        if self.is_whole {
+            Ok(is_found || slot.is_some())
+        } else {
+            Err(NoMemory)
+        }
     }
 
     // Appends the reason that some lines have no order together.

@@ -1,13 +1,10 @@
 //! The facts that the lines of a submission's report show about its requests.
+use crate::case::{Act, Case, Installed, Row, place_after, place_of, result_of};
 use crate::lines::{Lines, cut_word};
-use crate::question::Question;
-use crate::rows::{Act, Installed, Row, place_after, place_of, result_of};
-use check_judge::Break;
 use check_lines::{ReportLines, read_report};
-use fx_base::{Catalogue, Closed, Errno, Mark, NoMemory};
+use fx_base::{Closed, Errno, Mark, NoMemory};
 use fx_chain::{Completion, Intent, Place, Request, intent_of, refusal_of};
 use fx_order::Slots;
-use std::alloc::Global;
 
 /// A `closed` line.
 #[derive(Clone, Copy)]
@@ -22,23 +19,10 @@ pub(crate) struct Close<'a> {
     pub file: Option<Installed>,
 }
 
-/// The submission at which a text breaks, and the facts that its lines show, as far as they were
-/// read.
+/// The requests of a submission, and the facts that its lines show, as far as they were read.
 #[derive(Drop)]
 pub struct Facts<'a> {
-    /// The allocator of each explanation.
-    pub(crate) alloc: Global,
-    /// The files that may be opened.
-    pub(crate) catalogue: &'a Catalogue,
-    /// The slots before the submission.
-    pub(crate) slots: &'a Slots,
-    /// The number of submissions that were accepted before it.
-    pub(crate) submissions: u32,
-    /// The lines of the script from that of its first request on.
-    pub(crate) asked: Lines<'a>,
-    /// The lines of the text from the first one on that should be a line of its report.
-    pub(crate) text: Lines<'a>,
-    /// Its requests.
+    pub(crate) case: Case<'a>,
     pub(crate) rows: Vec<Row<'a>>,
     /// The accesses of the requests that aren't refused, in order.
     pub(crate) acts: Vec<Act>,
@@ -87,7 +71,7 @@ impl<'a> Facts<'a> {
     // Adds the files at the slots before the submission.
     fn add_files(&mut self) {
         let mut slot = 0u32;
-        for file in &self.slots.at {
+        for file in &self.case.slots.at {
             if let Some(file) = *file {
                 self.add_file(file, slot, None);
             }
@@ -97,14 +81,17 @@ impl<'a> Facts<'a> {
 
     // Reads a line of a completion if `count` is 1, or a `closed` line if it is 0.
     fn read(&mut self, line: &[u8], count: usize) -> Option<ReportLines> {
-        let found = read_report(self.alloc, line, count);
+        let found = read_report(self.case.alloc, line, count);
         self.is_whole &= found.is_ok();
         Some(found.ok()??.0)
     }
 
     // Checks whether each request has a completion.
     fn is_answered(&self) -> bool {
-        self.rows.last().map_or(true, |row| row.answer.is_some())
+        match self.rows.last() {
+            Some(row) => row.answer.is_some(),
+            None => true,
+        }
     }
 
     // Takes the next line if it is the completion of the request at a place, and each earlier
@@ -131,7 +118,7 @@ impl<'a> Facts<'a> {
         if !it.got.is_empty() {
             return false;
         }
-        let (first, count) = self.slots.range;
+        let (first, count) = self.case.slots.range;
         match (row.fixed_result(), u32::try_from(it.res)) {
             (Some(res), _) => it.res == res,
             (None, Ok(slot)) => slot >= first && slot - first < count,
@@ -150,7 +137,7 @@ impl<'a> Facts<'a> {
         let slot = asked.or(u32::try_from(res).ok());
         let (is_done, mut file) = (res >= 0, None);
         if let (Some(added), true, Some(slot)) = (put, may_install, slot)
-            && (slot as usize) < self.size()
+            && (slot as usize) < self.case.size()
         {
             file = Some(self.files.len());
             self.add_file(added, slot, Some(line));
@@ -169,7 +156,7 @@ impl<'a> Facts<'a> {
 
     // Adds the accesses of a request that isn't refused.
     fn add_acts(&mut self, row: &Row<'_>) {
-        let catalogue = self.catalogue;
+        let catalogue = self.case.catalogue;
         let res = row.answer.as_ref().map_or(UNREAD, |it| it.res);
         let may_install = self.may_install(row);
         for made in 0..row.request.accesses() {
@@ -183,13 +170,13 @@ impl<'a> Facts<'a> {
 
     // Adds a request. `chain`: the number of the first access of its chain.
     fn add(&mut self, request: &'a Request, place: Place, chain: usize) {
-        let size = u32::try_from(self.size()).unwrap_or(u32::MAX);
+        let size = u32::try_from(self.case.size()).unwrap_or(u32::MAX);
         let first = self.acts.len();
         let mut row = Row {
             request,
             place,
             at: self.rows.len(),
-            refusal: refusal_of(self.catalogue, size, request),
+            refusal: refusal_of(self.case.catalogue, size, request),
             acts: (chain, first, first),
             answer: self.take_completion(place),
         };
@@ -201,10 +188,10 @@ impl<'a> Facts<'a> {
     }
 
     // Adds the requests, and reads the lines of their completions.
-    fn add_requests(&mut self, requests: &'a [Request]) {
-        let mut place = place_of(self.submissions.saturating_add(1), 1, 1);
+    fn add_requests(&mut self) {
+        let mut place = place_of(self.case.submissions.saturating_add(1), 1, 1);
         let mut chain = 0usize;
-        for request in requests {
+        for request in self.case.requests {
             if place.member == 1 {
                 chain = self.acts.len();
             }
@@ -257,42 +244,27 @@ impl<'a> Facts<'a> {
         }
     }
 
-    /// Returns the facts of the submission of some requests, none of which has a fault, at a break.
+    /// Returns the facts of a case.
     ///
     /// # Errors
     /// `NoMemory` if an allocation fails.
-    pub(crate) fn new(
-        question: &Question<'a>,
-        broken: &'a Break,
-        requests: &'a [Request],
-    ) -> Result<Facts<'a>, NoMemory> {
-        let alloc = question.alloc;
-        let text = Lines::at(question.text, broken.at);
+    pub fn new(case: &Case<'a>) -> Result<Facts<'a>, NoMemory> {
+        let alloc = case.alloc;
         let mut facts = Facts {
-            alloc,
-            catalogue: question.script.catalogue(),
-            slots: &broken.ring.slots,
-            submissions: broken.ring.submissions,
-            asked: question.asked_after(broken.commands),
-            text,
+            case: *case,
             rows: Vec::new(alloc),
             acts: Vec::new(alloc),
             files: Vec::new(alloc),
             closes: Vec::new(alloc),
-            rest: Lines::new(text.rest),
+            rest: Lines::new(case.text.rest),
             is_whole: true,
         };
         facts.add_files();
-        facts.add_requests(requests);
+        facts.add_requests();
         if facts.is_answered() {
             facts.take_closes();
         }
         facts.is_whole.then_some(facts).ok_or(NoMemory)
-    }
-
-    /// Returns the number of slots of the table.
-    pub(crate) fn size(&self) -> usize {
-        self.slots.at.len()
     }
 
     /// Returns the accesses from one on up to another one, by their numbers.
@@ -316,7 +288,7 @@ impl<'a> Facts<'a> {
         if !self.is_answered() {
             return Ok(None);
         }
-        let mut at = vec![in self.alloc; None; self.size()]?;
+        let mut at = vec![in self.case.alloc; None; self.case.size()]?;
         for it in &self.files {
             let slot = it.slot as usize;
             if it.closed.is_none() {
@@ -326,7 +298,7 @@ impl<'a> Facts<'a> {
                 at[slot] = Some(it.file);
             }
         }
-        let range = self.slots.range;
+        let range = self.case.slots.range;
         Ok(Some((Slots { range, at }, self.rest.after_closes().rest)))
     }
 }

@@ -1,8 +1,8 @@
 //! Prints one whole history of a script and a legal text: an event or an answer on each line, with
 //! the state of the table after it.
-use crate::lines::{Lines, cut_word};
+use crate::case::{place_after, place_of};
+use crate::lines::{AskedLine, Lines, cut_word};
 use crate::question::Question;
-use crate::rows::{place_after, place_of};
 use crate::words::Words;
 use fx_base::{Closed, Mark, NoMemory};
 use fx_chain::{Place, Request};
@@ -32,7 +32,7 @@ enum Maker<'a> {
 #[derive(Drop)]
 pub struct History<'a> {
     question: &'a Question<'a>,
-    asked: Lines<'a>,
+    asked: &'a [AskedLine<'a>],
     text: Lines<'a>,
     orders: &'a [Order],
     // The number of accepted lists.
@@ -68,7 +68,7 @@ impl<'a> History<'a> {
         lines.say("legal\n");
         History {
             question,
-            asked: Lines::new(question.source),
+            asked: question.asked,
             text: Lines::new(question.text),
             orders,
             lists: 0,
@@ -90,6 +90,17 @@ impl<'a> History<'a> {
     pub fn clear(&mut self) {
         self.lines.clear();
         self.last = 0;
+    }
+
+    // Takes the next line of the script that is a command or a request.
+    fn next_asked(&mut self) -> &'a [u8] {
+        match self.asked {
+            [line, rest @ ..] => {
+                self.asked = rest;
+                line.bytes
+            }
+            [] => b"",
+        }
     }
 
     // Takes the next line of the text. Returns it without its first word.
@@ -258,7 +269,7 @@ impl<'a> History<'a> {
 
     // Appends a command that the next line of the text answers alone.
     fn push_call(&mut self, command: &Command) -> Result<(), NoMemory> {
-        let (line, answer) = (self.asked.take_asked(), self.next_answer());
+        let (line, answer) = (self.next_asked(), self.next_answer());
         self.text = self.text.after_closes();
         if !answer.starts_with(b"-") && !answer.starts_with(b"refused") {
             self.who = Maker::Command(cut_word(line).0);
@@ -338,7 +349,7 @@ impl<'a> History<'a> {
             let (result, _) = cut_word(self.next_answer());
             answers.push(Answer {
                 place,
-                request: self.asked.take_asked(),
+                request: self.next_asked(),
                 result,
             })?;
             place = place_after(place, request);
@@ -352,7 +363,7 @@ impl<'a> History<'a> {
     fn push_submission(&mut self, requests: &[Request], order: &Order) -> Result<(), NoMemory> {
         let mut next = Vec::new(self.question.alloc);
         let answers = self.answers(requests, order.submission, &mut next)?;
-        self.asked.take_asked();
+        self.next_asked();
         self.text = self.text.after_closes();
         self.push_turns(&answers, order, &mut next);
         let mut chain = 1u32;
@@ -378,7 +389,9 @@ impl<'a> History<'a> {
                 self.orders = others;
                 return self.push_submission(requests, order);
             }
-            self.asked = self.asked.after_asked(requests.len());
+            for _ in 0..requests.len() {
+                self.next_asked();
+            }
         }
         self.push_call(command)
     }

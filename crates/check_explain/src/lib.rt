@@ -5,6 +5,7 @@
 
 mod answers;
 mod broken;
+mod case;
 mod claims;
 mod complaint;
 mod contradiction;
@@ -12,16 +13,15 @@ mod facts;
 mod history;
 mod lines;
 mod question;
-mod rows;
 mod words;
 mod wrong_answer;
 mod wrong_files;
 
 pub use broken::push_why_broken;
+pub use case::{Case, access_places};
 pub use complaint::Complaint;
 pub use facts::Facts;
 pub use history::History;
-pub use lines::{Lines, cut_word};
+pub use lines::{AskedLine, Lines, asked_lines, cut_word};
 pub use question::Question;
-pub use rows::access_places;
 pub use words::{Words, sign_before};

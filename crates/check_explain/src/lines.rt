@@ -1,6 +1,8 @@
 //! Lines of scripts and texts, and their numbers.
 ghost use Rattle.std.specs.Prelude.{◌≤◌, length};
 
+use std::alloc::{AllocError, Global};
+
 // Returns the number of bytes of a text up to the first `end`, that one included.
 fn length_to(text: &[u8], end: u8) -> usize
     ensures { result ≤ length text.now }
@@ -52,30 +54,10 @@ impl<'a> Lines<'a> {
     pub fn take(&mut self) -> &'a [u8] {
         let (line, rest) = self.rest.split_at(length_to(self.rest, b'\n'));
         self.rest = rest;
-        if !line.is_empty() {
+        if line.ends_with(b"\n") {
             self.before = self.before.saturating_add(1);
         }
         line
-    }
-
-    /// Takes the lines of a script up to the first one that is a command or a request. Returns that
-    /// line without its end, or no bytes if there is none.
-    pub(crate) fn take_asked(&mut self) -> &'a [u8] {
-        for _ in 0..self.rest.len() {
-            let line = without_end(self.take());
-            if !line.is_empty() && !line.starts_with(b"#") && !line.starts_with(b"file ") {
-                return line;
-            }
-        }
-        b""
-    }
-
-    /// Returns the lines of a script after the first `count` ones that are commands or requests.
-    pub(crate) fn after_asked(mut self, count: usize) -> Lines<'a> {
-        for _ in 0..count {
-            self.take_asked();
-        }
-        self
     }
 
     /// Returns the first line, its end included. It is empty if there are no lines.
@@ -107,4 +89,29 @@ impl<'a> Lines<'a> {
         }
         self
     }
+}
+
+/// A line of a script that is a command or a request.
+#[derive(Clone, Copy)]
+pub struct AskedLine<'a> {
+    /// Its bytes without its end.
+    pub bytes: &'a [u8],
+    /// Its number in the script, from 1.
+    pub number: u64,
+}
+
+/// Returns the lines of a script that are commands or requests, in order.
+///
+/// # Errors
+/// `AllocError` if an allocation fails.
+pub fn asked_lines(alloc: Global, script: &[u8]) -> Result<Vec<AskedLine<'_>>, AllocError> {
+    let (mut asked, mut lines) = (Vec::new(alloc), Lines::new(script));
+    for _ in 0..script.len() {
+        let number = lines.number();
+        let bytes = without_end(lines.take());
+        if !bytes.is_empty() && !bytes.starts_with(b"#") && !bytes.starts_with(b"file ") {
+            asked.push(AskedLine { bytes, number })?;
+        }
+    }
+    Ok(asked)
 }

@@ -1,4 +1,5 @@
 //! Words for a person: of places, marks, files, bytes and lines.
+use crate::case::place_of;
 use crate::lines::without_end;
 use fx_base::{Catalogue, Closed, Mark, NoMemory};
 use fx_chain::Place;
@@ -66,12 +67,17 @@ impl Words {
 
     /// Appends a number between two texts.
     pub fn count(&mut self, before: &str, number: u64, after: &str) {
-        self.is_whole &= write!(self.words, "{before}{number}{after}").is_ok();
+        self.say(before);
+        self.number(number);
+        self.say(after);
     }
 
     /// Appends a result.
     pub fn result(&mut self, res: i32) {
-        self.is_whole &= write!(self.words, "{res}").is_ok();
+        if res < 0 {
+            self.say("-");
+        }
+        self.number(u64::from(res.unsigned_abs()));
     }
 
     // Appends bytes in lower case hexadecimal.
@@ -83,26 +89,28 @@ impl Words {
 
     /// Appends a place: `S.C.M`.
     pub fn place(&mut self, place: Place) {
-        let Place {
-            submission,
-            chain,
-            member,
-        } = place;
-        self.is_whole &= write!(self.words, "{submission}.{chain}.{member}").is_ok();
+        self.number(u64::from(place.submission));
+        self.count(".", u64::from(place.chain), ".");
+        self.number(u64::from(place.member));
     }
 
     /// Appends a mark: `rK.I` or `S.C.M.E`.
     pub fn mark(&mut self, mark: Mark) {
-        let written = match mark {
-            Mark::Registered { k, i } => write!(self.words, "r{k}.{i}"),
+        match mark {
+            Mark::Registered { k, i } => {
+                self.count("r", u64::from(k), ".");
+                self.number(u64::from(i));
+            }
             Mark::Submitted {
                 submission,
                 chain,
                 member,
                 entry,
-            } => write!(self.words, "{submission}.{chain}.{member}.{entry}"),
-        };
-        self.is_whole &= written.is_ok();
+            } => {
+                self.place(place_of(submission, chain, member));
+                self.count(".", u64::from(entry), "");
+            }
+        }
     }
 
     /// Appends a file: its mark and its name.

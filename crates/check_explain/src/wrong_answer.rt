@@ -1,9 +1,9 @@
 //! Lines that aren't the completions of their requests, and completions that no request there may
 //! have, or that contradict their chain.
 use crate::answers::{Answers, left_at_slots, read};
+use crate::case::{Act, Row, result_of};
 use crate::complaint::Complaint;
 use crate::facts::Facts;
-use crate::rows::{Act, Row, result_of};
 use crate::words::{Words, name_of};
 use fx_base::{Errno, NoMemory};
 use fx_chain::{Completion, Intent, refusal_of};
@@ -13,8 +13,8 @@ const ONLY_READS: &str = "only a read that finds a file has bytes";
 
 // Appends the reason why a request is refused with an error whatever is at the slots.
 fn why_refused(facts: &Facts<'_>, row: &Row<'_>, errno: Errno, why: &mut Words) {
-    let size = facts.size() as u64;
-    let has_bad_entry = refusal_of(facts.catalogue, u32::MAX, row.request).is_some();
+    let size = facts.case.size() as u64;
+    let has_bad_entry = refusal_of(facts.case.catalogue, u32::MAX, row.request).is_some();
     match errno {
         Errno::ENOENT => why.say("no file of the script has that name"),
         Errno::EBADF if has_bad_entry => why.say("an entry of the list names no file"),
@@ -31,9 +31,9 @@ fn why_not_read(facts: &Facts<'_>, row: &Row<'_>, slot: u32, it: &Completion, wh
         why.result(it.res);
         return why.count(", and ", count as u64, " bytes follow");
     }
-    let mut bytes = Vec::new(facts.alloc);
+    let mut bytes = Vec::new(facts.case.alloc);
     for entry in 0..=u8::MAX {
-        let name = name_of(facts.catalogue, entry);
+        let name = name_of(facts.case.catalogue, entry);
         why.is_whole &= read(facts, row, Some(entry), &mut bytes);
         if !name.is_empty() && bytes.as_slice() == it.got.as_slice() {
             why.say("these are the bytes of ");
@@ -63,7 +63,7 @@ fn why_not_by(facts: &Facts<'_>, row: &Row<'_>, act: &Act, it: &Completion, why:
         _ if !is_read && !it.got.is_empty() => why.say(ONLY_READS),
         Some(slot) if is_read && it.res >= 0 => why_not_read(facts, row, slot, it, why),
         Some(slot) => why_not_at(row, act, slot, it.res, why),
-        None if facts.slots.range.1 == 0 => why.say("the range has no slot"),
+        None if facts.case.slots.range.1 == 0 => why.say("the range has no slot"),
         None => {}
     }
 }
@@ -114,7 +114,7 @@ fn not_canceled(by: &Row<'_>, row: &Row<'_>, out: &mut Complaint) {
 // another line does, or no line does.
 fn misplaced(facts: &Facts<'_>, row: &Row<'_>, out: &mut Complaint) {
     out.line(row.at);
-    let mut lines = facts.text;
+    let mut lines = facts.case.text;
     for _ in 0..lines.rest.len() {
         if out.expected.begin(lines.rest) {
             break;
@@ -126,7 +126,9 @@ fn misplaced(facts: &Facts<'_>, row: &Row<'_>, out: &mut Complaint) {
         return out.why.count("line ", lines.number(), " has that place");
     }
     out.why.say("no line answers ");
-    out.why.bytes(facts.asked.after_asked(row.at).take_asked());
+    if let Some(line) = facts.case.asked.get(row.at) {
+        out.why.bytes(line.bytes);
+    }
 }
 
 // Returns the reason why a line that begins with its request's place can't be read.

@@ -1,9 +1,9 @@
 //! Invalid lines of closed files and of tags after a submission's completions, and lines that
 //! contradict each other by the files at one slot.
+use crate::case::{Act, Installed};
 use crate::complaint::Complaint;
 use crate::facts::{Close, Facts};
 use crate::lines::Lines;
-use crate::rows::{Act, Installed};
 use crate::words::name_of;
 use fx_base::{Mark, NoMemory};
 use fx_chain::Intent;
@@ -30,12 +30,12 @@ fn is_wrong(
         out.why.mark(mark);
         return true;
     };
-    let name = name_of(facts.catalogue, known.file.entry);
+    let name = name_of(facts.case.catalogue, known.file.entry);
     let is_other = close.name != name.as_bytes();
     let is_late = before > close.mark;
     if is_other {
         out.wrong(at, "closed ", "");
-        out.expected.file(facts.catalogue, known.file);
+        out.expected.file(facts.case.catalogue, known.file);
         out.why.mark(mark);
         out.why.say(" is ");
         out.why.say(name);
@@ -64,7 +64,7 @@ fn wrong_closed(facts: &Facts<'_>, out: &mut Complaint) -> bool {
 // Takes the lines of the closed files' tags, up to the first wrong one. Returns whether one is
 // wrong.
 fn wrong_tags(facts: &Facts<'_>, rest: &mut Lines<'_>, out: &mut Complaint) -> bool {
-    let mut lines = facts.text.after(facts.rows.len());
+    let mut lines = facts.case.text.after(facts.rows.len());
     for close in &facts.closes {
         if let Some(it) = close.file
             && it.file.tag != 0
@@ -94,7 +94,7 @@ pub(crate) fn wrong_close(facts: &Facts<'_>, out: &mut Complaint) -> bool {
         return true;
     }
     let mut rest = facts.rest;
-    let submission = u64::from(facts.submissions.saturating_add(1));
+    let submission = u64::from(facts.case.submissions.saturating_add(1));
     out.expected.count("", submission, ".");
     let is_one_more = out.expected.begin(rest.rest);
     out.expected.clear();
@@ -122,9 +122,9 @@ fn two_left(facts: &Facts<'_>, one: &Installed, other: &Installed, out: &mut Com
     for line in [one.line, other.line].iter().flatten() {
         out.line(*line);
     }
-    out.why.file(facts.catalogue, one.file);
+    out.why.file(facts.case.catalogue, one.file);
     out.why.say(" and ");
-    out.why.file(facts.catalogue, other.file);
+    out.why.file(facts.case.catalogue, other.file);
     let after = ": neither has a `closed` line";
     out.why
         .count(" are both left at slot ", u64::from(one.slot), after);
@@ -166,7 +166,7 @@ fn is_removed(facts: &Facts<'_>, act: &Act, it: &Installed, out: &mut Complaint)
         out.line(line);
     }
     out.line(act.line);
-    out.why.file(facts.catalogue, it.file);
+    out.why.file(facts.case.catalogue, it.file);
     out.why
         .count(" is at slot ", u64::from(it.slot), " before ");
     out.why.place(later.place);
@@ -179,7 +179,7 @@ fn is_removed(facts: &Facts<'_>, act: &Act, it: &Installed, out: &mut Complaint)
 /// file without a `closed` line was removed. Returns whether there is one.
 pub(crate) fn wrong_count(facts: &Facts<'_>, out: &mut Complaint) -> Result<bool, NoMemory> {
     // no file has the largest number
-    let mut left = vec![in facts.alloc; usize::MAX; facts.size()]?;
+    let mut left = vec![in facts.case.alloc; usize::MAX; facts.case.size()]?;
     if are_two(facts, &mut left, out) {
         return Ok(true);
     }

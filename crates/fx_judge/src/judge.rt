@@ -2,8 +2,7 @@
 ghost use Rattle.fx_judge.specs.Verdicts.{IsConclusion, IsTextVerdict};
 
 use crate::codes::{BAD_SCRIPT, LEGAL, NO_MEMORY, NOT_LEGAL, UNDECIDED};
-use crate::note::{note_break, note_fault};
-use check_explain::Question;
+use crate::note::{JudgedText, note_break, note_fault};
 use check_judge::{Judgement, judge};
 use check_search::Limits;
 use fx_script::{Script, ScriptError};
@@ -41,7 +40,8 @@ fn no_details() -> YachtVerdict {
 
 // Writes the details and the note of a judgement. Returns its number.
 fn conclude(
-    question: &Question<'_>,
+    alloc: Global,
+    judged: JudgedText<'_>,
     judgement: Judgement,
     note: &mut [u8],
     verdict: &mut YachtVerdict,
@@ -53,7 +53,7 @@ fn conclude(
         Judgement::NotLegal(broken) => {
             verdict.commands = broken.commands as u64;
             verdict.at = broken.at as u64;
-            verdict.note = note_break(question, &broken, note);
+            verdict.note = note_break(alloc, judged, &broken, note);
             NOT_LEGAL
         }
         Judgement::Undecided(submission, _) => {
@@ -93,11 +93,10 @@ pub fn judge_text(
     let Ok(judgement) = judge(alloc, &read, text, limits) else {
         return NO_MEMORY;
     };
-    let question = Question {
-        alloc,
-        script: &read,
+    let judged = JudgedText {
         source: script,
+        script: &read,
         text,
     };
-    conclude(&question, judgement, note, verdict)
+    conclude(alloc, judged, judgement, note, verdict)
 }

@@ -1,8 +1,8 @@
 //! The note beside a number: advice for a person, of which no contract speaks.
-use check_explain::{Question, Words, push_why_broken};
+use check_explain::{Question, Words, asked_lines, push_why_broken};
 use check_judge::{Break, Fault};
 use fx_base::NoMemory;
-use fx_script::ScriptFault;
+use fx_script::{Script, ScriptFault};
 use std::alloc::{AllocError, Global};
 
 // Copies as many bytes of a text as have room. Returns the length of the whole text.
@@ -24,24 +24,43 @@ pub fn note_fault(alloc: Global, kind: ScriptFault, note: &mut [u8]) -> Result<u
     Ok(copy(words.as_bytes(), note))
 }
 
+/// A script, and a text that is judged for it.
+#[derive(Clone, Copy)]
+pub struct JudgedText<'a> {
+    /// The bytes of the script.
+    pub source: &'a [u8],
+    /// The script.
+    pub script: &'a Script,
+    /// The text.
+    pub text: &'a [u8],
+}
+
 // Writes the reason why a text breaks, in the words of `fixcheck`. Returns its length.
-fn note_reason<'a>(
-    question: &Question<'a>,
-    broken: &'a Break,
+fn note_reason(
+    alloc: Global,
+    judged: JudgedText<'_>,
+    broken: &Break,
     note: &mut [u8],
 ) -> Result<u64, NoMemory> {
-    let mut why = Words::new(question.alloc);
-    push_why_broken(&mut why, question, broken, &question.facts_at(broken)?)?;
+    let asked = asked_lines(alloc, judged.source)?;
+    let question = Question {
+        alloc,
+        script: judged.script,
+        asked: &asked,
+        text: judged.text,
+    };
+    let mut why = Words::new(alloc);
+    push_why_broken(&mut why, &question, broken, &question.facts_at(broken)?)?;
     let words = why.text()?.as_bytes();
     Ok(copy(words.strip_suffix(b"\n").unwrap_or(words), note))
 }
 
 /// Writes what is expected at a break: the likeliest text, or a line in words; or, if neither is
 /// known, the reason that `fixcheck` prints. Returns its length, which is 0 if an allocation fails.
-pub fn note_break<'a>(question: &Question<'a>, broken: &'a Break, note: &mut [u8]) -> u64 {
+pub fn note_break(alloc: Global, judged: JudgedText<'_>, broken: &Break, note: &mut [u8]) -> u64 {
     match &broken.fault {
         Fault::Text(expected) if !expected.is_empty() => copy(expected.as_bytes(), note),
         Fault::Line(_, expected) => copy(expected.as_bytes(), note),
-        _ => note_reason(question, broken, note).unwrap_or(0),
+        _ => note_reason(alloc, judged, broken, note).unwrap_or(0),
     }
 }

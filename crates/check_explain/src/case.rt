@@ -1,9 +1,29 @@
-//! The requests of a submission, with their accesses and files.
+//! The submission at which a text breaks, and its requests with their accesses and files.
+use crate::lines::{AskedLine, Lines};
 use bitflags::Flags;
 use fx_base::{Catalogue, Closed, Errno, NoMemory};
 use fx_chain::{Completion, Intent, Place, Request, SqeFlags, refusal_of};
-use fx_order::AccessPlace;
+use fx_order::{AccessPlace, Slots};
 use std::alloc::Global;
+
+/// A submission without a faulty request, and a text that doesn't begin with a report of it.
+#[derive(Clone, Copy)]
+pub struct Case<'a> {
+    /// The allocator of each explanation.
+    pub alloc: Global,
+    /// The files that may be opened.
+    pub catalogue: &'a Catalogue,
+    /// The slots before the submission.
+    pub slots: &'a Slots,
+    /// The number of submissions that were accepted before it.
+    pub submissions: u32,
+    /// The lines of the script from that of its first request on.
+    pub asked: &'a [AskedLine<'a>],
+    /// Its requests.
+    pub requests: &'a [Request],
+    /// The lines of the text from the first one on that should be a line of its report.
+    pub text: Lines<'a>,
+}
 
 /// A request, and what is known of it whatever the other requests do.
 #[derive(Drop)]
@@ -67,6 +87,13 @@ impl Row<'_> {
     /// Checks whether it depends on the slots whether the request severs its chain.
     pub(crate) fn may_sever(&self) -> bool {
         !self.request.flags.contains(SqeFlags::IO_HARDLINK) && self.fixed_result().is_none()
+    }
+}
+
+impl Case<'_> {
+    /// Returns the number of slots of the table.
+    pub(crate) fn size(&self) -> usize {
+        self.slots.at.len()
     }
 }
 
