@@ -1,17 +1,18 @@
 -- A pass shows what it has seen, and another pass learns it: the rule holds afterwards. Neither is
 -- an atomic step.
 use Rattle.fx_counted.proofs.Words.{◌≡◌, ℕ, ◌+◌, ◌≤◌, [], ◌∷◌, sym, refl, ap, ◌∙◌, subst, arith, ⊎_elim, LogAgrees, Agrees, Shared, Log, Start, View}
-use Rattle.fx_counted.proofs.Words.{Between, Seat, Closed, TableId, CountedPass, IsPassOf, contains_only, first_log, view_of, opening_of, some}
+use Rattle.fx_counted.proofs.Words.{Seat, Closed, TableId, CountedPass, IsPassOf, contains_only, first_log, view_of, opening_of, some}
 use Rattle.fx_counted.proofs.Words.{get_elem?, Option, its_pass, seats, shown_view, total_same}
 use Rattle.std.proofs.Common.{set}
 use Rattle.atomic_table.proofs.Lists.{at_set}
 use Rattle.atomic_table.specs.Table.{Splits}
 use Rattle.fx_table.proofs.SumLemmas.{sum_set, contains_alone}
 use Rattle.fx_table.specs.Calls.{Adds, no_use}
+use Rattle.fx_table.specs.Pass.{IsFront}
 use Rattle.fx_table.specs.Showing.{Learns}
 use Rattle.fx_counted.specs.Agrees.{ViewAgrees, PlacesNext}
 use Rattle.fx_counted.specs.declared.view.Work.{Work}
-use Rattle.fx_counted.specs.declared.view.Work.TheVariants.{Placing, Emptying}
+use Rattle.fx_counted.specs.declared.view.Work.TheVariants.{Placing}
 use Rattle.fx_counted.specs.declared.view.Change.{Change}
 use Rattle.fx_counted.specs.declared.view.Change.TheVariants.{Outside}
 use Rattle.fx_counted.specs.Goes.{Goes}
@@ -43,21 +44,12 @@ module _ (k : Start) (id : ℕ) (v w : View) (x : Log) (one : v.logs ≡ x ∷ [
   abbrev learned : View
   learned = record v { logs = log ∷ [] }
 
+  next_same : (d : Work) → PlacesNext k x d → PlacesNext k log d
+  next_same (Placing n) o = o
+  next_same _ o = o
+
   now_log : LogAgrees k r.history r.phase v.work log
-  now_log = let o = its_log in record {
-    held = o.held;
-    chain = o.chain;
-    last = o.last;
-    few_left = o.few_left;
-    left_inside = o.left_inside;
-    next = next_same v.work o.next;
-    spares = o.spares;
-  }
-    where
-      next_same : (d : Work) → PlacesNext k x d → PlacesNext k log d
-      next_same (Placing n) o = o
-      next_same (Between t) o = o
-      next_same (Emptying n) o = o
+  now_log = let o = its_log in let next = next_same v.work o.next in assumption (o, next)
 
   learned_agrees : Agrees k record { words = s.words; homes = s.homes; views = set s.views id learned }
   learned_agrees = record {
@@ -81,18 +73,9 @@ module _ (k : Start) (id : ℕ) (v w : View) (x : Log) (one : v.logs ≡ x ∷ [
   }
 
   adds_here : Adds (opening_of k) (shown x v.work) [] (doing_in v.work) no_use (shown log v.work)
-  adds_here = let passed = its_pass r.life id at one in record {
-    seen = passed.seen;
-    front = record { legal = r.life.legal; mine = refl };
-    own = passed.own;
-    now = refl;
-    number = refl;
-    chain = refl;
-    drawn = refl;
-    no_chains_left = refl;
-    numbers_left = let e : x.numbers_left + 0 ≡ x.numbers_left = omega arith in e;
-    looks_left = let e : x.looks_left + 0 ≡ x.looks_left = omega arith in e;
-  }
+  adds_here = let passed = its_pass r.life id at one in let front : IsFront (opening_of k) (shown log v.work) = record { legal = r.life.legal; mine = refl } in
+      let numbers : x.numbers_left + 0 ≡ x.numbers_left = omega arith in let looks : x.looks_left + 0 ≡ x.looks_left = omega arith in
+      assumption (passed, front, numbers, looks)
 
   learns_so : HasLearned v w learned
   learns_so = let first : first_log v.logs ≡ x = ap first_log one in record {
@@ -115,15 +98,7 @@ module _ (k : Start) (id : ℕ) (v w : View) (x : Log) (one : v.logs ≡ x ∷ [
 module _ {id : TableId} {k : Start} {p : CountedPass} (fits : IsPassOf id k p) (w : View) (seat : Seat (Option Closed) View)
     (table : seat.table_id ≡ p.seat.table_id) (slots : seat.me.1 ≡ p.seat.me.1) (learns : HasLearned p.seat.me.0 w seat.me.0) where
   goes : Goes p.seat.me [] no_use p.seat.me.0.work p.seat.me.0.change 0 seat.me
-  goes = let o = learns.goes in record {
-    one = o.one;
-    adds = o.adds;
-    work = o.work;
-    inside = o.inside;
-    change = o.change;
-    start = o.start;
-    steps = o.steps;
-  }
+  goes = let o = learns.goes in assumption o
 
   outside : Goes p.seat.me [] no_use p.seat.me.0.work Outside 0 seat.me
   outside = subst (λ (c : Change). Goes p.seat.me [] no_use p.seat.me.0.work c 0 seat.me) fits.seated.change goes

@@ -2,12 +2,10 @@
 ghost use Rattle.std.specs.Prelude.{◌≡◌, ◌++◌, length, map, reverse, All};
 ghost use Rattle.fx_table.specs.Closing.{ClosesTable};
 ghost use Rattle.fx_table.specs.Pass.{IsIdle};
-ghost use Rattle.fx_table.specs.Settling.{IsSettledSoFar};
 ghost use Rattle.fx_counted.specs.Lives.{IsIdleSeatOf, logs_in, AllAreIdle, Leaves};
 ghost use Rattle.fx_counted.specs.Tables.{view_of, opening_of_table, IsPassOfTable};
 
-use crate::kinds::Observe;
-use crate::layout::{CONTROL, home_place, slot_place};
+use crate::layout::{home_place, slot_place};
 use crate::pass::CountedPass;
 use crate::table::CountedTable;
 use crate::view::View;
@@ -31,19 +29,6 @@ impl CountedTable {
         };
         let seat = self.gather(first.into_seat(), passes);
         self.finish(seat)
-    }
-
-    // Establishes for the only pass of a table, while it is idle, that its events are the whole
-    // history.
-    pub(crate) fn settle(&self, pass: &mut CountedPass)
-        requires alone { (opening_of_table self.now).passes ≡ 1 }
-        requires fits { IsPassOfTable self.now pass.old }
-        requires idle { IsIdle (view_of pass.old) }
-        ensures fits { IsPassOfTable self.now pass.new }
-        ensures same { view_of pass.new ≡ view_of pass.old }
-        ensures settled { IsSettledSoFar (opening_of_table self.now) (view_of pass.new) }
-    {
-        self.table.shared.load::<Observe>(&mut pass.seat, CONTROL);
     }
 
     // Joins all passes in one seat.

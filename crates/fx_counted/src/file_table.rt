@@ -7,11 +7,13 @@ ghost use Rattle.fx_counted.specs.Tables.{view_of, opening_of_table, IsPassOfTab
 ghost use mathlib.Core.Path.{subst};
 ghost use Rattle.fx_plain.specs.declared.table.TheConstants.{MOST_SLOTS};
 
+use crate::kinds::Observe;
+use crate::layout::CONTROL;
 use crate::pass::CountedPass;
 use crate::table::CountedTable;
 use fx_base::{NoMemory, OpenFile};
 use fx_plain::PlainTable;
-use fx_table::{Empty, FileTable, Hold, LookFault, LookUp, Retired, SharedTable};
+use fx_table::{CHAIN_NUMBERS, Empty, FileTable, Hold, LookFault, LookUp, Retired, SharedTable};
 use std::alloc::Global;
 use std::sync::Wait;
 
@@ -117,7 +119,7 @@ impl FileTable for CountedTable {
         chains: u32,
         passes: u32,
     ) -> Result<(CountedTable, Vec<CountedPass>), (PlainTable, NoMemory)> {
-        CountedTable::open(alloc, plain, chains, passes)
+        CountedTable::open_for(alloc, plain, chains, CHAIN_NUMBERS, passes)
     }
 
     fn open_for(
@@ -143,7 +145,7 @@ impl FileTable for CountedTable {
     }
 
     fn settle(&self, pass: &mut CountedPass) {
-        self.settle(pass)
+        self.table.shared.load::<Observe>(&mut pass.seat, CONTROL);
     }
 
     fn look(&self, _rt: &impl Wait, pass: &mut CountedPass, slot: u32) -> Result<Hold, LookFault> {

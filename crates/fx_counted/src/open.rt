@@ -4,7 +4,7 @@ ghost use Rattle.std.specs.Prelude.{IfOk, IfErr, OnOk, OnErr, vec_len, vec_capac
 ghost use Rattle.fx_plain.specs.State.{IsSettled};
 ghost use Rattle.fx_plain.specs.Contents.{state_of, IsPrepared};
 ghost use Rattle.fx_plain.specs.declared.table.TheConstants.{MOST_SLOTS};
-ghost use Rattle.fx_table.specs.Opening.{IsGivenBack, opening_of_chains, opening_with};
+ghost use Rattle.fx_table.specs.Opening.{IsGivenBack, opening_of_chains};
 ghost use Rattle.fx_table.specs.Pass.{IsIdle, new_passes};
 ghost use Rattle.fx_table.specs.Shells.{IsShellOf};
 ghost use Rattle.fx_words.specs.Words.{slot_word_of, born};
@@ -34,30 +34,10 @@ use table_seats::Deal;
 impl CountedTable {
     // Shares a settled table (`PlainTable::is_settled`) between `passes` passes, 1 to
     // `fx_table::MAX_PASSES`, which play `chains` chains, at most `fx_table::MAX_CHAINS`, each with
-    // `fx_table::CHAIN_NUMBERS` file numbers. Returns `NoMemory` if an allocation fails; the table
-    // then comes back settled, with its files, size and range.
-    pub(crate) fn open(
-        alloc: Global,
-        plain: PlainTable,
-        chains: u32,
-        passes: u32,
-    ) -> Result<(CountedTable, Vec<CountedPass>), (PlainTable, NoMemory)>
-        requires may { MayOpen plain chains CHAIN_NUMBERS passes }
-        ensures opened { IfOk result (λ (t, _).
-            opening_of_table t ≡ opening_with plain chains passes) }
-        ensures ready { IfOk result (λ (t, list).
-            All (λ p. IsPassOfTable t p × IsIdle (view_of p)) list.items) }
-        ensures count { IfOk result (λ (_, list). length list.items ≡ passes) }
-        ensures new { IfOk result (λ (_, list). map view_of list.items ≡ new_passes passes) }
-        ensures refused { IfErr result (λ (back, _). IsGivenBack plain back) }
-    {
-        CountedTable::open_for(alloc, plain, chains, CHAIN_NUMBERS, passes)
-    }
-
-    // Does the same for chains with `numbers` file numbers each, at most `fx_table::CHAIN_NUMBERS`.
-    // The file at slot `s` gets number `s`, and chain `c`, from 1, the numbers from `256 + numbers
-    // * (c - 1)` on. The passes are numbered from 1, in the order of the list. All memory is
-    // allocated here.
+    // `numbers` file numbers, at most `fx_table::CHAIN_NUMBERS`. The file at slot `s` gets number
+    // `s`, and chain `c`, from 1, the numbers from `256 + numbers * (c - 1)` on. The passes are
+    // numbered from 1, in the order of the list. All memory is allocated here. Returns `NoMemory`
+    // if an allocation fails; the table then comes back settled, with its files, size and range.
     pub(crate) fn open_for(
         alloc: Global,
         plain: PlainTable,
@@ -77,32 +57,6 @@ impl CountedTable {
         let Ok(mut list) = Vec::with_capacity(alloc, passes as usize) else {
             return Err((plain, NoMemory));
         };
-        match CountedTable::start(alloc, plain, chains, numbers, passes) {
-            Ok((table, seat)) => {
-                table.deal(seat, &mut list);
-                Ok((table, list))
-            }
-            Err(refused) => {
-                list.destroy_empty();
-                Err(refused)
-            }
-        }
-    }
-
-    // Creates the shared table, and a seat with all passes.
-    fn start(
-        alloc: Global,
-        plain: PlainTable,
-        chains: u32,
-        numbers: u32,
-        passes: u32,
-    ) -> Result<(CountedTable, Seat<Option<OpenFile>, View>), (PlainTable, NoMemory)>
-        requires may { MayOpen plain chains numbers passes }
-        ensures opened { IfOk result (λ (t, _).
-            opening_of_table t ≡ opening_of_chains plain chains numbers passes) }
-        ensures seat { IfOk result (λ (t, seat). HasAllPasses t seat) }
-        ensures refused { IfErr result (λ (back, _). IsGivenBack plain back) }
-    {
         let key = Start {
             plain: Snapshot::of(&plain),
             chains,
@@ -111,20 +65,26 @@ impl CountedTable {
         };
         let size = plain.size();
         let (range_start, range_len) = plain.range();
-        let (table, seat, shell) = share(alloc, plain, &key)?;
-        Ok((
-            CountedTable {
-                table,
-                shell,
-                chains,
-                passes,
-                numbers,
-                size,
-                range_start,
-                range_len,
-            },
-            seat,
-        ))
+        match share(alloc, plain, &key) {
+            Ok((table, seat, shell)) => {
+                let table = CountedTable {
+                    table,
+                    shell,
+                    chains,
+                    passes,
+                    numbers,
+                    size,
+                    range_start,
+                    range_len,
+                };
+                table.deal(seat, &mut list);
+                Ok((table, list))
+            }
+            Err(refused) => {
+                list.destroy_empty();
+                Err(refused)
+            }
+        }
     }
 
     // Hands each pass a seat of its own.

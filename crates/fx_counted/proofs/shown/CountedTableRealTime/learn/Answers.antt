@@ -10,8 +10,7 @@ pub learn-requires-clause-may : goal.learn-requires-clause-may
 learn-requires-clause-may c = let s = c.requires.fits.seated in
     may_learn _ _ _ _ _ s.one s.start (subst (λ (z : Start). IsInside z c.args.pass.now.seat.me.0.work) (sym s.start) s.inside)
 
-pub returns-clause-fits : goal.returns-clause-fits
-returns-clause-fits c = let e = c.learn.ensures in (learned_pass c.requires.fits c.args.seen.now.seen.view c.learn.new.seat e.table e.slots e.learned).0
-
-pub returns-clause-learns : goal.returns-clause-learns
-returns-clause-learns c = let e = c.learn.ensures in (learned_pass c.requires.fits c.args.seen.now.seen.view c.learn.new.seat e.table e.slots e.learned).1
+pub returns : goal.returns
+returns c =
+    let e = c.learn.ensures in let l = learned_pass c.requires.fits c.args.seen.now.seen.view c.learn.new.seat e.table e.slots e.learned in
+    record { fits = l.0; learns = l.1 }

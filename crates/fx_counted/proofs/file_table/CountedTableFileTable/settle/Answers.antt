@@ -1,7 +1,7 @@
 use Rattle.fx_counted.proofs.Words.{arith}
 use Rattle.fx_counted.proofs.Seats.{settles}
 use Rattle.table_seats.proofs.Moving.{may_observe}
-use Rattle.fx_counted.proofs.table.CountedTable.settle.Goals as goal
+use Rattle.fx_counted.proofs.file_table.CountedTableFileTable.settle.Goals as goal
 
 pub load-requires : goal.load-requires
 load-requires c = let fits = c.requires.fits in (fits.table, omega (arith, c.args.self.now.words), may_observe _ _ _ fits.seated.start)
