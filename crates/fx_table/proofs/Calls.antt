@@ -1,11 +1,10 @@
 -- Calls in a row, and calls that empty or replace a slot.
-use Rattle.fx_table.proofs.Words.{◌≤◌, ℕ, ◌+◌, Bool, true, false, List, [], ◌++◌, sym, refl, ap, ◌∙◌, arith, map-append, Event, Action, IsSeenBy}
+use Rattle.fx_table.proofs.Words.{◌≤◌, ℕ, ◌+◌, Bool, List, [], ◌++◌, sym, refl, ap, ◌∙◌, arith, map-append, Event, Action, IsSeenBy}
 use Rattle.fx_table.proofs.Words.{◌▷▷◌, Doing, Opening, PassView, IsFront, Use, Adds, ◌≡◌, None, Contents, state_of, append_assoc, no_use, both_uses}
 use Rattle.fx_table.proofs.Words.{Spends, one_number, IsNewFile, Placed, Cleared, Taken, Option, Some, option_map, Result, ok_or, ◌▷◌, numbered, File}
 use Rattle.fx_table.proofs.Words.{next_number, retired_of, IsFileRemoval, activity_of, retiring, Retired, opening, IsGivenBack}
-use Rattle.fx_table.proofs.Words.{map, subst, filter-append, part_of_pass}
+use Rattle.fx_table.proofs.Words.{filter-append}
 use Rattle.std.proofs.lemmas.List.{append_cancel_right, append-nil}
-use Rattle.fx_table.specs.Pass.{event_of}
 use Rattle.fx_table.specs.Showing.{FollowsShown, Learns}
 use Rattle.fx_base.specs.Identity.{Identity}
 use Rattle.fx_plain.specs.declared.event.Action.TheVariants.{Put, Clear, Take}
@@ -19,8 +18,7 @@ pub seen_further : (f g h : List Event) → IsSeenBy f g → IsSeenBy g h → Is
 seen_further f g h a b = (b.0 ++ a.0, b.1 ∙ (ap (λ (x : List Event). b.0 ++ x) a.1 ∙ sym (append_assoc b.0 a.0 f)))
 
 spends_least : (lasts : Bool) (before used after : ℕ) → Spends lasts before used after → before ≤ after + used
-spends_least false before used after spends = omega arith
-spends_least true before used after spends = omega arith
+spends_least lasts before used after spends = grind arith
 
 -- what a pass had is left or used
 pub looks_least : {o : Opening} {v w : PassView} {actions : List Action} {doing : Doing} {used : Use} → Adds o v actions doing used w
@@ -33,8 +31,7 @@ numbers_least {o} {v} {w} {used = used} adds = spends_least o.lasts v.numbers_le
 
 spends_then : (lasts : Bool) (first middle last used more : ℕ) → Spends lasts first used middle → Spends lasts middle more last
     → Spends lasts first (used + more) last
-spends_then false first middle last used more one two = omega arith
-spends_then true first middle last used more one two = two ∙ one
+spends_then lasts first middle last used more one two = grind arith
 
 -- a pass that makes no event adds nothing
 pub adds_nothing : (o : Opening) (v : PassView) → IsFront o v → Adds o v [] v.doing no_use v
@@ -61,40 +58,16 @@ pub seen_from_start : (h : List Event) → IsSeenBy [] h
 seen_from_start h = (h, sym (append-nil h))
 
 unspent : (lasts : Bool) (before after : ℕ) → Spends lasts before 0 after → after ≡ before
-unspent false before after spends = omega arith
-unspent true before after spends = spends
+unspent lasts before after spends = grind arith
 
 -- a pass that made no action, and whose front has all that was shown, has learned it
 pub learned_so : (o : Opening) (shown : List Event) (v w : PassView) → Adds o v [] v.doing no_use w → IsSeenBy shown w.front → Learns o shown v w
-learned_so o shown v w adds seen = record {
-  own = adds.seen;
-  shown = seen;
-  front = adds.front;
-  same = λ i. record {
-    number = adds.number i;
-    front = w.front;
-    own = adds.own i;
-    chain = adds.chain i;
-    drawn = adds.drawn i;
-    no_chains_left = adds.no_chains_left i;
-    numbers_left = unspent o.lasts v.numbers_left w.numbers_left adds.numbers_left i;
-    looks_left = unspent o.lasts v.looks_left w.looks_left adds.looks_left i;
-    doing = adds.now i;
-  };
-}
+learned_so o shown v w adds seen = grind (arith, unspent)
 
 -- what a call adds follows all that its pass had seen
 pub follows_shown : (o : Opening) (shown : List Event) (v w : PassView) (actions : List Action) (doing : Doing) (used : Use) → IsFront o v
     → IsSeenBy shown v.front → Adds o v actions doing used w → FollowsShown shown v actions w
-follows_shown o shown v w actions doing used front seen adds = let since = adds.seen.0 in record {
-  since = since;
-  front = adds.seen.1;
-  shown = seen;
-  part = append_cancel_right (part_of_pass v.number since) (map (event_of v) actions) v.own
-      (ap (λ (l : List Event). part_of_pass v.number since ++ l) (sym front.mine)
-      ∙ (sym (filter-append _ since v.front)
-      ∙ (ap (part_of_pass v.number) (sym adds.seen.1) ∙ (subst (λ (n : ℕ). part_of_pass n w.front ≡ w.own) adds.number adds.front.mine ∙ adds.own))));
-}
+follows_shown o shown v w actions doing used front seen adds = grind (arith, append_cancel_right, filter-append)
 
 -- The results of calls that empty or replace a slot.
 
@@ -109,15 +82,13 @@ module _ (o : Opening) (v : PassView) (slot : ℕ) where
 
   pub cleared_so : (file : Option File) (takes : ℕ) (removed : Option Retired) (w : PassView) → removed ≡ option_map (λ f. retired_of f takes) file
       → Adds o v ([] ▷ Clear slot file) (activity_of (retiring file takes)) no_use w → Cleared o v slot removed w
-  cleared_so None takes removed w is adds = rw is adds
-  cleared_so (Some f) takes removed w is adds = rw is (f, is_removal f takes, adds)
+  cleared_so file takes removed w is adds = grind (arith, is_removal)
 
   -- the same for a close
   pub taken_so : (file : Option File) (takes : ℕ) (removed : Option Retired) (w : PassView) → removed ≡ option_map (λ f. retired_of f takes) file
       → (result : Result Retired Empty) (empty : Empty) → result ≡ ok_or removed empty
       → Adds o v ([] ▷ Take slot file) (activity_of (retiring file takes)) no_use w → Taken o v slot result w
-  taken_so None takes removed w is result empty answer adds = rw (answer, is) adds
-  taken_so (Some f) takes removed w is result empty answer adds = rw (answer, is) (f, is_removal f takes, adds)
+  taken_so file takes removed w is result empty answer adds = grind (arith, is_removal)
 
   -- the same for an installation, under the pass's next number
   pub placed_so : (file : Option File) (takes : ℕ) (removed : Option Retired) (w : PassView) → removed ≡ option_map (λ f. retired_of f takes) file

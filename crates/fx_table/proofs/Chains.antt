@@ -194,8 +194,7 @@ number_of_its_pass n p count low high left one few = grind arith
 -- a pass that has numbers left
 module _ (o : Opening) (v : PassView) (some_left : 0 < v.numbers_left) where
   next_of_chain : (count : ℕ) → HasDrawnInTurn o count v → pass_of_number o.passes (next_number o v) ≡ v.number
-  next_of_chain zero t = absurd (omega (arith, t))
-  next_of_chain (suc count) t = grind (arith, number_of_its_pass)
+  next_of_chain count t = grind (arith, number_of_its_pass)
 
   -- its next number is one of its own, from 256 on, and the table has it
   pub next_is_its_own : (count : ℕ) → HasDrawnInTurn o count v

@@ -16,8 +16,7 @@ none_file f e = cc
 
 -- a file at a slot has the number that the slot names
 named : (nodes : List Node) (o : Option ℕ) (f : File) → file_at nodes o ≡ Some f → (n : ℕ) × (o ≡ Some n) × (placed_at n (node_at nodes n) ≡ Some f)
-named nodes None f e = absurd (none_file f e)
-named nodes (Some n) f e = (n, refl, e)
+named nodes o f e = grind (arith, none_file)
 
 -- the node of a file at a slot is `At` that slot
 pub node_of : (c : Contents) → IsTable c → (slot : ℕ) (f : File) → (state_of c).at slot ≡ Some f → node_at c.nodes f.number ≡ At slot f.identity
@@ -74,19 +73,13 @@ not_closed s g f other there = ⊎_elim (λ p. inl p) (λ e. inr (changed_else s
 
 -- an idle pass has nothing to do
 pub idle_task : (t : Task) → activity_of t ≡ doing.Idle → t ≡ Idle
-idle_task Idle is = refl
-idle_task (Holding f) is = absurd (cc is)
-idle_task (Retiring f takes) is = absurd (cc is)
+idle_task t is = grind arith
 
 -- a pass that shows a hold has the file of that number
 pub holding_task : (t : Task) (f : File) (hold : Hold) → activity_of t ≡ doing.Holding f hold → (t ≡ Holding f) × (hold ≡ hold_of f)
-holding_task Idle f hold is = absurd (cc is)
-holding_task (Holding g) f hold is = let same : g ≡ f = cc in (cc, cc)
-holding_task (Retiring g takes) f hold is = absurd (cc is)
+holding_task t f hold is = grind arith
 
 -- a pass that shows a removal has the file of that number
 pub retiring_task : (t : Task) (f : File) (retired : Retired) → activity_of t ≡ doing.Retiring f retired
     → (t ≡ Retiring f retired.takes) × (retired ≡ retired_of f retired.takes)
-retiring_task Idle f retired is = absurd (cc is)
-retiring_task (Holding g) f retired is = absurd (cc is)
-retiring_task (Retiring g takes) f retired is = grind arith
+retiring_task t f retired is = grind arith

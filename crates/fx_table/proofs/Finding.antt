@@ -6,6 +6,7 @@ use Rattle.fx_plain.proofs.Leading.{same_shape}
 use Rattle.fx_plain.specs.Step.{Allows, after}
 use Rattle.fx_plain.specs.declared.event.Action.TheVariants.{Look, Put, Clear, Take, Allocate, Full}
 use Rattle.fx_table.specs.Finding.{LeavesAt, KeepsSlot, IsLegalAt, AllKeepSlot, LookUpFindsTheChange, LookUpFindsThePut, LookUpFindsTheRemoval, FullFollowsAnInstallation}
+use Rattle.std.proofs.Common.{arith}
 
 -- an action changes the slot or doesn't
 changes : (slot : ℕ) (a : Action) → ((left : Option File) × LeavesAt slot left a) ⊎ KeepsSlot slot a
@@ -17,28 +18,15 @@ changes slot _ = inr tt
 
 -- what a change leaves is at the slot
 left_at : (slot : ℕ) (left : Option File) (a : Action) (st : State) → LeavesAt slot left a → (after st a).at slot ≡ left
-left_at slot left (Put s f replaced) st l = changed_here st.at s (Some f) slot (sym l.0) ∙ sym l.1
-left_at slot left (Clear s found) st l = changed_here st.at s None slot (sym l.0) ∙ sym l.1
-left_at slot left (Take s found) st l = changed_here st.at s None slot (sym l.0) ∙ sym l.1
-left_at slot left (Allocate s f) st l = changed_here st.at s (Some f) slot (sym l.0) ∙ sym l.1
-left_at slot left _ st l = absurd l
+left_at slot left a st l = grind (arith, changed_here)
 
 -- every other action leaves the slot as it is
 kept_at : (slot : ℕ) (a : Action) (st : State) → KeepsSlot slot a → (after st a).at slot ≡ st.at slot
-kept_at slot (Look s None) st l = refl
-kept_at slot (Put s f replaced) st l = changed_else st.at s (Some f) slot (λ e. l (sym e))
-kept_at slot (Clear s found) st l = changed_else st.at s None slot (λ e. l (sym e))
-kept_at slot (Take s found) st l = changed_else st.at s None slot (λ e. l (sym e))
-kept_at slot (Allocate s f) st l = changed_else st.at s (Some f) slot (λ e. l (sym e))
-kept_at slot _ st l = refl
+kept_at slot a st l = grind (arith, changed_else)
 
 -- an action that changes the slot doesn't keep it
 not_both : (slot : ℕ) (left : Option File) (a : Action) → LeavesAt slot left a → KeepsSlot slot a → ⊥
-not_both slot left (Put s f replaced) l k = k l.0
-not_both slot left (Clear s found) l k = k l.0
-not_both slot left (Take s found) l k = k l.0
-not_both slot left (Allocate s f) l k = k l.0
-not_both slot left _ l k = absurd l
+not_both slot left a l k = grind arith
 
 kept_by : (slot : ℕ) (h : List Event) → AllKeepSlot slot h → (e : Event) → Contains h e → KeepsSlot slot e.action
 kept_by slot [] all e c = absurd (contains_none e c)
@@ -90,8 +78,7 @@ none_is_some : IsSome {T = File} None → ⊥
 none_is_some is = absurd (cc is)
 
 some_of : (found : Option File) → IsSome found → (f : File) × (found ≡ Some f)
-some_of None is = absurd (none_is_some is)
-some_of (Some f) is = (f, refl)
+some_of found is = grind (arith, none_is_some)
 
 pub full_follows : FullFollowsAnInstallation
 full_follows o before since removal full slot legal inside in_range leaves is =

@@ -1,6 +1,6 @@
 -- The number of full slots when a slot changes, and of a table's files.
-use Rattle.fx_table.proofs.Words.{◌≡◌, ◌≢◌, ℕ, zero, suc, ◌+◌, ◌<◌, ◌≤◌, length, sym, ap, arith, subst, dite, ℕ_discrete, changed_at, None, refl}
-use Rattle.fx_table.proofs.Words.{State, length-append, Option, Some, IsSome, changed_here, changed_else, file_numbered, files_in_order}
+use Rattle.fx_table.proofs.Words.{◌≡◌, ◌≢◌, ℕ, zero, suc, ◌+◌, ◌<◌, ◌≤◌, length, sym, ap, arith, subst, dite, ℕ_discrete, changed_at, refl}
+use Rattle.fx_table.proofs.Words.{State, length-append, Option, IsSome, changed_here, changed_else, file_numbered, files_in_order}
 use Rattle.fx_table.proofs.Words.{identities_of, File, if_full, full_in, first_at}
 
 module _ (at : ℕ → Option File) (s : ℕ) (new : Option File) where
@@ -18,12 +18,10 @@ module _ (at : ℕ → Option File) (s : ℕ) (new : Option File) where
       (λ else. let c = full_here off len a (omega arith) in rw (changed_else at s new (off + len) else) (omega arith))
 
 pub full_one : (found : Option File) → if_full found ≤ 1
-full_one None = omega arith
-full_one (Some f) = omega arith
+full_one found = grind arith
 
 some_full : (found : Option File) → if_full found ≡ 1 → IsSome found
-some_full None e = absurd (omega arith)
-some_full (Some f) e = refl
+some_full found e = grind arith
 
 module _ (at : ℕ → Option File) (off : ℕ) where
   pub full_few : (len : ℕ) → full_in at off len ≤ len
@@ -38,8 +36,7 @@ module _ (at : ℕ → Option File) (off : ℕ) where
       (λ else. full_all len (omega arith) slot low (omega arith))
 
 as_many : (found : Option File) (slot : ℕ) → length (identities_of found) ≡ if_full (file_numbered found slot)
-as_many None slot = refl
-as_many (Some f) slot = refl
+as_many found slot = grind arith
 
 -- the files of the first slots, and the full ones of these slots
 pub all_counted : (st : State) (n : ℕ) → length (files_in_order st.at n) ≡ full_in (first_at st) 0 n

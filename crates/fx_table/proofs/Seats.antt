@@ -1,6 +1,6 @@
 -- Passes in seats: as they begin, move and come back.
-use Rattle.fx_table.proofs.Words.{◌≡◌, ℕ, Bool, true, false, State, state_of, Opening, ◌≢◌, List, [], ◌∷◌, ◌++◌, map, length, reverse, sym, refl, ap}
-use Rattle.fx_table.proofs.Words.{◌∙◌, subst, Contains, sum_by, reverse-append, dite, some, ℕ_discrete, get_elem?, All, zero, suc, ◌+◌, set, take}
+use Rattle.fx_table.proofs.Words.{◌≡◌, ℕ, Bool, false, State, state_of, Opening, ◌≢◌, List, [], ◌∷◌, ◌++◌, map, length, reverse, sym, refl, ap}
+use Rattle.fx_table.proofs.Words.{◌∙◌, subst, Contains, sum_by, reverse-append, some, get_elem?, All, zero, suc, ◌+◌, set, take}
 use Rattle.fx_table.proofs.Words.{◌⊎◌, inl, inr, ⊎_elim, Contains-append_left, Contains-append_right, Contains-append_cases, sum_by-append}
 use Rattle.fx_table.proofs.Words.{some-injective, some-ne-none, arith, drop, opening, numbers_for, start_of, is_fresh_at_first, flat_map}
 use Rattle.fx_table.proofs.Words.{All-contains, Contains-push, nil_from_length, take-append-drop}
@@ -15,8 +15,7 @@ pub start_is : (o : Opening) → o.lasts ≡ false → start_of o ≡ opening (s
 start_is o ends = grind arith
 
 starts : (st : State) (numbers : ℕ) (lasts : Bool) → IsStart (record (opening st numbers) { fresh = is_fresh_at_first lasts st.size numbers })
-starts st numbers false = opening_is_start st numbers
-starts st numbers true = grind (arith, common_steps)
+starts st numbers lasts = grind (arith, opening_is_start, common_steps)
 
 -- each table begins at rest
 pub begins_at_rest : (o : Opening) → IsTableAtRest (start_of o)
@@ -102,16 +101,7 @@ module _ {V L S : Type 0} (logs : V → List L) (start : V → S) (k : S) (Idle 
 
   -- a seat without passes comes after the others
   pub appended : (views : List V) (u : V) → Idle u → logs u ≡ [] → AreReseated views (views ++ u ∷ [])
-  appended views u idle empty = record {
-    each = λ j w e. ⊎_elim (λ old. inr old) (λ is. inl (subst (IsAnew views) is record {
-      idle = idle;
-      its = λ x h. absurd (contains_none x (subst (λ (l : List L). Contains l x) empty h));
-      begun = inl empty;
-    })) (at_snoc views u w j e);
-    others = λ j w e busy. at_longer views (u ∷ []) j w e;
-    by_logs = λ f none more. omega (arith, sum_by-append (λ (w : V). f (logs w)) views (u ∷ []), ap f empty, none);
-    by_work = λ f none. omega (arith, sum_by-append f views (u ∷ []), none u idle);
-  }
+  appended views u idle empty = grind (arith, contains_none, at_snoc, at_longer, sum_by-append)
 
   module _ (views : List V) (id : ℕ) (v : V) (at : get_elem? views id ≡ some v) (idle : Idle v) where
     -- a seat that isn't idle is another one
@@ -146,14 +136,7 @@ module _ {V L S : Type 0} (logs : V → List L) (start : V → S) (k : S) (Idle 
       sum_split g whole = omega (arith, sum_by-append g (set views id rest) (first ∷ []), sum_set g views id v rest at, whole)
 
       pub split : AreReseated views (set views id rest ++ first ∷ [])
-      split = record {
-        each = λ j u e. ⊎_elim (λ m. set_cases rest j u rest_part m) (λ m. inl (subst (IsAnew views) m first_part))
-            (at_snoc (set views id rest) first u j e);
-        others = λ j u e busy. at_longer (set views id rest) (first ∷ []) j u (set_else views id j rest (other_than j u e busy) ∙ e);
-        by_logs = λ f none more. sum_split (λ u. f (logs u)) (rw (its_logs (take 1 (logs v)), its_logs (drop 1 (logs v)))
-            (sym (more (take 1 (logs v)) (drop 1 (logs v))) ∙ ap f both));
-        by_work = λ f none. sum_split f (omega (arith, none v idle, none rest (its_idle (drop 1 (logs v))), none first (its_idle (take 1 (logs v)))));
-      }
+      split = grind (arith, set_cases, rest_part, first_part, at_snoc, at_longer, set_else, other_than, sum_split, both)
 
     -- a seat takes in the passes of another
     module _ (other : ℕ) (w both spent : V) (apart : other ≢ id) (there : get_elem? (set views id both) other ≡ some w) (w_idle : Idle w)
@@ -177,12 +160,4 @@ module _ {V L S : Type 0} (logs : V → List L) (start : V → S) (k : S) (Idle 
       sum_joined g whole = omega (arith, sum_set g views id v both at, sum_set g (set views id both) other w spent there, whole)
 
       pub joined : AreReseated views (set (set views id both) other spent)
-      joined = record {
-        each = λ j u e. dite (ℕ_discrete j other)
-            (λ same. inl (subst (IsAnew views) (set_here (set views id both) other spent u (rw same at e)) spent_new))
-            (λ else. set_cases both j u both_new (sym (set_else (set views id both) other j spent else) ∙ e));
-        others = λ j u e busy. set_else (set views id both) other j spent
-            (λ same. let at = w_at in let is : w ≡ u = cc in busy (subst Idle is w_idle)) ∙ (set_else views id j both (other_than j u e busy) ∙ e);
-        by_logs = λ f none more. sum_joined (λ u. f (logs u)) (rw (its_logs, none_left) (omega (arith, more (logs v) (logs w), none)));
-        by_work = λ f none. sum_joined f (omega (arith, none v idle, none w w_idle, none both both_idle, none spent spent_idle));
-      }
+      joined = grind (arith, set_here, both, spent_new, set_cases, both_new, set_else, w_at, other_than, sum_joined)

@@ -24,8 +24,7 @@ pub bit_is : (p q : ℕ) → ((q ≡ p) × (one_if (eqb q p) ≡ 1)) ⊎ ((q ≢
 bit_is p q = dite (ℕ_discrete q p) (λ e. inl (e, bit_here p q e)) (λ e. inr (e, bit_else p q e))
 
 pub once_is : (n p : ℕ) → ((0 < p) × (p ≤ n) × (once n p ≡ 1)) ⊎ (((p ≡ 0) ⊎ (n < p)) × (once n p ≡ 0))
-once_is n zero = inr (inl refl, refl)
-once_is n (suc p) = grind arith
+once_is n p = grind arith
 
 -- one number more
 pub once_more : (n m p : ℕ) → m ≡ n + 1 → once m p ≡ once n p + one_if (eqb m p)
@@ -67,8 +66,7 @@ module _ {X : Type 0} where
   contains_tail y xs x h = (suc h.0, omega (arith, h.1), h.2)
 
   pub contains_cases : (y : X) (xs : List X) (x : X) → Contains (y ∷ xs) x → (x ≡ y) ⊎ Contains xs x
-  contains_cases y xs x (zero, inside, is) = inl (sym is)
-  contains_cases y xs x (suc k, inside, is) = inr (k, omega arith, is)
+  contains_cases y xs x h = grind arith
 
   -- the element at an index
   pub stands_at : (l : List X) (i : ℕ) (v : X) → get_elem? l i ≡ some v → (i < length l) × (slice_index_or l i v ≡ v)
