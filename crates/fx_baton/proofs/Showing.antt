@@ -85,27 +85,15 @@ module _ {id : TableId} {k : Start} {p : BatonPass} (fits : IsPassOf id k p) (w 
   abbrev v' : PassView
   v' = view_of (now me)
 
-  same_log : fits.seated.log ≡ learns.log
-  same_log = let both : fits.seated.log ∷ [] ≡ learns.log ∷ [] = sym fits.seated.one ∙ learns.one in cc both
-
-  fronts : (view_of p).front ≡ learns.log.front
-  fronts = ap (front_in seats) learns.one
-
-  owns : (view_of p).own ≡ learns.log.own
-  owns = ap first_own learns.one
-
   is_same : v' ≡ record (view_of p) { front = learns.history }
-  is_same = λ i. record v' { own = sym owns i }
+  is_same = λ i. record v' { own = sym (ap first_own learns.one) i }
 
   number : learns.log.number ≡ p.number
-  number = ap (λ (z : Log). z.number) (sym same_log) ∙ fits.seated.number
-
-  its_legal : IsLegal (begin_of k) learns.history learns.end
-  its_legal = subst (λ (z : Start). IsLegal (begin_of z) learns.history learns.end) fits.seated.start learns.legal
+  number = let both : fits.seated.log ∷ [] ≡ learns.log ∷ [] = sym fits.seated.one ∙ learns.one in cc (both, fits.seated.number)
 
   front : IsFront (opening_of k) v'
   front = record {
-    legal = ends_there k its_legal;
+    legal = ends_there k (subst (λ (z : Start). IsLegal (begin_of z) learns.history learns.end) fits.seated.start learns.legal);
     mine = subst (λ (n : ℕ). part_of_pass n learns.history ≡ learns.log.own) number learns.part;
   }
 
@@ -128,7 +116,7 @@ module _ {id : TableId} {k : Start} {p : BatonPass} (fits : IsPassOf id k p) (w 
 
   learns_now : Learns (opening_of k) w.known (view_of p) v'
   learns_now = record {
-    own = subst (λ (h : List Event). IsSeenBy h learns.history) (sym fronts) learns.own;
+    own = subst (λ (h : List Event). IsSeenBy h learns.history) (sym (ap (front_in seats) learns.one)) learns.own;
     shown = learns.shown;
     front = front;
     same = is_same;

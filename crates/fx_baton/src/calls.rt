@@ -7,6 +7,7 @@ ghost use Rattle.fx_table.specs.Closing.{ClosesTable};
 ghost use Rattle.fx_baton.specs.Passes.{next_of, view_of};
 ghost use Rattle.fx_baton.specs.Tables.{opening_of_table, IsPassOfTable};
 
+use crate::kinds::Observe;
 use crate::pass::BatonPass;
 use crate::table::BatonTable;
 use crate::view::Call;
@@ -19,9 +20,6 @@ use std::alloc::Global;
 use std::sync::Wait;
 
 impl SharedTable for BatonTable {
-    ghost use Rattle.fx_baton.specs.Passes.{view_of};
-    ghost use Rattle.fx_baton.specs.Tables.{opening_of_table, IsPassOfTable};
-
     type Pass = BatonPass;
 
     ghost opening = { opening_of_table };
@@ -175,7 +173,7 @@ impl FileTable for BatonTable {
         requires ready { All (λ p. IsPassOfTable self p × IsIdle (view_of p)) passes.items }
         ensures { ClosesTable (opening_of_table self) (map view_of passes.items) result }
     {
-        self.close_all(passes)
+        self.close(passes)
     }
 
     // Pass p of n draws the chains p, p + n, p + 2n and so on.
@@ -199,7 +197,7 @@ impl FileTable for BatonTable {
     }
 
     fn settle(&self, pass: &mut BatonPass) {
-        self.settle(pass)
+        self.table.shared.load::<Observe>(&mut pass.seat, 0);
     }
 
     fn look(&self, rt: &impl Wait, pass: &mut BatonPass, slot: u32) -> Result<Hold, LookFault> {

@@ -8,11 +8,9 @@ ghost use Rattle.fx_table.specs.Pass.{IsIdle, new_passes};
 ghost use Rattle.fx_table.specs.Closing.{ClosesTable};
 ghost use Rattle.fx_baton.specs.Passes.{view_of};
 ghost use Rattle.fx_baton.specs.Tables.{opening_of_table, IsPassOfTable};
-ghost use Rattle.fx_table.specs.Settling.{IsSettledSoFar};
 ghost use Rattle.fx_baton.specs.Lives.{HasPrepared, HasAllPasses, IsIdleSeatOf, logs_in, AllIsHome};
 ghost use Rattle.fx_baton.specs.Lives.{Leaves};
 
-use crate::kinds::Observe;
 use crate::pass::BatonPass;
 use crate::table::BatonTable;
 use crate::view::{Start, View};
@@ -29,13 +27,11 @@ fn only_table(mut slots: Vec<PlainTable>) -> PlainTable
     requires { (x : Contents) × (slots.items ≡ x ∷ []) }
     ensures { slots.items ≡ result ∷ [] }
 {
-    match slots.pop() {
-        Some(plain) => {
-            slots.destroy_empty();
-            plain
-        }
-        None => unreachable!(),
-    }
+    let Some(plain) = slots.pop() else {
+        unreachable!()
+    };
+    slots.destroy_empty();
+    plain
 }
 
 // Prepares a table for files with numbers below `numbers`, and puts it into a list of its own.
@@ -156,25 +152,13 @@ impl BatonTable {
         plain
     }
 
-    // Establishes for the only pass of a table, while it is idle, that its events are the whole
-    // history.
-    pub(crate) fn settle(&self, pass: &mut BatonPass)
-        requires alone { (opening_of_table self.now).passes ≡ 1 }
-        requires fits { IsPassOfTable self.now pass.old }
-        requires idle { IsIdle (view_of pass.old) }
-        ensures fits { IsPassOfTable self.now pass.new }
-        ensures same { view_of pass.new ≡ view_of pass.old }
-        ensures settled { IsSettledSoFar (opening_of_table self.now) (view_of pass.new) }
-    {
-        self.table.shared.load::<Observe>(&mut pass.seat, 0);
-    }
-
-    // Closes the table, when all passes have come back.
-    pub(crate) fn close_all(self, mut passes: Vec<BatonPass>) -> PlainTable
+    /// Turns the table back into a table of one thread, as [`fx_table::FileTable::close`] does.
+    pub fn close(self, passes: Vec<BatonPass>) -> PlainTable
         requires all { length passes.items ≡ (opening_of_table self).passes }
         requires ready { All (λ p. IsPassOfTable self p × IsIdle (view_of p)) passes.items }
         ensures { ClosesTable (opening_of_table self) (map view_of passes.items) result }
     {
+        let mut passes = passes;
         let Some(first) = passes.pop() else {
             unreachable!()
         };

@@ -20,8 +20,6 @@ pub struct BatonSeen {
 }
 
 impl RealTime for BatonTable {
-    ghost use Rattle.fx_baton.specs.Showing.{shown_of, IsSeenOf};
-
     type Seen = BatonSeen;
 
     ghost shown = { shown_of };

@@ -1,13 +1,11 @@
 //! The calls of `SharedTable` as calls of the table itself, with the same contracts. A program that
 //! names the table's type needs to import `FileTable` alone.
-ghost use Rattle.std.specs.Prelude.{◌≡◌, ◌≢◌, ◌<◌, ◌≤◌, ◌↔◌, true, false, None, Err, map};
-ghost use Rattle.std.specs.Prelude.{length, All, IsTrue};
+ghost use Rattle.std.specs.Prelude.{◌≡◌, ◌≢◌, ◌<◌, ◌≤◌, ◌↔◌, true, false, None, Err, IsTrue};
 ghost use Rattle.fx_plain.specs.declared.table.TheConstants.{MOST_SLOTS};
 ghost use Rattle.fx_table.specs.Opening.{size_of, range_of};
 ghost use Rattle.fx_table.specs.Pass.{IsIdle, IsHoldOf, IsRetiredOf};
 ghost use Rattle.fx_table.specs.Calls.{LookedUp, Released, Placed, Allocated, Cleared, Taken};
 ghost use Rattle.fx_table.specs.Calls.{HasRetired};
-ghost use Rattle.fx_table.specs.Closing.{ClosesTable};
 ghost use Rattle.fx_table.specs.declared.values.LookFault.TheVariants.{Spent};
 ghost use Rattle.fx_baton.specs.Passes.{view_of};
 ghost use Rattle.fx_baton.specs.Tables.{opening_of_table, IsPassOfTable};
@@ -15,20 +13,10 @@ ghost use Rattle.fx_baton.specs.Tables.{opening_of_table, IsPassOfTable};
 use crate::pass::BatonPass;
 use crate::table::BatonTable;
 use fx_base::OpenFile;
-use fx_plain::PlainTable;
-use fx_table::{Empty, FileTable, Hold, LookUp, Retired, SharedTable};
+use fx_table::{Empty, Hold, LookUp, Retired, SharedTable};
 use std::sync::Wait;
 
 impl BatonTable {
-    /// Turns the table back into a table of one thread, as [`FileTable::close`] does.
-    pub fn close(self, passes: Vec<BatonPass>) -> PlainTable
-        requires all { length passes.items ≡ (opening_of_table self).passes }
-        requires ready { All (λ p. IsPassOfTable self p × IsIdle (view_of p)) passes.items }
-        ensures { ClosesTable (opening_of_table self) (map view_of passes.items) result }
-    {
-        FileTable::close(self, passes)
-    }
-
     /// Returns the number of slots, at most [`fx_plain::MOST_SLOTS`].
     pub fn size(&self) -> u32
         ensures value { result ≡ size_of (opening_of_table self.now) }

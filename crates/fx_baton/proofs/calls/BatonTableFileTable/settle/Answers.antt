@@ -2,7 +2,7 @@ use Rattle.fx_baton.proofs.Words.{subst, arith, Start, IsKept}
 use Rattle.fx_baton.proofs.Closing.{settles}
 use Rattle.table_seats.proofs.Moving.{may_observe}
 use Rattle.fx_table.proofs.FileLemmas.{idle_task}
-use Rattle.fx_baton.proofs.table.BatonTable.settle.Goals as goal
+use Rattle.fx_baton.proofs.calls.BatonTableFileTable.settle.Goals as goal
 
 pub load-requires : goal.load-requires
 load-requires c =

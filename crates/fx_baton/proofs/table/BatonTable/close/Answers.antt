@@ -1,6 +1,6 @@
 use Rattle.fx_baton.proofs.Words.{map, ap, subst, arith, ClosesTable, opening_of, view_of, BatonPass, IsPassOfTable, fits, gathered}
 use Rattle.fx_baton.proofs.Closing.{at_home, closes}
-use Rattle.fx_baton.proofs.table.BatonTable.close_all.Goals as goal
+use Rattle.fx_baton.proofs.table.BatonTable.close.Goals as goal
 
 pub finish-requires-clause-home : goal.finish-requires-clause-home
 finish-requires-clause-home c s r at =
