@@ -1,22 +1,20 @@
 -- The entries of a catalogue, by their places and by their names.
 use Rattle.std.proofs.Common.{rules, ◌≡◌, ◌⊎◌, inl, inr, ℕ, suc, zero, ◌<◌, ◌≤◌, true, false, List, [], ◌∷◌, ◌++◌, length, refl, sym, ap, ◌∙◌, Some}
-use Rattle.std.proofs.Common.{None, slice_index_or, slice_get, length-append, arith, option_map, string_bytes, ◌+◌, Bool, Option, is_some, IfSome}
+use Rattle.std.proofs.Common.{None, slice_index_or, slice_get, length-append, arith, string_bytes, ◌+◌, Option, is_some, IfSome}
 use Rattle.std.proofs.lemmas.List.{get_or-map, length-map}
 use Rattle.std.proofs.lemmas.List.Elements.{All-push}
 use Rattle.std.proofs.lemmas.Option.{slice_get-map, slice_get_past, slice_get_read}
-use Rattle.std.proofs.lemmas.Bool.{cases_lt, or_parts, cond_both, leb-false, ltb-false, not-false}
+use Rattle.std.proofs.lemmas.Bool.{or_parts}
 use Rattle.std.proofs.lemmas.Slice.Eq.{bytes_eq-Decides}
 use Rattle.std.proofs.lemmas.Grind.{common_steps}
 use Rattle.std.specs.Str.{bytes_eq}
-use Rattle.std.specs.Prelude.{IsTrue, cond, ◌||◌, ◌==◌, nat_le, nat_lt, not}
+use Rattle.std.specs.Prelude.{IsTrue, cond}
 use Rattle.fx_base.specs.Name.{is_name}
 use Rattle.fx_base.specs.Catalogue.{FileEntry, IsCatalogue, name_at, size_at}
 use Rattle.fx_base.specs.AddFault.{add_fault_of, has_name}
-use Rattle.fx_base.specs.declared.catalogue.AddFault.{AddFault}
 use Rattle.fx_base.specs.CatalogueView.{file_entries_of, file_entry_of}
 use Rattle.fx_base.specs.declared.catalogue.Entry.{Entry}
 use Rattle.fx_base.specs.declared.catalogue.TheConstants.{MOST_ENTRIES, LONGEST_ENTRY}
-use Rattle.fx_base.specs.declared.name.TheConstants.{LONGEST_NAME}
 use Rattle.std.specs.List.{position_from}
 
 -- a name's place in a longer catalogue is its place in the old one, or that of the new entry
@@ -29,10 +27,7 @@ either_place (x ∷ xs) y (suc i) name is = elim (either_place xs y i name is) [
 
 -- the place of a name is below the length of the catalogue
 pub entry_named : (catalogue : List FileEntry) (entry : ℕ) (name : List ℕ) → name_at catalogue entry ≡ Some name → entry < length catalogue
-entry_named catalogue entry name is = elim (cases_lt entry (length catalogue)) [
-  | inl inside ↦ inside
-  | inr past ↦ let e : None ≡ Some name = sym (ap (option_map (λ (file : FileEntry). file.name)) (slice_get_past catalogue entry past)) ∙ is in cc
-]
+entry_named catalogue entry name is = grind (arith, slice_get_past)
 
 -- a name that no entry has is found at no place
 not_named : (catalogue : List FileEntry) (name : List ℕ) → has_name name catalogue ≡ false → (i : ℕ) → name_at catalogue i ≡ Some name → ⊥
@@ -47,16 +42,7 @@ not_named (x ∷ xs) name new (suc i) is = not_named xs name (or_parts _ _ new).
 pub still_distinct : (catalogue : List FileEntry) (y : FileEntry)
     → ((i j : ℕ) (name : List ℕ) → name_at catalogue i ≡ Some name → name_at catalogue j ≡ Some name → i ≡ j) → has_name y.name catalogue ≡ false
     → (i j : ℕ) (name : List ℕ) → name_at (catalogue ++ y ∷ []) i ≡ Some name → name_at (catalogue ++ y ∷ []) j ≡ Some name → i ≡ j
-still_distinct catalogue y distinct new i j name at_i at_j = elim (either_place catalogue y i name at_i) [
-  | inl old_i ↦ (elim (either_place catalogue y j name at_j) [
-    | inl old_j ↦ distinct i j name old_i old_j
-    | inr new_j ↦ absurd (not_named catalogue y.name new i (old_i ∙ ap Some (sym new_j.1)))
-  ])
-  | inr new_i ↦ (elim (either_place catalogue y j name at_j) [
-    | inl old_j ↦ absurd (not_named catalogue y.name new j (old_j ∙ ap Some (sym new_i.1)))
-    | inr new_j ↦ new_i.0 ∙ sym new_j.0
-  ])
-]
+still_distinct catalogue y distinct new i j name at_i at_j = grind (arith, either_place, not_named)
 
 -- an entry that was read has its size and its name, and both are within the limits of a catalogue
 pub record IsRead (catalogue : List FileEntry) (i : ℕ) (e : Entry) : Type 0 where
@@ -99,35 +85,13 @@ pub record HasNoFault (catalogue : List FileEntry) (name bytes : List ℕ) : Typ
   pub small : length bytes ≤ LONGEST_ENTRY
 
 pub no_fault : (catalogue : List FileEntry) (name bytes : List ℕ) → add_fault_of catalogue name bytes ≡ None → HasNoFault catalogue name bytes
-no_fault catalogue name bytes =
-    let Fits : Option AddFault → Type 0 = λ x. x ≡ None → HasNoFault catalogue name bytes in
-    cond_both (nat_le MOST_ENTRIES (length catalogue)) _ _ Fits (λ _ e. absurd (cc e))
-    (λ few. cond_both (length name == 0) _ _ Fits (λ _ e. absurd (cc e))
-    (λ _. cond_both (not (is_name name)) _ _ Fits (λ _ e. absurd (cc e))
-    (λ named. cond_both (has_name name catalogue) _ _ Fits (λ _ e. absurd (cc e))
-    (λ new. cond_both (nat_lt LONGEST_ENTRY (length bytes)) _ _ Fits (λ _ e. absurd (cc e))
-    (λ small _. record {
-      few = leb-false MOST_ENTRIES (length catalogue) few;
-      named = not-false (is_name name) named;
-      new = new;
-      small = ltb-false LONGEST_ENTRY (length bytes) small;
-    })))))
-
--- a name has 1 to `LONGEST_NAME` bytes
-pub some_bytes : (name : List ℕ) → IsTrue (is_name name) → 1 ≤ length name
-some_bytes name good = grind (arith, common_steps)
-
-pub few_bytes : (name : List ℕ) → IsTrue (is_name name) → length name ≤ LONGEST_NAME
-few_bytes name good = grind (arith, common_steps)
+no_fault catalogue name bytes none = grind (arith, common_steps)
 
 -- The place of a name among the entries of a catalogue.
 
 -- the place of a name, counted from i
 abbrev pub place_from : List ℕ → ℕ → List FileEntry → Option ℕ
 place_from name i catalogue = position_from (λ file. bytes_eq file.name name) i catalogue
-
-same_names : (a b : List ℕ) → bytes_eq a b ≡ true → a ≡ b
-same_names a b is = (bytes_eq-Decides a b).0 is
 
 -- if a name is found at a place, the entry at that place has it
 module _ (name : List ℕ) where
@@ -138,7 +102,7 @@ module _ (name : List ℕ) where
   name_at-place_from i k [] is = cc
   name_at-place_from i k (x ∷ xs) is =
       elim (bytes_eq x.name name) as (λ b. bytes_eq x.name name ≡ b → cond b (Some i) (place_from name (i + 1) xs) ≡ Some k → Stands i k (x ∷ xs)) [
-        | true ↦ λ here found. let e : i ≡ k = cc in (0, omega arith, omega arith, ap Some (same_names x.name name here))
+        | true ↦ λ here found. let e : i ≡ k = cc in (0, omega arith, omega arith, ap Some ((bytes_eq-Decides x.name name).0 here))
         | false ↦ λ other found. let (j, at, inside, named) = name_at-place_from (i + 1) k xs found in
             (suc j, omega (arith, at), omega (arith, inside), named)
       ] refl is
@@ -146,39 +110,17 @@ module _ (name : List ℕ) where
 -- the place found for a name is below the length of the catalogue, and its entry has the name
 pub found_there : (name : List ℕ) (catalogue : List FileEntry) {found : Option ℕ} → found ≡ place_from name 0 catalogue
     → IfSome found (λ entry. name_at catalogue entry ≡ Some name) × IfSome found (λ entry. entry < length catalogue)
-found_there name catalogue {found = None} is = (tt, tt)
-found_there name catalogue {found = Some k} is =
-    let (j, at, inside, named) = name_at-place_from name 0 k catalogue (sym is) in
-    let same : k ≡ j = omega (arith, at) in (rw same named, omega (arith, at, inside))
+found_there name catalogue {found} is = grind (arith, name_at-place_from)
 
 -- a name is found if and only if an entry has it
 pub is_some-place_from : (name : List ℕ) (i : ℕ) (catalogue : List FileEntry) → is_some (place_from name i catalogue) ≡ has_name name catalogue
 is_some-place_from name i [] = refl
-is_some-place_from name i (x ∷ xs) =
-    elim (bytes_eq x.name name) as (λ b. is_some (cond b (Some i) (place_from name (i + 1) xs)) ≡ (b || has_name name xs)) [
-      | true ↦ refl
-      | false ↦ is_some-place_from name (i + 1) xs
-    ]
-
--- an entry found under a name doesn't have the name of a new entry
-apart : (name : List ℕ) (x y : FileEntry) (b : Bool) → bytes_eq x.name y.name ≡ false → bytes_eq x.name name ≡ true → bytes_eq y.name name ≡ b
-    → b ≡ false
-apart name x y false new here there = refl
-apart name x y true new here there =
-    let same : x.name ≡ y.name = same_names x.name name here ∙ sym (same_names y.name name there) in
-    let found : bytes_eq x.name y.name ≡ true = (bytes_eq-Decides x.name y.name).1 same in cc
+is_some-place_from name i (x ∷ xs) = let rest = is_some-place_from name (i + 1) xs in grind arith
 
 -- a new entry with a new name is found after the others, and the others are found where they were
 pub place_from-push : (name : List ℕ) (i : ℕ) (catalogue : List FileEntry) (y : FileEntry) → has_name y.name catalogue ≡ false
     → place_from name i (catalogue ++ y ∷ []) ≡ cond (bytes_eq y.name name) (Some (i + length catalogue)) (place_from name i catalogue)
 place_from-push name i [] y new = let e : i ≡ i + 0 = omega arith in ap (λ (k : ℕ). cond (bytes_eq y.name name) (Some k) None) e
 place_from-push name i (x ∷ xs) y new =
-    let count : i + 1 + length xs ≡ i + length (x ∷ xs) = omega arith in
-    let same = place_from-push name (i + 1) xs y (or_parts _ _ new).1
-    ∙ ap (λ (k : ℕ). cond (bytes_eq y.name name) (Some k) (place_from name (i + 1) xs)) count in
-    elim (bytes_eq x.name name) as (λ b. bytes_eq x.name name ≡ b → cond b (Some i) (place_from name (i + 1) (xs ++ y ∷ []))
-    ≡ cond (bytes_eq y.name name) (Some (i + length (x ∷ xs))) (cond b (Some i) (place_from name (i + 1) xs))) [
-      | true ↦ λ here. ap (λ (b : Bool). cond b (Some (i + length (x ∷ xs))) (Some i))
-          (sym (apart name x y (bytes_eq y.name name) (or_parts _ _ new).0 here refl))
-      | false ↦ λ _. same
-    ] refl
+    let (here, later) = or_parts (bytes_eq x.name y.name) (has_name y.name xs) new in
+    let rest = place_from-push name (i + 1) xs y later in grind (arith, bytes_eq-Decides)
