@@ -123,15 +123,12 @@ module _ (f g : ℕ → ℕ) {q : ℕ} (off : (k : ℕ) → k ≢ q → g k ≡ 
   -- a change at or above the bound changes nothing
   pub same_below : (n : ℕ) → n ≤ q → sum_below g n ≡ sum_below f n
   same_below zero le = refl
-  same_below (suc n) le = let apart : n ≢ q = omega arith in let rest : sum_below g n ≡ sum_below f n = same_below n (omega arith) in
-      let here = off n apart in omega arith
+  same_below (suc n) le = grind (arith, same_below n)
 
   -- a change below the bound shows in the sum
   pub changed_below : (n : ℕ) → q < n → sum_below g n + f q ≡ sum_below f n + g q
   changed_below zero lt = absurd (omega arith)
-  changed_below (suc n) lt = by_equality n q (λ _. sum_below g (suc n) + f q ≡ sum_below f (suc n) + g q)
-      (λ is. let rest : sum_below g n ≡ sum_below f n = same_below n (omega arith) in let e = ap f is in let d = ap g is in omega arith)
-      (λ apart. let rest : sum_below g n + f q ≡ sum_below f n + g q = changed_below n (omega arith) in let here = off n apart in omega arith)
+  changed_below (suc n) lt = grind (arith, by_equality, same_below, changed_below n)
 
 module _ (f : ℕ → ℕ) where
   pub sum_grows : (n q : ℕ) → n ≤ q → sum_below f n ≤ sum_below f q
@@ -143,19 +140,12 @@ module _ (f : ℕ → ℕ) where
 
   pub sum_zero : (n : ℕ) → ((k : ℕ) → k < n → f k ≡ 0) → sum_below f n ≡ 0
   sum_zero zero none_there = refl
-  sum_zero (suc n) none_there = let rest : sum_below f n ≡ 0 = sum_zero n (λ k lt. none_there k (omega arith)) in
-      let here = none_there n (omega arith) in omega arith
+  sum_zero (suc n) none_there = grind (arith, sum_zero n)
 
   -- if at most one term isn't 0, and it is 1, so is the sum
   pub sum_one : (n : ℕ) → ((k : ℕ) → f k ≤ 1) → ((j k : ℕ) → j < n → k < n → 0 < f j → 0 < f k → j ≡ k) → sum_below f n ≤ 1
   sum_one zero small single = omega arith
-  sum_one (suc n) small single = elim (cases_lt 0 (f n)) [
-    | inl here ↦ let rest : sum_below f n ≡ 0 = sum_zero n (λ k lt. elim (cases_lt 0 (f k)) [
-      | inl there ↦ let e = single k n (omega arith) (omega arith) there here in absurd (omega arith)
-      | inr no_term ↦ omega arith
-    ]) in let one_term = small n in omega arith
-    | inr no_term ↦ let rest = sum_one n small (λ j k below_j below_k. single j k (omega arith) (omega arith)) in omega arith
-  ]
+  sum_one (suc n) small single = grind (arith, cases_lt, sum_zero, sum_one n small)
 
   -- a sum that is not 0 has a term that is not
   pub term_found : (n : ℕ) → 0 < sum_below f n → (k : ℕ) × (k < n) × (0 < f k)

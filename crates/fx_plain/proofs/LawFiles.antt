@@ -44,8 +44,7 @@ module _ (P : File → Type 0) where
   pub holds_at_end : (start : State) (h : List Event) → HoldsOfAll start → AllowsAll start (map action_of h) → ((f : File) → IsInstalled h f → P f)
       → HoldsOfAll (state_after start (map action_of h))
   holds_at_end start [] all may new = all
-  holds_at_end start (e ∷ h) all may new =
-      holds_after P (λ _. P) (λ _ p. p) (holds_at_end start h all may.0 (λ f is. new f (inl is))) e.action may.1 (λ f is. new f (inr is))
+  holds_at_end start (e ∷ h) all may new = grind (arith, holds_after, holds_at_end start h all may.0 (λ f is. new f (inl is)))
 
   -- and for each file that was closed
   pub holds_of_closes : (start : State) (h : List Event) → HoldsOfAll start → AllowsAll start (map action_of h) → ((f : File) → IsInstalled h f → P f)

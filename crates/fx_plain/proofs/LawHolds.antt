@@ -58,9 +58,7 @@ tally_after st _ n may few = omega arith
 pub tally_all : (start : State) (h : List Event) (n : ℕ) → tally n start ≤ 1 → AllowsAll start (map action_of h)
     → tally n (state_after start (map action_of h)) + length (closes_of n h) ≡ tally n start
 tally_all start [] n few may = omega arith
-tally_all start (e ∷ h) n few may =
-    let st = state_after start (map action_of h) in let earlier = tally_all start h n few may.0 in
-    let now = tally_after st e.action n may.1 (omega arith) in omega (arith, length-append (closes_of n h) (closed_of n e.action))
+tally_all start (e ∷ h) n few may = grind (arith, tally_after, length-append, tally_all start h n few may.0)
 
 -- a fresh number is at no slot, at the start
 none_placed : {st : State} (n : ℕ) → IsStart st → st.fresh n ≡ true → placed n st.at st.size ≡ 0

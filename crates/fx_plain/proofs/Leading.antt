@@ -32,14 +32,11 @@ legal_behind start end h more none legal = grind (arith, allowed_behind, state_b
 -- one history goes on where another ended
 pub leads_then : (first mid last : State) (h more : List Action) → Leads first h mid → Leads mid more last → Leads first (h ▷▷ more) last
 leads_then first mid last h [] lead next = (lead.0, next.1 ∙ lead.1)
-leads_then first mid last h (action ∷ more) lead next =
-    let before = leads_then first mid (state_after mid more) h more lead (next.0.0, refl) in
-    ((before.0, subst (λ (st : State). Allows st action) before.1 next.0.1), next.1 ∙ ap (λ (st : State). after st action) before.1)
+leads_then first mid last h (action ∷ more) lead next = grind (arith, leads_then first mid (state_after mid more) h more lead (next.0.0, refl))
 
 pub closes_in-then : (h more : List Action) → closes_in (h ▷▷ more) ≡ closes_in h ++ closes_in more
 closes_in-then h [] = sym (append-nil (closes_in h))
-closes_in-then h (action ∷ more) = ap (λ (files : List Closed). files ++ closed_by action) (closes_in-then h more)
-    ∙ append_assoc (closes_in h) (closes_in more) (closed_by action)
+closes_in-then h (action ∷ more) = grind (arith, append_assoc, closes_in-then h more)
 
 shape_after : (st : State) (action : Action) → ((after st action).size ≡ st.size) × ((after st action).range ≡ st.range)
 shape_after st (Look slot None) = (refl, refl)

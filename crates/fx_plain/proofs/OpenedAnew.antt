@@ -193,10 +193,8 @@ given_more (Some f) l n is = inr is
 
 installs_named : (r : Renaming) (h : List Action) → ((n : ℕ) → IsIn n (numbers_given h) → IsNamed r n) → InstallsNamed r h
 installs_named r [] known = tt
-installs_named r (a ∷ h) known = (
-  installs_named r h (λ n there. known n (given_more (installed_by a) (numbers_given h) n there)),
-  λ f is. known f.number (rw is (inl refl)),
-)
+installs_named r (a ∷ h) known =
+    grind (arith, given_more, installs_named r h (λ n there. known n (given_more (installed_by a) (numbers_given h) n there)))
 
 same_identity : (r : Renaming) (x : Option File) → identity_of (renamed_found r x) ≡ identity_of x
 same_identity r None = refl

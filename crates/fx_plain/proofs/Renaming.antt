@@ -150,15 +150,11 @@ module _ (r : Renaming) (one : IsOneToOne r) where
     state_behind : (h : List Action) → InstallsNamed r h → AllowsAll start h
         → state_after (renamed_state r fresh start) (map (renamed r) h) ≡ renamed_state r (fresh_behind r fresh h) (state_after start h)
     state_behind [] known may = refl
-    state_behind (a ∷ h) known may = ap (λ (s : State). after s (renamed r a)) (state_behind h known.0 may.0)
-        ∙ after_is (renamable_behind h known.0 may.0) a may.1
+    state_behind (a ∷ h) known may = grind (arith, after_is, renamable_behind, state_behind h known.0 may.0)
 
     allowed_behind : (h : List Action) → InstallsNamed r h → AllowsAll start h → AllowsAll (renamed_state r fresh start) (map (renamed r) h)
     allowed_behind [] known may = tt
-    allowed_behind (a ∷ h) known may = (
-      allowed_behind h known.0 may.0,
-      rw (state_behind h known.0 may.0) (allows (renamable_behind h known.0 may.0) a known.1 may.1),
-    )
+    allowed_behind (a ∷ h) known may = grind (arith, state_behind, allows, renamable_behind, allowed_behind h known.0 may.0)
 
 -- the file that a pass holds
 held_after_same : (r : Renaming) (held : Option File) (a : Action)
@@ -173,9 +169,7 @@ if_renamed r false x y on off = off
 
 held_same_by : (r : Renaming) (h : List Event) (pass : ℕ) → held_by (map (renamed_event r) h) pass ≡ renamed_found r (held_by h pass)
 held_same_by r [] pass = refl
-held_same_by r (e ∷ h) pass = if_renamed r (e.pass == pass) (held_after (held_by h pass) e.action) (held_by h pass)
-    (ap (λ (held : Option File). held_after held (renamed r e.action)) (held_same_by r h pass) ∙ held_after_same r (held_by h pass) e.action)
-    (held_same_by r h pass)
+held_same_by r (e ∷ h) pass = grind (arith, if_renamed, held_after_same, held_same_by r h pass)
 
 releases_its_own : (r : Renaming) (held : Option File) {now : Option File} (a : Action) → now ≡ renamed_found r held → ReleasesItsOwn held a
     → ReleasesItsOwn now (renamed r a)
@@ -184,10 +178,7 @@ releases_its_own r held _ same own = tt
 
 all_release : (r : Renaming) (h : List Event) → AllReleaseTheirOwn h → AllReleaseTheirOwn (map (renamed_event r) h)
 all_release r [] own = tt
-all_release r (e ∷ h) own = (
-  all_release r h own.0,
-  releases_its_own r (held_by h e.pass) e.action (held_same_by r h e.pass) own.1,
-)
+all_release r (e ∷ h) own = grind (arith, releases_its_own, held_same_by, all_release r h own.0)
 
 -- the actions of a history
 actions_renamed : (r : Renaming) (h : List Event) → map action_of (map (renamed_event r) h) ≡ map (renamed r) (map action_of h)

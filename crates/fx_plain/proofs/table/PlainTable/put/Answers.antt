@@ -66,6 +66,4 @@ returns-in-Some-clause-replaced c = let a = (goal.at.returns-in-Some-clause-repl
 
 -- a slot that has a file isn't empty
 pub returns-in-Some-clause-settled : goal.returns-in-Some-clause-settled
-returns-in-Some-clause-settled c empty settled = let a = (goal.at.returns-in-Some-clause-settled c).After-index-replaced in
-    let none = unnamed c.args.slot c.self.invariant.0.0 (rw (sym c.self.view_is) at empty) in
-    let e : None ≡ Some c.in-Some.old = sym none ∙ at a c.in-Some.is in absurd (cc e)
+returns-in-Some-clause-settled c empty settled = grind (arith, at, unnamed)
