@@ -115,11 +115,7 @@ impl Request {
                 name: _,
                 target: Target::Slot(slot),
             }
-            | Op::Read {
-                slot,
-                off: _,
-                len: _,
-            }
+            | Op::Read { slot, .. }
             | Op::Close { slot } => (*slot as usize, *slot as usize + 1),
             Op::Update { off, list } => (*off as usize, *off as usize + list.len()),
         }
@@ -181,11 +177,7 @@ impl Request {
                 Target::Any => None,
             },
             Op::Update { off: _, list } => i32::try_from(list.len()).ok(),
-            Op::Read {
-                slot: _,
-                off: _,
-                len: _,
-            } => None,
+            Op::Read { .. } => None,
             Op::Close { slot: _ } => None,
         }
     }
@@ -194,14 +186,7 @@ impl Request {
     pub fn is_read(&self) -> bool
         ensures { result ≡ is_read (operation_of self.now.op) }
     {
-        matches!(
-            self.op,
-            Op::Read {
-                slot: _,
-                off: _,
-                len: _,
-            }
-        )
+        matches!(self.op, Op::Read { .. })
     }
 
     /// Returns the number of bytes that the request asks for, 0 unless it is a read. Only a request
@@ -210,11 +195,7 @@ impl Request {
         ensures { result ≡ bytes_asked (operation_of self.now.op) }
     {
         match self.op {
-            Op::Read {
-                slot: _,
-                off: _,
-                len,
-            } => len,
+            Op::Read { len, .. } => len,
             _ => 0,
         }
     }
@@ -256,11 +237,7 @@ fn intent_at(
 {
     let only = match &request.op {
         Op::Open { name: _, target } => open_intent(*target, place.installed(0, entry)),
-        Op::Read {
-            slot,
-            off: _,
-            len: _,
-        } => Intent::Look(*slot),
+        Op::Read { slot, .. } => Intent::Look(*slot),
         Op::Close { slot } => Intent::Take(*slot),
         Op::Update { off, list } => {
             return list_intent(place, catalogue.len(), (0, *off), list, made);

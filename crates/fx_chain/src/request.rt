@@ -112,11 +112,7 @@ impl Request {
             ≤ weight_of (operation_of self.now.op) + result }
     {
         match &self.op {
-            Op::Read {
-                slot: _,
-                off: _,
-                len: _,
-            } => 1,
+            Op::Read { .. } => 1,
             _ => 0,
         }
     }
@@ -146,11 +142,7 @@ impl Request {
             return true;
         }
         match self.op {
-            Op::Read {
-                slot: _,
-                off: _,
-                len,
-            } => (completion.res as i64) < len as i64,
+            Op::Read { len, .. } => (completion.res as i64) < len as i64,
             _ => false,
         }
     }
@@ -161,11 +153,7 @@ impl Request {
     {
         let fixed = self.flags.contains(SqeFlags::FIXED_FILE);
         match self.op {
-            Op::Read {
-                slot: _,
-                off: _,
-                len: _,
-            } => !fixed,
+            Op::Read { .. } => !fixed,
             _ => fixed,
         }
     }
@@ -175,11 +163,7 @@ impl Request {
         ensures { result ≡ is_long_read (operation_of self.now.op) }
     {
         match self.op {
-            Op::Read {
-                slot: _,
-                off: _,
-                len,
-            } => len > LONGEST_READ,
+            Op::Read { len, .. } => len > LONGEST_READ,
             _ => false,
         }
     }
@@ -269,11 +253,7 @@ pub(crate) fn refusal_of_opened(entries: u32, size: u32, request: &Request) -> O
 {
     match &request.op {
         Op::Open { name: _, target } => target_refusal(size, *target),
-        Op::Read {
-            slot,
-            off: _,
-            len: _,
-        } => (*slot >= size).then_some(Errno::EBADF),
+        Op::Read { slot, .. } => (*slot >= size).then_some(Errno::EBADF),
         Op::Close { slot } => slot_refusal(size, *slot),
         Op::Update { off, list } => list_refusal(entries, size, *off, list),
     }
