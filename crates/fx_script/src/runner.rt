@@ -68,11 +68,7 @@ const MOST_BYTES: usize = LONGEST_SCRIPT + 1;
 fn front(bytes: &[u8], most: usize) -> &[u8]
     ensures { result.now ≡ take most bytes.now }
 {
-    if most < bytes.len() {
-        &bytes[..most]
-    } else {
-        bytes
-    }
+    &bytes[..most.min(bytes.len())]
 }
 
 // Reads to the end, and keeps only as many bytes as show that a script is too long. An interrupted
