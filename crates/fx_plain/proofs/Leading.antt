@@ -1,6 +1,6 @@
 -- Histories that go on from one another.
 use Rattle.fx_plain.proofs.Words.{◌≡◌, ℕ, List, [], ◌∷◌, ◌++◌, map, refl, ap, ◌∙◌, None, State, after, state_after, AllowsAll, action_of, Event, sym}
-use Rattle.fx_plain.proofs.Words.{subst, append_assoc, Closed, Action, Look, Allows, ◌▷▷◌, Leads, closes_in, closed_by, append-nil}
+use Rattle.fx_plain.proofs.Words.{append_assoc, Action, Look, ◌▷▷◌, Leads, closes_in, append-nil}
 use Rattle.fx_plain.specs.History.{held_by, AllReleaseTheirOwn}
 use Rattle.fx_plain.specs.Reopening.{LegalAfter}
 use Rattle.std.proofs.Common.{arith}

@@ -1,6 +1,6 @@
 -- One step of a table, and a history, with other numbers.
 use Rattle.fx_plain.proofs.Words.{◌≡◌, ◌≢◌, ℕ, ◌+◌, ◌-◌, ◌<◌, Bool, true, false, List, [], ◌∷◌, map, refl, sym, ap, subst, ◌∙◌, Option, Some, None}
-use Rattle.fx_plain.proofs.Words.{IsSome, if◌then◌else◌, ◌==◌, State, Allows, AllowsAll, after, state_after, changed_at, with_removed, IsLegal}
+use Rattle.fx_plain.proofs.Words.{IsSome, if◌then◌else◌, State, Allows, AllowsAll, after, state_after, changed_at, with_removed, IsLegal}
 use Rattle.fx_plain.proofs.Words.{action_of, File, Event, Action, Look, Release, Put, Clear, Take, Allocate, Close, Full, installed_by}
 use Rattle.fx_plain.specs.History.{held_after, held_by, ReleasesItsOwn, AllReleaseTheirOwn}
 use Rattle.fx_plain.specs.Reopening.{Renaming, renamed_found, renamed, renamed_event}

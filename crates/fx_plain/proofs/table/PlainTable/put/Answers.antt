@@ -1,4 +1,4 @@
-use Rattle.fx_plain.proofs.Words.{rules, ◌≡◌, ◌<◌, ◌+◌, Some, None, sym, length, slice_set, arith, ◌∙◌, ℕ, Option, ◌^◌, refl, Put, Contents, IsTable}
+use Rattle.fx_plain.proofs.Words.{rules, ◌≡◌, ◌<◌, ◌+◌, Some, None, sym, length, slice_set, arith, ℕ, Option, ◌^◌, refl, Put, Contents, IsTable}
 use Rattle.fx_plain.proofs.Words.{IsCounted, state_of, At, slot_at, file_count_of, numbered, HaveOwnOutside, LetsLeave, the_view}
 use Rattle.fx_plain.proofs.Cells.{has_file-At, unnamed}
 use Rattle.fx_plain.proofs.Removals.{put_at, IsFree, fresh_free, seen_at, still_names, put_removes, put_counted}
