@@ -45,9 +45,7 @@ counts_more r counts none = record {
 counts_all : (front more behind : List Asked) → Counts front → first_fault front (more ++ behind) ≡ None
     → Counts (front ++ more) × (first_fault (front ++ more) behind ≡ None)
 counts_all front [] behind counts none = rw append-nil (counts, none)
-counts_all front (x ∷ more) behind counts none =
-    let parts = or_later-none (length front + 1) (fault_of_next front x) (first_fault (front ++ x ∷ []) (more ++ behind)) none in
-    rw (append_assoc front (x ∷ []) more) at (counts_all (front ++ x ∷ []) more behind (counts_more x counts parts.0) parts.1)
+counts_all front (x ∷ more) behind counts none = grind (arith, or_later-none, append_assoc, counts_more, counts_all (front ++ x ∷ []) more behind)
 
 counts_of : (requests : List Asked) → IsAccepted requests → Counts requests
 counts_of requests accepted = (counts_all [] requests [] counts_none (rw append-nil accepted)).0
@@ -192,10 +190,7 @@ last_or_before : (front more behind : List Asked) (x r : Asked) → front ++ x �
 last_or_before [] [] behind x r is = inl (refl, cc)
 last_or_before [] (y ∷ more) behind x r is = absurd (omega (arith, ap length is, length-append more (r ∷ behind)))
 last_or_before (y ∷ front) [] behind x r is = inr (front, cc)
-last_or_before (y ∷ front) (z ∷ more) behind x r is = elim (last_or_before front more behind x r (cc)) [
-  | inl last ↦ inl (cc last.0, last.1)
-  | inr (rest, parts) ↦ inr (rest, cc)
-]
+last_or_before (y ∷ front) (z ∷ more) behind x r is = grind (arith, last_or_before front more behind x r)
 
 none_more : (front : List Asked) (x : Asked) → HasNoFault front → fault_of_next front x ≡ None → HasNoFault (front ++ x ∷ [])
 none_more front x none here more r behind is = grind (arith, last_or_before)

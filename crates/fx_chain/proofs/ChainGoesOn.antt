@@ -5,7 +5,7 @@ use Rattle.fx_chain.proofs.Words.{Bool, true, false, ◌||◌, refl, inl, inr, a
 use Rattle.fx_chain.proofs.Words.{append-nil, cases_Bool, sum_by-append, sum_by-cons, MatchBool, FileEntry, Action, ◌▷▷◌, Opening, Completed}
 use Rattle.fx_chain.proofs.Words.{next_member, refusal, Explains, AnswersAfter, canceled, severs, Asked, PlayerView, AnswersNext, PlaysMembers}
 use Rattle.fx_chain.proofs.Words.{Place, sum_by, ECANCELED}
-use Rattle.std.proofs.Math.Bool.{or-false, or_assoc}
+use Rattle.std.proofs.Math.Bool.{or-false}
 use Rattle.fx_chain.proofs.ActsInTurn.{so_then, may_free_then}
 use Rattle.fx_chain.proofs.Cases.{either_case}
 
@@ -45,8 +45,7 @@ either false p q = q
 canceled_more : (place : Place) (requests : List Asked) (r : Asked) (n : ℕ) → n ≡ place.member + length requests
     → canceled place (requests ++ r ∷ []) ≡ canceled place requests ++ refusal (record place { member = n }) ECANCELED ∷ []
 canceled_more place [] r n is = let same : n ≡ place.member = omega arith in rw same
-canceled_more place (x ∷ requests) r n is =
-    ap (λ (cs : List Completed). refusal place ECANCELED ∷ cs) (canceled_more (next_member place) requests r n (omega arith))
+canceled_more place (x ∷ requests) r n is = grind (arith, canceled_more (next_member place) requests r n)
 
 -- each member that was canceled has a completion
 pub canceled_count : (place : Place) (requests : List Asked) → length (canceled place requests) ≡ length requests
@@ -59,9 +58,7 @@ module _ (catalogue : List FileEntry) (size : ℕ) where
       → Explains catalogue size place requests events cs → length cs ≡ length requests
   explained_count place [] events cs (none, nobody) = ap length nobody
   explained_count place (x ∷ requests) events cs (own, others, c, rest, is, cs_is, answers, goes) =
-      ap length cs_is ∙ ap suc (either_case (severs x c)
-      (λ (ended : (others ≡ []) × (rest ≡ canceled (next_member place) requests)). ap length ended.1 ∙ canceled_count (next_member place) requests)
-      (explained_count (next_member place) requests others rest) goes)
+      grind (arith, either_case, canceled_count, explained_count (next_member place) requests others rest)
 
   -- the next member is performed if no earlier member severed the chain, and canceled otherwise
   pub explains_next : (place : Place) (requests : List Asked) (r : Asked) (events own : List Action) (cs : List Completed) (c : Completed) (n : ℕ)
@@ -96,9 +93,7 @@ module _ (catalogue : List FileEntry) (size : ℕ) where
 pub any_severs-push : (requests : List Asked) (cs : List Completed) (r : Asked) (c : Completed) → length cs ≡ length requests
     → any_severs (requests ++ r ∷ []) (cs ++ c ∷ []) ≡ (any_severs requests cs || severs r c)
 any_severs-push [] [] r c count = or-false (severs r c)
-any_severs-push (x ∷ requests) (d ∷ cs) r c count =
-    ap (λ (b : Bool). severs x d || b) (any_severs-push requests cs r c (omega arith))
-    ∙ sym (or_assoc (severs x d) (any_severs requests cs) (severs r c))
+any_severs-push (x ∷ requests) (d ∷ cs) r c count = grind (arith, any_severs-push requests cs r c)
 any_severs-push _ _ r c count = absurd (omega arith)
 
 -- the next member is answered

@@ -30,8 +30,7 @@ applies_more place in_list slot [] z at to events own at_is to_is none applies =
     let same_slot : to ≡ slot = omega arith in
     (own, [], rw (none, append-nil), rw (same_place, same_slot) at applies, refl)
 applies_more place in_list slot (x ∷ list) z at to events own at_is to_is (first, others, is, front, rest) applies =
-    let more = applies_more place (in_list + 1) (slot + 1) list z at to others own (omega arith) (omega arith) rest applies in
-    (first, others ▷▷ own, rw (is, append_assoc), front, more)
+    grind (arith, append_assoc, applies_more place (in_list + 1) (slot + 1) list z at to others own)
 
 -- the entries that are left install what this one and the later ones do
 pub installs_left : (list : List ℤ) (i : ℕ) → i < length list → list_installs (drop i list)

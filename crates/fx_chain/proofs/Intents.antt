@@ -2,24 +2,19 @@
 -- their number.
 use Rattle.fx_chain.proofs.Words.{◌≡◌, ℕ, suc, ◌+◌, ◌<◌, ℤ, negsuc, int_le, Bool, if◌then◌else◌, List, [], ◌∷◌, ◌++◌}
 use Rattle.fx_chain.proofs.Words.{length, filter, refl, Option, Some, arith, take, take_more, length-take-le, append-nil, append_assoc}
-use Rattle.fx_chain.proofs.Words.{slice_index_or, cases_Bool, inl, inr}
+use Rattle.fx_chain.proofs.Words.{slice_index_or, cases_Bool}
 use Rattle.fx_chain.proofs.Words.{FileEntry, true, zero}
 use Rattle.fx_base.specs.AddFault.{has_name}
 use Rattle.fx_base.specs.Catalogue.{name_at}
 use Rattle.std.proofs.Common.{add-zero}
 use Rattle.std.proofs.lemmas.Slice.Eq.{bytes_eq-Decides}
-use Rattle.std.specs.Str.{bytes_eq}
 use Rattle.fx_chain.specs.Intents.{positions_from}
 
 -- the name of an entry is one of the catalogue
 pub has_its_name : (catalogue : List FileEntry) (entry : ℕ) (name : List ℕ) → name_at catalogue entry ≡ Some name → has_name name catalogue ≡ true
 has_its_name [] entry name is = absurd (cc)
-has_its_name (x ∷ xs) zero name is =
-    let same : x.name ≡ name = cc in let here : bytes_eq x.name name ≡ true = (bytes_eq-Decides x.name name).1 same in rw here refl
-has_its_name (x ∷ xs) (suc entry) name is = elim (cases_Bool (bytes_eq x.name name)) [
-  | inl here ↦ rw here refl
-  | inr other ↦ rw (other, has_its_name xs entry name is) refl
-]
+has_its_name (x ∷ xs) zero name is = grind (arith, bytes_eq-Decides)
+has_its_name (x ∷ xs) (suc entry) name is = grind (arith, cases_Bool, has_its_name xs entry name is)
 
 -- the position of an entry that isn't a skip
 abbrev position_at : ℕ → ℤ → List (Option ℕ)
@@ -29,16 +24,12 @@ position_at in_list entry = if int_le (negsuc 0) entry then Some in_list ∷ [] 
 pub length_positions : (in_list : ℕ) (list : List ℤ)
     → length (positions_from in_list list) ≡ length (filter (λ entry. int_le (negsuc 0) entry) list)
 length_positions in_list [] = refl
-length_positions in_list (entry ∷ list) = elim (cases_Bool (int_le (negsuc 0) entry)) [
-  | inl done ↦ rw (done, length_positions (in_list + 1) list)
-  | inr skipped ↦ rw (skipped, length_positions (in_list + 1) list)
-]
+length_positions in_list (entry ∷ list) = grind (arith, cases_Bool, length_positions (in_list + 1) list)
 
 one_more : (in_list : ℕ) (list : List ℤ) (entry : ℤ)
     → positions_from in_list (list ++ entry ∷ []) ≡ positions_from in_list list ++ position_at (in_list + length list) entry
 one_more in_list [] entry = rw (add-zero, append-nil)
-one_more in_list (x ∷ list) entry =
-    let e : in_list + suc (length list) ≡ in_list + 1 + length list = omega arith in rw (one_more (in_list + 1) list entry, e, append_assoc)
+one_more in_list (x ∷ list) entry = grind (arith, append_assoc, one_more (in_list + 1) list entry)
 
 -- with the position of the next entry
 pub positions_more : (list : List ℤ) {i : ℕ} (d : ℤ) {b : Bool} {old new : List (Option ℕ)} → i < length list

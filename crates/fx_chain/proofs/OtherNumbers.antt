@@ -89,8 +89,7 @@ given_one a l = grind arith
 
 given_both : (later earlier : List Action) → given (later ++ earlier) ≡ given earlier + given later
 given_both [] earlier = omega arith
-given_both (a ∷ later) earlier =
-    omega (arith, given_both later earlier, given_one a (numbers_given (later ++ earlier)), given_one a (numbers_given later))
+given_both (a ∷ later) earlier = grind (arith, given_one, given_both later earlier)
 
 given_so_far : (steps : List Action) (removed : Option File) (events : List Action) → MayClose steps removed events → given events ≡ given steps
 given_so_far steps None events is = ap given is
@@ -126,9 +125,7 @@ few_by_list : (list : List ℤ) (place : Place) (in_list slot : ℕ) (events : L
     → given events ≤ list_installs list
 few_by_list [] place in_list slot events is = rw is (omega arith)
 few_by_list (number ∷ list) place in_list slot events (own, others, is, first, rest) =
-    let one = few_by_entry place in_list slot number own first in
-    let more = few_by_list list place (in_list + 1) (slot + 1) others rest in
-    rw (is, given_both others own, list_installs-cons number list) (omega arith)
+    grind (arith, few_by_entry, given_both, list_installs-cons, few_by_list list place (in_list + 1) (slot + 1) others rest)
 
 few_at_table : (catalogue : List FileEntry) (place : Place) (operation : Operation) (events : List Action) (c : Completed)
     → AnswersAtTable catalogue place operation events c → given events ≤ installs_of operation

@@ -151,10 +151,7 @@ in_front-append x (run ∷ runs) more some = refl
 pub runs_of-append : (front rest : List Asked) → is_over front ≡ true → runs_of (front ++ rest) ≡ runs_of front ++ runs_of rest
 runs_of-append [] rest over = cc
 runs_of-append (x ∷ []) rest over = rw (not-true (is_link x.flags) over)
-runs_of-append (x ∷ y ∷ ys) rest over = elim (cases_Bool (is_link x.flags)) [
-  | inl links ↦ rw (links, runs_of-append (y ∷ ys) rest over) (in_front-append x (runs_of (y ∷ ys)) (runs_of rest) (runs-some y ys))
-  | inr ends ↦ rw (ends, runs_of-append (y ∷ ys) rest over)
-]
+runs_of-append (x ∷ y ∷ ys) rest over = grind (arith, cases_Bool, in_front-append, runs-some, runs_of-append (y ∷ ys) rest over)
 
 -- a list is what is over, and then its open run
 record Ends (front : List Asked) : Type 0 where
@@ -199,9 +196,7 @@ begins_at [] r behind linked = elim (cases_Bool (is_link r.flags)) [
   | inl links ↦ let one = begins_one r (runs_of behind) in record { rest = one.0; later = one.1; parts = rw links one.2 }
   | inr ends ↦ record { rest = []; later = runs_of behind; parts = rw ends }
 ]
-begins_at (x ∷ run) r behind linked =
-    let next = begins_at run r behind (All-tail Links x run linked) in
-    record { rest = next.rest; later = next.later; parts = rw (All-head Links x run linked, next.parts) }
+begins_at (x ∷ run) r behind linked = grind (arith, All-tail, All-head, begins_at run r behind (All-tail Links x run linked))
 
 runs_of-closed : (front rest : List Asked) → IsClosed front → runs_of (front ++ rest) ≡ runs_of front ++ runs_of rest
 runs_of-closed front rest (inl none) = rw none
@@ -223,8 +218,7 @@ is_in_run front r behind =
 pub but_last-links : (run : List Asked) → AllLink run → IsLinked run
 but_last-links [] linked = linked
 but_last-links (x ∷ []) linked = All-nil Links
-but_last-links (x ∷ y ∷ run) linked =
-    All-cons Links x (but_last (y ∷ run)) (All-head Links x (y ∷ run) linked) (but_last-links (y ∷ run) (All-tail Links x (y ∷ run) linked))
+but_last-links (x ∷ y ∷ run) linked = grind (arith, All-cons, All-head, All-tail, but_last-links (y ∷ run) (All-tail Links x (y ∷ run) linked))
 
 -- the open run after one more request
 pub open_run-over : (front : List Asked) (r : Asked) → is_link r.flags ≡ false → open_run (front ++ r ∷ []) ≡ []
