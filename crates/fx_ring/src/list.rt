@@ -45,12 +45,8 @@ fn has_bad_tag(list: &[i32], tags: &[u64]) -> bool
     requires { length list.now ≡ length tags.now }
     ensures { result ≡ list_any (λ pair. is_bad_tag pair.0 pair.1) (zip list.now tags.now) }
 {
-    for i in 0..list.len() {
-        if is_bad_tag(list[i], tags[i]) {
-            return true;
-        }
-    }
-    false
+    let mut pairs = list.iter().zip(tags);
+    pairs.any(|(number, tag)| is_bad_tag(*number, *tag))
 }
 
 /// Checks whether `tags` and `list` differ in length, or a number below 0, which opens no file, has
