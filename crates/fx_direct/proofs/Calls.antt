@@ -1,6 +1,6 @@
 -- Calls in flight, counted by slot, and what each says of its slot.
-use Rattle.fx_direct.proofs.Words.{arith, ◌≡◌, ◌≢◌, ℕ, ◌+◌, ◌<◌, ◌==◌, Bool, true, false, if◌then◌else◌, List, [], ◌∷◌, ◌++◌, refl, ap}
-use Rattle.fx_direct.proofs.Words.{Option, Some, None, eq-eqb, ne_eqb, File, Phase, Slot}
+use Rattle.fx_direct.proofs.Words.{arith, ◌≡◌, ◌≢◌, ℕ, ◌+◌, ◌<◌, ◌==◌, Bool, true, false, if◌then◌else◌, List, [], ◌∷◌, ◌++◌, ap}
+use Rattle.fx_direct.proofs.Words.{AllByRecursion, Option, Some, None, eq-eqb, ne_eqb, File, Phase, Slot}
 use Rattle.fx_direct.proofs.Words.{Free, Opening, Live, Ending, Closing, is_installed, DirectCall, OpenAt, UseOf, CloseOf, key_of_call, Pending}
 
 abbrev pub place_of : Pending → ℕ
@@ -31,27 +31,23 @@ pub tally-mid : (s : ℕ) (front rest : List Pending) (p : Pending)
     → tally s (front ++ p ∷ rest) ≡ at_slot s p + tally s (front ++ rest)
 tally-mid s front rest p = omega (arith, tally-append s front (p ∷ rest), tally-append s front rest)
 
-abbrev pub Each : (Pending → Type 0) → List Pending → Type 0
-Each P [] = Unit {0}
-Each P (p ∷ ps) = P p × Each P ps
-
 pub each-out : (P : Pending → Type 0) (front rest : List Pending) (p : Pending)
-    → Each P (front ++ p ∷ rest) → P p × Each P (front ++ rest)
+    → AllByRecursion P (front ++ p ∷ rest) → P p × AllByRecursion P (front ++ rest)
 each-out P [] rest p all = all
 each-out P (x ∷ front) rest p all = let e = each-out P front rest p all.1 in (e.0, (all.0, e.1))
 
 pub each-in : (P : Pending → Type 0) (front rest : List Pending) (p : Pending)
-    → P p → Each P (front ++ rest) → Each P (front ++ p ∷ rest)
+    → P p → AllByRecursion P (front ++ rest) → AllByRecursion P (front ++ p ∷ rest)
 each-in P [] rest p own all = (own, all)
 each-in P (x ∷ front) rest p own all = (all.0, each-in P front rest p own all.1)
 
-pub each-map : (P Q : Pending → Type 0) (ps : List Pending) → ((p : Pending) → P p → Q p) → Each P ps → Each Q ps
+pub each-map : {A : Type 0} (P Q : A → Type 0) (ps : List A) → ((p : A) → P p → Q p) → AllByRecursion P ps → AllByRecursion Q ps
 each-map P Q [] f all = tt
 each-map P Q (p ∷ ps) f all = (f p all.0, each-map P Q ps f all.1)
 
 -- of calls of which none is at the slot
 pub each-away : (P Q : Pending → Type 0) (s : ℕ) (ps : List Pending) → tally s ps ≡ 0
-    → ((p : Pending) → place_of p ≢ s → P p → Q p) → Each P ps → Each Q ps
+    → ((p : Pending) → place_of p ≢ s → P p → Q p) → AllByRecursion P ps → AllByRecursion Q ps
 each-away P Q s [] none f all = tt
 each-away P Q s (p ∷ ps) none f all =
     let here : at_slot s p ≡ 0 = omega arith in let rest : tally s ps ≡ 0 = omega arith in
@@ -89,18 +85,13 @@ pub stands_same : {slot slot' : Slot} {at at' : Option File} {files files' : Lis
     → slot' ≡ slot → at' ≡ at → files' ≡ files → Stands slot.phase at files → Stands slot'.phase at' files'
 stands_same e2 e3 e4 stands = rw (e2, e3, e4) stands
 
--- an open phase isn't this one
-pub no_phase : (p q : Phase) → is_installed q ≡ false → is_installed p ≡ true → p ≡ q → ⊥
-no_phase p q shut live e = let h : is_installed p ≡ is_installed q = ap is_installed e in cc
-
 -- a call of an open slot is a request, and it fits every open phase
 pub open_stays : (call : DirectCall) (made : Bool) (p p' : Phase) (at : Option File) (files : List File)
     → is_installed p ≡ true → is_installed p' ≡ true → Fits call made p at files → Fits call made p' at files
-open_stays (OpenAt k) false p p' at files live live' fits = absurd (no_phase p Opening refl live fits.0)
-open_stays (OpenAt k) true p p' at files live live' fits = absurd (no_phase p Opening refl live fits.0)
 open_stays (UseOf k) made p p' at files live live' fits = (live', fits.1)
-open_stays (CloseOf k) false p p' at files live live' fits = absurd (no_phase p Closing refl live fits.0)
-open_stays (CloseOf k) true p p' at files live live' fits = absurd (no_phase p Closing refl live fits.0)
+open_stays (OpenAt k) false p p' at files live live' fits = let shut = ap is_installed fits.0 in absurd cc
+open_stays (CloseOf k) false p p' at files live live' fits = let shut = ap is_installed fits.0 in absurd cc
+open_stays _ _ p p' at files live live' fits = let shut = ap is_installed fits.0 in absurd cc
 
 -- an open slot has its file
 pub open_stands : (p : Phase) (at : Option File) (files : List File) → is_installed p ≡ true → Stands p at files → HasOne at files

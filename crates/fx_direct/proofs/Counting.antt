@@ -3,7 +3,7 @@ use Rattle.fx_direct.proofs.Words.{arith, ◌≡◌, ◌≢◌, ℕ, ◌+◌, �
 use Rattle.fx_direct.proofs.Words.{if◌then◌else◌, cases_eq, eq-eqb, ne_eqb, Transition, LifeKey, Phase, Slot, Reserves, Opens, Starts, Finishes, Holds, Releases, Ends, Asks, Closes}
 use Rattle.fx_direct.proofs.Words.{AllFree, AreEnabled, slots_left_by, FailsToClose, Free, Opening, Live, Ending, Closing, slot_numbered, phase_at, requests_in, users_in, is_live, key_concerned, IsEnabled, phase_after, slots_with, same_key}
 use Rattle.fx_direct.specs.Counts.{bit, times, reserves, phase_of}
-use Rattle.fx_direct.specs.Counts.{IsBalanced}
+use Rattle.fx_direct.specs.Counts.{EachKeyIsBalanced, IsBalanced, KeysAreGivenOnce, NothingIsLeftOfALife}
 use Rattle.fx_direct.proofs.Moves.{after-here, after-else}
 use Rattle.fx_direct.proofs.Turns.{within}
 
@@ -31,43 +31,22 @@ at_phase {h} {k} e b = subst (IsBalanced h k) e b
 own : (d : Transition) (h : List Transition) (k : LifeKey) (p : Phase) → Fits d p → bit (same_key (key_concerned d) k) ≡ 1
     → ((j : LifeKey) → d ≡ Reserves j → times (reserves k) h ≡ 0)
     → IsBalanced h k p → IsBalanced (d ∷ h) k (phase_after d p)
-own (Reserves j) h k p fits one new b = let c = at_phase fits b in let n = new j refl in
-    record { requests = omega arith; users = omega arith; ended = omega arith; asked = omega arith; closed = omega arith; once = omega arith; opened = omega arith }
-own (Opens j true) h k p fits one new b = let c = at_phase fits b in
-    record { requests = omega arith; users = omega arith; ended = omega arith; asked = omega arith; closed = omega arith; once = omega arith; opened = omega arith }
-own (Opens j false) h k p fits one new b = let c = at_phase fits b in
-    record { requests = omega arith; users = omega arith; ended = omega arith; asked = omega arith; closed = omega arith; once = omega arith; opened = omega arith }
-own (Asks j) h k p fits one new b = let c = at_phase fits b in
-    record { requests = omega arith; users = omega arith; ended = omega arith; asked = omega arith; closed = omega arith; once = omega arith; opened = omega arith }
-own (FailsToClose j) h k p fits one new b = let c = at_phase fits b in
-    record { requests = omega arith; users = omega arith; ended = omega arith; asked = omega arith; closed = omega arith; once = omega arith; opened = omega arith }
-own (Closes j) h k p fits one new b = let c = at_phase fits b in
-    record { requests = omega arith; users = omega arith; ended = omega arith; asked = omega arith; closed = omega arith; once = omega arith; opened = omega arith }
-own d h k (Live a u) fits one new b =
-    record { requests = omega arith; users = omega arith; ended = omega arith; asked = omega arith; closed = omega arith; once = omega arith; opened = omega arith }
-own (Finishes j) h k (Ending a u) fits one new b =
-    record { requests = omega arith; users = omega arith; ended = omega arith; asked = omega arith; closed = omega arith; once = omega arith; opened = omega arith }
-own (Finishes j) h k _ fits one new b = absurd (omega arith)
-own (Releases j) h k (Ending a u) fits one new b =
-    record { requests = omega arith; users = omega arith; ended = omega arith; asked = omega arith; closed = omega arith; once = omega arith; opened = omega arith }
-own (Releases j) h k _ fits one new b = absurd (omega arith)
-own _ h k _ fits one new b = absurd cc
+own (Reserves j) h k p fits one new b = let c = at_phase fits b in let n = new j refl in search arith
+own (Opens j true) h k p fits one new b = let c = at_phase fits b in search arith
+own (Opens j false) h k p fits one new b = let c = at_phase fits b in search arith
+own (Asks j) h k p fits one new b = let c = at_phase fits b in search arith
+own (FailsToClose j) h k p fits one new b = let c = at_phase fits b in search arith
+own (Closes j) h k p fits one new b = let c = at_phase fits b in search arith
+own d h k (Live a u) fits one new b = search arith
+own (Finishes j) h k (Ending a u) fits one new b = search arith
+own (Releases j) h k (Ending a u) fits one new b = search arith
+own _ h k _ fits one new b = absurd (grind arith)
 
 -- a transition of another key counts for nothing
 other : (d : Transition) (h : List Transition) (k : LifeKey) (p : Phase) → bit (same_key (key_concerned d) k) ≡ 0
     → IsBalanced h k p → IsBalanced (d ∷ h) k p × (times (reserves k) (d ∷ h) ≡ times (reserves k) h)
-other (Opens j true) h k p none b = (
-  record { requests = omega arith; users = omega arith; ended = omega arith; asked = omega arith; closed = omega arith; once = omega arith; opened = omega arith },
-  omega arith,
-)
-other (Opens j false) h k p none b = (
-  record { requests = omega arith; users = omega arith; ended = omega arith; asked = omega arith; closed = omega arith; once = omega arith; opened = omega arith },
-  omega arith,
-)
-other _ h k p none b = (
-  record { requests = omega arith; users = omega arith; ended = omega arith; asked = omega arith; closed = omega arith; once = omega arith; opened = omega arith },
-  omega arith,
-)
+other (Opens j true) h k p none b = (search arith, omega arith)
+other _ h k p none b = (search arith, omega arith)
 
 pub fits_of : (slots : List Slot) (d : Transition) → IsEnabled slots d → Fits d (phase_at slots (key_concerned d).slot)
 fits_of slots (Reserves k) can = can.2
@@ -160,16 +139,14 @@ kept_always start [] k free can =
     record { balance = at_phase (sym (phase_free start k (free k.slot))) (nothing k); unborn = λ lt. refl }
 kept_always start (d ∷ h) k free can = one_deed (slots_left_by start h) h d k can.1 (kept_always start h k free can.0)
 
-pub each_key_is_balanced : (start : List Slot) (h : List Transition) (k : LifeKey) → AllFree start → AreEnabled start h
-    → IsBalanced h k (phase_of (slots_left_by start h) k)
+pub each_key_is_balanced : EachKeyIsBalanced
 each_key_is_balanced start h k free can = (kept_always start h k free can).balance
 
-pub nothing_is_left_of_a_life : (start : List Slot) (h : List Transition) (given earlier : LifeKey) → AllFree start → AreEnabled start h
-    → IsEnabled (slots_left_by start h) (Reserves given) → earlier.slot ≡ given.slot → IsBalanced h earlier Free × (times (reserves given) h ≡ 0)
+pub nothing_is_left_of_a_life : NothingIsLeftOfALife
 nothing_is_left_of_a_life start h given earlier free can may same = (
   at_phase (phase_free (slots_left_by start h) earlier (ap (phase_at (slots_left_by start h)) same ∙ may.2)) (kept_always start h earlier free can).balance,
   (kept_always start h given free can).unborn (omega (arith, may.1)),
 )
 
-pub keys_are_given_once : (start : List Slot) (h : List Transition) (k : LifeKey) → AllFree start → AreEnabled start h → times (reserves k) h ≤ 1
+pub keys_are_given_once : KeysAreGivenOnce
 keys_are_given_once start h k free can = (kept_always start h k free can).balance.once

@@ -1,7 +1,7 @@
 mod Asking
 mod Calls
 mod Counting
-mod FirstUse
+mod Flown
 mod Listing
 mod Lives
 mod Mistakes

@@ -6,6 +6,7 @@ use Rattle.fx_direct.specs.Keys.{FitsBits}
 use Rattle.fx_direct.specs.Living.{appearances, keys_at, AreKeysOf}
 use Rattle.fx_direct.specs.Machine.{IsMachine}
 use Rattle.fx_direct.specs.Order.{Order, AreOthers, times_in}
+use Rattle.fx_direct.proofs.Calls.{each-map}
 use Rattle.fx_direct.proofs.Lives.{over_now}
 use Rattle.fx_direct.proofs.Others.{adds_none}
 
@@ -64,12 +65,8 @@ keys_are slots order rest machine others = record {
       (machine.ordered k.slot life.0.0 ∙ not_vacant (phase_at slots k.slot) _ life.1);
 }
 
-all_weaker : (P Q : LifeKey → Type 0) (keys : List LifeKey) → ((k : LifeKey) → P k → Q k) → AllByRecursion P keys → AllByRecursion Q keys
-all_weaker P Q [] weaker all = tt
-all_weaker P Q (k ∷ keys) weaker all = (weaker k all.0, all_weaker P Q keys weaker all.1)
-
 pub keys_fit : (slots : List Slot) (order : Order) (rest : List ℕ) → IsMachine slots order → AreOthers order rest → AllByRecursion FitsBits (keys_at slots rest)
 keys_fit slots order rest machine others =
-    all_weaker (HasLife slots) FitsBits (keys_at slots rest) (λ k life.
+    each-map (HasLife slots) FitsBits (keys_at slots rest) (λ k life.
     (let few = machine.few in let inside = life.0.0 in omega arith, let number = machine.numbers k.slot in let same = life.0.1 in omega arith))
     (each_life slots rest (rest_inside slots order rest machine others))

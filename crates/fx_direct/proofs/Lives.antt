@@ -1,7 +1,7 @@
 -- Laws of a whole life.
-use Rattle.fx_direct.proofs.Words.{arith, ◌≡◌, ◌≢◌, ℕ, ◌+◌, ◌<◌, ◌≤◌, ◌⊎◌, inl, inr, true, false, List, [], ◌∷◌, length, refl, sym, ap, ◌∙◌, subst}
-use Rattle.fx_direct.proofs.Words.{Option, Some, None, cases_eq, cases_lt, ◌▷▷◌, Transition, LifeKey, Phase, Slot, Reserves, Opens, Starts, Finishes, Holds, Releases}
-use Rattle.fx_direct.proofs.Words.{Asks, Closes, FailsToClose, Free, Opening, Live, Ending, Closing, slot_numbered, phase_at, is_live, requests_in, users_in}
+use Rattle.fx_direct.proofs.Words.{arith, ◌≡◌, ◌≢◌, ℕ, ◌+◌, ◌<◌, ◌≤◌, ◌⊎◌, inl, inr, true, List, [], ◌∷◌, length, refl, sym, ap, ◌∙◌, subst}
+use Rattle.fx_direct.proofs.Words.{Option, Some, None, cases_eq, cases_lt, ◌▷▷◌, Transition, LifeKey, Phase, Slot, Reserves, Opens, Starts, Holds}
+use Rattle.fx_direct.proofs.Words.{Asks, Free, Live, Ending, Closing, slot_numbered, phase_at}
 use Rattle.fx_direct.proofs.Words.{key_concerned, HasLife, IsEnabled, phase_after, slots_with, AreEnabled, slots_left_by, Advances, AdvancesAndAsks}
 use Rattle.fx_direct.specs.Counts.{times, starts, finishes, holds, releases, ends, asks, fails, phase_of, IsBalanced}
 use Rattle.fx_direct.specs.Lives.{NoCloseIsDue, NeverAsks, NoCloseIsLate, EachCloseIsAskedForOnce, StaleKeysStayStale}
@@ -40,15 +40,10 @@ each_close_is_asked_for_once start h k free can =
 -- No close is late.
 
 never : (t : Transition) (p : Phase) → NeverAsks t → Fits t p → phase_after t p ≡ Ending 0 0 → ⊥
-never (Reserves k) p calm fits e = cc
 never (Opens k true) p calm fits e = cc
-never (Opens k false) p calm fits e = cc
 never (Starts k) (Live r u) calm fits e = cc
-never (Starts k) _ calm fits e = cc
 never (Holds k) (Live r u) calm fits e = cc
-never (Holds k) _ calm fits e = cc
-never (Closes k) p calm fits e = cc
-never _ p calm fits e = calm
+never _ _ calm fits e = grind arith
 
 -- after a transition no close is due, if none is due at its slot
 after_one : (old : List Slot) (t : Transition) → NoCloseIsDue old → (key_concerned t).slot < length old
@@ -94,13 +89,7 @@ IsOver slots k = (k.number ≤ (slot_numbered slots k.slot).number) × ((slot_nu
 -- a transition but a reservation is of a slot that isn't free
 busy : (t : Transition) (p : Phase) → Fits t p → ((k : LifeKey) → t ≡ Reserves k → ⊥) → p ≡ Free → ⊥
 busy (Reserves k) p fits new e = new k refl
-busy (Opens k b) p fits new e = let f : Free ≡ Opening = sym e ∙ fits in cc
-busy (Finishes k) p fits new e = let f : requests_in p ≡ requests_in Free = ap requests_in e in omega arith
-busy (Releases k) p fits new e = let f : users_in p ≡ users_in Free = ap users_in e in omega arith
-busy (Asks k) p fits new e = let f : Free ≡ Ending 0 0 = sym e ∙ fits in cc
-busy (Closes k) p fits new e = let f : Free ≡ Closing = sym e ∙ fits in cc
-busy (FailsToClose k) p fits new e = let f : Free ≡ Closing = sym e ∙ fits in cc
-busy _ p fits new e = let f : is_live p ≡ is_live Free = ap is_live e in cc
+busy _ p fits new e = let f = rw e at fits in grind arith
 
 -- the number of the transition's slot, which is its key's, and whose life isn't over; or a new one
 told : (slots : List Slot) (t : Transition) → IsEnabled slots t

@@ -1,10 +1,10 @@
 -- The invariant of flights.
 use Rattle.fx_direct.proofs.Words.{arith, ◌≡◌, ◌≢◌, ℕ, ◌<◌, ◌≤◌, true, List, [], ◌∷◌, ◌++◌, length, refl, sym, ap, inl, inr}
 use Rattle.fx_direct.proofs.Words.{◌∙◌, subst, cases_eq, get_or-set_same, get_or-set_other, length-set, File, LifeKey, Phase, Slot, State}
-use Rattle.fx_direct.proofs.Words.{key_of_call}
+use Rattle.fx_direct.proofs.Words.{AllByRecursion, key_of_call}
 use Rattle.fx_direct.proofs.Words.{Pending, DirectMoment, Does, Transition}
 use Rattle.fx_direct.proofs.Words.{calls_in, is_installed, life_at, slot_numbered, phase_at, key_concerned, phase_after, slots_with, files_under}
-use Rattle.fx_direct.proofs.Calls.{place_of, tally, at_same, at_other, tally-mid, Each, each-out, each-map, each-away}
+use Rattle.fx_direct.proofs.Calls.{place_of, tally, at_same, at_other, tally-mid, each-out, each-map, each-away}
 use Rattle.fx_direct.proofs.Calls.{HasOne, Stands, FitsAt, fits_same, stands_same, open_stays, open_stands, stands_open}
 
 abbrev pub Fitting : List Slot → State → List DirectMoment → Pending → Type 0
@@ -15,7 +15,7 @@ pub record Sound (slots : List Slot) (table : State) (calls : List Pending) (h :
   pub inside : length slots ≤ table.size
   pub counted : (s : ℕ) → tally s calls ≡ calls_in (phase_at slots s)
   pub stands : (s : ℕ) → s < length slots → Stands (phase_at slots s) (table.at s) (files_under (life_at slots s) h)
-  pub fits : Each (Fitting slots table h) calls
+  pub fits : AllByRecursion (Fitting slots table h) calls
   pub unborn : (k : LifeKey) → (slot_numbered slots k.slot).number < k.number → files_under k h ≡ []
 
 abbrev written : Transition → List Slot → Slot
@@ -58,7 +58,7 @@ module _ {slots : List Slot} {table : State} {calls : List Pending} {h : List Di
   pub turned : (calls' : List Pending) → tally k.slot calls' ≡ calls_in p'
       → ((s : ℕ) → s ≢ k.slot → tally s calls' ≡ tally s calls)
       → Stands p' (table.at k.slot) (files_under k h)
-      → Each (Fitting (slots_with slots d) table (Does d ∷ h)) calls'
+      → AllByRecursion (Fitting (slots_with slots d) table (Does d ∷ h)) calls'
       → (slot_numbered slots k.slot).number ≤ k.number
       → Sound (slots_with slots d) table calls' (Does d ∷ h)
   turned calls' count others stand fits grows = record {
@@ -91,7 +91,7 @@ module _ {slots : List Slot} {table : State} {calls : List Pending} {h : List Di
   pub still : (calls' : List Pending) → (slot_numbered slots k.slot).number ≡ k.number → is_installed p ≡ true → is_installed p' ≡ true
       → tally k.slot calls' ≡ calls_in p'
       → ((s : ℕ) → s ≢ k.slot → tally s calls' ≡ tally s calls)
-      → Each (Fitting slots table h) calls'
+      → AllByRecursion (Fitting slots table h) calls'
       → Sound (slots_with slots d) table calls' (Does d ∷ h)
   still calls' num live live' count others fits =
       let files : files_under (life_at slots k.slot) h ≡ files_under k h = ap (λ (n : ℕ). files_under (record { slot = k.slot; number = n }) h) num in
@@ -141,6 +141,6 @@ module _ {slots : List Slot} {table : State} {calls : List Pending} {h : List Di
       let t = sound.counted k.slot in let u = at_same k.slot x e in let m = tally-mid k.slot front rest x in
       let w : tally k.slot calls ≡ tally k.slot (front ++ x ∷ rest) = ap (tally k.slot) was in
       let zero : tally k.slot (front ++ rest) ≡ 0 = omega arith in
-      let all = each-out (Fitting slots table h) front rest x (subst (Each (Fitting slots table h)) was sound.fits) in
+      let all = each-out (Fitting slots table h) front rest x (subst (AllByRecursion (Fitting slots table h)) was sound.fits) in
       turned (front ++ rest) (zero ∙ sym none) (less x front rest e was) (stand all.0)
       (each-away (Fitting slots table h) (Fitting (slots_with slots d) table (Does d ∷ h)) k.slot (front ++ rest) zero elsewhere all.1) grows

@@ -1,10 +1,11 @@
 -- Every flight keeps the invariant, and an access finds its own file.
 use Rattle.fx_direct.proofs.Words.{arith, ◌≡◌, ◌≢◌, ℕ, Bool, List, [], ◌∷◌, refl, sym, ap, ◌∙◌, subst}
-use Rattle.fx_direct.proofs.Words.{None, LifeKey, Phase, Reserves, Asks, Action}
+use Rattle.fx_direct.proofs.Words.{Phase, Action}
 use Rattle.fx_direct.proofs.Words.{Look, Put, Take}
 use Rattle.fx_direct.proofs.Words.{calls_in, life_at, phase_at, DirectCall, OpenAt, UseOf, CloseOf, Pending, pending, World, DirectMoment, Does, Accesses, Others, Makes}
-use Rattle.fx_direct.proofs.Words.{Comes, IsDirectFlight, files_under, IsEmptyStart, FindsItsOwn, NothingIsAt, AllByRecursion, IsEnabled, ◌▷◌, ◌▷▷◌}
-use Rattle.fx_direct.proofs.Calls.{place_of, at_slot, tally, away, Each, each-out, HasOne, Stands, open_stands}
+use Rattle.fx_direct.proofs.Words.{Comes, IsDirectFlight, files_under, IsEmptyStart, FindsItsOwn, AllByRecursion, ◌▷◌, ◌▷▷◌}
+use Rattle.fx_direct.specs.Laws.{EachAccessFindsItsOwn, NothingIsLeft}
+use Rattle.fx_direct.proofs.Calls.{place_of, at_slot, tally, away, each-out, HasOne, Stands, open_stands}
 use Rattle.fx_direct.proofs.Moves.{Sound, Fitting}
 use Rattle.fx_direct.proofs.Turns.{does, accesses, others}
 
@@ -43,7 +44,7 @@ between start end earlier (x ∷ later) m flight = between start flight.0 earlie
 own_fit : (w : World) (h : List DirectMoment) (c : DirectCall) (a : Action) (calls' : List Pending) → SoundWorld w h → (makes : Makes c a w.calls calls')
     → Fitting w.slots w.table h (pending c makes.earlier)
 own_fit w h c a calls' sound makes =
-    (each-out (Fitting w.slots w.table h) makes.front makes.rest (pending c makes.earlier) (subst (Each (Fitting w.slots w.table h)) makes.was sound.fits)).0
+    (each-out (Fitting w.slots w.table h) makes.front makes.rest (pending c makes.earlier) (subst (AllByRecursion (Fitting w.slots w.table h)) makes.was sound.fits)).0
 
 finds : (w v : World) (h : List DirectMoment) (c : DirectCall) (a : Action) → SoundWorld w h → Comes w (Accesses c a) v → FindsItsOwn h c a
 finds w v h (OpenAt k) (Put slot f replaced) sound comes =
@@ -63,8 +64,7 @@ finds w v h (CloseOf k) (Take slot found) sound comes =
     (one.0, comes.0.1 ∙ ap w.table.at may.0 ∙ one.1, one.2)
 finds w v h _ _ sound comes = tt
 
-pub each_access_finds_its_own : (start end : World) (earlier later : List DirectMoment) (call : DirectCall) (a : Action) → IsEmptyStart start
-    → IsDirectFlight start (earlier ▷ Accesses call a ▷▷ later) end → FindsItsOwn earlier call a
+pub each_access_finds_its_own : EachAccessFindsItsOwn
 each_access_finds_its_own start end earlier later call a begins flight =
     let b = between start end earlier later (Accesses call a) flight in
     finds b.0 b.1 earlier call a (always start earlier b.0 begins b.2) b.3
@@ -75,8 +75,7 @@ none_at s [] none = tt
 none_at s (p ∷ ps) none =
     let here : at_slot s p ≡ 0 = omega arith in let rest : tally s ps ≡ 0 = omega arith in (away s p here, none_at s ps rest)
 
-pub nothing_is_left : (start w : World) (h : List DirectMoment) (k : LifeKey) → IsEmptyStart start → IsDirectFlight start h w
-    → (IsEnabled w.slots (Reserves k) → NothingIsAt k.slot w × (w.table.at k.slot ≡ None)) × (IsEnabled w.slots (Asks k) → NothingIsAt k.slot w)
+pub nothing_is_left : NothingIsLeft
 nothing_is_left start w h k begins flight =
     let sound = always start h w begins flight in (
       λ can. (

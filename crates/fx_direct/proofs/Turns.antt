@@ -1,11 +1,11 @@
 -- Each transition of the machine, and each access, keeps what is sound.
 use Rattle.fx_direct.proofs.Words.{arith, ◌≡◌, ◌≢◌, ℕ, ◌+◌, ◌-◌, ◌<◌, ◌≤◌, ◌==◌, Bool, true, false, List, [], ◌∷◌, ◌++◌, length, refl, sym, ap, inl, inr}
-use Rattle.fx_direct.proofs.Words.{◌∙◌, subst, Option, Some, None, cases_eq, append-nil, ne_eqb, eq-eqb, File, LifeKey, Phase, Slot, State, if◌then◌else◌}
+use Rattle.fx_direct.proofs.Words.{AllByRecursion, ◌∙◌, subst, Option, Some, None, cases_eq, append-nil, ne_eqb, eq-eqb, File, LifeKey, Phase, Slot, State, if◌then◌else◌}
 use Rattle.fx_direct.proofs.Words.{calls_in, is_installed, life_at, FailsToClose, Live, Ending, is_live, requests_in, users_in, with_counts, DirectCall, OpenAt, UseOf, CloseOf, key_of_call}
 use Rattle.fx_direct.proofs.Words.{Pending, pending, DirectMoment, Does, Accesses, Others, Transition, Reserves, Opens, Starts, Finishes, Holds, Releases, Ends, Asks, Closes}
 use Rattle.fx_direct.proofs.Words.{slot_numbered, phase_at, key_concerned, NamesLastLife, IsEnabled, slots_with, TurnsCalls, files_under, same_key}
 use Rattle.fx_direct.proofs.Words.{Action, Allocate, Clear, Look, Put, Release, Take, changed_at, table_after, Makes, IsElsewhere}
-use Rattle.fx_direct.proofs.Calls.{place_of, at_slot, tally, at_same, tally-mid, Each, each-out, each-in, each-map, each-away}
+use Rattle.fx_direct.proofs.Calls.{place_of, at_slot, tally, at_same, tally-mid, each-out, each-in, each-map, each-away}
 use Rattle.fx_direct.proofs.Calls.{HasOne, Stands, fits_same, stands_same, open_stands}
 use Rattle.fx_direct.proofs.Moves.{Sound, Fitting, still, first, last, more, less}
 
@@ -13,33 +13,19 @@ use Rattle.fx_direct.proofs.Moves.{Sound, Fitting, still, first, last, more, les
 
 live_open : (p : Phase) → is_live p ≡ true → is_installed p ≡ true
 live_open (Live a b) e = refl
-live_open (Ending a b) e = refl
 live_open _ e = absurd cc
 
-requests_open : (p : Phase) → 0 < requests_in p → is_installed p ≡ true
-requests_open (Live a b) e = refl
-requests_open (Ending a b) e = refl
-requests_open _ e = absurd (omega arith)
+used_open : (p : Phase) → 0 < requests_in p + users_in p → is_installed p ≡ true
+used_open (Live a b) e = refl
+used_open (Ending a b) e = refl
+used_open _ e = absurd (omega arith)
 
-users_open : (p : Phase) → 0 < users_in p → is_installed p ≡ true
-users_open (Live a b) e = refl
-users_open (Ending a b) e = refl
-users_open _ e = absurd (omega arith)
-
-counts_open : (p : Phase) (a b : ℕ) → is_installed p ≡ true → is_installed (with_counts p a b) ≡ true
-counts_open (Live x y) a b e = refl
-counts_open (Ending x y) a b e = refl
-counts_open _ a b e = e
-
-counts_calls : (p : Phase) (a b : ℕ) → is_installed p ≡ true → calls_in (with_counts p a b) ≡ a
-counts_calls (Live x y) a b e = refl
-counts_calls (Ending x y) a b e = refl
-counts_calls _ a b e = absurd cc
-
-calls_requests : (p : Phase) → is_installed p ≡ true → calls_in p ≡ requests_in p
-calls_requests (Live x y) e = refl
-calls_requests (Ending x y) e = refl
-calls_requests _ e = absurd cc
+-- an open phase: its calls are its requests, and with other counts it is open too
+is_open : (p : Phase) → is_installed p ≡ true
+    → (calls_in p ≡ requests_in p) × ((a b : ℕ) → (is_installed (with_counts p a b) ≡ true) × (calls_in (with_counts p a b) ≡ a))
+is_open (Live x y) e = (refl, λ a b. (refl, refl))
+is_open (Ending x y) e = (refl, λ a b. (refl, refl))
+is_open _ e = absurd cc
 
 pub within : (slots : List Slot) (d : Transition) → IsEnabled slots d → (key_concerned d).slot < length slots
 within slots (Reserves k) can = can.0
@@ -68,28 +54,28 @@ module _ {slots : List Slot} {table : State} {calls : List Pending} {h : List Di
       rw turns.is (last sound d can.0.0 (pending (OpenAt k) false) turns.front turns.rest refl turns.was (ap calls_in can.1) refl (λ fit. fit.2.1) (omega arith))
   does (Starts k) calls' can turns = let d = Starts k in let x = pending (UseOf k) false in let p = phase_at slots k.slot in
       let opened = live_open p can.1 in
-      let one = at_same k.slot x refl in let all = sound.counted k.slot in let r = calls_requests p opened in
-      let n = counts_calls p (requests_in p + 1) (users_in p) opened in
-      rw turns (still sound d can.0.0 (x ∷ calls) can.0.1 opened (counts_open p (requests_in p + 1) (users_in p) opened) (omega arith) (more sound d can.0.0 x refl)
+      let one = at_same k.slot x refl in let all = sound.counted k.slot in let r = (is_open p opened).0 in
+      let n = (is_open p opened).1 (requests_in p + 1) (users_in p) in
+      rw turns (still sound d can.0.0 (x ∷ calls) can.0.1 opened n.0 (omega arith) (more sound d can.0.0 x refl)
       ((can.0.0, can.0.1, (opened, refl)), sound.fits))
   does (Finishes k) calls' can turns = let d = Finishes k in let x = pending (UseOf k) false in let p = phase_at slots k.slot in
-      let opened = requests_open p can.1 in
-      let one = at_same k.slot x refl in let all = sound.counted k.slot in let r = calls_requests p opened in
-      let n = counts_calls p (requests_in p - 1) (users_in p) opened in
+      let opened = used_open p (omega (arith, can.1)) in
+      let one = at_same k.slot x refl in let all = sound.counted k.slot in let r = (is_open p opened).0 in
+      let n = (is_open p opened).1 (requests_in p - 1) (users_in p) in
       let m = tally-mid k.slot turns.front turns.rest x in let w : tally k.slot calls ≡ tally k.slot (turns.front ++ x ∷ turns.rest) = ap (tally k.slot) turns.was in
-      rw turns.is (still sound d can.0.0 (turns.front ++ turns.rest) can.0.1 opened (counts_open p (requests_in p - 1) (users_in p) opened) (omega arith)
+      rw turns.is (still sound d can.0.0 (turns.front ++ turns.rest) can.0.1 opened n.0 (omega arith)
       (less sound d can.0.0 x turns.front turns.rest refl turns.was)
-      (each-out (Fitting slots table h) turns.front turns.rest x (subst (Each (Fitting slots table h)) turns.was sound.fits)).1)
+      (each-out (Fitting slots table h) turns.front turns.rest x (subst (AllByRecursion (Fitting slots table h)) turns.was sound.fits)).1)
   does (Holds k) calls' can turns = let d = Holds k in let p = phase_at slots k.slot in
-      let opened = live_open p can.1 in let all = sound.counted k.slot in let r = calls_requests p opened in
-      let n = counts_calls p (requests_in p) (users_in p + 1) opened in
-      rw turns (still sound d can.0.0 calls can.0.1 opened (counts_open p (requests_in p) (users_in p + 1) opened) (omega arith) (λ s ne. refl) sound.fits)
+      let opened = live_open p can.1 in let all = sound.counted k.slot in let r = (is_open p opened).0 in
+      let n = (is_open p opened).1 (requests_in p) (users_in p + 1) in
+      rw turns (still sound d can.0.0 calls can.0.1 opened n.0 (omega arith) (λ s ne. refl) sound.fits)
   does (Releases k) calls' can turns = let d = Releases k in let p = phase_at slots k.slot in
-      let opened = users_open p can.1 in let all = sound.counted k.slot in let r = calls_requests p opened in
-      let n = counts_calls p (requests_in p) (users_in p - 1) opened in
-      rw turns (still sound d can.0.0 calls can.0.1 opened (counts_open p (requests_in p) (users_in p - 1) opened) (omega arith) (λ s ne. refl) sound.fits)
+      let opened = used_open p (omega (arith, can.1)) in let all = sound.counted k.slot in let r = (is_open p opened).0 in
+      let n = (is_open p opened).1 (requests_in p) (users_in p - 1) in
+      rw turns (still sound d can.0.0 calls can.0.1 opened n.0 (omega arith) (λ s ne. refl) sound.fits)
   does (Ends k) calls' can turns = let d = Ends k in let p = phase_at slots k.slot in
-      let opened = live_open p can.1 in let all = sound.counted k.slot in let r = calls_requests p opened in
+      let opened = live_open p can.1 in let all = sound.counted k.slot in let r = (is_open p opened).0 in
       rw turns (still sound d can.0.0 calls can.0.1 opened refl (omega arith) (λ s ne. refl) sound.fits)
   does (Asks k) calls' can turns = let d = Asks k in
       rw turns (first sound d can.0.0 (pending (CloseOf k) false) refl (ap calls_in can.1) refl tt
@@ -106,7 +92,7 @@ module _ {slots : List Slot} {table : State} {calls : List Pending} {h : List Di
       → ((s : ℕ) → s < length slots → table'.at s ≡ table.at s)
       → ((k : LifeKey) → files_under k (m ∷ h) ≡ files_under k h)
       → ((s : ℕ) → tally s calls' ≡ tally s calls)
-      → Each (Fitting slots table h) calls'
+      → AllByRecursion (Fitting slots table h) calls'
       → Sound slots table' calls' (m ∷ h)
   quiet table' calls' m size at files count fits = record {
     inside = rw size sound.inside;
@@ -132,7 +118,7 @@ module _ {slots : List Slot} {table : State} {calls : List Pending} {h : List Di
       let t = sound.counted s0 in let u = at_same s0 x refl in let mid = tally-mid s0 front rest x in
       let w : tally s0 calls ≡ tally s0 (front ++ x ∷ rest) = ap (tally s0) was in
       let zero : tally s0 (front ++ rest) ≡ 0 = omega arith in
-      let all = each-out (Fitting slots table h) front rest x (subst (Each (Fitting slots table h)) was sound.fits) in
+      let all = each-out (Fitting slots table h) front rest x (subst (AllByRecursion (Fitting slots table h)) was sound.fits) in
       record {
         inside = rw size sound.inside;
         counted = λ s. let e1 = tally-mid s front rest y in let e2 = tally-mid s front rest x in
@@ -169,7 +155,7 @@ module _ {slots : List Slot} {table : State} {calls : List Pending} {h : List Di
       → Sound slots (table_after table (Put k.slot f replaced)) (front ++ pending (OpenAt k) true ∷ rest) (Accesses (OpenAt k) (Put k.slot f replaced) ∷ h)
   puts k f replaced front rest was =
       let x = pending (OpenAt k) false in
-      let own = (each-out (Fitting slots table h) front rest x (subst (Each (Fitting slots table h)) was sound.fits)).0 in
+      let own = (each-out (Fitting slots table h) front rest x (subst (AllByRecursion (Fitting slots table h)) was sound.fits)).0 in
       let m = Accesses (OpenAt k) (Put k.slot f replaced) in
       let files : files_under k (m ∷ h) ≡ f ∷ [] = rw (own.2.2, eq-eqb k.slot k.slot refl, eq-eqb k.number k.number refl) refl in
       let at = at_written k.slot (Some f) in
@@ -184,7 +170,7 @@ module _ {slots : List Slot} {table : State} {calls : List Pending} {h : List Di
       → Sound slots (table_after table (Take k.slot found)) (front ++ pending (CloseOf k) true ∷ rest) (Accesses (CloseOf k) (Take k.slot found) ∷ h)
   takes k found front rest was =
       let x = pending (CloseOf k) false in
-      let own = (each-out (Fitting slots table h) front rest x (subst (Each (Fitting slots table h)) was sound.fits)).0 in
+      let own = (each-out (Fitting slots table h) front rest x (subst (AllByRecursion (Fitting slots table h)) was sound.fits)).0 in
       let m = Accesses (CloseOf k) (Take k.slot found) in
       made (table_after table (Take k.slot found)) x (pending (CloseOf k) true) front rest m was refl own.0 (ap calls_in own.2.0) refl
       (λ s ne. at_changed k.slot None s ne)
@@ -199,7 +185,7 @@ module _ {slots : List Slot} {table : State} {calls : List Pending} {h : List Di
   uses k a table' front rest earlier later was same size at =
       let was' : calls ≡ front ++ pending (UseOf k) later ∷ rest = was ∙ ap (λ (b : Bool). front ++ pending (UseOf k) b ∷ rest) (sym same) in
       quiet table' (front ++ pending (UseOf k) later ∷ rest) (Accesses (UseOf k) a) size (λ s lt. at s) (λ j. append-nil (files_under j h))
-      (λ s. ap (tally s) (sym was')) (subst (Each (Fitting slots table h)) was' sound.fits)
+      (λ s. ap (tally s) (sym was')) (subst (AllByRecursion (Fitting slots table h)) was' sound.fits)
 
   pub accesses : (c : DirectCall) (a : Action) (calls' : List Pending) → Makes c a calls calls' → Sound slots (table_after table a) calls' (Accesses c a ∷ h)
   accesses (OpenAt k) (Put slot f replaced) calls' makes =

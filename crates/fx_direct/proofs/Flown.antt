@@ -1,0 +1,53 @@
+-- Flights from one empty slot, moment by moment: each world is the one that the moment leaves.
+use Rattle.fx_direct.proofs.Words.{arith, ◌<◌, ◌≤◌, ◌≡◌, List, [], ◌∷◌, ◌++◌, refl, Bool, false, Slot, World, Pending, pending, UseOf, Transition, DirectCall}
+use Rattle.fx_direct.proofs.Words.{Accesses, Does, Others, DirectMoment, Loses, TurnsCalls, MayMake, IsElsewhere, Allows, Action, slots_with, table_after, length}
+use Rattle.fx_direct.specs.Flight.{IsDirectFlightBy}
+use Rattle.fx_direct.specs.Round.{one_slot, first_key}
+use Rattle.fx_direct.specs.declared.key.TheConstants.{MOST_LIVES}
+
+pub inside : 0 < 1
+inside = omega arith
+
+pub one_life : 1 ≤ MOST_LIVES
+one_life = omega arith
+
+pub two_lives : 2 ≤ MOST_LIVES
+two_lives = omega arith
+
+-- a request of the first key
+abbrev pub use1 : Pending
+use1 = pending (UseOf first_key) false
+
+pub only : (c : DirectCall) (made : Bool) (rest : List Pending) → Loses c made (pending c made ∷ rest) rest
+only c made rest = record { front = []; rest = rest; was = refl; is = refl }
+
+-- a flight with these moments, under a condition of the machine's transitions
+pub record Flown (enabled : List Slot → Transition → Type 0) (h : List DirectMoment) : Type 0 where
+  pub end : World
+  pub flight : IsDirectFlightBy enabled one_slot h end
+
+abbrev pub begun : (enabled : List Slot → Transition → Type 0) → Flown enabled []
+begun enabled = record { end = one_slot; flight = refl }
+
+module _ {enabled : List Slot → Transition → Type 0} {h : List DirectMoment} (f : Flown enabled h) where
+  -- a transition, after which these calls are in flight
+  abbrev pub does : (t : Transition) (calls : List Pending) → enabled f.end.slots t → TurnsCalls t f.end.calls calls → Flown enabled (Does t ∷ h)
+  does t calls can turns = record {
+    end = record { slots = slots_with f.end.slots t; table = f.end.table; calls = calls };
+    flight = (f.end, f.flight, (can, turns, refl));
+  }
+
+  -- an access by the call between `front` and `rest`
+  abbrev pub makes : (call : DirectCall) (a : Action) (earlier later : Bool) (front rest : List Pending) → Allows f.end.table a
+      → f.end.calls ≡ front ++ pending call earlier ∷ rest → MayMake call earlier a later → Flown enabled (Accesses call a ∷ h)
+  makes call a earlier later front rest allowed was may = record {
+    end = record { slots = f.end.slots; table = table_after f.end.table a; calls = front ++ pending call later ∷ rest };
+    flight = (f.end, f.flight, (allowed, record { front = front; rest = rest; earlier = earlier; later = later; was = was; is = refl; may = may }, refl));
+  }
+
+  -- an action of others
+  abbrev pub others : (a : Action) → Allows f.end.table a → IsElsewhere (length f.end.slots) a → Flown enabled (Others a ∷ h)
+  others a allowed away = record {
+    end = record { slots = f.end.slots; table = table_after f.end.table a; calls = f.end.calls };
+    flight = (f.end, f.flight, (allowed, away, refl));
+  }
