@@ -34,17 +34,6 @@ fn join_chain(labels: &mut [usize], range: (u32, u32), claims: &[Claim]) {
     }
 }
 
-// Returns the slots of a part.
-fn slots_of(alloc: Global, labels: &[usize], part: usize) -> Result<Vec<usize>, NoMemory> {
-    let mut slots = Vec::new(alloc);
-    for slot in 0..labels.len() {
-        if labels[slot] == part {
-            slots.push(slot)?;
-        }
-    }
-    Ok(slots)
-}
-
 /// Returns the slots in parts, so that no chain has claims in two parts.
 ///
 /// # Errors
@@ -61,7 +50,8 @@ pub fn components(
     }
     let mut parts = Vec::new(alloc);
     for label in 0..size {
-        let part = slots_of(alloc, &labels, label)?;
+        let slots = labels.iter().enumerate().filter(|(_, own)| **own == label);
+        let part: Vec<usize> = slots.map(|(slot, _)| slot).collect(alloc)?;
         if !part.is_empty() {
             parts.push(part)?;
         }

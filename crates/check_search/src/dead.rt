@@ -60,11 +60,10 @@ fn one_if(yes: bool) -> usize
 fn count_from(change: SlotChange, slot: u32, claims: &[Claim], first: usize) -> usize
     ensures { result ≡ count_by (changes change slot) (drop first claims.now) }
 {
-    let mut count = 0usize;
-    for k in first..claims.len() {
-        count += one_if(is_changing(change, slot, &claims[k]));
-    }
-    count
+    let later = claims.iter().skip(first);
+    later
+        .filter(|claim| is_changing(change, slot, claim))
+        .count()
 }
 
 // Returns the number of claims with this change that are still to be made, or `None` if it exceeds

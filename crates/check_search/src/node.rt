@@ -131,11 +131,7 @@ pub struct Packing {
 fn numbers_of(alloc: Global, row: &[u16]) -> Result<Vec<usize>, NoMemory>
     ensures { IfOk result (λ numbers. numbers.items ≡ row.now) }
 {
-    let mut numbers = Vec::with_capacity(alloc, row.len())?;
-    for number in row {
-        numbers.push(*number as usize)?;
-    }
-    Ok(numbers)
+    Ok(row.iter().map(|number| *number as usize).collect(alloc)?)
 }
 
 impl Packing {

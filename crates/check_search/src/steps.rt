@@ -176,16 +176,13 @@ impl<'a> Steps<'a> {
         alloc: Global,
         cell: usize,
     ) -> Result<Vec<(usize, ClaimStep<'a>)>, NoMemory> {
-        let Some(own) = self.slots.get(cell) else {
-            return Ok(Vec::new(alloc));
-        };
-        let mut claims = Vec::new(alloc);
-        for (chain, k) in &own.places {
-            if let Some(step) = self.step_at(*chain, *k) {
-                claims.push((*chain, step))?;
-            }
-        }
-        Ok(claims)
+        let places = self
+            .slots
+            .get(cell)
+            .into_iter()
+            .flat_map(|own| own.places.iter());
+        let claims = places.filter_map(|(chain, k)| Some((*chain, self.step_at(*chain, *k)?)));
+        Ok(claims.collect(alloc)?)
     }
 
     // Returns the claim of a chain at a place, if it is still to be made.
@@ -223,13 +220,9 @@ impl<'a> Steps<'a> {
 
     /// Returns the number of empty slots of the allocation range.
     pub(crate) fn empty(&self, row: &[u16]) -> usize {
-        let mut count = 0usize;
-        for cell in 0..self.packing.cells.len() {
-            if self.is_in_range(cell) && self.file_number(row, cell) == 0 {
-                count = count.saturating_add(1);
-            }
-        }
-        count
+        (0..self.packing.cells.len())
+            .filter(|cell| self.is_in_range(*cell) && self.file_number(row, *cell) == 0)
+            .count()
     }
 
     /// Returns the claims of each slot, all of them still to be made.
@@ -249,26 +242,16 @@ impl<'a> Steps<'a> {
 
     /// Checks whether no slot has a file that the closes have.
     pub(crate) fn is_staying(&self, row: &[u16]) -> bool {
-        for cell in 0..self.packing.cells.len() {
-            if !may_stay(self.file(row, cell)) {
-                return false;
-            }
-        }
-        true
+        (0..self.packing.cells.len()).all(|cell| may_stay(self.file(row, cell)))
     }
 
     /// Returns a chain whose next claim only tests and may be made, if `empty` slots of the
     /// allocation range are empty.
     pub(crate) fn test_of(&self, row: &[u16], empty: usize) -> Option<usize> {
-        for chain in 0..self.chains.len() {
-            if let Some(step) = self.next_of(row, chain)
-                && is_test(step.claim)
-                && self.allows(row, &step, empty)
-            {
-                return Some(chain);
-            }
-        }
-        None
+        (0..self.chains.len()).find(|chain| {
+            let step = self.next_of(row, *chain);
+            step.is_some_and(|step| is_test(step.claim) && self.allows(row, &step, empty))
+        })
     }
 
     /// Makes the next claim of a chain, and returns the number of the file that was at its slot.
@@ -296,16 +279,11 @@ impl<'a> Steps<'a> {
         slot: u32,
         claim: &Claim,
     ) -> bool {
-        for n in 0..claims.len() {
-            let place = if n < at { at - 1 - n } else { n };
-            if let Some(other) = claims.get(place)
-                && let Some(other) = self.left_at(row, *other)
-                && !is_no_help(slot, claim, other)
-            {
-                return true;
-            }
-        }
-        false
+        (0..claims.len()).any(|n| {
+            let other = claims.get(if n < at { at - 1 - n } else { n });
+            let other = other.and_then(|other| self.left_at(row, *other));
+            other.is_some_and(|other| !is_no_help(slot, claim, other))
+        })
     }
 
     /// Returns the state after the next claim of a chain.

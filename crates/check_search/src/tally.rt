@@ -82,12 +82,14 @@ impl<'a> Tally<'a> {
 
     // Returns the number of the class of a claim.
     fn class_of(&mut self, claim: &'a Claim) -> Result<usize, NoMemory> {
-        let count = self.classes.len();
-        for class in 0..count {
-            if is_alike(self.classes[class].claim, claim) {
-                return Ok(class);
-            }
+        let known = self
+            .classes
+            .iter()
+            .position(|class| is_alike(class.claim, claim));
+        if let Some(class) = known {
+            return Ok(class);
         }
+        let count = self.classes.len();
         self.classes.push(Class {
             claim,
             left: 0,
@@ -142,12 +144,9 @@ impl<'a> Tally<'a> {
     // ([`crate::dead`]).
     fn is_hopeless(&self, found: Option<Resident>) -> bool {
         let stays = !may_leave(found);
-        for class in &self.classes {
-            if class.left > 0 && (stays || class.helpers == 0) && !may_find(class.claim, found) {
-                return true;
-            }
-        }
-        false
+        self.classes.iter().any(|class| {
+            class.left > 0 && (stays || class.helpers == 0) && !may_find(class.claim, found)
+        })
     }
 
     /// Checks whether these counts show that no order of the claims leads to an end, if `found` is

@@ -64,12 +64,8 @@ fn file_in(moment: u64) -> u16 {
 impl Slot<'_> {
     // Returns the first chain with a claim that is still to be made.
     fn first(&self, made: u64) -> usize {
-        for (chain, step) in &self.claims {
-            if made & step.bit == 0 {
-                return *chain;
-            }
-        }
-        usize::MAX
+        let first = self.claims.iter().find(|(_, step)| made & step.bit == 0);
+        first.map_or(usize::MAX, |(chain, _)| *chain)
     }
 
     // Checks whether the claim of a chain before the one at a place was made.
@@ -123,14 +119,10 @@ impl Slot<'_> {
             let found = self.steps.packing.file_at(self.cell, file);
             return !matches!(found, Some(file) if file.leaves);
         }
-        for at in 0..self.near_count(moment) {
-            if let Some(other) = self.after(moment, at)
-                && others.contains(&other)
-            {
-                return true;
-            }
-        }
-        false
+        (0..self.near_count(moment)).any(|at| {
+            let other = self.after(moment, at);
+            other.is_some_and(|other| others.contains(&other))
+        })
     }
 
     // Returns the moments from which all other claims can be made, or `None` if too many are
@@ -206,25 +198,16 @@ impl Tracks {
 
     /// Checks whether no slot has a track.
     pub fn are_none(&self) -> bool {
-        for track in &self.tracks {
-            if track.moments.is_some() {
-                return false;
-            }
-        }
-        true
+        self.tracks.iter().all(|track| track.moments.is_none())
     }
 
     /// Checks whether all claims of a slot can be made from a moment on.
     pub fn allows(&self, cell: usize, moment: u64) -> bool {
-        match self.tracks.get(cell) {
-            Some(
-                Track {
-                    moments: Some(moments),
-                    ..
-                },
-            ) => moments.contains(&moment),
-            _ => true,
-        }
+        let moments = self
+            .tracks
+            .get(cell)
+            .and_then(|track| track.moments.as_ref());
+        moments.is_none_or(|moments| moments.contains(&moment))
     }
 
     /// Widens the tracks of some slots. Returns true unless each was as wide as it can be.

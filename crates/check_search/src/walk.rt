@@ -132,13 +132,11 @@ impl Walk<'_> {
         if stage.tried == 0 && stage.last < high && self.step_of(stage.last).is_some() {
             return Some((stage.last, 1));
         }
-        for tried in stage.tried.max(1)..=high {
-            let chain = tried.saturating_sub(1);
-            if chain != stage.last && self.step_of(chain).is_some() {
-                return Some((chain, tried.saturating_add(1)));
-            }
-        }
-        None
+        let chains = (stage.tried.max(1)..=high).map(|tried| tried.saturating_sub(1));
+        chains
+            .filter(|chain| *chain != stage.last)
+            .find(|chain| self.step_of(*chain).is_some())
+            .map(|chain| (chain, chain.saturating_add(2)))
     }
 
     // Returns the same by a plan with a seed: the first of the chains that may be continued is
@@ -183,14 +181,7 @@ impl Walk<'_> {
             return self.steps.test_of(&self.here.row, self.here.empty);
         }
         let (_, high) = self.window();
-        for chain in 0..high {
-            if let Some(step) = self.step_of(chain)
-                && is_test(step.claim)
-            {
-                return Some(chain);
-            }
-        }
-        None
+        (0..high).find(|chain| self.step_of(*chain).is_some_and(|step| is_test(step.claim)))
     }
 
     // Returns the next step of a chain, if it may be made and leads to a moment of its track.
@@ -202,12 +193,10 @@ impl Walk<'_> {
 
     // Checks whether a step leads to a moment of the track of its slot.
     fn keeps_track(&self, step: &ClaimStep<'_>) -> bool {
-        if let Some(tracks) = self.tracks
-            && let Some((cell, moment)) = self.here.moment_after(step)
-        {
-            return tracks.allows(cell, moment);
-        }
-        true
+        self.tracks.is_none_or(|tracks| {
+            let after = self.here.moment_after(step);
+            after.is_none_or(|(cell, moment)| tracks.allows(cell, moment))
+        })
     }
 
     // Records the slots that block the chains that may be continued, if no step leads on and the
@@ -266,11 +255,13 @@ impl Walk<'_> {
 
     // Returns the steps of the way.
     fn order(&self) -> Result<Vec<usize>, NoMemory> {
-        let mut order = Vec::new(self.alloc);
-        for stage in self.way.iter().skip(1) {
-            order.push(stage.by)?;
-        }
-        Ok(order)
+        Ok(
+            self.way
+                .iter()
+                .skip(1)
+                .map(|stage| stage.by)
+                .collect(self.alloc)?,
+        )
     }
 
     // Tries one step, or goes back by one if none is left. Returns the result once the search ends.
