@@ -2,11 +2,9 @@
  * each. kernel/conform asks the others, by scripts. It needs io_uring and liburing 2.3; it proves
  * nothing, and no other test relies on it. */
 #define _GNU_SOURCE
-#include <errno.h>
 #include <fcntl.h>
 #include <liburing.h>
 #include <limits.h>
-#include <signal.h>
 #include <stdio.h>
 #include <stdlib.h>
 #include <string.h>
@@ -17,7 +15,6 @@ enum { MEMBERS = 16 };
 
 static struct io_uring ring;
 static char path[] = "/tmp/measure-linux-XXXXXX";
-static char buffer[64];
 static int results[MEMBERS];
 
 static void fresh(int slots) {
@@ -30,36 +27,30 @@ static void fresh(int slots) {
 
 static void end(void) { io_uring_queue_exit(&ring); }
 
-static struct io_uring_sqe *next(int member, unsigned flags) {
+static struct io_uring_sqe *next(int member) {
 	struct io_uring_sqe *sqe = io_uring_get_sqe(&ring);
 	memset(sqe, 0, sizeof *sqe);
 	sqe->user_data = member;
-	sqe->flags = flags;
 	return sqe;
 }
 
-static void with(struct io_uring_sqe *sqe, int member, unsigned flags) {
-	sqe->user_data = member;
-	sqe->flags |= flags;
-}
-
 static void opens(int member, unsigned slot, unsigned flags) {
-	struct io_uring_sqe *sqe = next(member, 0);
+	struct io_uring_sqe *sqe = next(member);
 	io_uring_prep_openat_direct(sqe, AT_FDCWD, path, O_RDONLY, 0, slot);
-	with(sqe, member, flags);
+	sqe->flags = flags;
 }
 
 static void opens_any(int member, unsigned flags) {
-	struct io_uring_sqe *sqe = next(member, 0);
+	struct io_uring_sqe *sqe = next(member);
 	io_uring_prep_openat(sqe, AT_FDCWD, path, O_RDONLY, 0);
 	sqe->file_index = IORING_FILE_INDEX_ALLOC;
-	with(sqe, member, flags);
+	sqe->flags = flags;
 }
 
 static void closes(int member, unsigned slot, unsigned flags) {
-	struct io_uring_sqe *sqe = next(member, 0);
+	struct io_uring_sqe *sqe = next(member);
 	io_uring_prep_close_direct(sqe, slot);
-	with(sqe, member, flags);
+	sqe->flags = flags;
 }
 
 /* Submits, and keeps the result of each member. */
@@ -83,7 +74,7 @@ static void empty_lists(void) {
 	int list[] = { -1 };
 	for (int slots = 0; slots < 2; slots++) {
 		fresh(slots);
-		io_uring_prep_files_update(next(0, 0), list, 0, 0);
+		io_uring_prep_files_update(next(0), list, 0, 0);
 		play(1);
 		printf("an update with an empty list %s: %d\n", slots ? "on a table" : "without a table", results[0]);
 		end();
@@ -109,43 +100,12 @@ static void allocation(void) {
 static void unsubmitted(const char *kind, unsigned link) {
 	fresh(2);
 	opens(0, 0, link);
-	struct io_uring_sqe *sqe = next(1, link);
-	sqe->opcode = 255;
+	struct io_uring_sqe *sqe = next(1);
+	sqe->opcode = 255, sqe->flags = link;
 	closes(2, 0, 0);
 	play(3);
 	printf("open, a request that can't be submitted, close, by %s: %d, %d, %d\n", kind, results[0], results[1], results[2]);
 	end();
-}
-
-static void both_links(void) {
-	fresh(1);
-	closes(0, 0, IOSQE_IO_LINK | IOSQE_IO_HARDLINK), closes(1, 0, 0);
-	play(2);
-	printf("a failing close with both kinds of link, and a close: %d, %d\n", results[0], results[1]);
-	end();
-}
-
-/* Whether a file that is in use stays open when its slot is emptied. */
-static void removal_in_use(void) {
-	int ends[2], none[] = { -1 };
-	if (pipe(ends))
-		return;
-	fresh(1);
-	io_uring_register_files_update(&ring, 0, &ends[0], 1);
-	close(ends[0]);
-	struct io_uring_sqe *sqe = next(0, 0);
-	io_uring_prep_read(sqe, 0, buffer, 5, -1);
-	with(sqe, 0, IOSQE_FIXED_FILE);
-	io_uring_submit(&ring);
-	int cleared = io_uring_register_files_update(&ring, 0, none, 1);
-	ssize_t wrote = write(ends[1], "hello", 5);
-	play(1);
-	usleep(100000);
-	ssize_t after = write(ends[1], "hello", 5);
-	printf("a slot emptied under a read: %d, the read %d (written %zd), the file afterwards %s\n", cleared, results[0], wrote,
-		after < 0 && errno == EPIPE ? "closed" : "open");
-	end();
-	close(ends[1]);
 }
 
 static void tags(void) {
@@ -170,7 +130,6 @@ static void tags(void) {
 int main(void) {
 	struct utsname system;
 	uname(&system);
-	signal(SIGPIPE, SIG_IGN);
 	int file = mkstemp(path);
 	if (file < 0 || write(file, "hello", 5) != 5)
 		return 1;
@@ -181,8 +140,6 @@ int main(void) {
 	allocation();
 	unsubmitted("links", IOSQE_IO_LINK);
 	unsubmitted("hard links", IOSQE_IO_HARDLINK);
-	both_links();
-	removal_in_use();
 	tags();
 	unlink(path);
 	return 0;
