@@ -89,41 +89,30 @@ static void old_buffer_is_written_later(struct rig *rig) {
 	close(peer);
 }
 
-/* Two connections, one after the other, have had slot 0; a receive of each is in flight. */
-static void two_lives(struct rig *rig, int peers[2], char buffers[2][BUFFER_BYTES]) {
-	peers[0] = closed_connection(rig, buffers[0]);
-	peers[1] = connection(rig);
-	receive(rig, 0, buffers[1], NEXT);
-}
-
-/* Prints which receive of two lives a cancel has ended. */
-static void saw_canceled(struct rig *rig, int peers[2]) {
+/* Two connections, one after the other, have had slot 0; a receive of each is in flight. Prints
+ * which of them a cancel ends: by the slot, or by the user data of the first one. */
+static void cancel_in_two_lives(struct rig *rig, int is_by_slot) {
+	char buffers[2][BUFFER_BYTES];
+	int first = closed_connection(rig, buffers[0]), last = connection(rig);
 	struct answer it;
+	receive(rig, 0, buffers[1], NEXT);
+	if (is_by_slot)
+		cancel_at(rig, 0, CANCELS);
+	else
+		cancel_data(rig, FIRST, CANCELS);
 	while ((it = next(rig, SHORT)).is_there)
 		if (it.data == CANCELS)
 			saw("the cancel answers %d; ", it.res);
 		else
 			saw("the receive of the %s connection answers %d; ", it.data == FIRST ? "first" : "next", it.res);
 	saw("%s", "nothing else comes");
-	for (int at = 0; at < 2; at++)
-		close(peers[at]);
+	close(first);
+	close(last);
 }
 
-static void cancel_by_slot_hits_the_next(struct rig *rig) {
-	char buffers[2][BUFFER_BYTES];
-	int peers[2];
-	two_lives(rig, peers, buffers);
-	cancel_at(rig, 0, CANCELS);
-	saw_canceled(rig, peers);
-}
+static void cancel_by_slot_hits_the_next(struct rig *rig) { cancel_in_two_lives(rig, 1); }
 
-static void cancel_by_user_data_is_exact(struct rig *rig) {
-	char buffers[2][BUFFER_BYTES];
-	int peers[2];
-	two_lives(rig, peers, buffers);
-	cancel_data(rig, FIRST, CANCELS);
-	saw_canceled(rig, peers);
-}
+static void cancel_by_user_data_is_exact(struct rig *rig) { cancel_in_two_lives(rig, 0); }
 
 static void shutdown_then_close_ends_it(struct rig *rig) {
 	char buffer[BUFFER_BYTES];
