@@ -167,31 +167,6 @@ static void compare(struct pass *it, int nth) {
     }
 }
 
-/* Ends a hold by a take with the exchange: the take was counted in the slot's word, and is dropped
- * from no node's. */
-static void end_hold(struct state *s, struct pass *it) {
-    if (it->holds) {
-        s->takes[it->slot] -= it->guards == BY_TAKE;
-        it->holds = 0;
-    }
-}
-
-static void exchange_by_key(struct state *s, struct pass *it, int who) {
-    bool is_named = names(s, it->slot, it->holds ? it->holds : it->named);
-    if (is_named && s->takes[it->slot] == it->takes && s->heat[it->slot] == it->heat) {
-        want(names(s, it->slot, it->key) && !it->is_stale, "a call by key removes another file than the key's");
-        it->key = it->named = it->tried = it->changes = 0;
-        end_hold(s, it);
-        swap(s, it, who);
-    } else if (is_named && ++it->tried < TRIES) {
-        expect(s, it);
-    } else {
-        want(!is_named || it->changes >= TRIES, "a call tries no more, and the slot's word changed less often than it tried");
-        it->named = it->tried = it->changes = 0;
-        miss(it);
-    }
-}
-
 static void let_go(struct state *s, struct pass *it, int who) {
     it->node = it->holds;
     if (it->guards == BY_TAKE) {
@@ -223,7 +198,7 @@ bool take_step_by_key(struct state *s, struct pass *it, int who, int nth) {
     case CONFIRM: confirm(s, it, who); break;
     case WITHDRAW: withdraw(s, it, who); break;
     case COMPARE: compare(it, nth); break;
-    case SWAP: exchange_by_key(s, it, who); break;
+    case SWAP: exchange_named(s, it, who, it->holds ? it->holds : it->named); break;
     case LET_GO: let_go(s, it, who); break;
     case STEP_DOWN: step_down(s, it, who); break;
     default: return false;

@@ -339,7 +339,7 @@ void end_change(struct pass *it, int who) {
     }
 }
 
-void swap(struct state *s, struct pass *it, int who) {
+static void swap(struct state *s, struct pass *it, int who) {
     bool was_full = s->is_full[it->slot], removes = was_full && stock;
     int takes = s->takes[it->slot], heat = s->heat[it->slot], found = node_at(it->slot);
     if (removes) {
@@ -522,7 +522,7 @@ static void see(struct state *s, struct pass *it, int who) {
 }
 
 /* Ends a call that has lost its last try. */
-void miss(struct pass *it) {
+static void miss(struct pass *it) {
     it->takes = UINT8_MAX;
     it->key = 0;
     it->step = it->call & INSTALLS ? REST : RAISE;
@@ -531,17 +531,23 @@ void miss(struct pass *it) {
     }
 }
 
-static void exchange_if(struct state *s, struct pass *it, int who) {
-    bool is_named = names(s, it->slot, it->key);
+/* Exchanges the slot's word, if it names this node and is the expected one. A hold by a take ends
+ * with that: the take was counted in the slot's word, and is dropped from no node's. */
+void exchange_named(struct state *s, struct pass *it, int who, int node) {
+    bool is_named = names(s, it->slot, node);
     if (is_named && s->takes[it->slot] == it->takes && s->heat[it->slot] == it->heat) {
-        want(is_named && !it->is_stale, "a call removes another file than the one whose node it names");
-        it->key = it->tried = it->changes = 0;
+        want(names(s, it->slot, it->key) && !it->is_stale, "a call removes another file than the one that it names");
+        it->key = it->named = it->tried = it->changes = 0;
+        if (it->holds) {
+            s->takes[it->slot] -= it->guards == BY_TAKE;
+            it->holds = 0;
+        }
         swap(s, it, who);
     } else if (is_named && ++it->tried < TRIES) {
         expect(s, it);
     } else {
         want(!is_named || it->changes >= TRIES, "a call tries no more, and the slot's word changed less often than it tried");
-        it->tried = it->changes = 0;
+        it->named = it->tried = it->changes = 0;
         miss(it);
     }
 }
@@ -631,7 +637,7 @@ static void take_other_step(struct state *s, struct pass *it, int who) {
     case RESUME: resume(s, it); break;
     case SWAP:
         if (it->key) {
-            exchange_if(s, it, who);
+            exchange_named(s, it, who, it->key);
         } else {
             swap(s, it, who);
         }

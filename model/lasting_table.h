@@ -141,10 +141,10 @@ void go_on_by_key(struct pass *it);
 /* The ways of a comparison. Makes a step, if it is one of a call by key. */
 int ways_to_compare(const struct pass *it);
 bool take_step_by_key(struct state *s, struct pass *it, int who, int nth);
-/* Notes what a call expects in its slot's word, makes its swap, and ends it after its last try. */
+/* Notes what a call expects in its slot's word. Makes its exchange, if the word names a node, or
+ * ends it after its last try. */
 void expect(const struct state *s, struct pass *it);
-void swap(struct state *s, struct pass *it, int who);
-void miss(struct pass *it);
+void exchange_named(struct state *s, struct pass *it, int who, int node);
 void hold_file(struct state *s, struct pass *it, int node);
 void hold_until_release(struct pass *it, enum step step);
 /* Lists the pass. Drops a take or a charge from a node's word. Empties the hold word of the pass,
