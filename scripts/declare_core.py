@@ -163,9 +163,12 @@ def functions(header):
 
 
 def for_manual(name):
-    """Returns a function that returns the manual page of a library with the functions of its header, and with its constants."""
+    """Returns a function that returns the manual page of a library with the functions of its header, and with its constants, each of which the
+    page must name."""
     def made():
         page, header = read(f"man/{name}.3"), read(f"include/{name}.h")
+        if {*re.findall(r"\b(YACHT_\w+) = ", header)} != {*re.findall(r"^\.(?:It )?Dv (YACHT_\w+)", page, re.M)}:
+            raise ValueError(f"man/{name}.3 has other constants than its header")
         lines = []
         for result, function, given in functions(header):
             lines += [f'.Ft "{result}"' if " " in result else f".Ft {result}", " ".join([f".Fn {function}", *(f'"{it}"' for it in given)])]
@@ -217,8 +220,8 @@ FILES = {
 }
 # what is written by each source, and what it is written from
 WRITTEN = (
-    (SOURCE, r"(?<=fn )yacht_core_\w+"), (CODES, r"(?<=: i64 = )[-\d]+"), ("man/yachtbanyan.3", r'(?<=^\.Fn )\w+(?= "yacht_)|(?<=^\()[\d,]+(?=\))'),
-    ("man/yachtdirect.3", r'(?<=^\.Fn )\w+(?= "yacht_)'), (LIMITS, r"(?<=^    )[\d,]+(?= .*: [A-Z_]+$)"), *((path, VERSION.pattern) for path in VERSIONED),
+    (SOURCE, r"(?<=fn )yacht_core_\w+"), (CODES, r"(?<=: i64 = )[-\d]+"), (LIMITS, r"(?<=^    )[\d,]+(?= .*: [A-Z_]+$)"), *((path, VERSION.pattern) for path in VERSIONED),
+    *((path, r'(?<=^\.Fn )\w+(?= "yacht_)|(?<=^\()[\d,]+(?=\))|(?<=Dv )YACHT_\w+') for path in ("man/yachtbanyan.3", "man/yachtdirect.3")),
 )
 
 

@@ -1,7 +1,7 @@
 """check-declarations: compares the declarations of the exported functions in Rattle, C, Rust and Python: their names, the number
 and width of each argument and of the result, the fields of the structs, and the values of the constants. What scripts/declare-core
-writes is as it writes it, in manual pages, docs/use/LIMITS.md and files with a version too. The manual pages yachtbanyan(3) and
-yachtdirect(3) have the numbers of their headers. Then each declaration is changed in turn, in memory, and each change must be noticed."""
+writes is as it writes it, in manual pages, docs/use/LIMITS.md and files with a version too. Then each declaration is changed in turn, in
+memory, and each change must be noticed."""
 import ast
 import re
 
@@ -155,20 +155,6 @@ def spoiled(texts):
             yield f"{what} of {path}", {**texts, language: {**texts[language], path: other}}
 
 
-def lacking(header, page):
-    """Returns the numbers of a header that its manual page lacks."""
-    return {*re.findall(r"\b(YACHT_\w+) = ", header)} - {*re.findall(r"^\.(?:It )?Dv (YACHT_\w+)", page, re.M)}
-
-
-def manuals(counted):
-    """Looks for the numbers of the headers on the manual pages, and expects a complaint about each that is missing."""
-    for name in ("yachtbanyan", "yachtdirect"):
-        header, page = read(f"include/{name}.h"), read(f"man/{name}.3")
-        counted.want(not lacking(header, page), f"{name}(3) lacks {lacking(header, page)}")
-        for number in re.findall(r"\b(YACHT_\w+) = ", header):
-            counted.want(lacking(header, re.sub(rf"(Dv {number})\b", r"\1_OTHER", page)), f"{number} may be missing in {name}(3)")
-
-
 def written(counted):
     """Checks that the files of scripts/declare-core are what it writes, and expects a complaint about each change of what it writes, or of
     what this is written from."""
@@ -192,5 +178,4 @@ def command():
         for what, changed in spoiled(texts):
             counted.want(differences(changed), f"{library}: the change of {what} isn't noticed")
     written(counted)
-    manuals(counted)
     return counted.end()
