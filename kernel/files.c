@@ -22,20 +22,14 @@ static struct installation *installations;
 static size_t count, room;
 static size_t first;		/* all before it are finished */
 
-static void name_of_entry(unsigned entry, char name[NAME_BYTES]) {
-	snprintf(name, NAME_BYTES, "%u", entry);
-}
-
-void name_of_link(size_t installation, char name[NAME_BYTES]) {
-	snprintf(name, NAME_BYTES, "%zu", installation);
-}
+void write_name(size_t number, char name[NAME_BYTES]) { snprintf(name, NAME_BYTES, "%zu", number); }
 
 int open_files(const struct script *script) {
 	char name[NAME_BYTES];
 	if (!make_folders("play-on-kernel"))
 		return 0;
 	for (unsigned at = 0; at < script->file_count; at++) {
-		name_of_entry(at, name);
+		write_name(at, name);
 		make_file(name, script->files[at].bytes, script->files[at].size);
 	}
 	return 1;
@@ -47,8 +41,8 @@ size_t add_installation(struct mark mark, int entry, unsigned long long tag) {
 	installations[count] = (struct installation){ .mark = mark, .entry = entry, .tag = tag, .descriptor = -1,
 						      .is_installed = 1 };
 	if (entry >= 0) {
-		name_of_entry(entry, file);
-		name_of_link(count, link);
+		write_name(entry, file);
+		write_name(count, link);
 		link_file(file, link);
 	}
 	return count++;
@@ -57,7 +51,7 @@ size_t add_installation(struct mark mark, int entry, unsigned long long tag) {
 int open_descriptor(size_t installation) {
 	char name[NAME_BYTES];
 	struct installation *it = &installations[installation];
-	name_of_link(installation, name);
+	write_name(installation, name);
 	it->descriptor = open_link(name);
 	it->is_installed = 0;
 	return it->descriptor;
@@ -121,7 +115,7 @@ static void write_close(const struct script *script, struct installation *it) {
 static void finish(size_t installation) {
 	char name[NAME_BYTES];
 	struct installation *it = &installations[installation];
-	name_of_link(installation, name);
+	write_name(installation, name);
 	if (it->entry >= 0)
 		remove_link(name);
 	it->is_finished = 1;

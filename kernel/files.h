@@ -16,8 +16,8 @@ struct mark {
  * inotify. */
 int open_files(const struct script *script);
 
-/* Writes the name of an installation's link. */
-void name_of_link(size_t installation, char name[NAME_BYTES]);
+/* Writes the name of an installation's link, or of an entry's file: its number. */
+void write_name(size_t number, char name[NAME_BYTES]);
 
 /* Adds an installation of an entry with its tag, or 0 for none, and returns its number. The entry
  * is -1 for a name that is not in the catalogue; then there is no link. */

@@ -54,7 +54,7 @@ void start_in_threads(void) { more_flags = IOSQE_ASYNC; }
 
 static void prepare_open(struct io_uring_sqe *sqe, const struct script *script, struct member *it, unsigned submission) {
 	struct mark mark = { .numbers = { submission, it->chain, it->place, 0 } };
-	name_of_link(add_installation(mark, entry_of(script, it->request->name), 0), it->path);
+	write_name(add_installation(mark, entry_of(script, it->request->name), 0), it->path);
 	io_uring_prep_openat(sqe, links_folder(), it->path, O_RDONLY, 0);
 	sqe->file_index = it->request->kind == OPEN ? it->request->numbers[0] + 1 : IORING_FILE_INDEX_ALLOC;
 }
