@@ -1,6 +1,7 @@
 """Finds, reads and writes the files of this repository."""
 import glob
 import os
+import shutil
 
 ROOT = os.path.dirname(os.path.dirname(os.path.abspath(__file__)))
 # the folders of scripts, and of what they play
@@ -30,6 +31,14 @@ def write(path, content):
     os.makedirs(os.path.dirname(path), exist_ok=True)
     with open(path, "wb") as file:
         file.write(content if isinstance(content, bytes) else content.encode())
+
+
+def copy_changed(folder, to, file, old, new):
+    """Copies a folder. In the copy of one of its files `new` replaces the first `old`, which must be there."""
+    shutil.copytree(os.path.join(ROOT, folder), to, dirs_exist_ok=True)
+    text = read(os.path.join(to, file))
+    assert old in text, old
+    write(os.path.join(to, file), text.replace(old, new, 1))
 
 
 def is_newer(path, files):

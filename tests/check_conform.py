@@ -9,7 +9,6 @@ arguments must be refused. The rows of tests/litmus_rows.py test litmus."""
 import os
 import platform
 import re
-import shutil
 import subprocess
 import sys
 import tempfile
@@ -21,7 +20,7 @@ from tests.litmus_rows import complaints_of_litmus
 from model.model import SLOTS, Script
 from tests.players import RANDOM
 from scripts.programs import given_time, run, run_bytes
-from scripts.repository import ROOT, read, read_bytes, scripts_of, write
+from scripts.repository import ROOT, copy_changed, read, read_bytes, scripts_of, write
 from kernel.rules import Linux
 
 # changes of kernel/*.c
@@ -212,11 +211,8 @@ def wrapper(room, name, *words):
 
 def changed_player(room, name, change):
     """Builds kernel/*.c with a change. Returns the program's path."""
-    sources, (file, old, new) = os.path.join(room, f"{name}.sources"), change
-    shutil.copytree(os.path.join(ROOT, "kernel"), sources)
-    text = read(os.path.join(sources, file))
-    assert old in text, old
-    write(os.path.join(sources, file), text.replace(old, new))
+    sources = os.path.join(room, f"{name}.sources")
+    copy_changed("kernel", sources, *change)
     files = [os.path.join(sources, it) for it in os.listdir(sources) if it.endswith(".c")]
     subprocess.run(["cc", "-O1", "-o", os.path.join(room, name), *files, "-luring"], check=True)
     return os.path.join(room, name)

@@ -19,7 +19,6 @@ asked for."""
 import collections
 import os
 import re
-import shutil
 import tempfile
 from unittest import mock
 
@@ -29,7 +28,7 @@ from kernel import conform, flights
 from kernel.kernels import NO_KERNEL, built_player
 from tests import log_lines, reason_rows, reasons
 from scripts.programs import given_time, in_parallel, run
-from scripts.repository import ROOT, read, write
+from scripts.repository import ROOT, copy_changed, write
 import yachtlog
 
 HEAD = "".join(f"file {name} {content}\n" for name, content in tiny_flights.NAMES.items())
@@ -181,11 +180,7 @@ def conform_rows():
 def changed_recorder(room, file, old, new):
     """Builds the recorder with a change. Returns the program's path."""
     sources = os.path.join(room, "kernel")
-    shutil.rmtree(sources, ignore_errors=True)
-    shutil.copytree(os.path.join(ROOT, "kernel"), sources)
-    path = os.path.join(sources, "flight", file)
-    assert old in read(path), old
-    write(path, read(path).replace(old, new, 1))
+    copy_changed("kernel", sources, f"flight/{file}", old, new)
     return flights.built_recorder(sources, os.path.join(room, "record"))
 
 
@@ -206,10 +201,7 @@ def wrong_rows_of(change):
     name, old, new = change
     with tempfile.TemporaryDirectory() as room:
         folder = os.path.join(room, "python")
-        shutil.copytree(f"{ROOT}/bindings/python", folder)
-        path = os.path.join(folder, f"{name}.py")
-        assert old in read(path), old
-        write(path, read(path).replace(old, new, 1))
+        copy_changed("bindings/python", folder, f"{name}.py", old, new)
         return wrong_rows(folder)
 
 

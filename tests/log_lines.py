@@ -7,6 +7,7 @@ import os
 import re
 import sys
 import tempfile
+from unittest import mock
 
 ROOT = os.path.dirname(os.path.dirname(os.path.abspath(__file__)))
 LEGAL, NOT_LEGAL, USAGE, NOT_A_LOG, MISSING, UNDECIDED = 0, 1, 2, 3, 4, 6
@@ -298,6 +299,8 @@ def judged(yachtlog, room, text):
 
 def wrong_rows(yachtlog, room):
     """Yields the rows that are wrong: what they are, the status and what is printed."""
+    import yachtjudge
+
     for text, wanted, pattern in ROWS:
         found, written = judged(yachtlog, room, text)
         if found != wanted or not re.match(f"(not a log: )?{pattern}", written):
@@ -310,26 +313,10 @@ def wrong_rows(yachtlog, room):
         if found != wanted or not re.search(pattern, written, re.DOTALL):
             yield words, found, written
     for name, words in LACKING:
-        with without_memory(name):
+        with mock.patch.object(yachtjudge, name, side_effect=yachtjudge.NoMemory):
             found, written = ran(yachtlog, [os.path.join(room, it) if it in FILES else it for it in words])
         if found != 5 or not re.fullmatch("yachtlog: .*: there is no memory to judge it\n", written):
             yield name, words, found, written
-
-
-@contextlib.contextmanager
-def without_memory(name):
-    """Lets a call of the judge find no memory."""
-    import yachtjudge
-
-    def fails(*_, **_options):
-        raise yachtjudge.NoMemory
-
-    kept = getattr(yachtjudge, name)
-    setattr(yachtjudge, name, fails)
-    try:
-        yield
-    finally:
-        setattr(yachtjudge, name, kept)
 
 
 def count():
