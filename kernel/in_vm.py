@@ -29,10 +29,6 @@ SECONDS = 100
 ROOM = "IN_VM_SOCKET"
 
 
-def frame(status, text, message):
-    return b"%d %d %d\n" % (status, len(text), len(message)) + text + message
-
-
 class Server(socketserver.ThreadingUnixStreamServer):
     """Plays what the calls of in-vm send, on one machine."""
 
@@ -48,7 +44,8 @@ class Handler(socketserver.StreamRequestHandler):
         # a caller may have been ended before its answer
         with contextlib.suppress(OSError):
             words = self.rfile.readline().decode().split()
-            self.wfile.write(frame(*played(self.server.machine, words, self.rfile.read())))
+            status, text, message = played(self.server.machine, words, self.rfile.read())
+            self.wfile.write(b"%d %d %d\n" % (status, len(text), len(message)) + text + message)
 
 
 def played(machine, words, given):

@@ -74,11 +74,6 @@ class Found(NamedTuple):
     said: str = ""
 
 
-def ending_by_linux(text, written, shown):
-    """Returns the model, changed by the differences `shown`, after a play that prints the text in some order, or None."""
-    return ending_of(Script(text), written, functools.partial(Linux, shown=shown))
-
-
 def found(status, said, text, written, shown):
     """Compares a text with the rules, given the exit status of fixcheck and what it printed."""
     if status == LEGAL:
@@ -88,7 +83,7 @@ def found(status, said, text, written, shown):
     if written == play(text)[0]:
         return Found(legal, written, said=said)
     try:
-        ending = ending_by_linux(text, written, shown)
+        ending = ending_of(Script(text), written, functools.partial(Linux, shown=shown))
     except TooManyOrders:
         return Found(LEFT_OUT, written, said=said)
     return Found(ending and (ending.met or legal), written, said=said)

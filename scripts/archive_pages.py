@@ -62,13 +62,8 @@ def is_kept(path, anchor, is_arm):
     if path in (ARM_PAGES if is_arm else PAGES).values() and path != "README.md":
         return not anchor or anchor in anchors(read(path))
     is_inside = any(path == it or path.startswith(f"{it}/") for it in (ARM_FOLDERS if is_arm else FOLDERS))
-    is_script = not is_arm and path in archive_scripts()
+    is_script = not is_arm and path in read("scripts/archived.txt").split()
     return os.path.exists(os.path.join(ROOT, path)) and (is_inside or is_script)
-
-
-def archive_scripts():
-    """Returns the paths of the scripts that the archive has."""
-    return set(read("scripts/archived.txt").split())
 
 
 def with_links(text, source, page, is_arm=False):

@@ -217,10 +217,6 @@ class Drawing(Canvas):
                 for at in (x - 2, x + 2) if is_hard else (x,):
                     self.line(((at, self.y(last.last) + ROW / 2 - 2), (at, self.y(box.first) - ROW / 2 + 2)), INK, 1.4)
 
-    def draw_head_of_chains(self, row, submission):
-        for chain in sorted(chain for it, chain in self.part.chains if it == submission):
-            self.text(self.lane_of_chain(chain), self.y(row) + 5, f"chain {submission}.{chain}", 11, GREY, ' font-weight="bold"')
-
     def draw(self):
         """Draws all of it. Returns its height."""
         self.draw_heads()
@@ -233,7 +229,8 @@ class Drawing(Canvas):
             for file in files:
                 draw(file)
         for row, submission in self.heads.items():
-            self.draw_head_of_chains(row, submission)
+            for chain in sorted(chain for it, chain in self.part.chains if it == submission):
+                self.text(self.lane_of_chain(chain), self.y(row) + 5, f"chain {submission}.{chain}", 11, GREY, ' font-weight="bold"')
         self.draw_links()
         for box in self.boxes:
             self.draw_box(box)

@@ -34,15 +34,11 @@ def refused_functions(lines):
     return list(dict.fromkeys(names))
 
 
-def is_proved(said):
-    return PROVED.match(said) is not None
-
-
 def unknown_lines(lines):
     """The lines of functions that say what is in none of the forms above, so that a new form isn't taken for one of them."""
     forms = (*UNPROVED, "could not tell", "assumed", "not assumed", "no holes", "depends on a hole")
     said = ((it, LINE.match(it)) for it in lines if it.startswith("fn "))
-    return [it for it, at in said if at and not is_proved(at[2]) and not at[2].startswith(forms)]
+    return [it for it, at in said if at and not PROVED.match(at[2]) and not at[2].startswith(forms)]
 
 
 def complaints(lines):

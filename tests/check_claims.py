@@ -292,19 +292,14 @@ def imported_by(spec):
             yield f"crates/{crate}/specs/{path.replace('.', '/')}.antt"
 
 
-def definitions_in(spec):
-    """The lines of a file of definitions, without imports, comments and blank lines."""
-    return [it for it in read(spec).split("\n") if it.strip() and not re.match(r" *--|(pub )?(use|mod) ", it)]
-
-
 def reached():
-    """The files of definitions that the headline's definition reaches, and how many lines of definitions they have."""
+    """The files of definitions that the headline's definition reaches, and how many lines they have but imports, comments and blank lines."""
     found, left = set(), [HEADLINE]
     while left:
         spec = left.pop()
         left += [] if spec in found else imported_by(spec)
         found.add(spec)
-    return found, sum(len(definitions_in(it)) for it in found)
+    return found, sum(not re.match(r"\s*$| *--|(pub )?(use|mod) ", it) for spec in found for it in read(spec).split("\n"))
 
 
 def is_list_of(part, files, lines):

@@ -118,10 +118,6 @@ def kept_lines(text, pattern):
     return "\n".join(map(kept, text.split("\n")))
 
 
-def prose_of_makefile(text):
-    return kept_lines(text, r"(?:#|\s*@echo|\$\(error)(.*)")
-
-
 def head_of_script(text):
     """The comment or docstring at the begin of a script; what follows is blank."""
     head = re.match(r'(?:#!.*\n)?(?:"""((?s:.*?))"""|/\*((?s:.*?))\*/|((?:(?:#|//).*\n)+))', text)
@@ -162,7 +158,7 @@ def texts():
         yield "pages", path, prose_of_page(read(path))
     for path in sorted(glob.glob("man/*", root_dir=ROOT)):
         yield "pages", path, prose_of_manual(read(path))
-    yield "pages", "Makefile", prose_of_makefile(read("Makefile"))
+    yield "pages", "Makefile", kept_lines(read("Makefile"), r"(?:#|\s*@echo|\$\(error)(.*)")
     for path in sorted(it for room in ROOMS for it in glob.glob(f"{room}/*", root_dir=ROOT)):
         if os.path.isfile(f"{ROOT}/{path}") and not path.endswith((".md", ".txt")):
             yield "pages", path, head_of_script(read(path))

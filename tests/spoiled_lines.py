@@ -106,10 +106,6 @@ def other_byte(rng, line):
     return f"{front} {content[:at]}{rng.choice('0123456789abcdef')}{content[at + 1:]}"
 
 
-def byte_less(rng, line):
-    return line[:-2] if len(line.rsplit(" ", 1)[1]) > 2 else line
-
-
 def short_read(rng, line):
     place, res, content = line.split(" ")
     return f"{place} {int(res) - 1} {content[:-2]}" if int(res) > 1 else f"{place} 0"
@@ -189,7 +185,7 @@ KINDS = {
     "a canceled request": of_result(lambda rng, res: "-125"),
     "a call's result": of_part(CALL, lambda rng, line: f"{line.split(' ')[0]} {rng.choice(['0', '1', '-9', '-22', '-16'])}"),
     "a byte of a read": of_part(READ, other_byte),
-    "a byte of a read that is lost": of_part(READ, byte_less),
+    "a byte of a read that is lost": of_part(READ, lambda rng, line: line[:-2] if len(line.rsplit(" ", 1)[1]) > 2 else line),
     "a read that is short": of_part(READ, short_read),
     "a read that is long": of_part(READ, long_read),
     "a completion's chain": of_part(COMPLETION, other_place(1)),
