@@ -23,7 +23,7 @@ WORKERS = (1, 7)
 # and what depends on how many they are, on each number; the heaviest submission on some
 ALL_WORKERS = range(1, 17)
 SOME_WORKERS = (1, 2, 4, 16)
-FEW = ("far_reads", "largest_numbers", "bad_list_in_a_line_too_long")
+FEW = ("full_table", "bad_list_in_a_line_too_long")
 # the seconds that a run has
 LONGEST = 120
 
@@ -58,17 +58,12 @@ def check_texts(program, told, names=None):
             check_text(program, name, *it, told)
 
 
-def workers_of(kind):
-    """The numbers of workers that play the scripts of a kind."""
-    return SOME_WORKERS if kind == "heaviest" else ALL_WORKERS if kind in BY_WORKERS else WORKERS
-
-
 def check_sweeps(program, told):
     """Each on every table and number of workers, which its text doesn't depend on."""
     for name, *it in [("heaviest", *heaviest_submission()), *sweeps()]:
         kind = re.sub(r"_\d+$", "", name)
         for table in BYTES_PER_NUMBER:
-            for workers in workers_of(kind):
+            for workers in SOME_WORKERS if kind == "heaviest" else ALL_WORKERS if kind in BY_WORKERS else WORKERS:
                 options = ["--table", table, "--workers", str(workers)]
                 check_text([*program, *options], f"{name} {' '.join(options)}", *it, "", told)
 

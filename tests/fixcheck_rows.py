@@ -5,7 +5,7 @@ from tests.sweeps import sweeps
 
 LEGAL, NOT_LEGAL, UNDECIDED = 0, 1, 6
 # of limits two are bad scripts
-LEGAL_SIZES = 497
+LEGAL_SIZES = 493
 # how many rows of parts there are
 PARTS = 6
 # this many states are too few for the part of two slots: an order of its ten accesses goes through

@@ -2,8 +2,7 @@
 nor from model/model.py. tests/check-limits plays them on the program, and tests/compare on the program and the model."""
 
 SCRIPT_BYTES = 4_194_304
-LINE_BYTES = 10_000
-LARGEST, LARGEST_TAG = 2_147_483_647, 18_446_744_073_709_551_615
+LARGEST_TAG = 18_446_744_073_709_551_615
 SLOTS, CHAINS, MEMBERS, ENTRIES, FILES, BYTES = 256, 1023, 16, 16, 256, 4096
 
 
@@ -46,39 +45,6 @@ def heaviest_submission():
     text = ["sparse 0", *(f"1.{c}.{m} 16" for c in chains for m in range(1, MEMBERS + 1))]
     text += [f"closed 1.{c}.{m}.{e} a.txt" for c in chains for m in range(1, 5) for e in range(ENTRIES)]
     return lines("file a.txt -", "sparse 256", *chain * CHAINS, "submit"), lines(*text)
-
-
-def far_reads():
-    """Reads past the end of a file of 5 bytes, at places that are 0 or 4 where their upper bits are lost."""
-    places = [5, 6, 256, 4096, 65_536, 65_540, 16_777_216, 1_073_741_824, LARGEST - 1, LARGEST]
-    script = ["file a.txt 68656c6c6f", "sparse 1", "open a.txt at 0", "submit"]
-    text = ["sparse 0", "1.1.1 0"]
-    for nth, place in enumerate(places, 2):
-        script += [f"read 0 {place} 0", f"read 0 {place} 1", f"read 0 {place} 4096", "submit"]
-        text += [f"{nth}.{it}.1 0" for it in (1, 2, 3)]
-    script += ["read 0 4 4096", "submit"]
-    text += [f"{len(places) + 2}.1.1 1 6f", "teardown", "closed 1.1.1.0 a.txt"]
-    return lines(*script), lines(*text)
-
-
-def largest_numbers():
-    """2,147,483,647 in place of each number."""
-    script = ["file a.txt 68656c6c6f", f"sparse {LARGEST}", "sparse 1", f"range {LARGEST} {LARGEST}", f"range 0 {LARGEST}"]
-    script += [f"open a.txt at {LARGEST}", f"read {LARGEST} 0 1", f"read 0 {LARGEST} 1", f"close {LARGEST}"]
-    script += [f"update {LARGEST} 0", f"update 0 {LARGEST}", f"update 0 -{LARGEST}", "submit", f"read 0 0 {LARGEST}", "submit"]
-    text = ["sparse -24", "sparse 0", "range -22", "range -22", "1.1.1 -22", "1.2.1 -9", "1.3.1 -9", "1.4.1 -22"]
-    text += ["1.5.1 -22", "1.6.1 -9", "1.7.1 -9", "submit refused long-read 1"]
-    return lines(*script), lines(*text)
-
-
-def long_lists():
-    """Lists of 1,000 entries and of as many as a line has room for are in the language, and are refused as requests."""
-    script, text = ["sparse 256"], ["sparse 0"]
-    for count in (1000, (LINE_BYTES - len("update 0 ") + 1) // 2):
-        script += [f"update 0 {','.join(['0'] * count)}", "submit"]
-        text += ["submit refused long-update 1"]
-    assert max(len(it) for it in script) == LINE_BYTES
-    return lines(*script), lines(*text)
 
 
 def full_catalogue():
@@ -157,9 +123,8 @@ def all_updates():
 
 def limits():
     """Each script at a limit: its name, the script, the text, and the line and the fault of a bad one."""
-    for whole in (full_table, heaviest_submission, far_reads, largest_numbers, long_lists, full_catalogue,
-                  too_many_submissions, submissions_1024, submissions_65535, too_many_registrations, all_updates,
-                  longest_script):
+    for whole in (full_table, heaviest_submission, full_catalogue, too_many_submissions, submissions_1024, submissions_65535,
+                  too_many_registrations, all_updates, longest_script):
         yield whole.__name__, *whole(), ""
     yield "text_of_8_megabytes", *large_text(1), ""
     yield "text_of_134_megabytes", *large_text(MEMBERS), ""

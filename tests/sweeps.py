@@ -74,18 +74,6 @@ def tables():
         yield from ("open a.txt any", *(f"read {it} 0 5" for it in range(count)), "submit", "unregister")
 
 
-def one_slot_free():
-    """Of 256 slots each alone is free, and the open at any slot finds it. So it does in a range of each size from each side, where
-    the last slot towards the middle is free, and in one of each of the sizes from 200 on, where one of the last two of either end is."""
-    yield from ("sparse 256", *(f"open a.txt at {it}" for it in range(SLOTS)), "submit")
-    ranges = [(it, 0, SLOTS) for it in range(SLOTS)]
-    ranges += [(size - 1, 0, size) for size in sizes(SLOTS)] + [(SLOTS - size, SLOTS - size, size) for size in sizes(SLOTS)]
-    for size in range(200, SLOTS):
-        ranges += [(off + at, off, size) for off in (0, SLOTS - size) for at in (0, 1, size - 2, size - 1)]
-    for slot, off, size in ranges:
-        yield from (f"range {off} {size}", f"close {slot} link", "open a.txt any", "submit")
-
-
 def files():
     """Files of each size, each read whole, past its end and in its last byte."""
     yield from (*(f"file f{it} {hexed(it)}" for it in sizes(BYTES)), "sparse 1")
@@ -145,7 +133,7 @@ def catalogues(count):
 
 def sweeps():
     """Each script: its name, the script and the text."""
-    scripts = [(it.__name__, (A, *it())) for it in (lists, tables, tagged_tables, one_slot_free, files, reads, openings)]
+    scripts = [(it.__name__, (A, *it())) for it in (lists, tables, tagged_tables, files, reads, openings)]
     by_size = [(ends, EACH_SIZE), (catalogues, sizes(FILES)), (chains, sizes(CHAINS)), (heavy_chains, sizes(CHAINS)),
                (requests, sizes(REQUESTS)), (weights, sizes(WEIGHT))]
     scripts += [(f"{made.__name__}_{count}", made(count)) for made, counts in by_size for count in counts]
