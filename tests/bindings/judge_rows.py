@@ -162,6 +162,11 @@ want(typing.get_type_hints(judge)["return"] is yachtjudge.Verdict, "judge has an
 want(typing.get_type_hints(outcomes)["return"] is yachtjudge.Outcomes, "outcomes has another hint for its result")
 version = Path(__file__).resolve().parents[2] / "VERSION"
 want(yachtjudge.__version__ == version.read_text().strip(), f"the module's version is {yachtjudge.__version__}")
+# over all examples: the text is legal, and without its last line it isn't
+examples = {it: it.with_suffix(".text").read_bytes().splitlines(True) for it in (ROOT / "examples").glob("*.script")}
+words = {it.name: [judge(it.read_bytes(), b"".join(those)).word for those in (lines, lines[:-1])] for it, lines in examples.items()}
+wrong = {name: it for name, it in words.items() if it != WORDS[:2]}
+want(len(words) >= 33 and not wrong, f"of {len(words)} examples these are judged otherwise: {wrong}")
 # the longest row is the last one, so that a wrong module is found sooner
 reads = "".join(f"read {it} 0 1\nopen b at {it}\n" for it in range(12))
 many = outcomes(f"file a 61\nfile b 62\nregister {','.join('0' * 12)}\n{reads}submit\n", memory=4096)

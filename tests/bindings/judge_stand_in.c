@@ -74,9 +74,12 @@ uint32_t yacht_outcomes(const uint8_t *script, size_t script_length, uint32_t st
     return it->number;
 }
 
-uint32_t yacht_judge_events(const uint8_t *script, size_t script_length, uint32_t slots, const yacht_request *requests, size_t requests_length,
-                            const int32_t *entries, size_t entries_length, const uint8_t *bytes, size_t bytes_length, const yacht_event *events,
-                            size_t events_length, uint32_t states, uint32_t memory, yacht_judgement *judgement) {
+/* what is passed of a log */
+#define LOG_PASSED                                                                                                                              \
+    const uint8_t *script, size_t script_length, uint32_t slots, const yacht_request *requests, size_t requests_length, const int32_t *entries, \
+        size_t entries_length, const uint8_t *bytes, size_t bytes_length, const yacht_event *events, size_t events_length
+
+uint32_t yacht_judge_events(LOG_PASSED, uint32_t states, uint32_t memory, yacht_judgement *judgement) {
     given.slots = slots, given.requests = requests, given.entries = entries, given.bytes = bytes, given.events = events;
     given.requests_length = requests_length, given.entries_length = entries_length, given.bytes_length = bytes_length, given.events_length = events_length;
     const judge_row *it = row_of(LOG, script, script_length, states, memory, has_log);
@@ -84,17 +87,10 @@ uint32_t yacht_judge_events(const uint8_t *script, size_t script_length, uint32_
     return it->number;
 }
 
-/* by whole updates as by their entries: no row has such a question */
-uint32_t yacht_judge_whole_updates(const uint8_t *script, size_t script_length, uint32_t slots, const yacht_request *requests, size_t requests_length,
-                                   const int32_t *entries, size_t entries_length, const uint8_t *bytes, size_t bytes_length, const yacht_event *events,
-                                   size_t events_length, uint32_t states, uint32_t memory, yacht_judgement *judgement) {
-    return yacht_judge_events(script, script_length, slots, requests, requests_length, entries, entries_length, bytes, bytes_length, events,
-                              events_length, states, memory, judgement);
-}
-
-uint32_t yacht_explain_events(const uint8_t *script, size_t script_length, uint32_t slots, const yacht_request *requests, size_t requests_length,
-                              const int32_t *entries, size_t entries_length, const uint8_t *bytes, size_t bytes_length, const yacht_event *events,
-                              size_t events_length, uint64_t at, yacht_step *steps, size_t steps_length, yacht_reason *reason) {
+/* no row has these questions */
+uint32_t yacht_judge_whole_updates(LOG_PASSED, uint32_t states, uint32_t memory, yacht_judgement *judgement)
+    __attribute__((alias("yacht_judge_events")));
+uint32_t yacht_explain_events(LOG_PASSED, uint64_t at, yacht_step *steps, size_t steps_length, yacht_reason *reason) {
     (void)script, (void)script_length, (void)slots, (void)requests, (void)requests_length, (void)entries, (void)entries_length, (void)bytes;
     (void)bytes_length, (void)events, (void)events_length, (void)at, (void)steps, (void)steps_length;
     *reason = (yacht_reason){0};

@@ -1,22 +1,10 @@
-# The functions of tests/check-bindings that test the Python module: over all examples, by rows,
-# without its library, and with wrong changes.
+# The functions of tests/check-bindings that test the Python module: by rows, without its library,
+# and with wrong changes.
 
 module=bindings/python
 
 python() {
     PYTHONDONTWRITEBYTECODE=1 PYTHONPATH=$module:$PWD YACHTBANYAN_LIB_DIR=${library-lib} python3 -B "$@"
-}
-
-# the examples, by their numbers of result lines, of lists and of faults
-judges_examples() {
-    local lines lists faults
-    lines=$(cat examples/*.text | grep -acE '^([0-9]+\.[0-9]+\.[0-9]+|[a-z]+) -?[0-9]')
-    lists=$(find examples/questions -name '*.script' | wc -l)
-    faults=$(find examples/faults -name '*.fault' | wc -l)
-    python tests/bindings/judge.py "$PWD" > "$room/text"
-    local status=$?
-    cat "$room/text"
-    [ "$status" -eq 0 ] && grep -qx "judge.py: $(($(find examples -maxdepth 1 -name '*.script' | wc -l) + 2 * lines + lists + 2 * faults + 3)) looked at, 0 wrong" "$room/text"
 }
 
 # judges_rows NAME NUMBER
@@ -80,8 +68,7 @@ wrong_module() {
 }
 
 in_python() {
-    want 'the judge from Python is wrong over the examples' judges_examples
-    want 'the judge from Python is wrong' judges_rows judge_rows 165
+    want 'the judge from Python is wrong' judges_rows judge_rows 166
     want 'the judge from Python is wrong over the stand-in' over_the_stand_in_of_rows
     want 'the judge of logs from Python is wrong' judges_rows log_rows 49
     want 'the verified judge of yachtlog is wrong' proved_logs
