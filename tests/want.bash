@@ -1,7 +1,9 @@
-# Counts the cases of a check in bash, which sets its name, `check`, and a folder, `room`. It ends
-# by `scripts/run scripts.checks "$check" "$looked" "$wrong" "${left[@]}"`.
-
-looked=0 wrong=0 left=()
+# Goes to the top of the repository, makes a folder, `room`, for a check in bash, and counts its
+# cases. The check ends by `scripts/run scripts.checks NAME "$looked" "$wrong" "${left[@]}"`.
+cd "$(dirname "$0")/.."
+room=$(mktemp -d)
+trap 'rm -rf "$room"' EXIT
+check=${0##*/check-} looked=0 wrong=0 left=()
 
 # say TEXT: prints a text as a comment of the Test Anything Protocol
 say() {
