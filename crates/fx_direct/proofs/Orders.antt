@@ -24,7 +24,7 @@ length-twice xs a x b y = grind (arith, length-set)
 pub not_below : (a b : ℕ) → nat_lt a b ≡ false → b ≤ a
 not_below a b e = elim (cases_lt a b) [ inl lt ↦ let t = lt-ltb a b lt in absurd cc | inr le ↦ le ]
 
--- two lists that name each other's places, with two places of each written: they name each other again
+-- lists that name each other's places, with two places of each written: they name each other again
 named_again : (p q : List ℕ) (n s v a o : ℕ) → length p ≡ n → length q ≡ n → s < n → v < n → a < n → o < n → slice_index q a ≡ s → slice_index q v ≡ o
     → ((t : ℕ) → t < n → slice_index p t < n) → ((t : ℕ) → t < n → slice_index q (slice_index p t) ≡ t) → (t : ℕ) → t < n
     → (slice_index (twice p s v o a) t < n) × (slice_index (twice q v s a o) (slice_index (twice p s v o a) t) ≡ t)
