@@ -47,17 +47,14 @@ module _ (place : Place) where
   length-intents : (in_list slot : ℕ) (list : List ℤ)
       → length (list_intents place in_list slot list) ≡ length (positions_from in_list list)
   length-intents in_list slot [] = refl
-  length-intents in_list slot (pos n ∷ list) = ap suc (length-intents (in_list + 1) (slot + 1) list)
-  length-intents in_list slot (negsuc zero ∷ list) = ap suc (length-intents (in_list + 1) (slot + 1) list)
   length-intents in_list slot (negsuc (suc n) ∷ list) =
       let skip : int_le (negsuc 0) (negsuc (suc n)) ≡ false = grind (arith, nat_tests) in rw skip (length-intents (in_list + 1) (slot + 1) list)
+  length-intents in_list slot (z ∷ list) = ap suc (length-intents (in_list + 1) (slot + 1) list)
 
   -- one intent for each position
   pub as_many_intents : (entry : ℕ) (operation : Operation) → length (intents_of place entry operation) ≡ length (positions_of operation)
-  as_many_intents entry (Opens name target) = refl
-  as_many_intents entry (Reads slot off len) = refl
-  as_many_intents entry (Closes slot) = refl
   as_many_intents entry (Updates off list) = length-intents 0 off list
+  as_many_intents entry operation = refl
 
   pub as_many : (entry : ℕ) (operation : Operation) (own : List Access) → AllZip IsOf (intents_of place entry operation) own
       → length own ≡ length (positions_of operation)
@@ -120,15 +117,10 @@ module _ (catalogue : List FileEntry) (place : Place) where
       → last_finding own ≡ Some (Free free) → ⊥
   list_found in_list slot free [] [] x is = cc
   list_found in_list slot free [] (a ∷ own) x is = x
-  list_found in_list slot free (pos n ∷ list) [] x is = x
-  list_found in_list slot free (pos n ∷ list) (a ∷ []) x is =
-      let e : Some (At x.0.0) ≡ Some (Free free) = rw x.0.1 at is in cc
-  list_found in_list slot free (pos n ∷ list) (a ∷ b ∷ own) x is = list_found (in_list + 1) (slot + 1) free list (b ∷ own) x.1 is
-  list_found in_list slot free (negsuc zero ∷ list) [] x is = x
-  list_found in_list slot free (negsuc zero ∷ list) (a ∷ []) x is =
-      let e : Some (At x.0.0) ≡ Some (Free free) = rw x.0.1 at is in cc
-  list_found in_list slot free (negsuc zero ∷ list) (a ∷ b ∷ own) x is = list_found (in_list + 1) (slot + 1) free list (b ∷ own) x.1 is
   list_found in_list slot free (negsuc (suc n) ∷ list) own x is = list_found (in_list + 1) (slot + 1) free list own x is
+  list_found in_list slot free (z ∷ list) [] x is = x
+  list_found in_list slot free (z ∷ list) (a ∷ []) x is = let e : Some (At x.0.0) ≡ Some (Free free) = rw x.0.1 at is in cc
+  list_found in_list slot free (z ∷ list) (a ∷ b ∷ own) x is = list_found (in_list + 1) (slot + 1) free list (b ∷ own) x.1 is
 
   -- only an open at any slot finds a free slot, and answers it
   pub free_answer : (operation : Operation) (own : List Access) (free : ℕ) → AreIntended catalogue place operation own

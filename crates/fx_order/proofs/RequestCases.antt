@@ -44,22 +44,16 @@ module _ (place : Place) where
       → placed own ≡ planned (list_intents place in_list slot list) res
   list_placed res in_list slot [] [] x = refl
   list_placed res in_list slot [] (a ∷ own) x = absurd x
-  list_placed res in_list slot (pos n ∷ list) [] x = absurd x
-  list_placed res in_list slot (pos n ∷ list) (a ∷ own) x =
-      rw (x.0.1, list_placed res (in_list + 1) (slot + 1) list own x.1) refl
-  list_placed res in_list slot (negsuc zero ∷ list) [] x = absurd x
-  list_placed res in_list slot (negsuc zero ∷ list) (a ∷ own) x =
-      rw (x.0.1, list_placed res (in_list + 1) (slot + 1) list own x.1) refl
   list_placed res in_list slot (negsuc (suc n) ∷ list) own x = list_placed res (in_list + 1) (slot + 1) list own x
+  list_placed res in_list slot (z ∷ list) [] x = absurd x
+  list_placed res in_list slot (z ∷ list) (a ∷ own) x = rw (x.0.1, list_placed res (in_list + 1) (slot + 1) list own x.1) refl
 
   list_few : (res : ℤ) (in_list slot : ℕ) (list : List ℤ) → length (planned (list_intents place in_list slot list) res) ≡ list_installs list
   list_few res in_list slot [] = refl
-  list_few res in_list slot (pos entry ∷ list) =
-      let rest = list_few res (in_list + 1) (slot + 1) list in let all = list_installs-cons (pos entry) list in omega arith
   list_few res in_list slot (negsuc zero ∷ list) =
       let rest = list_few res (in_list + 1) (slot + 1) list in let all = list_installs-cons (negsuc 0) list in omega arith
-  list_few res in_list slot (negsuc (suc n) ∷ list) =
-      let rest = list_few res (in_list + 1) (slot + 1) list in let all = list_installs-cons (negsuc (suc n)) list in omega arith
+  list_few res in_list slot (z ∷ list) =
+      let rest = list_few res (in_list + 1) (slot + 1) list in let all = list_installs-cons z list in omega arith
 
   module _ (entries : ℕ) where
     later : (low : ℕ) (z : ℤ) (list : List ℤ) (f : Closed) → IsListed entries place (low + 1) list f → IsListed entries place low (z ∷ list) f
@@ -82,9 +76,8 @@ module _ (place : Place) where
         (list_own res (low + 1) (slot + 1) list (or_parts _ _ good).1)
     list_own res low slot (negsuc zero ∷ list) good =
         own_weaker _ (later low (negsuc 0) list) (list_own res (low + 1) (slot + 1) list (or_parts (is_bad_entry entries (negsuc 0)) _ good).1)
-    list_own res low slot (negsuc (suc n) ∷ list) good =
-        own_weaker _ (later low (negsuc (suc n)) list)
-        (list_own res (low + 1) (slot + 1) list (or_parts (is_bad_entry entries (negsuc (suc n))) _ good).1)
+    list_own res low slot (z ∷ list) good =
+        own_weaker _ (later low z list) (list_own res (low + 1) (slot + 1) list (or_parts (is_bad_entry entries z) _ good).1)
 
 -- a request by its operation, or by its error
 pub unless_refused : (place : Place) (P : List Access → Completed → Type 0) (own : List Access) (c : Completed) (catalogue : List FileEntry) (size : ℕ)
@@ -187,9 +180,7 @@ module _ (catalogue : List FileEntry) (size : ℕ) (place : Place) where
 
   -- no more than the request's need of numbers
   few_of : (entry : ℕ) (operation : Operation) (res : ℤ) → length (planned (intents_of place entry operation) res) ≤ installs_of operation
-  few_of entry (Opens name (Slot slot)) res = omega arith
   few_of entry (Opens name Any) (pos n) = omega arith
-  few_of entry (Opens name Any) (negsuc n) = omega arith
   few_of entry (Updates off list) res = let all = list_few place res 0 off list in omega arith
   few_of entry operation res = omega arith
 
