@@ -1,13 +1,13 @@
 -- Steps at which no slot and no node changes: they change the pass alone, and perhaps its hold word
 -- or a word that counts or asks.
-use Rattle.fx_lasting.proofs.Words.{alone_in, ◌≡◌, ◌≢◌, ℕ, ◌+◌, ◌<◌, List, set, length, refl, ap, subst, arith, Option, Bool, held_by, File}
-use Rattle.fx_lasting.proofs.Words.{Event, range_at_start, NodeAgrees, IsAllowed, Agrees, RangeCounts, Survey, slots_of, nodes_of, state_after_all}
+use Rattle.fx_lasting.proofs.Words.{alone_in, ◌≡◌, ◌≢◌, ℕ, ◌+◌, ◌<◌, List, set, length, refl, ap, arith, Option, Bool, held_by, File}
+use Rattle.fx_lasting.proofs.Words.{Event, range_at_start, IsAllowed, Agrees, RangeCounts, Survey, slots_of, state_after_all}
 use Rattle.fx_lasting.proofs.Words.{held_in, held_of, taken_of, taking, Work, Glance, Change, ◌⊎◌, inr, word_of, hold_word_of, count_in}
-use Rattle.fx_lasting.proofs.Words.{name_in, full_name_in, HoldAgrees, GuardAgrees, WorkAgrees, sum_set, sum_by, get_elem?, length-set, set-get_or}
-use Rattle.fx_lasting.proofs.Words.{owed, seated, [], IsSeenBy, part_of_pass, ◌≤◌, inl, true, list_place, IsListedIn, Watch, WatchAgrees}
+use Rattle.fx_lasting.proofs.Words.{name_in, full_name_in, HoldAgrees, GuardAgrees, WorkAgrees, sum_set, length-set, set-get_or}
+use Rattle.fx_lasting.proofs.Words.{[], IsSeenBy, part_of_pass, ◌≤◌, inl, true, list_place, IsListedIn, Watch, WatchAgrees}
 use Rattle.fx_lasting.proofs.Frames.{busy, nodes_untouched, slot_same, node_same, Leaves, keeps_other, guards_same, covers_same, sees_same}
 use Rattle.fx_lasting.proofs.Keeping.{Turn, After, as_it_was, Keeps, word_at, slot_word, step_kept, w, end, its_log, in_range, stocks_untouched}
-use Rattle.fx_lasting.proofs.Keeping.{LabelSame, met_same, range_left, LeavesFiles}
+use Rattle.fx_lasting.proofs.Keeping.{LabelSame, end_read, node_in, met_same, range_left, LeavesFiles}
 use Rattle.fx_lasting.proofs.slot_lemmas.Watching.{watch_same}
 use Rattle.fx_lasting.proofs.hold_lemmas.Lists.{ListGoesOn}
 use Rattle.fx_lasting.proofs.Places.{hold_words, hold_here, hold_node, hold_slot, hold_else, hold_alike, hold_list, hold_label}
@@ -60,7 +60,7 @@ module _ (turn : Turn) (h' front : List Event) (words' : List ℕ) (d : Work) (g
         nodes = nodes_untouched turn (w turn calm_after) s.files s.label_words s.owners
             (λ n l. node_same (slots_of v.start) r.node_of n (omega arith) (s.node_words n)
             (let t = sum_set (taken_of n) st.views id v (w turn calm_after) here in let e = s.taken n in omega arith)
-            refl refl (r.phase n) (λ i f is there. (at_is i, ap count_in (s.slot_words i (inside n l i f is)))) (r.nodes.each n l));
+            refl refl (r.phase n) (λ i f is there. (at_is i, ap count_in (s.slot_words i (node_in r l is).inside))) (r.nodes.each n l));
         stocks = stocks_untouched turn words' (λ i l. ap name_in (s.slot_words i l));
         slots = record {
           each = λ i l. slot_same (s.slot_words i l) (at_is i) (λ q low high. refl) (λ f there seat. refl) (r.slots i l);
@@ -78,11 +78,6 @@ module _ (turn : Turn) (h' front : List Event) (words' : List ℕ) (d : Work) (g
         watch = s.watches;
       }
     where
-      inside : (n : ℕ) → n < nodes_of v.start → (i : ℕ) (f : File) → r.phase n ≡ seated i f → i < slots_of v.start
-      inside n l i f is = (subst (NodeAgrees (state_after_all v.start r.history).at (slots_of v.start) (λ s. count_in (slot_word st.words s)) r.node_of
-          r.nodes.next_number n (word_at st.words (word_of v.start n)) (sum_by (taken_of n) st.views) (owed r.debt v.start.passes n)
-          (get_elem? st.homes n)) is (r.nodes.each n l)).inside
-
       leaves : Leaves turn calm_after
       leaves = record {
         guards = λ p e other range. guards_same turn calm_after p e (s.hold_words p other range.0) refl (covers_same turn words' s.slot_words p);
@@ -168,11 +163,8 @@ module _ (turn : Turn) (d : Work) (g : Glance) where
         ≡ (state_after_all v.start r.history).holds n + held_of n (w turn (read_after h'))
 
   pub read_watching_kept : {h' : List Event} (o : Watch) (more : x.watch.met ≤ o.met) (front : List Event) (i : ℕ) → IsSeenBy front h'
-      → part_of_pass x.number h' ≡ part_of_pass x.number front → WatchAgrees v.start h' st.words x.number o → Reads h' → Agrees v.start record {
-        words = set st.words i (word_at st.words i);
-        homes = st.homes;
-        views = set st.views id (w turn (read_watching o more h' front));
-      }
+      → part_of_pass x.number h' ≡ part_of_pass x.number front → WatchAgrees v.start h' st.words x.number o → Reads h'
+      → Agrees v.start (end_read turn (read_watching o more h' front) i)
   read_watching_kept {h'} o more front i seen own watches s =
       rw (set-get_or st.words i 0) (calm_kept turn h' front st.words d g v.change x.asked x.listed (λ l. l) o more record {
         words = refl;
@@ -197,17 +189,9 @@ module _ (turn : Turn) (d : Work) (g : Glance) where
 
   -- the pass may see no more than before
   pub read_before_kept : {h' : List Event} (front : List Event) (i : ℕ) → IsSeenBy front h' → part_of_pass x.number h' ≡ part_of_pass x.number front
-      → Reads h' → Agrees v.start record {
-        words = set st.words i (word_at st.words i);
-        homes = st.homes;
-        views = set st.views id (w turn (read_before h' front));
-      }
+      → Reads h' → Agrees v.start (end_read turn (read_before h' front) i)
   read_before_kept {h'} front i seen own s = read_watching_kept x.watch (met_same x.watch.met) front i seen own
       (watch_same v.start x.number (s.files.grows.seen r.history ([], refl)) (λ s l. refl) refl x.watch (its_log turn).watch) s
 
-  pub read_kept : {h' : List Event} (i : ℕ) → Reads h' → Agrees v.start record {
-    words = set st.words i (word_at st.words i);
-    homes = st.homes;
-    views = set st.views id (w turn (read_after h'));
-  }
+  pub read_kept : {h' : List Event} (i : ℕ) → Reads h' → Agrees v.start (end_read turn (read_after h') i)
   read_kept {h'} i s = read_before_kept h' i ([], refl) refl s

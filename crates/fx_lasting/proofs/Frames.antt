@@ -9,7 +9,7 @@ use Rattle.fx_lasting.proofs.Words.{owner, Glance, Log, View, Work, Idle, Announ
 use Rattle.fx_lasting.proofs.Words.{Emptying, Keeping, Nothing, Hot, Cold, Heating, taken_of, owed, sum_by, suc, Deed, untouched, over, heated}
 use Rattle.fx_lasting.proofs.Words.{has_acted, has_heated, Written, Unlabelled, label_of, written_in, file_in, Bool, Event}
 use Rattle.fx_lasting.proofs.Counts.{tally_same}
-use Rattle.fx_lasting.proofs.Keeping.{Turn, After, Homes, Keeps, NodesStep, LeavesFiles, LabelSame, labels_same, w, word_at, slot_word}
+use Rattle.fx_lasting.proofs.Keeping.{NodeIn, Turn, After, Homes, Keeps, NodesStep, LeavesFiles, LabelSame, labels_same, w, word_at, slot_word}
 
 -- the node that a pass alone works with, plus 1, or 0
 abbrev pub busy : Work → ℕ
@@ -35,8 +35,6 @@ alone_cases _ is = inl is
 
 pub busy_alone : (w : Work) → busy w ≡ busy (alone_in w)
 busy_alone (Renewing f held n l) = refl
-busy_alone (Relieving f held n l) = refl
-busy_alone (Nearing m n l) = refl
 busy_alone _ = refl
 
 -- the label of a file, if there is one
@@ -46,10 +44,8 @@ label_in (Some f) = label_of f.identity
 
 -- a node with an open file has the file's label
 pub written_of : (ph : Phase) {f : File} → file_in ph ≡ Some f → written_in ph ≡ label_of f.identity
-written_of (seated s f) is = ap (λ (o : Option File). label_in o) is
-written_of (leaving j t nx m f) is = ap (λ (o : Option File). label_in o) is
-written_of (retired f) is = ap (λ (o : Option File). label_in o) is
-written_of _ is = absurd (cc is)
+written_of (placed j l) is = absurd (cc is)
+written_of _ is = ap (λ (o : Option File). label_in o) is
 
 -- the pass of a node is known in other views too, if what is done with it is
 pub owner_map : (views others : List View) (n : ℕ)
@@ -223,15 +219,13 @@ module _ (turn : Turn) (a : After turn) where
     work_stays (Yielding f m) is at = leaves.open_file j u f m other there (ap held_in is) at
     work_stays (Searching m) is at = let b = rw is at o.allowed in
         (at.0, leaves.spare m z.number b.0 at.1 ((r.nodes.stocks j u z there has).here b.0 m b.1) n)
-    work_stays (Placing m w) is at = (at.0, same_for at.1 refl)
     work_stays (Renewing f m own w) is at = (leaves.open_file j u f m other there (ap held_in is) at.0, (at.1.0, same_for at.1.1 refl))
     work_stays (Nearing m own w) is at = (at.0, (at.1.0, same_for at.1.1 refl))
     work_stays (Relieving f m own w) is at = (leaves.open_file j u f m other there (ap held_in is) at.0, (at.1.0, same_for at.1.1 refl))
-    work_stays (Retiring f m t next charges) is at = (at.0, same_for at.1 refl)
-    work_stays (Emptying m) is at = (at.0, same_for at.1 refl)
-    work_stays (Keeping m lost) is at = (at.0, same_for at.1 refl)
-    work_stays Idle is at = tt
-    work_stays _ is at = at
+    work_stays Idle is at = at
+    work_stays (Announced m) is at = at
+    work_stays (Owing m) is at = at
+    work_stays _ is at = (at.0, same_for at.1 refl)
 
     pub keeps_other : WorkAgrees v.start r.phase j u.work → Keeps turn a j z.number u.work u.glance
     keeps_other at = let g = leaves.guards z.number u.work n range o.hold o.guarded in record {
@@ -254,18 +248,7 @@ module _ (turn : Turn) (a : After turn) where
       go : (d : Work) → GuardAgrees (slot_word st.words) r.phase q (r.debt q) d → GuardAgrees (slot_word a.words) a.phase q (r.debt q) d
       go (Guarded f n) g = λ none. covers n (g none)
       go (Relieving f n own w) g = λ none. covers n (g none)
-      go (Nearing n own w) g = tt
-      go Idle g = tt
-      go (Announced n) g = tt
-      go (Counted f n) g = tt
-      go (Owing n) g = tt
-      go (Yielding f n) g = tt
-      go (Searching n) g = tt
-      go (Placing n w) g = tt
-      go (Renewing f n own w) g = tt
-      go (Retiring f n t nx m) g = tt
-      go (Emptying n) g = tt
-      go (Keeping n lost) g = tt
+      go _ g = tt
 
 -- a step that leaves the phase, the number and the label of each node: it may change what takes the
 -- nodes' words count
@@ -288,11 +271,9 @@ nodes_untouched turn w files labels alone each = let r = turn.r in record {
 -- how far a look-up is, where no slot's word and no take of the pass has changed
 pub sees_same : (k : Start) {word word' : ℕ → ℕ} (deed : ℕ → Deed) → ((s : ℕ) → s < slots_of k → word' s ≡ word s) → (g : Glance)
     → GlanceAgrees k word deed g → GlanceAgrees k word' deed g
-sees_same k deed same Nothing at = tt
 sees_same k {word} {word'} deed same (Hot s m) at =
     (at.0, at.1, ⊎_elim (λ h. inl (ap full_name_in (same s at.0) ∙ h.0, rw (same s at.0) h.1)) (λ out. inr out) at.2)
-sees_same k deed same (Cold s) at = at
-sees_same k deed same (Heating s) at = at
+sees_same k deed same _ at = at
 
 -- who may be uncharged, where each hot slot stays hot
 module _ (turn : Turn) (words' : List ℕ) (hot : (s : ℕ) → s < slots_of turn.v.start → IsHot (slot_word turn.st.words s) → IsHot (slot_word words' s)) where
@@ -302,16 +283,10 @@ module _ (turn : Turn) (words' : List ℕ) (hot : (s : ℕ) → s < slots_of tur
   covers_hot p n = dite (dec_le (suc n) (nodes_of v.start)) (λ l. go (r.phase n) (r.nodes.each n (omega (arith, l))))
       (λ g m. let e = r.nodes.unborn n (omega (arith, g)) in absurd (rw e at m))
     where
-      go : (ph : Phase) → NodeAgrees (state_after_all v.start r.history).at (slots_of v.start) (λ s. count_in (slot_word st.words s)) r.node_of
-          r.nodes.next_number n (word_at st.words (word_of v.start n)) (sum_by (taken_of n) st.views) (owed r.debt v.start.passes n)
-          (get_elem? st.homes n) ph → MayBeUncharged (slot_word st.words) p ph → MayBeUncharged (slot_word words') p ph
+      go : (ph : Phase) → NodeIn r n ph → MayBeUncharged (slot_word st.words) p ph → MayBeUncharged (slot_word words') p ph
       go (seated i f) o is_hot = hot i o.inside is_hot
       go (leaving j t nx m f) o l = l
-      go free o m = absurd m
-      go (placed j l) o m = absurd m
-      go (retired f) o m = absurd m
-      go (emptied j) o m = absurd m
-      go (kept j lost) o m = absurd m
+      go _ o m = absurd m
 
 -- where no slot's word has changed
 pub covers_same : (turn : Turn) (words' : List ℕ) → ((s : ℕ) → s < slots_of turn.v.start → slot_word words' s ≡ slot_word turn.st.words s) → (p n : ℕ)

@@ -1,5 +1,5 @@
 -- A step of a seat with one pass keeps the rule, if it keeps what the step changes.
-pub use Rattle.fx_lasting.proofs.Turns.{Homes, word_at, LabelSame, labels_same, slot_word, now, logged, met_same, Turn, turn_of, Made, by_turn}
+pub use Rattle.fx_lasting.proofs.Turns.{Homes, NodeIn, node_in, word_at, LabelSame, labels_same, slot_word, now, logged, met_same, Turn, turn_of, Made, by_turn}
 pub use Rattle.fx_lasting.proofs.Turns.{few_in_range}
 use Rattle.fx_lasting.proofs.Words.{Contains, contains_head, contains_only, ◌≡◌, ◌≢◌, ℕ, ◌+◌, ◌<◌, ◌≤◌, List, [], ◌∷◌, ◌++◌, map, set, length, sym}
 use Rattle.fx_lasting.proofs.Words.{refl, ap, ◌∙◌, subst, arith, Option, inl, some, get_elem?, Closed, part_of_pass, Event, Action, sum_by, sum_set}
@@ -127,6 +127,10 @@ module _ (turn : Turn) where
 
     abbrev pub end : Shared
     end = record { words = a.words; homes = a.homes; views = views' }
+
+    -- where it wrote back the word that it read
+    abbrev pub end_read : ℕ → Shared
+    end_read i = record { words = set st.words i (word_at st.words i); homes = st.homes; views = views' }
 
     -- the pass q of another seat j relies on what is there
     pub record Keeps (j q : ℕ) (d : Work) (g : Glance) : Type 0 where

@@ -129,20 +129,11 @@ holds_on (Counted g n) {f} {hold} is = let same : g ≡ f = cc is in let value :
     inl (λ i. Counted (same i) (ap (λ (h : Hold). h.node) value i))
 holds_on (Guarded g n) {f} {hold} is = let same : g ≡ f = cc is in let value : hold_at g n ≡ hold = cc is in
     inr (inl (λ i. Guarded (same i) (ap (λ (h : Hold). h.node) value i)))
-holds_on Idle is = absurd (cc is)
-holds_on (Announced n) is = absurd (cc is)
-holds_on (Owing n) is = absurd (cc is)
-holds_on (Yielding g n) is = absurd (cc is)
-holds_on (Searching n) is = absurd (cc is)
-holds_on (Placing n l) is = absurd (cc is)
 holds_on (Renewing g n own l) {f} {hold} is = let same : g ≡ f = cc is in let value : hold_at g n ≡ hold = cc is in
     inr (inr (own, l, inl (λ i. Renewing (same i) (ap (λ (h : Hold). h.node) value i) own l)))
 holds_on (Relieving g n own l) {f} {hold} is = let same : g ≡ f = cc is in let value : hold_at g n ≡ hold = cc is in
     inr (inr (own, l, inr (λ i. Relieving (same i) (ap (λ (h : Hold). h.node) value i) own l)))
-holds_on (Nearing n own l) is = absurd (cc is)
-holds_on (Retiring g n t nx m) is = absurd (cc is)
-holds_on (Emptying n) is = absurd (cc is)
-holds_on (Keeping n lost) is = absurd (cc is)
+holds_on _ is = absurd (cc is)
 
 -- a pass that looks nothing up, outside a change
 pub at_rest : {id : TableId} {k : Start} {p : LastingPass} → IsPassOf id k p → {m' : Sat} {xs : List Action} {w : Work} {n : ℕ}
@@ -164,73 +155,40 @@ module _ (passes visit entry : ℕ) (idle guarded keeps : Bool) (stock : List �
   work_may Idle knows is = rw knows.1 (inl refl)
   work_may (Searching n) knows is = rw knows.1 (inr (n, refl))
   work_may (Keeping n lost) knows is = rw knows.1 (n, lost, refl, knows.2)
-  work_may (Counted f n) knows is = absurd (cc is)
-  work_may (Guarded f n) knows is = absurd (cc is)
-  work_may (Retiring f n t nx m) knows is = absurd (cc is)
-  work_may _ knows is = absurd knows
+  work_may _ knows is = absurd (first_of (cc, assumption))
 
   work_flag : (w : Work) → Is w → doing_in w ≡ DoesNothing → idle ≡ true
   work_flag Idle knows is = knows.0
-  work_flag (Searching n) knows is = knows.0
-  work_flag (Keeping n lost) knows is = knows.0
-  work_flag (Counted f n) knows is = absurd (cc is)
-  work_flag (Guarded f n) knows is = absurd (cc is)
-  work_flag (Retiring f n t nx m) knows is = absurd (cc is)
-  work_flag _ knows is = absurd knows
+  work_flag _ knows is = first_of (cc, grind arith)
 
   -- a pass with a file keeps no node
   work_unkept : (w : Work) → Is w → (doing_in w ≡ DoesNothing → ⊥) → keeps ≡ false
-  work_unkept Idle knows busy = knows.1
-  work_unkept (Searching n) knows busy = knows.1
   work_unkept (Keeping n lost) knows busy = absurd (busy refl)
-  work_unkept (Counted f n) knows busy = knows.1
-  work_unkept (Guarded f n) knows busy = knows.1
-  work_unkept (Retiring f n t nx m) knows busy = knows.1
-  work_unkept _ knows busy = absurd knows
+  work_unkept _ knows busy = first_of (cc, grind arith)
 
   -- a pass that keeps a node is idle, and the node is at its next entry
   work_kept : (w : Work) → Is w → keeps ≡ true → (n : ℕ) × (lost : ℕ) × (w ≡ Keeping n lost) × (idle ≡ true) × (get_elem? stock entry ≡ some n)
-  work_kept Idle knows is = let bad : true ≡ false = sym is ∙ knows.1 in absurd (cc bad)
-  work_kept (Searching n) knows is = let bad : true ≡ false = sym is ∙ knows.1 in absurd (cc bad)
   work_kept (Keeping n lost) knows is = (n, lost, refl, knows.0, knows.2)
-  work_kept (Counted f n) knows is = let bad : true ≡ false = sym is ∙ knows.1 in absurd (cc bad)
-  work_kept (Guarded f n) knows is = let bad : true ≡ false = sym is ∙ knows.1 in absurd (cc bad)
-  work_kept (Retiring f n t nx m) knows is = let bad : true ≡ false = sym is ∙ knows.1 in absurd (cc bad)
-  work_kept _ knows is = absurd knows
+  work_kept _ knows is = absurd (first_of (cc, assumption))
 
   module _ (f : File) (hold : Hold) where
     work_guarded : (w : Work) → Is w → doing_in w ≡ Holding f hold → guarded ≡ true → w ≡ Guarded f hold.node
-    work_guarded Idle knows is guards = absurd (cc is)
-    work_guarded (Searching n) knows is guards = absurd (cc is)
-    work_guarded (Keeping n lost) knows is guards = absurd (cc is)
-    work_guarded (Counted g n) knows is guards = let bad : false ≡ true = sym knows.2 ∙ guards in absurd (cc bad)
     work_guarded (Guarded g n) knows is guards = let same : g ≡ f = cc is in let value : hold_at g n ≡ hold = cc is in
         λ i. Guarded (same i) (ap (λ (h : Hold). h.node) value i)
-    work_guarded (Retiring g n t nx m) knows is guards = absurd (cc is)
-    work_guarded _ knows is guards = absurd knows
+    work_guarded _ knows is guards = absurd (first_of (cc, assumption))
 
     work_counted : (w : Work) → Is w → doing_in w ≡ Holding f hold → guarded ≡ false → w ≡ Counted f hold.node
-    work_counted Idle knows is guards = absurd (cc is)
-    work_counted (Searching n) knows is guards = absurd (cc is)
-    work_counted (Keeping n lost) knows is guards = absurd (cc is)
     work_counted (Counted g n) knows is guards = let same : g ≡ f = cc is in let value : hold_at g n ≡ hold = cc is in
         λ i. Counted (same i) (ap (λ (h : Hold). h.node) value i)
-    work_counted (Guarded g n) knows is guards = let bad : false ≡ true = sym guards ∙ knows.2 in absurd (cc bad)
-    work_counted (Retiring g n t nx m) knows is guards = absurd (cc is)
-    work_counted _ knows is guards = absurd knows
+    work_counted _ knows is guards = absurd (first_of (cc, assumption))
 
   work_retiring : (f : File) (retired : Retired) (w : Work) → Is w → doing_in w ≡ Retires f retired → IsToRetire passes visit f retired w
-  work_retiring f retired Idle knows is = absurd (cc is)
-  work_retiring f retired (Searching n) knows is = absurd (cc is)
-  work_retiring f retired (Keeping n lost) knows is = absurd (cc is)
-  work_retiring f retired (Counted g n) knows is = absurd (cc is)
-  work_retiring f retired (Guarded g n) knows is = absurd (cc is)
   work_retiring f retired (Retiring g n t nx m) knows is = let same : g ≡ f = cc is in let value : retired_at g n t ≡ retired = cc is in (
     λ i. Retiring (same i) (ap (λ (r : Retired). r.node) value i) (ap (λ (r : Retired). r.takes) value i) (knows.2 i) (knows.3 i),
     subst (λ (z : ℕ). z < 2 ^ 20) (ap (λ (r : Retired). r.takes) value) knows.4,
     knows.5,
   )
-  work_retiring f retired _ knows is = absurd knows
+  work_retiring f retired _ knows is = absurd (first_of (cc, assumption))
 
 -- a pass that keeps no node may look for one
 looks_for : (stock : List ℕ) (entry : ℕ) (w : Work) {keeps : Bool} → MayPlace keeps stock entry w → keeps ≡ false → HasNoFile w

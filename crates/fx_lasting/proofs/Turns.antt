@@ -1,8 +1,8 @@
 -- The turn of a seat with one pass, and what each law of a step asks of it.
-use Rattle.fx_lasting.proofs.Words.{◌≡◌, ◌≢◌, ℕ, ◌+◌, ◌<◌, ◌≤◌, List, [], ◌∷◌, set, sym, refl, ap, subst, arith, get_or, Option, some, get_elem?}
+use Rattle.fx_lasting.proofs.Words.{◌≡◌, ℕ, ◌+◌, ◌<◌, ◌≤◌, List, [], ◌∷◌, sym, subst, arith, get_or, Option, some, get_elem?}
 use Rattle.fx_lasting.proofs.Words.{Closed, Event, Bool, Allows, stepped, Act, Valid, carried_after, Agrees, slot_place, Shared, range_at_start, Sat}
 use Rattle.fx_lasting.proofs.Words.{HasPass, Change, Glance, Log, Start, View, Work, Watch, Survey, Labels, Written, tag_word_of, number_word_of}
-use Rattle.fx_lasting.proofs.Words.{MOST_SLOTS}
+use Rattle.fx_lasting.proofs.Words.{MOST_SLOTS, NodeAgrees, Phase, count_in, nodes_of, owed, slots_of, state_after_all, sum_by, taken_of, word_of}
 use mathlib.Core.Option as maybe
 
 abbrev pub Homes : Type 0
@@ -22,6 +22,14 @@ labels_same k words' words n l same o = rw (same.0, same.1) o
 -- the word of a slot
 abbrev pub slot_word : List ℕ → ℕ → ℕ
 slot_word words s = word_at words (slot_place s)
+
+-- a node in this phase
+abbrev pub NodeIn : {k : Start} {s : Shared} → Agrees k s → ℕ → Phase → Type 0
+NodeIn {k} {s} r n = NodeAgrees (state_after_all k r.history).at (slots_of k) (λ i. count_in (slot_word s.words i)) r.node_of r.nodes.next_number n
+    (word_at s.words (word_of k n)) (sum_by (taken_of n) s.views) (owed r.debt k.passes n) (get_elem? s.homes n)
+
+pub node_in : {k : Start} {s : Shared} (r : Agrees k s) {n : ℕ} {ph : Phase} → n < nodes_of k → r.phase n ≡ ph → NodeIn r n ph
+node_in r {n} l is = subst (NodeIn r n) is (r.nodes.each n l)
 
 abbrev pub now : View → Log → Work → Glance → Change → View
 now v y d g c = record v { logs = y ∷ []; work = d; glance = g; change = c }

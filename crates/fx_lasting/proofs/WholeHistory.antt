@@ -1,10 +1,10 @@
 -- One history has what all passes did, and each removed file that is open has a user.
 use Rattle.fx_lasting.proofs.Words.{its_pass, Renewing, Nearing, Relieving, StillNames, contents_of, ◌≡◌, ℕ, suc, ◌+◌, ◌<◌, ◌≤◌, List, [], ◌∷◌}
 use Rattle.fx_lasting.proofs.Words.{length, sym, refl, ap, ◌∙◌, subst, arith, Some, None, some, get_elem?, ⊎_elim, dite, dec_le, eqb, Bool, true}
-use Rattle.fx_lasting.proofs.Words.{false, cond, at_index, found_sum, File, Agrees, NodeAgrees, WorkAgrees, HoldAgrees, HoldsAt, OwnerAgrees, Shared}
-use Rattle.fx_lasting.proofs.Words.{Start, View, Work, Phase, Idle, Announced, Counted, Guarded, Owing, Yielding, Searching, Placing, Retiring}
-use Rattle.fx_lasting.proofs.Words.{Emptying, Keeping, seated, leaving, retired, file_in, removed_in, file_if_numbered, eq-eqb, taken_of, taking}
-use Rattle.fx_lasting.proofs.Words.{owed, count_in, sum_by, bit_else, slots_of, nodes_of, word_of, state_after_all, state_at_start, node_of_number}
+use Rattle.fx_lasting.proofs.Words.{false, cond, at_index, found_sum, File, Agrees, WorkAgrees, HoldAgrees, HoldsAt, OwnerAgrees, Shared}
+use Rattle.fx_lasting.proofs.Words.{Start, View, Work, Phase, Announced, Counted, Guarded, Owing, Yielding, Retiring}
+use Rattle.fx_lasting.proofs.Words.{seated, leaving, retired, file_in, removed_in, file_if_numbered, eq-eqb, taken_of, taking}
+use Rattle.fx_lasting.proofs.Words.{owed, sum_by, bit_else, slots_of, nodes_of, state_after_all, state_at_start, node_of_number}
 use Rattle.fx_lasting.proofs.Words.{state_of, lt-ltb, ℕ_discrete, not, eqb-true, named_same, opening_is_start, numbered_anew, PassView, find_pass}
 use Rattle.fx_lasting.proofs.Frames.{alone_cases}
 use Rattle.fx_plain.proofs.Cells.{named}
@@ -13,7 +13,7 @@ use Rattle.fx_plain.specs.Laws.{IsStart, closes_of}
 use Rattle.fx_lasting.proofs.Counts.{owed_found}
 use Rattle.fx_lasting.proofs.Histories.{same_shape}
 use Rattle.fx_lasting.proofs.hold_lemmas.Holds.{holds_at}
-use Rattle.fx_lasting.proofs.Keeping.{word_at, slot_word}
+use Rattle.fx_lasting.proofs.Keeping.{NodeIn}
 use Rattle.fx_lasting.specs.WholeHistory.{IsPassAt, IsPartOf, IsOfAllPasses, Uses, HasUser}
 
 -- the passes begin in a state from which the laws of histories speak
@@ -33,10 +33,6 @@ found_file number g f is = go (eqb g.number number) refl is
     go false e is = absurd (cc is)
 
 module _ (k : Start) (s : Shared) (r : Agrees k s) where
-  abbrev Node : ℕ → Phase → Type 0
-  Node n = NodeAgrees (state_after_all k r.history).at (slots_of k) (λ i. count_in (slot_word s.words i)) r.node_of r.nodes.next_number n
-      (word_at s.words (word_of k n)) (sum_by (taken_of n) s.views) (owed r.debt k.passes n) (get_elem? s.homes n)
-
   parts : (seat : ℕ) (pass : PassView) → IsPassAt s seat pass → IsPartOf pass r.history
   parts seat pass at = let o = its_pass r.life seat at.there at.one in
       subst (λ (w : PassView). IsPartOf w r.history) at.shown (rw at.one record { seen = o.seen; own = o.own })
@@ -53,7 +49,7 @@ module _ (k : Start) (s : Shared) (r : Agrees k s) where
       let a = ap present (r.nodes.removed f.number ∙ (ap (λ (m : ℕ). removed_in f.number (r.phase m)) on ∙ (ap (removed_in f.number) at ∙ is))) in omega arith
 
   -- a file that is open counts in the state that the history leads to
-  is_there : (n : ℕ) (f : File) (ph : Phase) → r.phase n ≡ ph → Node n ph → file_in ph ≡ Some f
+  is_there : (n : ℕ) (f : File) (ph : Phase) → r.phase n ≡ ph → NodeIn r n ph → file_in ph ≡ Some f
       → 1 ≤ tally f.number (state_after_all k r.history)
   is_there n f (seated slot g) at o is = let same : g ≡ f = cc is in
       let z = (same_shape k r.history).0 in
@@ -96,19 +92,8 @@ module _ (k : Start) (s : Shared) (r : Agrees k s) where
       where
         go : (w : Work) → 1 ≤ taking n w → WorkAgrees k r.phase seat w → Uses f n w
         go (Counted g m) is at = dite (ℕ_discrete m n) (λ same. same_file g (rw same at at)) (λ other. absurd (let a = bit_else n m other in omega arith))
-        go Idle is at = absurd (omega arith)
-        go (Announced m) is at = absurd (omega arith)
-        go (Guarded g m) is at = absurd (omega arith)
-        go (Owing m) is at = absurd (omega arith)
-        go (Yielding g m) is at = absurd (omega arith)
-        go (Searching m) is at = absurd (omega arith)
-        go (Placing m w) is at = absurd (omega arith)
         go (Renewing g m own w) is at = dite (ℕ_discrete m n) (λ same. same_file g (rw same at at.0)) (λ other. absurd (let a = bit_else n m other in omega arith))
-        go (Nearing m own w) is at = absurd (omega arith)
-        go (Relieving g m own w) is at = absurd (omega arith)
-        go (Retiring g m t rd k) is at = absurd (omega arith)
-        go (Emptying m) is at = absurd (omega arith)
-        go (Keeping m lost) is at = absurd (omega arith)
+        go _ is at = absurd (omega arith)
 
     owes : (seat : ℕ) (w : Work) (word debt : ℕ) → debt ≡ n + 1 → HoldAgrees word debt w → WorkAgrees k r.phase seat w → Uses f n w
     owes seat (Announced m) word debt is h at = ⊎_elim (λ clean. let a = clean.1 in absurd (omega arith)) (λ full. let a = full.1 in omega arith) h
@@ -140,7 +125,7 @@ module _ (k : Start) (s : Shared) (r : Agrees k s) where
         let there = at_index s.views z.1.0 z.0 z.1.1 (sym z.1.2) in (z.1.0, z.0, there, takes z.1.0 z.0 there z.2))
 
   -- the user of a removed file
-  user_of : (number n : ℕ) (f : File) (ph : Phase) → r.phase n ≡ ph → Node n ph → OwnerAgrees s.views n ph → removed_in number ph ≡ Some f
+  user_of : (number n : ℕ) (f : File) (ph : Phase) → r.phase n ≡ ph → NodeIn r n ph → OwnerAgrees s.views n ph → removed_in number ph ≡ Some f
       → (f.number ≡ number) × ((seat : ℕ) × (v : View) × (get_elem? s.views seat ≡ some v) × Uses f n v.work)
   user_of number n f (leaving seat t rd m g) at o who is = let e = found_file number g f is in
       (e.1, (seat, who.0, who.1, ⊎_elim (λ its. subst (Uses f n) (sym its) e.0) (λ z. absurd (cc z.3)) (alone_cases who.0.work who.2)))

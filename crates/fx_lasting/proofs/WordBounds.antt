@@ -1,26 +1,22 @@
 -- The bounds of the words.
-use Rattle.fx_lasting.proofs.Words.{◌≡◌, ℕ, ◌+◌, ◌<◌, ◌≤◌, Option, Some, None, subst, arith, File, sum_by, get_elem?, Agrees, Names, IsSeated}
-use Rattle.fx_lasting.proofs.Words.{NodeAgrees, WorkAgrees, slots_of, word_of, state_after_all, taken_of, owed, count_in, full_name_in, Phase, Shared}
+use Rattle.fx_lasting.proofs.Words.{◌≡◌, ℕ, ◌+◌, ◌<◌, ◌≤◌, Option, Some, None, subst, arith, File, Agrees, Names, IsSeated}
+use Rattle.fx_lasting.proofs.Words.{WorkAgrees, slots_of, state_after_all, count_in, full_name_in, Shared}
 use Rattle.fx_lasting.proofs.Words.{Start, range_at_start, group_start, group_len, full_few, cold_takes, has_acted, has_heated, AreBounded}
 use Rattle.fx_lasting.proofs.Words.{slot_word_in, node_word_in}
 use Rattle.table_range.proofs.GroupSlots.{few_slots}
 use Rattle.fx_lasting.proofs.range_lemmas.GroupSteps.{owing_most}
 use Rattle.fx_lasting.proofs.Counts.{tally_few, few_cold}
-use Rattle.fx_lasting.proofs.Keeping.{word_at, slot_word}
+use Rattle.fx_lasting.proofs.Keeping.{node_in}
 
 module _ (k : Start) (s : Shared) (r : Agrees k s) where
   pub few_takes : (slot : ℕ) → slot < slots_of k → count_in (slot_word_in s slot) ≤ cold_takes k.passes + k.passes
   few_takes slot inside = let a = (r.slots slot inside).takes in let b = tally_few (λ p. has_acted (r.deed slot p)) k.passes in omega arith
 
-  abbrev Node : ℕ → Phase → Type 0
-  Node n = NodeAgrees (state_after_all k r.history).at (slots_of k) (λ i. count_in (slot_word s.words i)) r.node_of r.nodes.next_number n
-      (word_at s.words (word_of k n)) (sum_by (taken_of n) s.views) (owed r.debt k.passes n) (get_elem? s.homes n)
-
   of_slot : (slot node : ℕ) → slot < slots_of k → (file : Option File) → Names r.node_of (slot_word_in s slot) file
       → IsSeated k r.node_of r.phase slot file → full_name_in (slot_word_in s slot) ≡ node + 1 → 2 < node_word_in k s node
   of_slot slot node inside None names seat is = absurd (omega arith)
   of_slot slot node inside (Some f) names seat is = let a = names.0 in let same : r.node_of f.number ≡ node = omega arith in
-      let o = subst (Node (r.node_of f.number)) seat.1 (r.nodes.each (r.node_of f.number) seat.0) in
+      let o = node_in r seat.0 seat.1 in
       let c = o.counts in let t = few_takes slot inside in let p = r.shape.passes in
       let large : 2 < node_word_in k s (r.node_of f.number) = omega (arith, few_cold k.passes) in subst (λ (n : ℕ). 2 < node_word_in k s n) same large
 
@@ -33,7 +29,7 @@ module _ (k : Start) (s : Shared) (r : Agrees k s) where
     named = λ slot node inside is. let a = r.slots slot inside in of_slot slot node inside _ a.names a.seat is;
     leaving = λ seat node takes charges round v f there is.
         let work = subst (WorkAgrees k r.phase seat) is (r.holds.views seat v there).work in
-        let o = subst (Node node) work.1 (r.nodes.each node work.0) in
+        let o = node_in r work.0 work.1 in
         let a = o.counts in let b = o.few_takes in let c = o.few_charges in let d = o.few_visits in omega arith;
     groups = λ g l. let a = (r.range.groups g l).counts in let b = owing_most k s r g in let c = few_slots (range_at_start k).1 g in
         let d = full_few (state_after_all k r.history).at (group_start (range_at_start k) g) (group_len (range_at_start k).1 g) in omega (arith, a, b, c, d);

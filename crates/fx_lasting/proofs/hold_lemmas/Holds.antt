@@ -1,12 +1,12 @@
 -- A node is that of one file while the file is held.
-use Rattle.fx_lasting.proofs.Words.{Renewing, Relieving, ◌≡◌, ◌≢◌, ℕ, ◌+◌, Option, Some, None, ap, sym, ◌∙◌, subst, arith, File, node_of_number, sum_by, get_elem?, Agrees}
-use Rattle.fx_lasting.proofs.Words.{Names, IsSeated, NodeAgrees, WorkAgrees, HoldsAt, slots_of, word_of, state_after_all, taken_of, owed, count_in}
+use Rattle.fx_lasting.proofs.Words.{Renewing, Relieving, ◌≡◌, ◌≢◌, ℕ, ◌+◌, Option, Some, None, ap, sym, ◌∙◌, subst, arith, File, node_of_number, Agrees}
+use Rattle.fx_lasting.proofs.Words.{Names, IsSeated, WorkAgrees, HoldsAt}
 use Rattle.fx_lasting.proofs.Words.{full_name_in, Phase, Shared, Start, Work, Counted, Guarded, Retiring, seated, leaving, retired, file_in, Holding}
 use Rattle.fx_lasting.proofs.Words.{Hold, Retired, slot_word_in, node_word_in, doing_in}
 use Rattle.fx_table.specs.declared.values.Doing.TheVariants.{Retiring as Retires}
 use Rattle.fx_lasting.specs.holds.Holds.{IsHeldBy, HoldsNameFiles, HoldKeepsNode}
 use Rattle.fx_lasting.proofs.Counts.{few_cold}
-use Rattle.fx_lasting.proofs.Keeping.{word_at, slot_word}
+use Rattle.fx_lasting.proofs.Keeping.{NodeIn}
 use Rattle.fx_lasting.proofs.WordBounds.{few_takes}
 
 module _ (k : Start) (s : Shared) (r : Agrees k s) where
@@ -37,11 +37,7 @@ module _ (k : Start) (s : Shared) (r : Agrees k s) where
       let here = (holds_at held).1 in let there : r.phase hold.node ≡ seated slot h = rw node at seat.1 in
       let both : file_in (seated slot h) ≡ Some f = rw there at here in cc (both, e)
 
-  abbrev pub Node : ℕ → Phase → Type 0
-  Node n = NodeAgrees (state_after_all k r.history).at (slots_of k) (λ i. count_in (slot_word s.words i)) r.node_of r.nodes.next_number n
-      (word_at s.words (word_of k n)) (sum_by (taken_of n) s.views) (owed r.debt k.passes n) (get_elem? s.homes n)
-
-  pub of_phase : (n : ℕ) (f : File) (ph : Phase) → file_in ph ≡ Some f → Node n ph → node_word_in k s n ≢ 0
+  pub of_phase : (n : ℕ) (f : File) (ph : Phase) → file_in ph ≡ Some f → NodeIn r n ph → node_word_in k s n ≢ 0
   of_phase n f (seated slot g) e o = let a = o.counts in let b = few_takes k s r slot o.inside in
       let c = few_cold k.passes in let p = r.shape.passes in λ zero. omega arith
   of_phase n f (leaving seat takes next charges g) e o = let a = o.counts in let b = o.few_takes in let c = o.few_charges in
@@ -50,10 +46,10 @@ module _ (k : Start) (s : Shared) (r : Agrees k s) where
   of_phase n f _ e o = absurd (cc e)
 
   -- the number of an open file says its node
-  pub on_node : (n : ℕ) (f : File) (ph : Phase) → file_in ph ≡ Some f → Node n ph → node_of_number k f.number ≡ n
+  pub on_node : (n : ℕ) (f : File) (ph : Phase) → file_in ph ≡ Some f → NodeIn r n ph → node_of_number k f.number ≡ n
   on_node n f ph e o = sym (r.numbering f.number) ∙ go ph e o
     where
-      go : (ph : Phase) → file_in ph ≡ Some f → Node n ph → r.node_of f.number ≡ n
+      go : (ph : Phase) → file_in ph ≡ Some f → NodeIn r n ph → r.node_of f.number ≡ n
       go (seated slot g) e o = let same : g ≡ f = cc e in rw (← same) o.file.its_node
       go (leaving seat takes next charges g) e o = let same : g ≡ f = cc e in rw (← same) o.file.its_node
       go (retired g) e o = let same : g ≡ f = cc e in rw (← same) o.file.its_node

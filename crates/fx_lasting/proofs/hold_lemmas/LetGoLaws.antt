@@ -2,7 +2,7 @@
 use Rattle.fx_lasting.proofs.Words.{◌≡◌, ◌≢◌, ℕ, ◌+◌, ◌-◌, ◌%◌, ◌^◌, ◌<◌, ◌≤◌, List, [], ◌∷◌, set, sym, refl, ap, ◌∙◌, subst, arith, Option, Some}
 use Rattle.fx_lasting.proofs.Words.{none, some, keeps, takes, Closed, ◌▷◌, File, Event, Release, Action, pass_event, NodeAgrees, OwnerAgrees}
 use Rattle.fx_lasting.proofs.Words.{MayBeUncharged, HoldsAt, WorkAgrees, state_after_all, slots_of, nodes_of, word_of, hold_word_of, held_in, held_of}
-use Rattle.fx_lasting.proofs.Words.{taken_of, taking, if_file, owed, count_in, Phase, free, placed, seated, leaving, retired, emptied, kept, owner}
+use Rattle.fx_lasting.proofs.Words.{taken_of, taking, if_file, owed, count_in, Phase, seated, leaving, retired, owner}
 use Rattle.fx_lasting.proofs.Words.{file_in, removed_in, changed_at, changed_here, changed_else, Work, Idle, Counted, Owing, Yielding, Goes, TakesOut}
 use Rattle.fx_lasting.proofs.Words.{Sat, LettingGo, LettingGoKeeps, step, inl, inr, ⊎_elim, ◌⊎◌, dite, ℕ_discrete, eqb, one_if, sum_by, sum_at}
 use Rattle.fx_lasting.proofs.Words.{one_less_at, get_elem?, bit_here, bit_else, Agrees}
@@ -107,11 +107,7 @@ module _ (turn : Turn) (n : ℕ) where
       go : (ph : Phase) → r.phase n ≡ ph → NodeNow turn n ph → (f : File) × HoldsAt v.start r.phase f n
       go (leaving j t nx m f) is o = (f, (l, ap file_in is))
       go (retired f) is o = (f, (l, ap file_in is))
-      go (seated s f) is o = let a = o.unowed in absurd (omega arith)
-      go free is o = let a = o.unowed in absurd (omega arith)
-      go (placed j l) is o = let a = o.unowed in absurd (omega arith)
-      go (emptied j) is o = let a = o.unowed in absurd (omega arith)
-      go (kept j lost) is o = let a = o.unowed in absurd (omega arith)
+      go _ is o = let a = o.unowed in absurd (omega arith)
 
   -- the debt of the pass is paid
   abbrev paid : ℕ → ℕ

@@ -1,6 +1,6 @@
 -- A step that sets a pass's bit in the list keeps the rule.
-use Rattle.fx_lasting.proofs.Words.{Renewing, Nearing, Relieving, ℕ, ◌≤◌, ◌^◌, List, Option, Closed, refl, inl, inr, arith, none, keeps, Announced}
-use Rattle.fx_lasting.proofs.Words.{Guarded, Searching, Placing, Retiring, Keeping, true, bit_or, bit_of, list_place, step, length-set, dite}
+use Rattle.fx_lasting.proofs.Words.{Nearing, Relieving, ℕ, ◌≤◌, ◌^◌, List, Option, Closed, refl, inl, inr, arith, none, keeps, Announced}
+use Rattle.fx_lasting.proofs.Words.{Guarded, Retiring, true, bit_or, bit_of, list_place, step, length-set, dite}
 use Rattle.fx_lasting.proofs.Words.{ℕ_discrete, Work, IsAllowed, Lists, ListsKeep, [], Bool, ◌≡◌, ◌+◌, ◌%◌, ◌<◌, ◌∙◌, sym, false, Agrees, first_log}
 use Rattle.fx_lasting.proofs.Histories.{grows_none}
 use Rattle.fx_lasting.proofs.Frames.{guards_same, covers_same, sees_same}
@@ -15,16 +15,12 @@ use Rattle.fx_lasting.proofs.Places.{list_words, list_here, list_apart, list_nod
 
 -- a pass that is listed may do what it did
 allowed_more : (stock : List ℕ) (l : Bool) (d : Work) → IsAllowed stock l d → IsAllowed stock true d
-allowed_more stock l (Searching n) ok = ok
-allowed_more stock l (Placing n w) ok = ok
-allowed_more stock l (Renewing f n own w) ok = ok
 allowed_more stock l (Nearing n own w) ok = (ok.0, refl)
 allowed_more stock l (Relieving f n own w) ok = (ok.0, refl)
 allowed_more stock l (Retiring f n t nx m) ok = λ is. refl
 allowed_more stock l (Announced n) ok = refl
 allowed_more stock l (Guarded f n) ok = refl
-allowed_more stock l (Keeping n lost) ok = ok
-allowed_more stock l _ ok = tt
+allowed_more stock l _ ok = ok
 
 module _ (turn : Turn) (not_yet : turn.x.listed ≡ false) (fits : word_at turn.st.words (list_place turn.x.number) < 18446744073709551616) where
   open turn use {st, v, r, id, x, here, one}

@@ -68,8 +68,7 @@ module _ (turn : Turn) (s : ℕ) (inside : s < slots_of turn.v.start) where
     where
       go : (e : Deed) → r.deed s x.number ≡ e → r.deed s x.number ≡ untouched
       go untouched is = is
-      go over is = absurd (unlisted ((its_log turn).takes_listed s inside (λ e. let bad : over ≡ untouched = sym is ∙ e in cc bad)))
-      go heated is = absurd (unlisted ((its_log turn).takes_listed s inside (λ e. let bad : heated ≡ untouched = sym is ∙ e in cc bad)))
+      go _ is = absurd (unlisted ((its_log turn).takes_listed s inside (λ e. cc (sym is ∙ e))))
 
   listed_cases : (x.listed ≡ true → ⊥) ⊎ (x.listed ≡ true)
   listed_cases = go x.listed refl

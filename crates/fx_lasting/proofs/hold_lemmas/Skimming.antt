@@ -1,8 +1,8 @@
 -- A pass that removed a hot file loads a word of the list: the passes without their bits hold
 -- nothing of the node that isn't charged.
-use Rattle.fx_lasting.proofs.Words.{Renewing, Nearing, Relieving, StillNames, false, ◌≡◌, ◌≢◌, ℕ, ◌+◌, ◌*◌, ◌<◌, ◌≤◌, List, [], sym, refl, ap, ◌∙◌}
+use Rattle.fx_lasting.proofs.Words.{Nearing, Relieving, StillNames, false, ◌≡◌, ◌≢◌, ℕ, ◌+◌, ◌*◌, ◌<◌, ◌≤◌, List, [], sym, refl, ap, ◌∙◌}
 use Rattle.fx_lasting.proofs.Words.{subst, arith, Option, none, keeps, Closed, File, HoldAgrees, GuardAgrees, MayBeUncharged, hold_word_of, leaving}
-use Rattle.fx_lasting.proofs.Words.{Work, Idle, Announced, Counted, Guarded, Owing, Yielding, Searching, Placing, Retiring, Emptying, Keeping, step}
+use Rattle.fx_lasting.proofs.Words.{Work, Announced, Guarded, Retiring, step}
 use Rattle.fx_lasting.proofs.Words.{dite, dec_le, ⊎_elim, set-get_or, Round, round_from, IsToVisit, IsPassed, IsListedIn, list_place, Skims}
 use Rattle.fx_lasting.proofs.Words.{SkimsKeep, Goes, changed_at, true, Bool, IsAllowed, find_pass}
 use Rattle.fx_lasting.proofs.Histories.{each_changed}
@@ -13,13 +13,6 @@ use Rattle.fx_lasting.proofs.hold_lemmas.RoundSteps.{its, node, retiring_same, r
 speaks : (stock : List ℕ) (l : Bool) {word : ℕ} (debt : ℕ) (e : Work) → word ≢ 0 → HoldAgrees word debt e → IsAllowed stock l e → l ≡ true
 speaks stock l debt (Announced n) some hold allowed = allowed
 speaks stock l debt (Guarded f n) some hold allowed = allowed
-speaks stock l debt Idle some hold allowed = absurd (some hold.0)
-speaks stock l debt (Counted f n) some hold allowed = absurd (some hold.0)
-speaks stock l debt (Owing n) some hold allowed = absurd (some hold.0)
-speaks stock l debt (Yielding f n) some hold allowed = absurd (some hold.0)
-speaks stock l debt (Searching n) some hold allowed = absurd (some hold.0)
-speaks stock l debt (Placing n w) some hold allowed = absurd (some hold.0)
-speaks stock l debt (Renewing h n own w) some hold allowed = absurd (some hold.0)
 speaks stock l debt (Nearing n own w) some hold allowed = allowed.1
 speaks stock l debt (Relieving f n own w) some hold allowed = allowed.1
 speaks stock l {word} debt (Retiring f n t nx m) some hold allowed = go nx.guarded refl hold
@@ -27,8 +20,7 @@ speaks stock l {word} debt (Retiring f n t nx m) some hold allowed = go nx.guard
     go : (b : Bool) → nx.guarded ≡ b → StillNames b word debt n → l ≡ true
     go true is names = allowed is
     go false is unnamed = absurd (some unnamed.0)
-speaks stock l debt (Emptying n) some hold allowed = absurd (some hold.0)
-speaks stock l debt (Keeping n lost) some hold allowed = absurd (some hold.0)
+speaks stock l debt _ some hold allowed = absurd (some hold.0)
 
 module _ (turn : Turn) (f : File) (n t : ℕ) (nx : Round) (m : ℕ) (works : turn.v.work ≡ Retiring f n t nx m) (down : nx.guarded ≡ false)
     (index : ℕ) (inside : index < 16)

@@ -1,13 +1,13 @@
 -- A take of what a slot names, and the heat of a slot that had its takes.
 use Rattle.fx_lasting.proofs.Words.{alone_in, HoldAgrees, GuardAgrees, IsAllowed, HoldsAt, TakesAs, TakesBeside, TakesBesideKeep, Placement, Phase}
-use Rattle.fx_lasting.proofs.Words.{Start, as_written, Unlabelled, carried_after, subst, Renewing, Nearing, Relieving, ◌⊎◌, ◌≡◌, ◌≢◌, ℕ, ◌+◌, ◌%◌}
+use Rattle.fx_lasting.proofs.Words.{Start, as_written, Unlabelled, carried_after, subst, Renewing, ◌⊎◌, ◌≡◌, ◌≢◌, ℕ, ◌+◌, ◌%◌}
 use Rattle.fx_lasting.proofs.Words.{◌^◌, ◌<◌, ◌≤◌, List, [], ◌∷◌, sym, refl, ap, ◌∙◌, arith, Option, Some, None, none, keeps, Closed, File, Event}
 use Rattle.fx_lasting.proofs.Words.{Look, ◌▷◌, WorkAgrees, GlanceAgrees, Heats, state_after_all, slots_of, nodes_of, held_in, if_file, taken_of}
 use Rattle.fx_lasting.proofs.Words.{taking, pass_event, seated, file_in, Work, Glance, Idle, Counted, Cold, Heating, Deed, untouched, over, heated}
 use Rattle.fx_lasting.proofs.Words.{has_acted, has_heated, Nothing, Takes, HeatsSlot, TakesOnceKeep, HeatsKeep, IsHot, heat_in, name_in, full_name_in}
 use Rattle.fx_lasting.proofs.Words.{same_full_name, entry_in, count_in, cold_takes, glance_after, heat_unit, slot_place, step, inl, inr, ⊎_elim, dite}
 use Rattle.fx_lasting.proofs.Words.{ℕ_discrete, dec_le, one_more_at, Bool, true, false, cond, lt-ltb, le-ltb, tally, sum_set, changed_at}
-use Rattle.fx_lasting.proofs.Words.{changed_here, changed_else, one_if, bit_here, bit_else, IsInside, Announced, Owing, Placing}
+use Rattle.fx_lasting.proofs.Words.{changed_here, changed_else, one_if, bit_here, bit_else, IsInside, Placing}
 use Rattle.fx_lasting.proofs.range_lemmas.GroupSteps.{its_inside}
 use Rattle.fx_lasting.proofs.Counts.{tally_few, tally_one, tally_room, bit_few, few_cold}
 use Rattle.fx_lasting.proofs.Histories.{grows_none, grows_one, legal_more, part_mine, held_mine}
@@ -368,18 +368,6 @@ module _ (turn : Turn) (s : ℕ) (inside : s < slots_of turn.v.start) where
           holds = λ n. omega arith;
         }
 
-    knows_its : IsInside v.start v.work
-    knows_its = go v.work (its_work turn)
-      where
-        go : (d : Work) → WorkAgrees v.start r.phase id d → IsInside v.start d
-        go Idle o = tt
-        go (Announced n) o = o
-        go (Owing n) o = o
-        go (Renewing f n own w) o = (o.0.0, o.1.0)
-        go (Nearing n own w) o = (o.0, o.1.0)
-        go (Relieving f n own w) o = (o.0.0, o.1.0)
-        go _ o = o.0
-
     pub heats_up : (slots : ℕ) (carried : List (ℕ × Option Closed))
         → Made turn carried (slot_place s) (λ word. (word + heat_unit) % 2 ^ 64) (HeatsSlot (step slots (slot_place s) heat_unit 0 none) (v, carried))
     heats_up slots carried = (
@@ -389,7 +377,7 @@ module _ (turn : Turn) (s : ℕ) (inside : s < slots_of turn.v.start) where
       slot_kept turn s inside hot_word r.history v.work Nothing (does_here heated) heats_it,
       record {
         goes = record {
-          stepped = tells turn hot_after refl carried carried [] (grows_none x.number r.history) r.life.legal refl knows_its;
+          stepped = tells turn hot_after refl carried carried [] (grows_none x.number r.history) r.life.legal refl (its_inside turn);
           carried = refl;
         };
       },

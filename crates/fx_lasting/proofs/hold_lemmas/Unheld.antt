@@ -1,22 +1,21 @@
 -- When nothing is counted and nothing is owed to a node any more, nobody holds its file.
 use Rattle.fx_lasting.proofs.Words.{Renewing, Relieving, Contains, contains_head, ◌≡◌, ◌≢◌, ℕ, ◌+◌, ◌<◌, ◌≤◌, List, [], ◌∷◌, sym, refl, ap, ◌∙◌}
 use Rattle.fx_lasting.proofs.Words.{subst, arith, Some, File, some, get_elem?, ⊎_elim, dite, ℕ_discrete, eq-eqb, ne_eqb, sum_by, sum_two, sum_only}
-use Rattle.fx_lasting.proofs.Words.{NodeAgrees, WorkAgrees, HoldAgrees, GuardAgrees, MayBeUncharged, HoldsAt, slots_of, nodes_of, word_of}
-use Rattle.fx_lasting.proofs.Words.{hold_word_of, state_after_all, held_in, held_of, taken_of, taking, if_file, owed, count_in, Phase, seated}
+use Rattle.fx_lasting.proofs.Words.{WorkAgrees, HoldAgrees, GuardAgrees, MayBeUncharged, HoldsAt, nodes_of}
+use Rattle.fx_lasting.proofs.Words.{hold_word_of, state_after_all, held_in, held_of, taken_of, taking, if_file, owed, Phase, seated}
 use Rattle.fx_lasting.proofs.Words.{leaving, retired, file_in, Log, View, Work, Counted, Guarded, Yielding, not_there, its_range}
 use Rattle.fx_lasting.proofs.Counts.{owed_at}
-use Rattle.fx_lasting.proofs.Keeping.{Turn, word_at, slot_word}
+use Rattle.fx_lasting.proofs.Keeping.{NodeIn, node_in, Turn, word_at, slot_word}
 
 module _ (turn : Turn) where
   open turn use {st, v, r, id, x, here, one}
 
   -- a node in its phase
   abbrev pub NodeNow : ℕ → Phase → Type 0
-  NodeNow n = NodeAgrees (state_after_all v.start r.history).at (slots_of v.start) (λ s. count_in (slot_word st.words s)) r.node_of
-      r.nodes.next_number n (word_at st.words (word_of v.start n)) (sum_by (taken_of n) st.views) (owed r.debt v.start.passes n) (get_elem? st.homes n)
+  NodeNow = NodeIn r
 
   pub in_phase : {n : ℕ} {ph : Phase} → n < nodes_of v.start → r.phase n ≡ ph → NodeNow n ph
-  in_phase {n} l is = subst (NodeNow n) is (r.nodes.each n l)
+  in_phase l is = node_in r l is
 
   -- a file of a node has its number there
   pub on_node : {n : ℕ} {f : File} → n < nodes_of v.start → file_in (r.phase n) ≡ Some f → r.node_of f.number ≡ n

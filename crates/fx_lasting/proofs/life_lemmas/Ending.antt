@@ -1,15 +1,15 @@
 -- The end, when one seat has all passes again, and does nothing: everything is settled, and each
 -- file is at its slot.
 use Rattle.fx_lasting.proofs.Words.{contents_of, ◌≡◌, ℕ, suc, ◌<◌, ◌≤◌, map, sym, ap, ◌∙◌, subst, arith, Option, Some, None, sum_by, dite, some}
-use Rattle.fx_lasting.proofs.Words.{dec_le, get_elem?, Closed, State, IsSettled, File, sum_zero_at, ℕ_discrete, Does, OwnerAgrees, NodeAgrees, Agrees}
-use Rattle.fx_lasting.proofs.Words.{Shared, slots_of, nodes_of, word_of, state_after_all, state_at_start, held_of, if_file, taken_of, owed, count_in}
+use Rattle.fx_lasting.proofs.Words.{dec_le, get_elem?, Closed, State, IsSettled, File, sum_zero_at, ℕ_discrete, Does, OwnerAgrees, Agrees}
+use Rattle.fx_lasting.proofs.Words.{Shared, slots_of, nodes_of, state_after_all, state_at_start, held_of, if_file, taken_of, owed}
 use Rattle.fx_lasting.proofs.Words.{Phase, free, placed, seated, leaving, retired, emptied, kept, removed_in, Start, View, Work, HasNoFile, IsSeated}
 use Rattle.fx_lasting.proofs.Words.{action_of, refl, inside_behind, opens_inside, find_pass}
 use Rattle.fx_lasting.proofs.node_lemmas.Choosing.{no_file, no_take, not_busy, holds_none}
 use Rattle.fx_lasting.proofs.Frames.{busy, busy_alone}
 use Rattle.fx_lasting.proofs.Counts.{owed_found}
 use Rattle.fx_lasting.proofs.Histories.{same_shape}
-use Rattle.fx_lasting.proofs.Keeping.{word_at, slot_word}
+use Rattle.fx_lasting.proofs.Keeping.{NodeIn, node_in}
 
 -- no pass does anything
 module _ {k : Start} {s : Shared} (r : Agrees k s) (all_idle : (i : ℕ) (u : View) → get_elem? s.views i ≡ some u → HasNoFile u.work) where
@@ -33,11 +33,7 @@ module _ {k : Start} {s : Shared} (r : Agrees k s) (all_idle : (i : ℕ) (u : Vi
       let i = holds_none (all_idle y.0 y.1 y.3) h in
       let e = ap r.debt y.5 in omega (arith, z.3, i.1, e)))
 
-  abbrev Node : ℕ → Phase → Type 0
-  Node n = NodeAgrees end.at (slots_of k) (λ i. count_in (slot_word s.words i)) r.node_of r.nodes.next_number n (word_at s.words (word_of k n))
-      (sum_by (taken_of n) s.views) (owed r.debt k.passes n) (get_elem? s.homes n)
-
-  removed_none : (m n : ℕ) (ph : Phase) → Node n ph → OwnerAgrees s.views n ph → removed_in m ph ≡ None
+  removed_none : (m n : ℕ) (ph : Phase) → NodeIn r n ph → OwnerAgrees s.views n ph → removed_in m ph ≡ None
   removed_none m n (leaving i t nx z f) a o = let bad = nobody i o in absurd (omega arith)
   removed_none m n (retired f) a o = let w = a.somebody in let h = untaken n in let q = unowed n in absurd (omega arith)
   removed_none m n _ a o = refl
@@ -55,7 +51,7 @@ module _ {k : Start} {s : Shared} (r : Agrees k s) (all_idle : (i : ℕ) (u : Vi
   AtItsSlot n x = (file : Closed) → x ≡ Some file → (slot : ℕ) × (f : File) × (slot < slots_of k) × (end.at slot ≡ Some f) × (f.identity ≡ file)
       × (r.node_of f.number ≡ n)
 
-  home_by : {n : ℕ} (ph : Phase) → Node n ph → OwnerAgrees s.views n ph
+  home_by : {n : ℕ} (ph : Phase) → NodeIn r n ph → OwnerAgrees s.views n ph
       → (x : Option Closed) × (get_elem? s.homes n ≡ some (some x)) × AtItsSlot n x
   home_by {n} free a o = (None, a.at_home, λ file e. absurd (cc e))
   home_by {n} (placed i l) a o = let bad = nobody i o in absurd (omega arith)
@@ -80,7 +76,7 @@ module _ {k : Start} {s : Shared} (r : Agrees k s) (all_idle : (i : ℕ) (u : Vi
   pub file_home : {slot : ℕ} {f : File} → slot < slots_of k → end.at slot ≡ Some f
       → (r.node_of f.number < nodes_of k) × (get_elem? s.homes (r.node_of f.number) ≡ some (some (Some f.identity)))
   file_home {slot} {f} l there = let sat = seat_at l there in
-      (sat.0, (subst (Node (r.node_of f.number)) sat.1 (r.nodes.each (r.node_of f.number) sat.0)).file.at_home)
+      (sat.0, (node_in r sat.0 sat.1).file.at_home)
 
   -- files at different slots are on different nodes
   pub one_slot : {slot other : ℕ} {f g : File} → slot < slots_of k → other < slots_of k → end.at slot ≡ Some f → end.at other ≡ Some g

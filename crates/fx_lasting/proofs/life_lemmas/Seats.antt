@@ -1,8 +1,8 @@
 -- A seat is split off, and one is joined back.
 use Rattle.fx_lasting.proofs.Words.{◌≡◌, ℕ, List, sym, refl, ap, ◌∙◌, subst, arith, ⊎_elim, sum_by, WorkAgrees, LogAgrees, Agrees, Shared, Outside}
-use Rattle.fx_lasting.proofs.Words.{Inside, Log, Start, View, Work, Idle, Glance, Change, SplitsKeep, JoinsKeep, spent, held_in, if_file, taking}
+use Rattle.fx_lasting.proofs.Words.{Inside, Log, Start, View, Work, Idle, Glance, SplitsKeep, JoinsKeep, spent, held_in, if_file, taking}
 use Rattle.fx_lasting.proofs.Words.{get_elem?, some, set, set_here, set_else, at_set, stands_at, sum_set, Contains, HasNoFile, ViewAgrees, taken_of}
-use Rattle.fx_lasting.proofs.Words.{held_of, zero, suc, [], ◌∷◌, ◌≢◌, set-set, without_first, seats, joined, first_alone, Moves}
+use Rattle.fx_lasting.proofs.Words.{held_of, zero, suc, ◌∷◌, ◌≢◌, set-set, without_first, seats, joined, first_alone, Moves}
 use Rattle.fx_lasting.proofs.node_lemmas.Choosing.{no_file, no_take, not_busy, holds_none}
 use Rattle.fx_lasting.proofs.Frames.{busy_alone, busy, owner_map, owner_stays}
 use Rattle.table_range.proofs.Counting.{counts_same, moved_one}
@@ -86,11 +86,9 @@ module _ (k : Start) (s : Shared) (r : Agrees k s) (id : ℕ) (v : View) (here :
 -- writes at two places, in the other order
 module _ {A : Type 0} where
   set_apart : (l : List A) (i j : ℕ) (a b : A) → i ≢ j → set (set l i a) j b ≡ set (set l j b) i a
-  set_apart [] i j a b other = refl
   set_apart (x ∷ l) zero zero a b other = absurd (other refl)
-  set_apart (x ∷ l) zero (suc j) a b other = refl
-  set_apart (x ∷ l) (suc i) zero a b other = refl
   set_apart (x ∷ l) (suc i) (suc j) a b other = ap (λ (m : List A). x ∷ m) (set_apart l i j a b (λ e. other (ap suc e)))
+  set_apart _ _ _ a b other = refl
 
 pub joins_keep : JoinsKeep (joined seats) (spent seats)
 unfolding forgotten

@@ -1,7 +1,7 @@
 -- A pass finds a free node of its stock, takes its place, and lays a node to rest.
 use Rattle.fx_lasting.proofs.Words.{◌⊎◌, HoldsAt, Renewing, File, IsIn, changed_else, ◌≡◌, ◌≢◌, ℕ, ◌+◌, ◌<◌, ◌≤◌, List, [], ◌∷◌, set, sym, refl, ap, ◌∙◌, subst, arith, Option, Some, None, none, some}
 use Rattle.fx_lasting.proofs.Words.{keeps, takes, gives, rest, set_here, set_else, Closed, WorkAgrees, MayBeUncharged, nodes_of, word_of, hold_word_of}
-use Rattle.fx_lasting.proofs.Words.{held_in, if_file, taken_of, taking, owed, Phase, free, placed, seated, leaving, retired, emptied, kept, owner}
+use Rattle.fx_lasting.proofs.Words.{held_in, if_file, taken_of, taking, owed, Phase, free, placed, leaving, emptied, owner}
 use Rattle.fx_lasting.proofs.Words.{file_in, changed_here, Log, Work, Idle, Searching, Placing, Emptying, Seeks, Births, Rests, SeeksKeep}
 use Rattle.fx_lasting.proofs.Words.{BirthsKeep, RestsKeep, birth_word, step, inl, inr, ⊎_elim, dite, ℕ_discrete, sum_by, sum_set, length-set, Start}
 use Rattle.fx_lasting.proofs.Words.{Agrees, first_log, HasNoFile, HoldAgrees, IsAllowed, GuardAgrees, rested, IsInside, changed_at, IsInStock, Bool}
@@ -31,12 +31,8 @@ module _ (turn : Turn) where
     where
       go : (ph : Phase) → r.phase n ≡ ph → NodeNow turn n ph → r.phase n ≡ free
       go free at o = at
-      go (placed j l) at o = let a = o.counts in absurd (omega arith)
-      go (seated s f) at o = let a = o.counts in absurd (omega arith)
       go (leaving j t nx m f) at o = let a = o.counts in let b = o.few_takes in let c = o.few_charges in let d = o.few_visits in absurd (omega arith)
-      go (retired f) at o = let a = o.counts in absurd (omega arith)
-      go (emptied j) at o = let a = o.counts in absurd (omega arith)
-      go (kept j lost) at o = let a = o.counts in absurd (omega arith)
+      go _ at o = let a = o.counts in absurd (omega arith)
 
   free_zero : {n : ℕ} → n < nodes_of v.start → r.phase n ≡ free → word_at st.words (word_of v.start n) ≡ 0
   free_zero l is = (in_phase turn l is).counts

@@ -3,13 +3,13 @@
 use Rattle.fx_lasting.proofs.Words.{Renewing, Nearing, Relieving, Placement, File, some-injective, HoldsBesides, IsAllowed, IsInStock, StillNames}
 use Rattle.fx_lasting.proofs.Words.{Bool, true, false, ◌≡◌, ℕ, zero, suc, ◌+◌, ◌<◌, ◌≤◌, List, [], ◌∷◌, length, sym, refl, ap, ◌∙◌, subst, arith}
 use Rattle.fx_lasting.proofs.Words.{some, get_elem?, ⊎_elim, ◌⊎◌, inl, inr, dite, ℕ_discrete, eqb, one_if, sum_by, sum_by-cons, sum_at, sum_le_at}
-use Rattle.fx_lasting.proofs.Words.{bit_here, bit_else, NodeAgrees, OwnerAgrees, HoldAgrees, Names, slots_of, nodes_of, word_of, hold_word_of}
-use Rattle.fx_lasting.proofs.Words.{state_after_all, taken_of, taking, owed, count_in, lengths, Phase, free, placed, seated, leaving, retired}
+use Rattle.fx_lasting.proofs.Words.{bit_here, bit_else, OwnerAgrees, HoldAgrees, Names, nodes_of, hold_word_of}
+use Rattle.fx_lasting.proofs.Words.{taken_of, taking, lengths, Phase, free, placed, seated, leaving, retired}
 use Rattle.fx_lasting.proofs.Words.{emptied, kept, Log, View, Work, Announced, Counted, Guarded, Owing, Yielding, Placing, Retiring, Emptying}
 use Rattle.fx_lasting.proofs.Words.{Keeping, Does, Agrees, Shared, Start, ◌≢◌, get_or, set, at_set, sum_set, Contains, contains_head, at_slot}
 use Rattle.fx_lasting.proofs.Words.{in_stock, StockAgrees, name_of_file, find_pass, not_there}
 use Rattle.fx_lasting.proofs.Counts.{owed_found}
-use Rattle.fx_lasting.proofs.Keeping.{word_at, slot_word}
+use Rattle.fx_lasting.proofs.Keeping.{NodeIn, word_at, slot_word}
 use Rattle.fx_lasting.proofs.Frames.{HasBesides, alone_cases}
 
 -- a sum over the numbers below n
@@ -137,9 +137,7 @@ module _ {k : Start} {st : Shared} (r : Agrees k st) where
 
   -- a pass works with a node that isn't free, unless a slot names it
   used : (n : ℕ) → n < nodes_of k → ((s : ℕ) → r.nodes.where_is n ≢ at_slot s) → ((j : ℕ) (l : Placement) → Does st.views j (Placing n l) → 1 ≤ view_use n) → (ph : Phase) → r.phase n ≡ ph → (ph ≡ free → ⊥)
-      → NodeAgrees (state_after_all k r.history).at (slots_of k) (λ s. count_in (slot_word st.words s)) r.node_of r.nodes.next_number n
-      (word_at st.words (word_of k n)) (sum_by (taken_of n) st.views) (owed r.debt k.passes n) (get_elem? st.homes n) ph
-      → OwnerAgrees st.views n ph → 1 ≤ view_use n
+      → NodeIn r n ph → OwnerAgrees st.views n ph → 1 ≤ view_use n
   used n l away placed_use free is not_free o own = absurd (not_free refl)
   used n l away placed_use (placed j z) is not_free o own = placed_use j z own
   used n l away placed_use (seated s f) is not_free o own = let b = (r.slots s o.inside).names in

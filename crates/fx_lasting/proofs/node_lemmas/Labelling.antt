@@ -10,7 +10,7 @@ use Rattle.fx_lasting.proofs.Histories.{grows_none}
 use Rattle.fx_lasting.proofs.Frames.{busy, does_now, written_of}
 use Rattle.fx_lasting.proofs.hold_lemmas.Holds.{on_node}
 use Rattle.fx_lasting.proofs.range_lemmas.GroupSteps.{its_inside}
-use Rattle.fx_lasting.proofs.Keeping.{passed, Turn, turn_of, After, word_at, slot_word, LabelSame, Made, by_turn, its_log, its_work, tells, tells_less, w, end}
+use Rattle.fx_lasting.proofs.Keeping.{end_read, passed, Turn, turn_of, After, word_at, slot_word, LabelSame, Made, by_turn, its_log, its_work, tells, tells_less, w, end}
 use Rattle.fx_lasting.proofs.Calm.{read_before, read_before_kept}
 use Rattle.fx_lasting.proofs.Peeking.{still}
 use Rattle.fx_lasting.proofs.hold_lemmas.Unheld.{in_phase}
@@ -18,7 +18,7 @@ use Rattle.fx_lasting.proofs.Words.{inl}
 use Rattle.fx_lasting.proofs.node_lemmas.NodeSteps.{own_after, own_node_kept}
 
 -- the file that a pass holds beside the one that it places
-held_besides : {d : Work} {f : File} {n own : ℕ} {l : Placement} → HoldsBesides d f n own l → held_in d ≡ Some f
+pub held_besides : {d : Work} {f : File} {n own : ℕ} {l : Placement} → HoldsBesides d f n own l → held_in d ≡ Some f
 held_besides is = ⊎_elim (λ e. ap held_in e) (λ e. ap held_in e) is
 
 -- the file that a pass holds
@@ -188,11 +188,7 @@ module _ (turn : Turn) where
     same_file : (g : File) (m : ℕ) → HoldsOn v.work g m → f ≡ g
     same_file g m its = let e = sym (held_file holds) ∙ held_file its in cc e
 
-    loads : (i : ℕ) → Agrees v.start record {
-      words = set st.words i (word_at st.words i);
-      homes = st.homes;
-      views = set st.views id (w turn (read_before turn v.work v.glance r.history x.front));
-    }
+    loads : (i : ℕ) → Agrees v.start (end_read turn (read_before turn v.work v.glance r.history x.front) i)
     loads i = read_before_kept turn v.work v.glance x.front i (passed turn).seen (passed turn).own (still turn)
 
     sees : (carried : List (ℕ × Option Closed)) → Goes (v, carried) [] v.work v.glance (w turn (read_before turn v.work v.glance r.history x.front), carried)

@@ -9,7 +9,7 @@ use Rattle.fx_lasting.proofs.Words.{Labels, written_in, None, if_file, leaving, 
 use Rattle.fx_lasting.proofs.Histories.{Grows, grows_none, each_changed}
 use Rattle.fx_lasting.proofs.Frames.{busy, owner_stays, slot_same, node_same, Leaves, keeps_other, sees_same, covers_same, guards_same}
 use Rattle.fx_lasting.proofs.Keeping.{Turn, After, as_it_was, Keeps, Homes, word_at, slot_word, step_kept, w, end, its_log, in_range, in_its_stock}
-use Rattle.fx_lasting.proofs.Keeping.{stocks_untouched, list_untouched, range_left, labels_same}
+use Rattle.fx_lasting.proofs.Keeping.{node_in, stocks_untouched, list_untouched, range_left, labels_same}
 use Rattle.fx_lasting.proofs.Places.{LeavesElse}
 use Rattle.fx_lasting.proofs.slot_lemmas.Watching.{watch_same}
 
@@ -132,7 +132,7 @@ module _ (turn : Turn) (q : ℕ) (its : q < nodes_of turn.v.start) (ph : Phase) 
             (λ other. node_same (slots_of v.start) r.node_of n (omega arith) (s.leaves_else.nodes n other)
             (let t = sum_set (taken_of n) st.views id v (w turn after_seen) here in let e = s.taken_else n other in omega arith)
             (s.owed_else n other) (s.home_else n l other) (r.phase n)
-            (λ i f is there. (at_is i, ap count_in (same_slots i (inside_else n l i f is)))) (r.nodes.each n l));
+            (λ i f is there. (at_is i, ap count_in (same_slots i (node_in r l is).inside))) (r.nodes.each n l));
         owners = λ n l. each_changed (OwnerAgrees (set st.views id (w turn after_seen))) r.phase
             (λ same. rw same s.known) (λ other. owner_stays st.views id v (w turn after_seen) here n (s.free_else n other) (r.phase n) (r.nodes.owners n l));
         labels = λ n l. each_changed (λ n z. Labels v.start words' n (written_in z)) r.phase (λ same. rw same s.label)
@@ -165,11 +165,6 @@ module _ (turn : Turn) (q : ℕ) (its : q < nodes_of turn.v.start) (ph : Phase) 
         inside i f is = (subst (NodeAgrees before (slots_of v.start) (λ s. count_in (slot_word st.words s)) r.node_of r.nodes.next_number q
             (word_at words' (word_of v.start q)) (sum_by (taken_of q) (set st.views id (w turn after_seen))) (owed debt' v.start.passes q)
             (get_elem? homes' q)) is s.node).inside
-
-        inside_else : (n : ℕ) → n < nodes_of v.start → (i : ℕ) (f : File) → r.phase n ≡ seated i f → i < slots_of v.start
-        inside_else n l i f is = (subst (NodeAgrees before (slots_of v.start) (λ s. count_in (slot_word st.words s)) r.node_of r.nodes.next_number n
-            (word_at st.words (word_of v.start n)) (sum_by (taken_of n) st.views) (owed r.debt v.start.passes n)
-            (get_elem? st.homes n)) is (r.nodes.each n l)).inside
 
 -- a step after which the pass has seen the whole history
 module _ (turn : Turn) (q : ℕ) (its : q < nodes_of turn.v.start) (ph : Phase) (h' : List Event) (words' : List ℕ) (homes' : Homes)

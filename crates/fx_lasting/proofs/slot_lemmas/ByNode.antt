@@ -113,8 +113,7 @@ at_once {m} {m'} range slot f {xs} {w} {g} s =
 failed_so : (k : Start) (slot node word : ℕ) (m m' : Sat) (miss : Miss) → SaysIf word node (Err miss) → WasIn k slot node miss m m'
     → FailedIf k slot node miss m m'
 failed_so k slot node word m m' Again says was = absurd says
-failed_so k slot node word m m' Empty says was = was
-failed_so k slot node word m m' Other says was = was
+failed_so k slot node word m m' _ says was = was
 
 pub tried_none : (k : Start) (slot : ℕ) (miss : Miss) (p p' : LastingPass) → miss ≢ Again → HasTriedIf k slot miss p p'
 tried_none k slot Again p p' not = absurd (not refl)
@@ -233,8 +232,8 @@ module _ {k : Start} {p : ℕ} {m : Sat} (at : IsAtWork k p m) (slot node : ℕ)
 -- to empty the slot, with this stock
 module _ {k : Start} {p : ℕ} {m : Sat} (at : IsAtWork k p m) (stock : List ℕ) (its : stock ≡ (pass_in m).stock) (slot node : ℕ) where
   -- it left the name
-  pub left_name : (r : Result ℕ Miss) (m' : Sat) → TriedExchange TakesIf k slot node None m r m' → TriedOut k slot node stock m r m' × (m'.1 ≡ m.1)
-  left_name (Ok word) m' w =
+  pub left_name : (word : ℕ) (m' : Sat) → TriedExchange TakesIf k slot node None m (Ok word) m' → TriedOut k slot node stock m (Ok word) m' × (m'.1 ≡ m.1)
+  left_name word m' w =
       let t = w.last.wins w.first in
       let z = took_so node word (begun_at at w.still) w.here w.still (omega arith) w.named t.0 t.1 t.2 t.4 in (
         (
@@ -247,7 +246,6 @@ module _ {k : Start} {p : ℕ} {m : Sat} (at : IsAtWork k p m) (stock : List ℕ
         ),
         t.3 ∙ w.places,
       )
-  left_name (Err miss) m' it = ((it.0, it.1, its), it.2)
 
   -- it exchanged names
   pub moved_name : (own new entry word : ℕ) (m' : Sat) → get_elem? stock entry ≡ some own → new ≡ empty_word_of own
@@ -272,7 +270,7 @@ module _ {k : Start} {p : ℕ} {m : Sat} (at : IsAtWork k p m) (stock : List ℕ
   pub emptied_so : (r : Result ℕ Miss) (now : List ℕ) (m' : Sat) → TriedEmptying TakesIf SwapsIf k slot node stock now m r m'
       → TriedOut k slot node now m r m' × (m'.1 ≡ m.1)
   emptied_so (Ok word) now m' tried = ⊎_elim
-      (λ w. subst (λ (l : List ℕ). TriedOut k slot node l m (Ok word) m' × (m'.1 ≡ m.1)) (sym w.0) (left_name (Ok word) m' w.1))
+      (λ w. subst (λ (l : List ℕ). TriedOut k slot node l m (Ok word) m' × (m'.1 ≡ m.1)) (sym w.0) (left_name word m' w.1))
       (λ w. subst (λ (l : List ℕ). TriedOut k slot node l m (Ok word) m' × (m'.1 ≡ m.1)) (sym w.3)
       (moved_name w.0 (empty_word_of w.0) w.1 word m' w.2 refl w.4)) tried
   emptied_so (Err miss) now m' it = ((it.0, it.1, it.2 ∙ its), it.3)

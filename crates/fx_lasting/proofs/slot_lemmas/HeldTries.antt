@@ -43,8 +43,8 @@ module _ {k : Start} {p : ℕ} {m : Sat} (at : IsAtWork k p m) (stock : List ℕ
     )
 
   -- it left the name
-  pub left_held : (r : Result ℕ Miss) (m' : Sat) → TriedExchange TakesHeld k slot node None m r m' → TriedOutHeld k slot node stock m r m' × (m'.1 ≡ m.1)
-  left_held (Ok word) m' w =
+  pub left_held : (word : ℕ) (m' : Sat) → TriedExchange TakesHeld k slot node None m (Ok word) m' → TriedOutHeld k slot node stock m (Ok word) m' × (m'.1 ≡ m.1)
+  left_held word m' w =
       let start = begun_at at w.still in
       let z = w.last.wins f node (holds_still w.before w.still) w.first in
       let run = runs_within (omega arith) (acts_then w.still (subst (λ (y : Start × ℕ × Bool). Acts w z.0 z.1 w.before 1 y.0 y.1 w.before.0.glance y.2)
@@ -52,7 +52,6 @@ module _ {k : Start} {p : ℕ} {m : Sat} (at : IsAtWork k p m) (stock : List ℕ
         out_so w z.0 z.1 stock (subst (λ (y : ℕ × List ℕ). IsStockOf k y.0 y.1) (λ i. (sym (number_is at) i, sym its i)) (own_stock at)) (with_stock its run),
         z.3 ∙ w.places,
       )
-  left_held (Err miss) m' it = ((it.0, it.1, its), it.2)
 
   -- it exchanged names
   pub moved_held : (own new entry word : ℕ) (m' : Sat) → get_elem? stock entry ≡ some own → new ≡ empty_word_of own
@@ -74,7 +73,7 @@ module _ {k : Start} {p : ℕ} {m : Sat} (at : IsAtWork k p m) (stock : List ℕ
   pub emptied_held : (r : Result ℕ Miss) (now : List ℕ) (m' : Sat) → TriedEmptying TakesHeld SwapsHeld k slot node stock now m r m'
       → TriedOutHeld k slot node now m r m' × (m'.1 ≡ m.1)
   emptied_held (Ok word) now m' tried = ⊎_elim
-      (λ w. subst (λ (l : List ℕ). TriedOutHeld k slot node l m (Ok word) m' × (m'.1 ≡ m.1)) (sym w.0) (left_held (Ok word) m' w.1))
+      (λ w. subst (λ (l : List ℕ). TriedOutHeld k slot node l m (Ok word) m' × (m'.1 ≡ m.1)) (sym w.0) (left_held word m' w.1))
       (λ w. subst (λ (l : List ℕ). TriedOutHeld k slot node l m (Ok word) m' × (m'.1 ≡ m.1)) (sym w.3)
       (moved_held w.0 (empty_word_of w.0) w.1 word m' w.2 refl w.4)) tried
   emptied_held (Err miss) now m' it = ((it.0, it.1, it.2 ∙ its), it.3)
@@ -150,8 +149,6 @@ module _ (k : Start) (p b c p' : LastingPass) (key : Key) (hold : Hold) (freed o
   later = released_seen (opening_of k) (view_of c) (view_of p') releases.0 released releases.2
 
   why : (m : Miss) → HasTriedIf k key.slot m b c → TriesKey k (view_of p) key (fault_for m) freed p p'
-  why reason.Empty it = tt
-  why reason.Other it = tt
   why reason.Again it = record {
     file = looked.0;
     hold = hold;
@@ -163,6 +160,7 @@ module _ (k : Start) (p b c p' : LastingPass) (key : Key) (hold : Hold) (freed o
         (looked_number (opening_of k) (view_of p) (view_of b) key.slot hold freed looked.2.looked) did) later))
         (λ met. inr (omega (arith, met.0, few, more), met.1)) it;
   }
+  why _ it = tt
 
   pub left_alone : (fault : KeyFault) → fault ≡ fault_for miss → LeftAlone k p key fault freed released p'
   left_alone fault is = record {

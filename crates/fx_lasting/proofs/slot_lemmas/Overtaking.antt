@@ -1,6 +1,6 @@
 -- The reason of a call that failed: another pass was at the slot.
 use Rattle.fx_lasting.proofs.Words.{◌≡◌, ◌≢◌, ℕ, ◌+◌, ◌<◌, ◌≤◌, ◌⊎◌, List, [], ◌∷◌, ◌++◌, length, sym, refl, ap, ◌∙◌, subst, arith, Some, None}
-use Rattle.fx_lasting.proofs.Words.{⊎_elim, inl, inr, dite, ℕ_discrete, eq-eqb, ne_eqb, Event, Action, Look, Release, Put, Clear, Take, Allocate, Full, Close}
+use Rattle.fx_lasting.proofs.Words.{⊎_elim, inl, inr, dite, ℕ_discrete, eq-eqb, ne_eqb, Event, Action, Look, Put, Clear, Take, Allocate}
 use Rattle.fx_lasting.proofs.Words.{IsSeenBy, seen_further, part_of_pass, State, state_after_all, changed_else, Start, ActsAt, HasActed, ◌▷◌, pass_in, Sat}
 use Rattle.fx_lasting.proofs.Words.{Sees, At, slot_of, IsWatching, WasOvertakenIn, MeetsOne, Runs, view_of, LastingPass, WasOvertaken, meetings}
 use Rattle.fx_lasting.proofs.Words.{FailsToFill, Work, Glance, Change, WasSo, FitsSight, true, false, FallsShort, FellShort, after}
@@ -10,14 +10,11 @@ use Rattle.fx_lasting.proofs.slot_lemmas.Watching.{acted_before, acted_further}
 -- an action at another slot leaves the slot as it was
 acts_or_same : (st : State) (slot : ℕ) (a : Action) → ((after st a).at slot ≡ st.at slot) ⊎ ActsAt slot a
 acts_or_same st slot (Look s None) = inl refl
-acts_or_same st slot (Look s (Some f)) = inl refl
-acts_or_same st slot (Release f) = inl refl
 acts_or_same st slot (Put s f old) = dite (ℕ_discrete s slot) (λ same. inr same) (λ other. inl (changed_else st.at s (Some f) slot (λ e. other (sym e))))
 acts_or_same st slot (Clear s old) = dite (ℕ_discrete s slot) (λ same. inr same) (λ other. inl (changed_else st.at s None slot (λ e. other (sym e))))
 acts_or_same st slot (Take s old) = dite (ℕ_discrete s slot) (λ same. inr same) (λ other. inl (changed_else st.at s None slot (λ e. other (sym e))))
 acts_or_same st slot (Allocate s f) = dite (ℕ_discrete s slot) (λ same. inr same) (λ other. inl (changed_else st.at s (Some f) slot (λ e. other (sym e))))
-acts_or_same st slot Full = inl refl
-acts_or_same st slot (Close f) = inl refl
+acts_or_same st slot _ = inl refl
 
 -- an event at the slot within the history `since` after `h`
 abbrev Acted : ℕ → List Event → List Event → Type 0

@@ -9,7 +9,7 @@ use Rattle.fx_lasting.proofs.slot_lemmas.ByNode.{was_further, removal_so, value_
 use Rattle.fx_lasting.proofs.slot_lemmas.Watching.{acted_further}
 use Rattle.fx_lasting.proofs.Running.{does_then, looks_then, file_then, swapped_then}
 use Rattle.fx_lasting.proofs.Passing.{adds_so, adds_run, frees_number, frees_then, lets_run}
-use Rattle.fx_lasting.proofs.slot_lemmas.Renewals.{held_besides}
+use Rattle.fx_lasting.proofs.node_lemmas.Labelling.{held_besides}
 use Rattle.fx_lasting.specs.slots.Alone.{LeftAlone}
 use Rattle.fx_lasting.specs.slots.ByKey.{HoldsAtKey, IsKeyOf}
 use Rattle.fx_lasting.specs.slots.PutAlone.{FreesFirst, TakesOn, TriedRenewal, RenewsAlone, PutsAlone}
@@ -80,8 +80,6 @@ module _ {id : TableId} {k : Start} {p : LastingPass} (seated : IsSeatOf id k p)
       }
 
       tries : (z : Miss) → miss ≡ z → TriesKey k (view_of p) key (fault_for z) None p p'
-      tries reason.Empty is = tt
-      tries reason.Other is = tt
       tries reason.Again is = let again = subst (λ (z : Miss). TriedRenewal k key.slot node own file m₂ (Err z) m₃) is failed in record {
         file = f;
         hold = hold_at f node;
@@ -92,6 +90,7 @@ module _ {id : TableId} {k : Start} {p : LastingPass} (seated : IsSeatOf id k p)
             (λ did. inl (acted_further (subst (λ (q : ℕ). HasActed key.slot q (pass_in m₂).front (pass_in m₃).front) holds_run.number did) ends.1.seen))
             (λ met. inr (omega (arith, met.0, holds_run.met, ends.1.met), subst (λ (z : Start). 1 < z.passes) start met.1)) again.1;
       }
+      tries _ is = tt
 
       pub left : (why : KeyFault) → why ≡ fault_for miss → LeftAlone k p key why None r p'
       left why is = record {
@@ -165,9 +164,6 @@ module _ (k : Start) (u p p' : LastingPass) (key : Key) (freed : Option Closed) 
   looked_before fault.Again r other o = absurd o
 
   tries_before : (why : KeyFault) → TriesKey k (view_of p) key why None p p' → TriesKey k (view_of u) key why freed u p'
-  tries_before fault.NoSlot o = tt
-  tries_before fault.Empty o = tt
-  tries_before fault.Other o = tt
   tries_before fault.Again o = record {
     file = o.file;
     hold = o.hold;
@@ -177,6 +173,7 @@ module _ (k : Start) (u p p' : LastingPass) (key : Key) (freed : Option Closed) 
     overtaken = ⊎_elim (λ did. inl (subst (λ (q : ℕ). HasActed key.slot q o.between.front (view_of p').front)
         (frees_number (opening_of k) (view_of u) (view_of p) freed before) did)) (λ met. inr (omega (arith, met.0, few), met.1)) o.overtaken;
   }
+  tries_before _ o = tt
 
   left_before : (why : KeyFault) (r : Option Closed) → LeftAlone k p key why None r p' → LeftAlone k u key why freed r p'
   left_before why r o = let h = o.holder in record {

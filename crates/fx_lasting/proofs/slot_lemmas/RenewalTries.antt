@@ -10,9 +10,9 @@ use Rattle.fx_lasting.proofs.Running.{does_then, runs_within, swapped_then}
 use Rattle.fx_lasting.specs.slots.PutAlone.{IsBeside, TriedReplaceHeld, TriedRenewal}
 use Rattle.fx_lasting.specs.slots.ByNode.{TriedExchange}
 use Rattle.fx_lasting.specs.slots.PutSteps.{ReplacesHeld}
-use Rattle.fx_lasting.proofs.slot_lemmas.Renewals.{held_besides}
+use Rattle.fx_lasting.proofs.node_lemmas.Labelling.{held_besides}
 use Rattle.fx_lasting.specs.Ends.{Does}
-use Rattle.fx_lasting.specs.declared.answers.Miss.TheVariants.{Empty, Other, Again}
+use Rattle.fx_lasting.specs.declared.answers.Miss.TheVariants.{Again}
 
 -- what a step did that put the pass's file there, from this entry of its stock
 abbrev pub Renewed : (m₁ m₂ : Sat) (at found own : ℕ) → Closed → File → ℕ → Type 0
@@ -61,9 +61,8 @@ renewed_it at slot node own lost new file b (Err miss) m' it = it
 -- the tries after a load of the slot's word
 module _ (k : Start) (slot node own : ℕ) (file : Closed) (m m₁ m₂ : Sat) (saw : WasIn k slot node Again m m₁) (one : Does m [] m.0.work 1 m₁) (home : m₁.1 ≡ m.1) where
   failed_then : (miss : Miss) → FailedIf k slot node miss m₁ m₂ → FailedIf k slot node miss m m₂
-  failed_then Empty failed = was_before (pass_in m).front one.seen failed
-  failed_then Other failed = was_before (pass_in m).front one.seen failed
   failed_then Again failed = overtaken_in slot m m₁ m₂ m₂ one.number one.start one.seen one.met ([], refl) (omega arith) failed
+  failed_then _ failed = was_before (pass_in m).front one.seen failed
 
   pub renewal_failed : (miss : Miss) → TriedReplaceHeld k slot node own file m₁ (Err miss) m₂ → TriedRenewal k slot node own file m (Err miss) m₂
   renewal_failed miss (failed, run, places) = (
@@ -102,6 +101,5 @@ module _ (k : Start) (slot node own : ℕ) (file : Closed) (m m₁ m₂ : Sat) (
 -- a pass that saw at once that the slot's file isn't on the node
 pub renewal_missed : (k : Start) (slot node own : ℕ) (file : Closed) (m m₁ : Sat) (miss : Miss) → WasIn k slot node miss m m₁ → miss ≢ Again
     → Does m [] m.0.work 1 m₁ → m₁.1 ≡ m.1 → TriedRenewal k slot node own file m (Err miss) m₁
-renewal_missed k slot node own file m m₁ Empty was not run home = (was, was, runs_within (omega arith) run, home)
-renewal_missed k slot node own file m m₁ Other was not run home = (was, was, runs_within (omega arith) run, home)
 renewal_missed k slot node own file m m₁ Again was not run home = absurd (not refl)
+renewal_missed k slot node own file m m₁ _ was not run home = (was, was, runs_within (omega arith) run, home)

@@ -1,13 +1,13 @@
 -- A step on the word of a slot, whose file stays there.
 use Rattle.fx_lasting.proofs.Words.{alone_in, inl, true, Deed, untouched, has_acted, has_heated, heat_in, ◌≡◌, ◌≢◌, ℕ, ◌+◌, ◌<◌, ◌≤◌, List, [], set}
-use Rattle.fx_lasting.proofs.Words.{sym, refl, ap, ◌∙◌, subst, arith, Option, Some, None, held_by, File, Event, NodeAgrees, IsAllowed}
+use Rattle.fx_lasting.proofs.Words.{sym, refl, ap, ◌∙◌, arith, Option, Some, None, held_by, File, Event, NodeAgrees, IsAllowed}
 use Rattle.fx_lasting.proofs.Words.{SlotAgrees, Names, Agrees, slots_of, nodes_of, state_after_all, held_in, held_of, taken_of, taking, Phase, free}
 use Rattle.fx_lasting.proofs.Words.{placed, seated, leaving, retired, emptied, kept, Work, Glance, ⊎_elim, ◌⊎◌, inr, dite, ℕ_discrete, slot_place}
 use Rattle.fx_lasting.proofs.Words.{word_of, count_in, name_in, full_name_in, entry_in, IsHot, cold_takes, tally, birth_word, owed, sum_set, sum_by}
 use Rattle.fx_lasting.proofs.Words.{get_elem?, length-set, MayBeUncharged, MOST_SLOTS, without_slot}
 use Rattle.fx_lasting.proofs.Frames.{busy, nodes_untouched, slot_same, node_same, Leaves, keeps_other, guards_same, covers_hot}
 use Rattle.fx_lasting.proofs.Keeping.{Turn, After, as_it_was, Keeps, word_at, slot_word, sees_all, stocks_untouched, step_kept, w, end, its_log}
-use Rattle.fx_lasting.proofs.Keeping.{range_left, LeavesFiles}
+use Rattle.fx_lasting.proofs.Keeping.{node_in, range_left, LeavesFiles}
 use Rattle.fx_lasting.proofs.Places.{slot_words, slot_here, slot_node, slot_else, slot_by, slot_hold, slot_alike, slot_list, slot_label}
 use Rattle.fx_lasting.proofs.slot_lemmas.Watching.{MovesOn, ActsThere, watch_none}
 
@@ -113,15 +113,11 @@ module _ (turn : Turn) (s : ℕ) (inside : s < slots_of turn.v.start) (new : ℕ
     same_else n l ph is else = node_same (slots_of v.start) r.node_of n (omega arith) (slot_node turn s inside new n)
         (let t = sum_set (taken_of n) st.views id v (w turn slot_after) here in let e = p.taken n l (λ f at. else f (sym is ∙ at)) in omega arith)
         refl refl ph (λ i f at there. (at_is i, ap count_in (slot_else turn s inside new i (λ same. else f (at ∙ ap (λ (j : ℕ). seated j f) same)))))
-        (subst (NodeAgrees (state_after_all v.start r.history).at (slots_of v.start) (λ s. count_in (slot_word st.words s)) r.node_of
-        r.nodes.next_number n (word_at st.words (word_of v.start n)) (sum_by (taken_of n) st.views) (owed r.debt v.start.passes n)
-        (get_elem? st.homes n)) is (r.nodes.each n l))
+        (node_in r l is)
 
     node_now : (n : ℕ) → n < nodes_of v.start → (ph : Phase) → r.phase n ≡ ph → Node n ph
     node_now n l (seated i f) is = dite (ℕ_discrete i s)
-        (λ same. let o = subst (NodeAgrees (state_after_all v.start r.history).at (slots_of v.start) (λ s. count_in (slot_word st.words s)) r.node_of
-        r.nodes.next_number n (word_at st.words (word_of v.start n)) (sum_by (taken_of n) st.views) (owed r.debt v.start.passes n)
-        (get_elem? st.homes n)) is (r.nodes.each n l) in
+        (λ same. let o = node_in r l is in
         let c = p.counts n f l (is ∙ ap (λ (j : ℕ). seated j f) same) in
         let e = ap (λ (j : ℕ). count_in (slot_word words' j)) same in let h = ap count_in (slot_here turn s inside new) in
         let k = slot_node turn s inside new n in record {

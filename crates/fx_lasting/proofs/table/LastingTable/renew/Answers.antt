@@ -3,7 +3,7 @@ use Rattle.fx_lasting.proofs.Words.{Work, Runs, Closed, HasPlace, Start, full_na
 use Rattle.std.specs.Vec.{with_item}
 use Rattle.fx_lasting.proofs.Calling.{slot_low}
 use Rattle.fx_lasting.proofs.Words.{◌≡◌, ◌≤◌, ◌∷◌, ℕ, List, Sat, pass_in, get_elem?, some, most_carried, Placing, sym, File, HoldsBesides, Placement, is_some}
-use Rattle.fx_lasting.proofs.slot_lemmas.Renewals.{held_besides}
+use Rattle.fx_lasting.proofs.node_lemmas.Labelling.{held_besides}
 use Rattle.fx_lasting.proofs.Passing.{adds_so, at_ease, charges_run, still_seat, still_pass, swapped_pass, knows_removed, first_by, lets_run}
 use Rattle.fx_lasting.proofs.Running.{looks_then, does_then, file_then, still_at_work}
 use Rattle.fx_lasting.proofs.range_lemmas.Trying.{stocked_at}

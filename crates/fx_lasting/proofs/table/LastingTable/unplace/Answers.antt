@@ -1,7 +1,7 @@
 use Rattle.fx_lasting.proofs.Words.{◌≡◌, ℕ, ap, sym, ◌∙◌, inr, ⊎_elim, alone_in, as_written, label_of, rested, Runs, [], File, Counted, Guarded}
 use Rattle.fx_lasting.proofs.Words.{Closed, Sat, HasPlace, is_guarding, true, false, IsAtWork, LetsFileGo, None, Option, Some, Start, arith}
 use Rattle.fx_lasting.proofs.Running.{file_then, runs_within, still_at_work}
-use Rattle.fx_lasting.proofs.slot_lemmas.Renewals.{held_besides}
+use Rattle.fx_lasting.proofs.node_lemmas.Labelling.{held_besides}
 use Rattle.fx_lasting.specs.slots.PutAlone.{IsBeside}
 use Rattle.fx_lasting.proofs.table.LastingTable.unplace.Goals as goal
 
