@@ -1,26 +1,23 @@
 -- A replacement by a pass that holds the slot's file keeps the rule: the hold ends with the step,
 -- and the removal counts the takes without the pass's own.
-use Rattle.fx_lasting.proofs.Words.{◌≡◌, ◌≢◌, ℕ, ◌+◌, ◌-◌, ◌^◌, ◌<◌, List, [], ◌∷◌, sym, refl, ap, ◌∙◌, subst, arith, Option, Some, none, some, ◌≤◌}
-use Rattle.fx_lasting.proofs.Words.{Action, changed_at, gives, rest, eqb, either, Closed, File, numbered, Event, Release, Put, ◌▷◌, State, WorkAgrees}
+use Rattle.fx_lasting.proofs.Words.{◌≡◌, ℕ, ◌+◌, ◌-◌, ◌^◌, ◌<◌, List, [], ◌∷◌, sym, refl, ap, ◌∙◌, subst, arith, Option, Some, none, some, ◌≤◌}
+use Rattle.fx_lasting.proofs.Words.{Action, changed_at, gives, rest, Closed, File, numbered, Event, Release, Put, ◌▷◌, State, WorkAgrees}
 use Rattle.fx_lasting.proofs.Words.{HoldsAt, IsIn, state_after_all, slots_of, slot_place, full_name_in}
 use Rattle.fx_lasting.proofs.Words.{file_word_of, label_of, as_written, placed, taking, held_in, bit_here, bit_else, Outside, Renewing, ReplacesHeld}
-use Rattle.fx_lasting.proofs.Words.{ReplacesHeldKeep, step, exchanged, IsInStock, Bool, true, false, Round, HoldsBesides}
+use Rattle.fx_lasting.proofs.Words.{ReplacesHeldKeep, step, IsInStock, Bool, true, false, Round, HoldsBesides}
 use Rattle.fx_lasting.proofs.Words.{HoldAgrees, GuardAgrees, IsAllowed, Work, Placement, Relieving, ⊎_elim, hold_word_of, guarded_round, first_visit}
 use Rattle.fx_lasting.proofs.Words.{new_round, is_guarding, Stepped, as_swapped, account, range_at_start, name_in}
 use Rattle.fx_lasting.proofs.node_lemmas.StockMoves.{names_a_node}
 use Rattle.fx_lasting.proofs.Histories.{legal_more, same_shape}
 use Rattle.fx_lasting.proofs.Frames.{busy}
-use Rattle.fx_lasting.proofs.Keeping.{Turn, turn_of, After, Made, by_turn, its_log, its_work, word_at, slot_word, w}
+use Rattle.fx_lasting.proofs.Keeping.{Turn, turn_of, After, Made, its_log, its_work, word_at, slot_word, w}
 use Rattle.fx_lasting.proofs.Places.{slot_back}
-use Rattle.fx_lasting.proofs.slot_lemmas.Sights.{seen_instead}
+use Rattle.fx_lasting.proofs.node_lemmas.Labelling.{held_besides}
+use Rattle.fx_lasting.proofs.slot_lemmas.Sights.{by_exchange}
 use Rattle.fx_lasting.proofs.slot_lemmas.Swaps.{found, Ends}
 use Rattle.fx_lasting.proofs.slot_lemmas.Installing.{put_after, put_agrees, put_tells}
 use Rattle.fx_lasting.proofs.slot_lemmas.SlotLaws.{file_carried, fresh_number}
 use Rattle.fx_lasting.proofs.slot_lemmas.HeldSlots.{there, legal₀, by_number, IsHeld, by_take, by_guard, h₁, own_part, ends_held, leaves_so, own_hold}
-
--- the file that a pass holds beside the one that it places
-pub held_besides : {d : Work} {f : File} {n own : ℕ} {l : Placement} → HoldsBesides d f n own l → held_in d ≡ Some f
-held_besides holds = ⊎_elim (λ is. ap held_in is) (λ is. ap held_in is) holds
 
 -- what a pass works with that holds a file and has placed another one
 module _ (turn : Turn) (f : File) (n own : ℕ) (l : Placement) (holds : HoldsBesides turn.v.work f n own l) where
@@ -135,22 +132,11 @@ module _ (turn : Turn) (s : ℕ) (inside : s < slots_of turn.v.start) (f : File)
       },
     )
 
--- a pass that finds another word sees it
-renews_not : (turn : Turn) (s : ℕ) (inside : s < slots_of turn.v.start) (carried : List (ℕ × Option Closed)) (slots old_word new : ℕ)
-    → slot_word turn.st.words s ≢ old_word
-    → Made turn carried (slot_place s) (λ _. slot_word turn.st.words s) (ReplacesHeld (step slots (slot_place s) old_word new none) (turn.v, carried))
-renews_not turn s inside carried slots old_word new other = seen_instead turn s inside carried ReplacesHeld slots old_word new
-    (λ sees. record { wins = λ g k m more e other' works at there is. absurd (other is); loses = λ _. sees })
-
 pub replaces_held_keep : ReplacesHeldKeep ReplacesHeld
-replaces_held_keep k slots id i s own lost old new n file f m x has works carries small named inside out place made = rw made (by_turn slots
-    (λ k. s < slots_of k) (λ _. slot_place s) (λ word. either (eqb word old) (file_word_of own file.entry + lost) word)
-    (λ i. ReplacesHeld (step slots i old (file_word_of own file.entry + lost) none) m) has inside place
-    (λ st r here is fits. let turn = turn_of m x has.1 id st r here in
-    let its = both turn f n own (as_written lost (label_of file)) works in
-    let new_number = fresh_number turn its.1.0 in
-    exchanged (word_at st.words (slot_place s)) old (file_word_of own file.entry + lost)
-    (λ y. Made turn m.1 (slot_place s) (λ _. y) (ReplacesHeld (step slots (slot_place s) old (file_word_of own file.entry + lost) none) m))
-    (λ same. let name = ap full_name_in same ∙ named in let h = held_so turn f n own (as_written lost (label_of file)) works s is name in
-    renews turn s is f n own lost file works small out new_number.0 new_number.1 new_number.2 name h.0 h.1 h.2 h.3 slots old m.1 carries same)
-    (renews_not turn s is m.1 slots old (file_word_of own file.entry + lost))))
+replaces_held_keep k slots id i s own lost old new n file f m x has works carries small named inside out place made = rw made (by_exchange slots s
+    (λ k. s < slots_of k) (λ st r its. its) old (file_word_of own file.entry + lost) ReplacesHeld
+    (λ seen found other sees. record { wins = λ g k m more e other' works at there is. absurd (other is); loses = λ _. sees }) has inside place
+    (λ st r here is same. let turn = turn_of m x has.1 id st r here in
+    let new_number = fresh_number turn (both turn f n own (as_written lost (label_of file)) works).1.0 in
+    let name = ap full_name_in same ∙ named in let h = held_so turn f n own (as_written lost (label_of file)) works s is name in
+    renews turn s is f n own lost file works small out new_number.0 new_number.1 new_number.2 name h.0 h.1 h.2 h.3 slots old m.1 carries same))

@@ -1,14 +1,14 @@
 -- A load of a slot's word from which the pass learns what is there, and the exchanges of a word
 -- that it saw, keep the rule.
-use Rattle.fx_lasting.proofs.Words.{◌≡◌, ◌≢◌, ℕ, ◌+◌, ◌^◌, ◌<◌, ◌≤◌, List, [], ◌∷◌, sym, refl, ap, ◌∙◌, Option, Some, none, keeps, gives, rest}
-use Rattle.fx_lasting.proofs.Words.{eqb, Closed, Take, slots_of, slot_place, file_word_of, HasNoFile}
-use Rattle.fx_lasting.proofs.Words.{IsOffCount, Placing, Outside, Sees, TakesIf, Replaces, SeesKeep, TakesIfKeep, ReplacesKeep, step, exchanged}
-use Rattle.fx_lasting.proofs.Words.{subst, without_file, some, label_of, as_written, pass_event, either, LastingTable, IsAtWork, Seat, View, Allows, Agrees}
+use Rattle.fx_lasting.proofs.Words.{◌≡◌, ℕ, ◌+◌, ◌^◌, ◌<◌, ◌≤◌, List, [], ◌∷◌, sym, refl, ap, ◌∙◌, Option, Some, none, keeps, gives, rest}
+use Rattle.fx_lasting.proofs.Words.{Closed, Take, slots_of, slot_place, file_word_of, HasNoFile}
+use Rattle.fx_lasting.proofs.Words.{IsOffCount, Placing, Outside, Sees, TakesIf, Replaces, SeesKeep, TakesIfKeep, ReplacesKeep, step}
+use Rattle.fx_lasting.proofs.Words.{subst, without_file, some, label_of, as_written, pass_event, LastingTable, IsAtWork, Seat, View, Allows, Agrees}
 use Rattle.fx_lasting.proofs.Calling.{slot_inside, slot_low}
 use Rattle.fx_lasting.proofs.hold_lemmas.HeldFiles.{one_after}
 use Rattle.fx_lasting.proofs.node_lemmas.StockMoves.{names_a_node}
-use Rattle.fx_lasting.proofs.Keeping.{Turn, turn_of, Made, by_turn, word_at, slot_word, w}
-use Rattle.fx_lasting.proofs.slot_lemmas.Sights.{seen_instead, there, named}
+use Rattle.fx_lasting.proofs.Keeping.{Turn, turn_of, Made, by_turn, slot_word, w}
+use Rattle.fx_lasting.proofs.slot_lemmas.Sights.{by_exchange, seen_instead, there, named}
 use Rattle.fx_lasting.proofs.Places.{slot_back}
 use Rattle.fx_lasting.proofs.slot_lemmas.SlotLaws.{taken, removal, removal_agrees, removal_tells, put_action, putting, installed, installation_agrees}
 use Rattle.fx_lasting.proofs.slot_lemmas.SlotLaws.{installation_tells, new_number, file_carried}
@@ -23,10 +23,6 @@ module _ (turn : Turn) (s : ℕ) (inside : s < slots_of turn.v.start) (carried :
   module _ (free_of : HasNoFile turn.v.work) (off : IsOffCount turn.v.start s turn.v.change) (slots old_word : ℕ) where
     abbrev Takes : ℕ → Type 0
     Takes y = Made turn carried (slot_place s) (λ _. y) (TakesIf (step slots (slot_place s) old_word (without_file old_word) none) (v, carried))
-
-    takes_not : slot_word st.words s ≢ old_word → Takes (slot_word st.words s)
-    takes_not other = seen_instead turn s inside carried TakesIf slots old_word (without_file old_word)
-        (λ sees. record { wins = λ is. absurd (other is); loses = λ _. sees })
 
     takes : slot_word st.words s ≡ old_word → Takes (without_file old_word)
     takes is = subst (λ (z : ℕ). Takes (without_file z)) is (
@@ -52,10 +48,6 @@ module _ (turn : Turn) (s : ℕ) (inside : s < slots_of turn.v.start) (carried :
       (slots old_word : ℕ) where
     abbrev Puts : ℕ → Type 0
     Puts y = Made turn carried (slot_place s) (λ _. y) (Replaces (step slots (slot_place s) old_word (file_word_of n file.entry + lost) none) (v, carried))
-
-    puts_not : slot_word st.words s ≢ old_word → Puts (slot_word st.words s)
-    puts_not other = seen_instead turn s inside carried Replaces slots old_word (file_word_of n file.entry + lost)
-        (λ sees. record { wins = λ m more e f w' c' at is. absurd (other is); loses = λ _. sees })
 
     puts : slot_word st.words s ≡ old_word → Puts (file_word_of n file.entry + lost)
     puts is = let does = putting turn s inside n lost file works small out slots carried carries number late on_n in (
@@ -96,18 +88,13 @@ may_see t seat {slot = slot} table at inside place =
     (table, slot_inside t inside place, sees_keep _ _ _ _ slot seat.me _ at.pass (slot_low t inside) place)
 
 pub takes_if_keep : TakesIfKeep TakesIf
-takes_if_keep k slots id i s old new m x has works inside off place made = rw made (by_turn slots (λ k. (s < slots_of k) × IsOffCount k s m.0.change)
-    (λ _. slot_place s) (λ word. either (eqb word old) (without_file old) word) (λ i. TakesIf (step slots i old (without_file old) none) m) has (inside, off) place
-    (λ st r here is fits. let turn = turn_of m x has.1 id st r here in
-    exchanged (word_at st.words (slot_place s)) old (without_file old) (Takes turn s is.0 m.1 works is.1 slots old)
-    (takes turn s is.0 m.1 works is.1 slots old) (takes_not turn s is.0 m.1 works is.1 slots old)))
+takes_if_keep k slots id i s old new m x has works inside off place made = rw made (by_exchange slots s (λ k. (s < slots_of k) × IsOffCount k s m.0.change)
+    (λ st r its. its.0) old (without_file old) TakesIf (λ seen found other sees. record { wins = λ is. absurd (other is); loses = λ _. sees }) has (inside, off) place
+    (λ st r here is. takes (turn_of m x has.1 id st r here) s is.0 m.1 works is.1 slots old))
 
 pub replaces_keep : ReplacesKeep Replaces
-replaces_keep k slots id i s n lost old new file m x has works carries small inside out place made = rw made (by_turn slots
-    (λ k. s < slots_of k) (λ _. slot_place s) (λ word. either (eqb word old) (file_word_of n file.entry + lost) word)
-    (λ i. Replaces (step slots i old (file_word_of n file.entry + lost) none) m) has inside place
-    (λ st r here is fits. let turn = turn_of m x has.1 id st r here in let new = new_number turn works in
-    exchanged (word_at st.words (slot_place s)) old (file_word_of n file.entry + lost)
-    (Puts turn s is m.1 n lost file works small out carries new.0 new.1 new.2 slots old)
-    (puts turn s is m.1 n lost file works small out carries new.0 new.1 new.2 slots old)
-    (puts_not turn s is m.1 n lost file works small out carries new.0 new.1 new.2 slots old)))
+replaces_keep k slots id i s n lost old new file m x has works carries small inside out place made = rw made (by_exchange slots s (λ k. s < slots_of k)
+    (λ st r its. its) old (file_word_of n file.entry + lost) Replaces
+    (λ seen found other sees. record { wins = λ m more e f w' c' at is. absurd (other is); loses = λ _. sees }) has inside place
+    (λ st r here is. let turn = turn_of m x has.1 id st r here in let new = new_number turn works in
+    puts turn s is m.1 n lost file works small out carries new.0 new.1 new.2 slots old))

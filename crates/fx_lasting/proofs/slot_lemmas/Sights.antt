@@ -1,10 +1,11 @@
 -- A load of a slot's word: the pass sees what is at the slot, and watches the slot.
-use Rattle.fx_lasting.proofs.Words.{◌≡◌, ◌≢◌, ℕ, ◌+◌, ◌<◌, ◌≤◌, ◌⊎◌, List, [], set, sym, refl, ap, ◌∙◌, subst, arith, Option, Some, None, none, step}
+use Rattle.fx_lasting.proofs.Words.{◌≡◌, ◌≢◌, ℕ, ◌+◌, ◌<◌, ◌≤◌, ◌⊎◌, List, [], sym, refl, ap, ◌∙◌, subst, arith, Option, Some, None, none, step}
 use Rattle.fx_lasting.proofs.Words.{⊎_elim, inl, inr, dite, ℕ_discrete, Closed, File, Names, slots_of, slot_place, state_after_all}
 use Rattle.fx_lasting.proofs.Words.{node_of_number, Sees, Agrees, Watch, HasActed, IsOvertaken, first_log, Log, keeps}
+use Rattle.fx_lasting.proofs.Words.{Start, Sat, Shared, HasPass, Allows, get_elem?, some, either, eqb, exchanged}
 use Rattle.fx_lasting.specs.Laws.{Kind}
 use Rattle.fx_lasting.proofs.Histories.{grows_none}
-use Rattle.fx_lasting.proofs.Keeping.{Turn, Made, word_at, slot_word, w, After, its_log, tells}
+use Rattle.fx_lasting.proofs.Keeping.{end_read, Turn, turn_of, Made, by_turn, word_at, slot_word, w, After, its_log, tells}
 use Rattle.fx_lasting.proofs.Calm.{read_watching, read_watching_kept}
 use Rattle.fx_lasting.proofs.range_lemmas.GroupSteps.{its_inside}
 use Rattle.fx_lasting.proofs.Peeking.{still}
@@ -47,11 +48,7 @@ module _ (turn : Turn) (s : ℕ) where
     abbrev pub sees_after : After turn
     sees_after = read_watching turn v.work v.glance seen_now (sight inside).more r.history r.history
 
-    pub sees_kept : Agrees v.start record {
-      words = set st.words (slot_place s) (word_at st.words (slot_place s));
-      homes = st.homes;
-      views = set st.views id (w turn sees_after);
-    }
+    pub sees_kept : Agrees v.start (end_read turn sees_after (slot_place s))
     sees_kept = read_watching_kept turn v.work v.glance seen_now (sight inside).more r.history (slot_place s) ([], refl) refl
         record { seen = ([], refl); saw = λ l. inl refl; asks = (its_log turn).watch.asks } (still turn)
 
@@ -90,3 +87,18 @@ module _ (turn : Turn) (s : ℕ) where
           → kind (step slots (slot_place s) first second none) (v, carried) found (w turn sees_after, carried))
           → Made turn carried (slot_place s) (λ _. found) (kind (step slots (slot_place s) first second none) (v, carried))
       seen_instead kind slots first second makes = (w turn sees_after, keeps, tt, sees_kept, makes (sees_slot slots first second))
+
+-- a law of an exchange of the slot's word for another one: the word is the one that the pass
+-- expects, or the pass sees it
+pub by_exchange : {k : Start} (slots : ℕ) {id i : ℕ} (s : ℕ) {m : Sat} {x : Log} (P : Start → Type 0)
+    → ((st : Shared) → Agrees m.0.start st → P m.0.start → s < slots_of m.0.start) → (old new : ℕ) (kind : Kind)
+    → ((seen : Sat) (found : ℕ) → found ≢ old → Sees (step slots (slot_place s) old new none) m found seen → kind (step slots (slot_place s) old new none) m found seen)
+    → (has : HasPass k m x) → P k → i ≡ slot_place s
+    → ((st : Shared) (r : Agrees m.0.start st) (here : get_elem? st.views id ≡ some m.0) → P m.0.start → slot_word st.words s ≡ old
+    → Made (turn_of m x has.1 id st r here) m.1 (slot_place s) (λ _. new) (kind (step slots (slot_place s) old new none) m))
+    → Allows (Agrees k) slots id m i (λ word. either (eqb word old) new word) (kind (step slots i old new none) m)
+by_exchange slots {id} s {m} {x} P inside old new kind sees has its place wins = by_turn slots P (λ _. slot_place s)
+    (λ word. either (eqb word old) new word) (λ i. kind (step slots i old new none) m) has its place
+    (λ st r here is fits. exchanged (word_at st.words (slot_place s)) old new
+    (λ y. Made (turn_of m x has.1 id st r here) m.1 (slot_place s) (λ _. y) (kind (step slots (slot_place s) old new none) m)) (wins st r here is)
+    (λ other. seen_instead (turn_of m x has.1 id st r here) s (inside st r is) m.1 kind slots old new (λ saw. sees _ _ other saw)))

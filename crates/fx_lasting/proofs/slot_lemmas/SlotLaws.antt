@@ -1,20 +1,20 @@
 -- An installation, a clear, a take and an exchange keep the rule.
-use Rattle.fx_lasting.proofs.Words.{IsIn, Round, first_visit, new_round, ◌≡◌, ◌≢◌, ℕ, ◌+◌, ◌^◌, ◌<◌, List, [], ◌∷◌, set, sym, refl, ap, ◌∙◌, subst}
-use Rattle.fx_lasting.proofs.Words.{arith, Option, Some, None, none, some, keeps, gives, rest, get_elem?, false, eqb, Closed, File, numbered, Event}
+use Rattle.fx_lasting.proofs.Words.{IsIn, Round, first_visit, new_round, ◌≡◌, ℕ, ◌+◌, ◌^◌, ◌<◌, List, [], ◌∷◌, set, sym, refl, ap, ◌∙◌, subst}
+use Rattle.fx_lasting.proofs.Words.{arith, Option, Some, None, none, some, keeps, gives, rest, get_elem?, false, Closed, File, numbered, Event}
 use Rattle.fx_lasting.proofs.Words.{Action, Put, Clear, Take, Allocate, ◌▷◌, State, with_removed, changed_at, pass_event, held_by, Agrees, WorkAgrees}
 use Rattle.fx_lasting.proofs.Words.{IsHistory, state_after_all, slots_of, nodes_of, slot_place, full_name_in, file_word_of, taking, held_in, if_file}
 use Rattle.fx_lasting.proofs.Words.{placed, Idle, Placing, Removes, Installs, Exchanges, Stepped, IsOffCount, IsInRange, ClearsKeep, TakesOutKeep}
-use Rattle.fx_lasting.proofs.Words.{InstallsKeep, ExchangesKeep, account, uncounted, group_of, range_at_start, Outside, Bool, true, step, exchanged}
+use Rattle.fx_lasting.proofs.Words.{InstallsKeep, ExchangesKeep, account, uncounted, group_of, range_at_start, Outside, Bool, true, step}
 use Rattle.fx_lasting.proofs.Words.{retiring_work, ◌*◌, ◌-◌, ◌≤◌, HasNoFile, IsInStock, as_swapped, first_log, name_in, name_mask, bit_and}
-use Rattle.fx_lasting.proofs.Words.{mask_leaves_name, mod-mul-add, le-mul_of_pos_right, Placement, label_of, as_written, either, put_back, ActsAt}
+use Rattle.fx_lasting.proofs.Words.{mask_leaves_name, mod-mul-add, le-mul_of_pos_right, Placement, label_of, as_written, put_back, ActsAt}
 use Rattle.fx_lasting.proofs.slot_lemmas.Emptying.{left, left_agrees, left_tells}
 use Rattle.fx_lasting.proofs.slot_lemmas.Installing.{put_after, put_agrees, put_tells}
 use Rattle.fx_lasting.proofs.node_lemmas.StockMoves.{names_a_node}
 use Rattle.fx_lasting.proofs.Histories.{grows_one, legal_more, part_mine, held_mine, same_shape}
 use Rattle.fx_lasting.proofs.Frames.{busy}
-use Rattle.fx_lasting.proofs.Keeping.{Turn, turn_of, After, word_at, slot_word, Made, by_turn, its_log, its_work, w, end}
+use Rattle.fx_lasting.proofs.Keeping.{Turn, turn_of, After, slot_word, Made, by_turn, its_log, its_work, w, end}
 use Rattle.table_range.proofs.GroupSlots.{in_range_so}
-use Rattle.fx_lasting.proofs.slot_lemmas.Sights.{seen_instead}
+use Rattle.fx_lasting.proofs.slot_lemmas.Sights.{by_exchange}
 use Rattle.fx_lasting.proofs.Places.{slot_back}
 use Rattle.fx_lasting.proofs.hold_lemmas.Looking.{unnamed}
 use Rattle.fx_lasting.proofs.slot_lemmas.Swaps.{begins_first, found, found_so, Ends}
@@ -248,10 +248,6 @@ module _ (turn : Turn) (slots s n lost old_word : ℕ) (file : Closed) (carried 
   abbrev Goal : ℕ → Type 0
   Goal y = Made turn carried (slot_place s) (λ _. y) (Exchanges (step slots (slot_place s) old_word (file_word_of n file.entry + lost) none) (v, carried))
 
-  fails : word ≢ old_word → Goal word
-  fails other = seen_instead turn s within carried Exchanges slots old_word (file_word_of n file.entry + lost) (λ sees.
-      record { wins = λ m more e f w' c' at is. absurd (other is); loses = λ _. sees })
-
   module _ (is : word ≡ old_word) where
     at_none : (state_after_all v.start r.history).at s ≡ None
     at_none = unnamed turn s within (ap full_name_in is ∙ empty)
@@ -303,11 +299,8 @@ installs_keep k slots id i s n lost new file m x has works carries small inside 
     install_made turn s is n lost file works small out slots m.1 carries new.0 new.1 new.2))
 
 pub exchanges_keep : ExchangesKeep Exchanges
-exchanges_keep k slots id i s n lost old new file m x has works carries small out in_range place empty made = rw made (by_turn slots
-    (λ k. IsInRange k s) (λ _. slot_place s) (λ word. either (eqb word old) (file_word_of n file.entry + lost) word)
-    (λ i. Exchanges (step slots i old (file_word_of n file.entry + lost) none) m) has in_range place
-    (λ st r here is fits. let turn = turn_of m x has.1 id st r here in let new = new_number turn works in
-    exchanged (word_at st.words (slot_place s)) old (file_word_of n file.entry + lost)
-    (Goal turn slots s n lost old file m.1 works carries small out is empty new.0 new.1 new.2)
-    (won turn slots s n lost old file m.1 works carries small out is empty new.0 new.1 new.2)
-    (fails turn slots s n lost old file m.1 works carries small out is empty new.0 new.1 new.2)))
+exchanges_keep k slots id i s n lost old new file m x has works carries small out in_range place empty made = rw made (by_exchange slots s {m = m} (λ k. IsInRange k s)
+    (λ st r its. let a = r.shape.range in let b = its.1 in omega arith) old (file_word_of n file.entry + lost) Exchanges
+    (λ seen found other sees. record { wins = λ m more e f w' c' at is. absurd (other is); loses = λ _. sees }) has in_range place
+    (λ st r here is. let turn = turn_of m x has.1 id st r here in let new = new_number turn works in
+    won turn slots s n lost old file m.1 works carries small out is empty new.0 new.1 new.2))

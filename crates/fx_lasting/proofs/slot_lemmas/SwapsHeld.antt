@@ -1,18 +1,18 @@
 -- A removal by a pass that holds the slot's file keeps the rule: the hold ends with the step, and
 -- the removal counts the takes without the pass's own.
 use Rattle.fx_lasting.proofs.Words.{◌≡◌, ℕ, ◌+◌, ◌-◌, ◌<◌, List, [], sym, refl, ap, ◌∙◌, subst, arith, Option, Some, None, none, some, keeps}
-use Rattle.fx_lasting.proofs.Words.{get_elem?, eqb, either, Closed, File, Event, Action, Release, Take, ◌▷◌, WorkAgrees, HoldsAt, node_of_number}
+use Rattle.fx_lasting.proofs.Words.{get_elem?, Closed, File, Event, Action, Release, Take, ◌▷◌, WorkAgrees, HoldsAt, node_of_number}
 use Rattle.fx_lasting.proofs.Words.{state_after_all, slots_of, slot_place, full_name_in, name_in, Names, taking, held_in, bit_here, bit_else, Counted}
-use Rattle.fx_lasting.proofs.Words.{Stepped, IsOffCount, account, range_at_start, step, exchanged, IsInStock, as_swapped, first_log, empty_word_of}
+use Rattle.fx_lasting.proofs.Words.{Stepped, IsOffCount, account, range_at_start, step, IsInStock, as_swapped, first_log, empty_word_of}
 use Rattle.fx_lasting.proofs.Words.{without_file, SwapsHeld, TakesHeld, SwapsHeldKeep, TakesHeldKeep, Bool, true, false, Round, HoldsAlone, Guarded}
 use Rattle.fx_lasting.proofs.Words.{HoldAgrees, GuardAgrees, IsAllowed, Work, ⊎_elim, hold_word_of, guarded_round, first_visit, new_round}
 use Rattle.fx_lasting.proofs.Words.{leaving_work, is_guarding}
 use Rattle.fx_lasting.proofs.node_lemmas.StockMoves.{names_a_node}
 use Rattle.fx_lasting.proofs.Histories.{legal_more, same_shape}
 use Rattle.fx_lasting.proofs.Frames.{busy}
-use Rattle.fx_lasting.proofs.Keeping.{Turn, turn_of, After, Made, by_turn, its_log, its_work, word_at, slot_word, w}
+use Rattle.fx_lasting.proofs.Keeping.{Turn, turn_of, After, Made, its_log, its_work, word_at, slot_word, w}
 use Rattle.fx_lasting.proofs.Places.{slot_back}
-use Rattle.fx_lasting.proofs.slot_lemmas.Sights.{seen_instead}
+use Rattle.fx_lasting.proofs.slot_lemmas.Sights.{by_exchange}
 use Rattle.fx_lasting.proofs.slot_lemmas.Swaps.{found, Ends}
 use Rattle.fx_lasting.proofs.slot_lemmas.Emptying.{left, left_agrees, left_tells, moved, moved_agrees, moved_tells}
 use Rattle.fx_lasting.proofs.slot_lemmas.HeldSlots.{there as held_there, by_number as held_by_number, legal₀, IsHeld, by_take, by_guard, h₁, own_part}
@@ -149,27 +149,19 @@ module _ (turn : Turn) (s : ℕ) (inside : s < slots_of turn.v.start) (f : File)
       )) holds
 
 pub swaps_held_keep : SwapsHeldKeep SwapsHeld
-swaps_held_keep k slots id i s n old new node f m x has works named inside off stocked place made = rw made (by_turn slots
-    (λ k. (s < slots_of k) × IsOffCount k s m.0.change) (λ _. slot_place s) (λ word. either (eqb word old) (empty_word_of n) word)
-    (λ i. SwapsHeld (step slots i old (empty_word_of n) none) m) has (inside, off) place
-    (λ st r here is fits. let turn = turn_of m x has.1 id st r here in
-    exchanged (word_at st.words (slot_place s)) old (empty_word_of n)
-    (λ y. Made turn m.1 (slot_place s) (λ _. y) (SwapsHeld (step slots (slot_place s) old (empty_word_of n) none) m))
-    (λ same. let name = ap full_name_in same ∙ named in let h = held_so turn s is.0 f node works name in
+swaps_held_keep k slots id i s n old new node f m x has works named inside off stocked place made = rw made (by_exchange slots s
+    (λ k. (s < slots_of k) × IsOffCount k s m.0.change) (λ st r its. its.0) old (empty_word_of n) SwapsHeld
+    (λ seen found other sees. record { wins = λ g node k e works at makes is. absurd (other is); loses = λ _. sees }) has (inside, off) place
+    (λ st r here is same. let turn = turn_of m x has.1 id st r here in
+    let name = ap full_name_in same ∙ named in let h = held_so turn s is.0 f node works name in
     swaps_held turn s is.0 f node (its_file turn s is.0 f node works name) (held_alone works) name (its_calm turn s is.0 f node works name) is.1 h.0 h.1 h.2 h.3
-    slots m.1 n stocked old same)
-    (λ other. seen_instead turn s is.0 m.1 SwapsHeld slots old (empty_word_of n)
-    (λ sees. record { wins = λ g node k e works at makes is. absurd (other is); loses = λ _. sees }))))
+    slots m.1 n stocked old same))
 
 pub takes_held_keep : TakesHeldKeep TakesHeld
-takes_held_keep k slots id i s old new node f m x has works named inside off place made = rw made (by_turn slots
-    (λ k. (s < slots_of k) × IsOffCount k s m.0.change) (λ _. slot_place s) (λ word. either (eqb word old) (without_file old) word)
-    (λ i. TakesHeld (step slots i old (without_file old) none) m) has (inside, off) place
-    (λ st r here is fits. let turn = turn_of m x has.1 id st r here in
-    exchanged (word_at st.words (slot_place s)) old (without_file old)
-    (λ y. Made turn m.1 (slot_place s) (λ _. y) (TakesHeld (step slots (slot_place s) old (without_file old) none) m))
-    (λ same. let name = ap full_name_in same ∙ named in let h = held_so turn s is.0 f node works name in
+takes_held_keep k slots id i s old new node f m x has works named inside off place made = rw made (by_exchange slots s
+    (λ k. (s < slots_of k) × IsOffCount k s m.0.change) (λ st r its. its.0) old (without_file old) TakesHeld
+    (λ seen found other sees. record { wins = λ g node works is. absurd (other is); loses = λ _. sees }) has (inside, off) place
+    (λ st r here is same. let turn = turn_of m x has.1 id st r here in
+    let name = ap full_name_in same ∙ named in let h = held_so turn s is.0 f node works name in
     takes_held turn s is.0 f node (its_file turn s is.0 f node works name) (held_alone works) name (its_calm turn s is.0 f node works name) is.1 h.0 h.1 h.2 h.3
-    slots m.1 old same)
-    (λ other. seen_instead turn s is.0 m.1 TakesHeld slots old (without_file old)
-    (λ sees. record { wins = λ g node works is. absurd (other is); loses = λ _. sees }))))
+    slots m.1 old same))

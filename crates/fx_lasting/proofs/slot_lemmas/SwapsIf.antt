@@ -1,13 +1,12 @@
 -- A removal by an exchange of names, if the slot has still the word that the pass saw, keeps the
 -- rule.
-use Rattle.fx_lasting.proofs.Words.{◌≡◌, ◌≢◌, ℕ, ◌<◌, List, sym, refl, ap, ◌∙◌, arith, Option, some, none, keeps, eqb, Closed, Take, slots_of}
-use Rattle.fx_lasting.proofs.Words.{slot_place, HasNoFile, IsOffCount, IsInStock, SwapsIfKeep, step, exchanged, pass_event, empty_word_of, SwapsIf}
-use Rattle.fx_lasting.proofs.Words.{either}
+use Rattle.fx_lasting.proofs.Words.{◌≡◌, ℕ, ◌<◌, List, sym, refl, ap, ◌∙◌, arith, Option, some, none, keeps, Closed, Take, slots_of}
+use Rattle.fx_lasting.proofs.Words.{slot_place, HasNoFile, IsOffCount, IsInStock, SwapsIfKeep, step, pass_event, empty_word_of, SwapsIf}
 use Rattle.fx_lasting.proofs.hold_lemmas.HeldFiles.{one_after}
 use Rattle.fx_lasting.proofs.node_lemmas.StockMoves.{names_a_node}
-use Rattle.fx_lasting.proofs.Keeping.{Turn, turn_of, Made, by_turn, word_at, slot_word, w}
+use Rattle.fx_lasting.proofs.Keeping.{Turn, turn_of, Made, slot_word, w}
 use Rattle.fx_lasting.proofs.Places.{slot_back}
-use Rattle.fx_lasting.proofs.slot_lemmas.Sights.{seen_instead, named, there}
+use Rattle.fx_lasting.proofs.slot_lemmas.Sights.{by_exchange, named, there}
 use Rattle.fx_lasting.proofs.slot_lemmas.SlotLaws.{taken}
 use Rattle.fx_lasting.proofs.slot_lemmas.SwapsOut.{removal, removal_agrees, removal_tells}
 
@@ -18,10 +17,6 @@ module _ (turn : Turn) (s : ℕ) (inside : s < slots_of turn.v.start) (carried :
 
   abbrev Swaps : ℕ → Type 0
   Swaps y = Made turn carried (slot_place s) (λ _. y) (SwapsIf (step slots (slot_place s) old_word (empty_word_of n) none) (v, carried))
-
-  swaps_not : slot_word st.words s ≢ old_word → Swaps (slot_word st.words s)
-  swaps_not other = seen_instead turn s inside carried SwapsIf slots old_word (empty_word_of n)
-      (λ sees. record { wins = λ m e at makes is. absurd (other is); loses = λ _. sees })
 
   swaps : slot_word st.words s ≡ old_word → Swaps (empty_word_of n)
   swaps is = (
@@ -43,9 +38,7 @@ module _ (turn : Turn) (s : ℕ) (inside : s < slots_of turn.v.start) (carried :
   )
 
 pub swaps_if_keep : SwapsIfKeep SwapsIf
-swaps_if_keep k slots id i s n old new m x has works inside off stocked place made = rw made (by_turn slots
-    (λ k. (s < slots_of k) × IsOffCount k s m.0.change) (λ _. slot_place s) (λ word. either (eqb word old) (empty_word_of n) word)
-    (λ i. SwapsIf (step slots i old (empty_word_of n) none) m) has (inside, off) place
-    (λ st r here is fits. let turn = turn_of m x has.1 id st r here in
-    exchanged (word_at st.words (slot_place s)) old (empty_word_of n) (Swaps turn s is.0 m.1 works is.1 n stocked slots old)
-    (swaps turn s is.0 m.1 works is.1 n stocked slots old) (swaps_not turn s is.0 m.1 works is.1 n stocked slots old)))
+swaps_if_keep k slots id i s n old new m x has works inside off stocked place made = rw made (by_exchange slots s
+    (λ k. (s < slots_of k) × IsOffCount k s m.0.change) (λ st r its. its.0) old (empty_word_of n) SwapsIf
+    (λ seen found other sees. record { wins = λ m e at makes is. absurd (other is); loses = λ _. sees }) has (inside, off) place
+    (λ st r here is. swaps (turn_of m x has.1 id st r here) s is.0 m.1 works is.1 n stocked slots old))
