@@ -1,14 +1,14 @@
 -- A pass between two calls, and what a call adds to it.
-use Rattle.fx_lasting.proofs.Words.{Renewing, Nearing, Relieving, HoldsAlone}
+use Rattle.fx_lasting.proofs.Words.{Renewing, Relieving, HoldsAlone}
 use Rattle.fx_lasting.proofs.Words.{as_listed, get_elem?, some, ◌≡◌, ℕ, ◌+◌, ◌-◌, ◌≤◌, ◌<◌, ◌^◌, ◌⊎◌, List, [], sym, refl, ap, ◌∙◌, subst, arith}
 use Rattle.fx_lasting.proofs.Words.{Bool, true, false, Option, Some, None, Start, Sat, Work, Glance, Change, Nothing, Outside, Runs, IsAtWork}
 use Rattle.fx_lasting.proofs.Words.{as_swapped, nodes_of, set, part_of_pass, TableId, Idle, Counted, Guarded, Retiring, Keeping, LastingPass}
 use Rattle.fx_lasting.proofs.Words.{LastingTable, IsSeatOf, IsPassOf, IsPassOfTable, IsBetweenCalls, Knows, MayPlace, opening_of, view_of, pass_of}
 use Rattle.fx_lasting.proofs.Words.{pass_in, numbers_of_pass, doing_in, hold_at, retired_at, retiring_work, IsHistory, Action, ◌▷◌, Put, Clear, Take}
 use Rattle.fx_lasting.proofs.Words.{Release, Close, Look, File, Closed, numbered, full_name_in, count_in, LetsFileGo, option_map, Result, Ok, Err}
-use Rattle.fx_lasting.proofs.Words.{ok_or, is_err, is_some, not, ◌==◌, ◌≢◌, not-false, not-true, Use, no_use, one_number, one_look, Adds, IsNewFile}
-use Rattle.fx_lasting.proofs.Words.{Placed, Cleared, Taken, ReleasesFile, LookedAfter, LookedUp, adds_then, Owing, Yielding, Placing}
-use Rattle.fx_lasting.proofs.Words.{Emptying, HoldsOn, new_round, LooksByTake, LetsChargeGo, Announced, first_visit, heat_in, cond, inl, inr, Opening}
+use Rattle.fx_lasting.proofs.Words.{ok_or, is_some, not, ◌==◌, ◌≢◌, not-false, not-true, Use, no_use, one_number, one_look, Adds, IsNewFile}
+use Rattle.fx_lasting.proofs.Words.{Placed, Cleared, Taken, ReleasesFile, LookedAfter, LookedUp, adds_then}
+use Rattle.fx_lasting.proofs.Words.{HoldsOn, new_round, LetsChargeGo, Announced, first_visit, heat_in, cond, inl, inr, Opening}
 use Rattle.fx_lasting.proofs.Words.{PassView, IsIdle, IsFileRemoval, Doing, DoesNothing, Holding, Hold, Retired, dite, dec_le, lt-ltb, IsIdleSeatOf}
 use Rattle.fx_lasting.proofs.Words.{HasNoFile, Searching, is_in, account, uncounted, group_of, Covered, groups_in, range_at_start}
 use Rattle.fx_table.specs.declared.values.Doing.TheVariants.{Retiring as Retires}
@@ -277,32 +277,6 @@ lets_run m m' f n (Some file) goes = ([] ▷ Release f ▷ Close f, goes.1)
 pub at_ease : {id : TableId} {k : Start} {p : LastingPass} → IsSeatOf id k p → {m' : Sat} {xs : List Action} {w : Work} {g : Glance} {n : ℕ}
     → Runs p.seat.me xs w g p.seat.me.0.change n m' → Runs p.seat.me xs w g Outside n m'
 at_ease {p = p} seated {m'} {xs} {w} {g} {n} r = subst (λ (z : Change). Runs p.seat.me xs w g z n m') seated.change r
-
--- A look-up
-module _ {id : TableId} {k : Start} {p : LastingPass} (seated : IsSeatOf id k p) (slot : ℕ) (m' : Sat) where
-  -- a pass that took what the slot names
-  pub looked_so : (r : Result Hold LookFault) → LooksByTake slot p.seat.me r m'
-      → LookedAfter (opening_of k) (view_of p) [] slot r (pass_of m'.0)
-  looked_so (Ok hold) t = (
-    t.0,
-    record { entry = ap (λ (h : Hold). h.entry) t.1; same = λ e. absurd (cc e) },
-    subst (λ (h : Hold). Adds (opening_of k) (view_of p) ([] ▷ Look slot (Some t.0)) (Holding t.0 h) one_look (pass_of m'.0)) (sym t.1)
-        (adds_so seated t.2 one_look),
-  )
-  looked_so (Err Spent) t = absurd t
-  looked_so (Err EmptySlot) t = adds_so seated t one_look
-
-  -- it is one run of steps, and the pass knows how it ended
-  pub took_run : (r : Result Hold LookFault) → LooksByTake slot p.seat.me r m' → (idle : Bool) → is_err r ≡ idle → (passes visit entry : ℕ) (stock : List ℕ)
-      → p.keeps ≡ false → (xs : List Action) × (w : Work) × Runs p.seat.me xs w Nothing p.seat.me.0.change 2 m'
-      × IsBetweenCalls passes idle false p.keeps visit stock entry w
-  took_run (Ok hold) t idle is passes visit entry stock unkept = ([] ▷ Look slot (Some t.0), Counted t.0 hold.node, t.2, (sym is, unkept, refl))
-  took_run (Err Spent) t idle is passes visit entry stock unkept = absurd t
-  took_run (Err EmptySlot) t idle is passes visit entry stock unkept = ([] ▷ Look slot None, Idle, t, (sym is, unkept))
-
-  pub never_spent : (r : Result Hold LookFault) → LooksByTake slot p.seat.me r m' → r ≢ Err Spent
-  never_spent (Err Spent) t is = t
-  never_spent _ t is = cc is
 
 -- what a pass adds that did something before its look-up
 pub after_then : (k : Start) (u v w : PassView) (xs : List Action) (slot : ℕ) (r : Result Hold LookFault) → r ≢ Err Spent

@@ -16,7 +16,7 @@ pub use Rattle.fx_lasting.specs.slots.SlotAgrees.{Names, IsSeated, SlotAgrees}
 pub use Rattle.fx_lasting.specs.AtWork.{IsAtWork, IsReleasing, HasPlace, MayPlace}
 pub use Rattle.fx_lasting.specs.range.Groups.{RangeCounts}
 pub use Rattle.fx_lasting.specs.Counts.{tally, owed}
-pub use Rattle.fx_lasting.specs.Ends.{LetsChargeGo, LetsFileGo, LooksByTake, Parked, TakenOut}
+pub use Rattle.fx_lasting.specs.Ends.{LetsChargeGo, LetsFileGo, Parked, TakenOut}
 pub use Rattle.fx_lasting.specs.life.Cuts.{seats}
 pub use Rattle.table_seats.proofs.Gathered.{AreGathered}
 pub use Rattle.table_seats.proofs.Together.{HasLaws, Moves, find_pass, its_pass, its_range, not_there, of_one, total_same}

@@ -1,6 +1,5 @@
 -- The short runs of steps that calls are made of: what they return, and the pass after them.
-use Rattle.std.specs.Prelude.{◌≡◌, ℕ, Bool, true, false, List, [], Option, Some, None, Result, Ok}
-use Rattle.std.specs.Prelude.{Err}
+use Rattle.std.specs.Prelude.{◌≡◌, ℕ, Bool, true, false, List, [], Option, Some, None}
 use mathlib.Core.Option.{some}
 use lib.ListN.{get_elem?}
 use Rattle.fx_base.specs.Identity.{Identity}
@@ -8,16 +7,12 @@ use Rattle.fx_plain.specs.History.{◌▷◌}
 use Rattle.fx_plain.specs.declared.event.File.{File}
 use Rattle.fx_plain.specs.declared.event.Action.{Action}
 use Rattle.fx_plain.specs.declared.event.Action.TheVariants.{Look, Release, Close}
-use Rattle.fx_table.specs.declared.values.Hold.{Hold}
-use Rattle.fx_table.specs.declared.values.LookFault.{LookFault}
-use Rattle.fx_table.specs.declared.values.LookFault.TheVariants.{Spent, Empty}
 use Rattle.fx_lasting.specs.Effects.{announcing, guarding}
 use Rattle.fx_lasting.specs.Passes.{Sat}
 use Rattle.fx_lasting.specs.Runs.{Runs}
-use Rattle.fx_lasting.specs.Tables.{hold_at}
 use Rattle.fx_lasting.specs.declared.view.Glance.TheVariants.{None as Nothing, Cold}
 use Rattle.fx_lasting.specs.declared.view.Work.{Work}
-use Rattle.fx_lasting.specs.declared.view.Work.TheVariants.{Idle, Counted, Emptying, Keeping}
+use Rattle.fx_lasting.specs.declared.view.Work.TheVariants.{Idle, Emptying, Keeping}
 
 -- some steps in a row, which leave its look-up and its account with the groups' words as they were
 abbrev pub Does : Sat → List Action → Work → ℕ → Sat → Type 0
@@ -42,13 +37,6 @@ Guards slot node m (Some entry) m' = (f : File) × (entry ≡ f.identity.entry)
     × Runs m ([] ▷ Look slot (Some f)) (guarding f (announcing node m.0.work)) Nothing m.0.change 2
     m'
 Guards slot node m None m' = Runs m [] (announcing node m.0.work) (Cold slot) m.0.change 2 m'
-
--- a pass that took what the slot names: it holds that file, or the slot is empty
-abbrev pub LooksByTake : ℕ → Sat → Result Hold LookFault → Sat → Type 0
-LooksByTake slot m (Ok hold) m' = (f : File) × (hold ≡ hold_at f hold.node)
-    × Runs m ([] ▷ Look slot (Some f)) (Counted f hold.node) Nothing m.0.change 2 m'
-LooksByTake slot m (Err Spent) m' = ⊥
-LooksByTake slot m (Err Empty) m' = Runs m ([] ▷ Look slot None) Idle Nothing m.0.change 2 m'
 
 -- a pass with the place of a node, whose file is closed: it keeps the node, which is at the entry
 -- of its stock, or has the place still

@@ -20,7 +20,7 @@ ghost use Rattle.fx_lasting.specs.declared.view.Work.TheVariants.{Idle};
 
 use crate::fields::{count_of, file_node_of, file_word, is_hot, node_named, retire_amount};
 use crate::kinds::{
-    ByClose, ByUpdate, Finishing, Glancing, Installing, Listing, RemovedBy, Retire,
+    ByClose, ByUpdate, Finishing, Glancing, Installing, Listing, RemovedBy, Retire, Taking,
 };
 use crate::life::layout::{list_place, slot_place};
 use crate::pass::LastingPass;
@@ -61,36 +61,15 @@ impl LastingTable {
             };
         };
         if !pass.listed {
-            return self.look_first(pass, slot);
+            let place = list_place(pass.number);
+            shared.fetch_add::<Listing>(&mut pass.seat, place, pass_bit(pass.number));
+            pass.listed = true;
+            let found = self.look_cold(pass, slot);
+            return LookUp { found, freed: None };
         }
         if is_hot(word) {
             return self.look_hot(pass, slot, node);
         }
-        let found = self.look_cold(pass, slot);
-        LookUp { found, freed: None }
-    }
-
-    // Looks up a slot for a pass that isn't listed: lists the pass and takes what the slot names,
-    // in at most three steps.
-    #[inline(always)]
-    fn look_first(&self, pass: &mut LastingPass, slot: u32) -> LookUp
-        requires seated { IsSeatOfTable self.now pass.old }
-        requires idle { pass.old.seat.me.0.work ≡ Idle }
-        requires unkept { pass.old.keeps ≡ false }
-        requires unlisted { pass.old.listed ≡ false }
-        requires cold { pass.old.seat.me.0.glance ≡ Cold slot }
-        requires slot { slot < self.now.size }
-        ensures fits { IsPassOfTable self.now pass.new }
-        ensures looked { LookedUp (opening_of_table self.now) (view_of pass.old) slot result.found
-            result.freed (view_of pass.new) }
-        ensures never_spent { result.found ≢ Err Spent }
-        ensures steps { steps_taken pass.new ≤ steps_taken pass.old + 3 }
-        ensures met { meetings pass.old ≤ meetings pass.new }
-    {
-        let shared = &self.table.shared;
-        let place = list_place(pass.number);
-        shared.fetch_add::<Listing>(&mut pass.seat, place, pass_bit(pass.number));
-        pass.listed = true;
         let found = self.look_cold(pass, slot);
         LookUp { found, freed: None }
     }
@@ -128,7 +107,8 @@ impl LastingTable {
         }
     }
 
-    // Takes what the slot names, for a listed pass, in at most two steps.
+    // Takes what the slot names, for a listed pass, and heats the slot if it had its takes, in at
+    // most two steps.
     #[inline(always)]
     fn look_cold(&self, pass: &mut LastingPass, slot: u32) -> Result<Hold, LookFault>
         requires seated { IsSeatOfTable self.now pass.old }
@@ -144,10 +124,17 @@ impl LastingTable {
         ensures steps { steps_taken pass.new ≤ steps_taken pass.old + 2 }
         ensures met { meetings pass.old ≤ meetings pass.new }
     {
-        let found = self.take_at(&mut pass.seat, slot);
-        pass.idle = found.is_err();
+        let shared = &self.table.shared;
+        let word = shared.fetch_add::<Taking>(&mut pass.seat, slot_place(slot), 1);
+        self.heat(&mut pass.seat, slot, word);
         pass.guarded = false;
-        found
+        pass.idle = true;
+        let Some(node) = file_node_of(word) else {
+            return Err(LookFault::Empty);
+        };
+        pass.idle = false;
+        let entry = entry_of(word);
+        Ok(Hold { node, entry })
     }
 
     /// Releases the file that the pass looked up, by the `Hold` that it got, in at most three

@@ -1,22 +1,20 @@
-//! The steps of a look-up: a cold file is counted at its slot, a hot one is announced in the pass's
-//! hold word.
+//! The announcement of a hot file in the pass's hold word, and the heat of a slot that had its
+//! takes.
 ghost use Rattle.std.specs.Prelude.{◌≡◌, ℕ, ◌<◌, []};
 ghost use Rattle.fx_lasting.specs.AtWork.{IsAtWork};
-ghost use Rattle.fx_lasting.specs.Ends.{Guards, LooksByTake};
+ghost use Rattle.fx_lasting.specs.Ends.{Guards};
 ghost use Rattle.fx_lasting.specs.Laws.{MayAnnounce};
 ghost use Rattle.fx_lasting.specs.Runs.{Runs};
 ghost use Rattle.fx_lasting.specs.Effects.{glance_after, IsOnList};
-ghost use Rattle.fx_lasting.specs.declared.view.Glance.TheVariants.{None as Nothing, Hot, Cold};
-ghost use Rattle.fx_lasting.specs.declared.view.Work.TheVariants.{Idle};
+ghost use Rattle.fx_lasting.specs.declared.view.Glance.TheVariants.{None as Nothing, Hot};
 
-use crate::fields::{HEAT, announced, cold_takes, count_of, file_node_of, is_hot_at};
-use crate::kinds::{Announcing, Confirming, HeatingUp, Taking};
+use crate::fields::{HEAT, announced, cold_takes, count_of, is_hot_at};
+use crate::kinds::{Announcing, Confirming, HeatingUp};
 use crate::life::layout::{hold_place, slot_place};
 use crate::table::LastingTable;
 use crate::view::View;
 use atomic_table::Seat;
 use fx_base::OpenFile;
-use fx_table::{Hold, LookFault};
 use fx_words::entry_of;
 
 impl LastingTable {
@@ -49,36 +47,6 @@ impl LastingTable {
             Some(entry_of(word))
         } else {
             None
-        }
-    }
-
-    // Adds a take to the slot's word, and heats the slot if it had its takes, in at most two steps.
-    // Returns the hold of the file there.
-    #[inline(always)]
-    pub(crate) fn take_at(
-        &self,
-        seat: &mut Seat<Option<OpenFile>, View>,
-        slot: u32,
-    ) -> Result<Hold, LookFault>
-        requires table { seat.old.table_id ≡ self.now.table.shared.table_id }
-        requires at { (number : ℕ) × IsAtWork self.now.table.shared.key number seat.old.me }
-        requires listed { IsOnList seat.old.me }
-        requires idle { seat.old.me.0.work ≡ Idle }
-        requires cold { seat.old.me.0.glance ≡ Cold slot }
-        requires slot { slot < self.now.size }
-        ensures table { seat.new.table_id ≡ seat.old.table_id }
-        ensures takes { LooksByTake slot seat.old.me result seat.new.me }
-        ensures places { seat.new.me.1 ≡ seat.old.me.1 }
-    {
-        let shared = &self.table.shared;
-        let word = shared.fetch_add::<Taking>(seat, slot_place(slot), 1);
-        self.heat(seat, slot, word);
-        match file_node_of(word) {
-            None => Err(LookFault::Empty),
-            Some(node) => Ok(Hold {
-                node,
-                entry: entry_of(word),
-            }),
         }
     }
 
