@@ -13,16 +13,6 @@ pub enum TriedPut {
     Again(OpenFile),
 }
 
-// The state of a slot, for a pass that loaded its word to hold what the slot names.
-pub(crate) enum Aim {
-    // The slot is empty.
-    Empty,
-    // It has a file, and is cold.
-    Cold,
-    // It has a file on this node, and is hot.
-    Hot(u32),
-}
-
 // The hold of a pass that took what the slot of a key names, or announced its node.
 pub(crate) enum Taken {
     // The file of the key, on this node.

@@ -36,8 +36,6 @@ use Rattle.fx_lasting.specs.declared.key.Key.{Key}
 use Rattle.fx_lasting.specs.declared.key_answers.PutOverKey.{PutOverKey}
 use Rattle.fx_lasting.specs.declared.key_answers.PutOverKey.TheVariants.{Replaced, Missed}
 use Rattle.fx_lasting.specs.declared.pass.LastingPass.{LastingPass}
-use Rattle.fx_lasting.specs.declared.tried.Aim.{Aim}
-use Rattle.fx_lasting.specs.declared.tried.Aim.TheVariants as aim
 use Rattle.fx_lasting.specs.declared.tried.Renewal.{Renewal}
 use Rattle.fx_lasting.specs.declared.tried.Renewal.TheVariants.{Ends, Moved}
 use Rattle.fx_lasting.specs.declared.tried.Taken.{Taken}
@@ -48,27 +46,17 @@ use Rattle.fx_lasting.specs.declared.view.Glance.TheVariants.{None as Nothing, C
 use Rattle.fx_lasting.specs.declared.view.Placement.{Placement}
 use Rattle.fx_lasting.specs.declared.view.Start.{Start}
 use Rattle.fx_lasting.specs.declared.view.Work.{Work}
-use Rattle.fx_lasting.specs.declared.view.Work.TheVariants.{Idle, Nearing, Placing, Renewing}
+use Rattle.fx_lasting.specs.declared.view.Work.TheVariants.{Idle, Nearing, Placing}
 
--- a pass that loaded a slot's word, to hold what the slot names: it is to take what a cold slot
--- names, or to announce the node of a hot one
-abbrev pub AimedAt : Start → ℕ → Sat → Aim → Sat → Type 0
-AimedAt k slot m aim.Empty m' =
-    Runs m ([] ▷ Look slot None) m.0.work Nothing m.0.change 1 m'
-AimedAt k slot m aim.Cold m' = Runs m [] m.0.work (Cold slot) m.0.change 1 m'
-AimedAt k slot m (aim.Hot node) m' = Runs m [] m.0.work (Hot slot node) m.0.change 1 m'
+-- a pass that is to take what a cold slot names, or to announce the node of a hot one
+abbrev pub aim_at : ℕ → Option ℕ → Glance
+aim_at slot None = Cold slot
+aim_at slot (Some node) = Hot slot node
 
--- the pass has aimed so at its slot
-abbrev pub AimsAt : ℕ → Option ℕ → Glance → Type 0
-AimsAt slot None glance = glance ≡ Cold slot
-AimsAt slot (Some node) glance = glance ≡ Hot slot node
-
--- a pass that has placed a file on its own node took what a slot names
-abbrev pub TookBeside : (slot own : ℕ) → Placement → Sat → Option ℕ → Sat → Type 0
-TookBeside slot own placement m (Some node) m' = (f : File)
-    × Runs m ([] ▷ Look slot (Some f)) (Renewing f node own placement) Nothing m.0.change 2 m'
-TookBeside slot own placement m None m' =
-    Runs m ([] ▷ Look slot None) (Placing own placement) Nothing m.0.change 2 m'
+-- a pass that loaded a slot's word, to hold what the slot names, if it isn't empty
+abbrev pub AimedAt : Start → ℕ → Sat → Option (Option ℕ) → Sat → Type 0
+AimedAt k slot m None m' = Runs m ([] ▷ Look slot None) m.0.work Nothing m.0.change 1 m'
+AimedAt k slot m (Some hot) m' = Runs m [] m.0.work (aim_at slot hot) m.0.change 1 m'
 
 -- a pass that holds the file of the node compared its number with the key's
 abbrev pub Compared : Start → Key → ℕ → File → Sat → Taken → Sat → Type 0

@@ -13,13 +13,11 @@ ghost use Rattle.fx_table.specs.Pass.{IsIdle};
 ghost use Rattle.fx_words.specs.Words.{entry_in};
 ghost use Rattle.fx_lasting.specs.AtWork.{IsAtWork};
 ghost use Rattle.fx_lasting.specs.slots.ByNode.{HasPutIf, HasTakenIf, SawIf, SaysIf};
-ghost use Rattle.fx_lasting.specs.slots.ByNode.{TriedReplace, TriesPut, TriesTake};
+ghost use Rattle.fx_lasting.specs.slots.ByNode.{TriesPut, TriesTake};
 ghost use Rattle.fx_lasting.specs.slots.ByNode.{MayEmpty, MayExchange, TriedEmptying, SeesIfLost, TriedExchange, word_put};
 ghost use Rattle.fx_lasting.specs.Fields.{count_in, full_name_in};
 ghost use Rattle.fx_lasting.specs.Effects.{pass_in};
 ghost use Rattle.fx_lasting.specs.Tables.{view_of, steps_taken, opening_of_table, IsPassOfTable};
-ghost use Rattle.fx_lasting.specs.range.Tries.{IsPlacing};
-ghost use Rattle.table_range.specs.declared.views.Change.TheVariants.{Outside};
 
 use crate::answers::{Miss, PutIf, TakenIf};
 use crate::fields::{count_of, empty_word, file_node_of, file_word, without_file};
@@ -29,7 +27,7 @@ use crate::pass::LastingPass;
 use crate::table::LastingTable;
 use crate::view::View;
 use atomic_table::{Play, Seat};
-use fx_base::{Closed, OpenFile};
+use fx_base::OpenFile;
 use fx_table::Retired;
 use fx_words::entry_of;
 
@@ -100,7 +98,8 @@ impl LastingTable {
         let (entry, own, lost) = self.place(seat, pass.number, stock, start, pass.keeps, file);
         pass.next_entry = entry;
         pass.keeps = false;
-        match self.try_replace(&mut pass.seat, slot, node, word, own, lost, identity) {
+        let new = Some(file_word(own, identity.entry) + lost);
+        match self.try_exchange::<Replacing>(&mut pass.seat, slot, node, word, new) {
             Ok(found) => {
                 pass.stock[entry as usize] = node;
                 pass.next_visit = self.first_visit(found);
@@ -164,33 +163,6 @@ impl LastingTable {
         let found = self.try_exchange::<S>(seat, slot, node, word, own)?;
         stock[at] = node;
         Ok(found)
-    }
-
-    // Puts the file that the pass places on its own node at the slot while the slot's word names
-    // the other node, in at most four steps. Returns the word that it found.
-    #[inline(always)]
-    fn try_replace(
-        &self,
-        seat: &mut Seat<Option<OpenFile>, View>,
-        slot: u32,
-        node: u32,
-        word: u64,
-        own: u32,
-        lost: u64,
-        file: Closed,
-    ) -> Result<u64, Miss>
-        requires table { seat.old.table_id ≡ self.now.table.shared.table_id }
-        requires at { (number : ℕ) × IsAtWork self.now.table.shared.key number seat.old.me }
-        requires placing { IsPlacing own lost file seat.old.me }
-        requires slot { slot < self.now.size }
-        requires change { seat.old.me.0.change ≡ Outside }
-        requires named { full_name_in word ≡ node + 1 }
-        ensures table { seat.new.table_id ≡ seat.old.table_id }
-        ensures tried { TriedReplace self.now.table.shared.key slot node own file seat.old.me result
-            seat.new.me }
-    {
-        let new = Some(file_word(own, file.entry) + lost);
-        self.try_exchange::<Replacing>(seat, slot, node, word, new)
     }
 
     // Exchanges the slot's word for another one, or else for the same one without its file, while

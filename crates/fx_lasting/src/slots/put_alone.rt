@@ -11,10 +11,9 @@ ghost use Rattle.fx_table.specs.declared.values.Doing.TheVariants.{Idle as DoesN
 ghost use Rattle.fx_lasting.specs.AtWork.{IsAtWork, MayPlace};
 ghost use Rattle.fx_lasting.specs.Effects.{IsOnList};
 ghost use Rattle.fx_lasting.specs.Ends.{LetsFileGo};
-ghost use Rattle.fx_lasting.specs.Fields.{full_name_in};
 ghost use Rattle.fx_lasting.specs.Passes.{held_in, HoldsOn, is_guarding};
-ghost use Rattle.fx_lasting.specs.slots.PutAlone.{AimedAt, AimsAt, Compared, HoldsBeside, IsBeside, PutsAlone};
-ghost use Rattle.fx_lasting.specs.slots.PutAlone.{Renews, TookBeside, TriedRenewal, TriedReplaceHeld};
+ghost use Rattle.fx_lasting.specs.slots.PutAlone.{AimedAt, Compared, HoldsBeside, IsBeside, PutsAlone, aim_at};
+ghost use Rattle.fx_lasting.specs.slots.PutAlone.{Renews, TriedRenewal};
 ghost use Rattle.fx_lasting.specs.Tables.{view_of, meetings, steps_taken, opening_of_table, IsPassOfTable, IsSeatOfTable};
 ghost use Rattle.table_range.specs.declared.views.Change.TheVariants.{Outside};
 ghost use Rattle.fx_lasting.specs.declared.view.Glance.TheVariants.{None as Nothing, Cold};
@@ -31,7 +30,7 @@ use crate::pass::LastingPass;
 use crate::slots::by_key::fault_of;
 use crate::slots::by_node::removed_by;
 use crate::table::LastingTable;
-use crate::tried::{Aim, Renewal, Taken};
+use crate::tried::{Renewal, Taken};
 use crate::view::View;
 use atomic_table::Seat;
 use fx_base::{Closed, OpenFile};
@@ -63,16 +62,12 @@ impl LastingTable {
             };
         }
         self.enlist(pass);
-        let hot = match self.aim(&mut pass.seat, key.slot) {
-            Aim::Cold => None,
-            Aim::Hot(node) => Some(node),
-            Aim::Empty => {
-                return KeyPut {
-                    put: PutOverKey::Missed(KeyFault::Empty, file),
-                    freed: None,
-                    released: None,
-                };
-            }
+        let Some(hot) = self.aim(&mut pass.seat, key.slot) else {
+            return KeyPut {
+                put: PutOverKey::Missed(KeyFault::Empty, file),
+                freed: None,
+                released: None,
+            };
         };
         match self.renew(pass, key, hot, file) {
             Renewal::Ends(put, released) => KeyPut {
@@ -106,10 +101,10 @@ impl LastingTable {
         pass.listed = true;
     }
 
-    // Loads the slot's word, in one step. A cold slot's file is to be taken, and a hot slot's node
-    // is to be announced.
+    // Loads the slot's word, in one step. Returns `None` if the slot is empty. A cold slot's file is
+    // to be taken, and a hot slot's node, which it returns, is to be announced.
     #[inline(always)]
-    fn aim(&self, seat: &mut Seat<Option<OpenFile>, View>, slot: u32) -> Aim
+    fn aim(&self, seat: &mut Seat<Option<OpenFile>, View>, slot: u32) -> Option<Option<u32>>
         requires table { seat.old.table_id ≡ self.now.table.shared.table_id }
         requires at { (number : ℕ) × IsAtWork self.now.table.shared.key number seat.old.me }
         requires unheld { held_in seat.old.me.0.work ≡ None }
@@ -121,12 +116,12 @@ impl LastingTable {
     {
         let word = self.table.shared.load::<Aiming>(seat, slot_place(slot));
         let Some(node) = file_node_of(word) else {
-            return Aim::Empty;
+            return None;
         };
         if is_hot_at(word, node) {
-            Aim::Hot(node)
+            Some(Some(node))
         } else {
-            Aim::Cold
+            Some(None)
         }
     }
 
@@ -140,7 +135,7 @@ impl LastingTable {
         requires may { MayPlace pass.old.keeps pass.old.stock.items pass.old.next_entry
             pass.old.seat.me.0.work }
         requires listed { IsOnList pass.old.seat.me }
-        requires aimed { AimsAt key.slot hot pass.old.seat.me.0.glance }
+        requires aimed { pass.old.seat.me.0.glance ≡ aim_at key.slot hot }
         requires slot { key.slot < self.now.size }
         requires installs { pass.old.number ≤ self.now.installing }
         ensures renews { Renews self.now.table.shared.table_id self.now.table.shared.key pass.old
@@ -241,7 +236,7 @@ impl LastingTable {
         requires at { IsAtWork self.now.table.shared.key number seat.old.me }
         requires listed { IsOnList seat.old.me }
         requires placing { (placement : Placement) × (seat.old.me.0.work ≡ Placing own placement) }
-        requires aimed { AimsAt key.slot hot seat.old.me.0.glance }
+        requires aimed { seat.old.me.0.glance ≡ aim_at key.slot hot }
         requires slot { key.slot < self.now.size }
         ensures table { seat.new.table_id ≡ seat.old.table_id }
         ensures places { seat.new.me.1 ≡ seat.old.me.1 }
@@ -250,7 +245,10 @@ impl LastingTable {
             seat.new.me }
     {
         let Some(node) = hot else {
-            let Some(node) = self.take_beside(seat, key.slot, own) else {
+            let shared = &self.table.shared;
+            let word = shared.fetch_add::<TakingBeside>(seat, slot_place(key.slot), 1);
+            self.heat(seat, key.slot, word);
+            let Some(node) = file_node_of(word) else {
                 return Taken::Nothing;
             };
             return self.compare(seat, key, node);
@@ -259,32 +257,6 @@ impl LastingTable {
             return Taken::Moved(node);
         }
         self.compare(seat, key, node)
-    }
-
-    // Takes what the cold slot names, beside the file that the pass has placed on its own node, in
-    // at most two steps. Returns the node of the file that it holds, if there is one.
-    #[inline(always)]
-    fn take_beside(
-        &self,
-        seat: &mut Seat<Option<OpenFile>, View>,
-        slot: u32,
-        own: u32,
-    ) -> Option<u32>
-        requires table { seat.old.table_id ≡ self.now.table.shared.table_id }
-        requires at { (number : ℕ) × IsAtWork self.now.table.shared.key number seat.old.me }
-        requires listed { IsOnList seat.old.me }
-        requires placing { (placement : Placement) × (seat.old.me.0.work ≡ Placing own placement) }
-        requires cold { seat.old.me.0.glance ≡ Cold slot }
-        requires slot { slot < self.now.size }
-        ensures table { seat.new.table_id ≡ seat.old.table_id }
-        ensures places { seat.new.me.1 ≡ seat.old.me.1 }
-        ensures took { (placement : Placement) → seat.old.me.0.work ≡ Placing own placement
-            → TookBeside slot own placement seat.old.me result seat.new.me }
-    {
-        let shared = &self.table.shared;
-        let word = shared.fetch_add::<TakingBeside>(seat, slot_place(slot), 1);
-        self.heat(seat, slot, word);
-        file_node_of(word)
     }
 
     // Compares the number of the file that the pass holds on the node with that of the key, in one
@@ -337,36 +309,11 @@ impl LastingTable {
             Ok(word) => word,
             Err(miss) => return Err(miss),
         };
-        match self.try_replace_held(seat, slot, node, word, own, lost, file) {
+        let new = Some(file_word(own, file.entry) + lost);
+        match self.try_exchange::<ReplacingHeld>(seat, slot, node, word, new) {
             Ok(found) => Ok(self.end_hold(seat, number, guarded, found)),
             Err(miss) => Err(miss),
         }
-    }
-
-    // Puts the file there as `try_renewal` does, from a word that it saw, in at most four steps.
-    #[inline(always)]
-    fn try_replace_held(
-        &self,
-        seat: &mut Seat<Option<OpenFile>, View>,
-        slot: u32,
-        node: u32,
-        word: u64,
-        own: u32,
-        lost: u64,
-        file: Closed,
-    ) -> Result<u64, Miss>
-        requires table { seat.old.table_id ≡ self.now.table.shared.table_id }
-        requires at { (number : ℕ) × IsAtWork self.now.table.shared.key number seat.old.me }
-        requires beside { IsBeside node own lost file seat.old.me }
-        requires slot { slot < self.now.size }
-        requires change { seat.old.me.0.change ≡ Outside }
-        requires named { full_name_in word ≡ node + 1 }
-        ensures table { seat.new.table_id ≡ seat.old.table_id }
-        ensures tried { TriedReplaceHeld self.now.table.shared.key slot node own file seat.old.me
-            result seat.new.me }
-    {
-        let new = Some(file_word(own, file.entry) + lost);
-        self.try_exchange::<ReplacingHeld>(seat, slot, node, word, new)
     }
 
     // Takes the file that the pass places out of its own node's place, and releases the file of the

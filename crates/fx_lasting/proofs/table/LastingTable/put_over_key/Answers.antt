@@ -4,25 +4,24 @@ use Rattle.fx_lasting.proofs.Calling.{slot_low}
 use Rattle.fx_lasting.proofs.Passing.{adds_so, at_ease, still_pass}
 use Rattle.fx_lasting.proofs.slot_lemmas.RenewalEnds.{frees_later, puts_before}
 use Rattle.fx_lasting.proofs.Words.{IsSeatOf}
-use Rattle.fx_lasting.specs.slots.PutAlone.{FreesFirst, PutsAlone}
-use Rattle.fx_lasting.proofs.table.LastingTable.put_over_key.Goals.{in-Cold, in-Hot}
+use Rattle.fx_lasting.specs.slots.PutAlone.{PutsAlone}
 use Rattle.fx_lasting.proofs.table.LastingTable.put_over_key.Goals as goal
 
-pub returns-in-Empty-clause-fits : goal.returns-in-Empty-clause-fits
-returns-in-Empty-clause-fits c =
+pub returns-in_default-clause-fits : goal.returns-in_default-clause-fits
+returns-in_default-clause-fits c =
     let fits = c.enlist.ensures.fits in
     let s = fits.seated in
-    still_pass s _ (at_ease s c.in-Empty.ensures.aimed) (refl, refl) c.aim.ensures.table (c.aim.ensures.places ∙ s.places) (refl, s.next) fits.knows
+    still_pass s _ (at_ease s c.in_default.ensures.aimed) (refl, refl) c.aim.ensures.table (c.aim.ensures.places ∙ s.places) (refl, s.next) fits.knows
 
-pub returns-in-Empty-clause-placed : goal.returns-in-Empty-clause-placed
-returns-in-Empty-clause-placed c =
+pub returns-in_default-clause-placed : goal.returns-in_default-clause-placed
+returns-in_default-clause-placed c =
     let k : Start = c.args.self.now.table.shared.key in
     let s = c.enlist.ensures.fits.seated in
     let first = c.enlist.ensures.adds in
     let v = view_of c.args.pass.now in
     let v₁ = view_of c.enlist.new.pass in
     let w = pass_of c.aim.new.seat.me.0 in
-    let looked = subst (λ (d : Doing). Adds (opening_of k) v₁ ([] ▷ Look c.args.key.slot None) d one_look w) first.now (adds_so s c.in-Empty.ensures.aimed one_look) in
+    let looked = subst (λ (d : Doing). Adds (opening_of k) v₁ ([] ▷ Look c.args.key.slot None) d one_look w) first.now (adds_so s c.in_default.ensures.aimed one_look) in
     (refl, inl (adds_then (opening_of k) v v₁ w [] ([] ▷ Look c.args.key.slot None) DoesNothing DoesNothing no_use one_look first looked, refl))
 
 -- the pass listed itself, if need be, and aimed at its slot
@@ -34,19 +33,11 @@ aims u {k = k} {p = p} s first g m run = adds_then (opening_of k) (view_of u) (v
 pub returns-in-Ends-clause-placed : goal.returns-in-Ends-clause-placed
 returns-in-Ends-clause-placed c =
     let t = c.args.self.now in
-    let k : Start = t.table.shared.key in
     let low : c.args.key.slot < t.size = omega (arith, c.if-self-key.false) in
-    let m = c.aim.new.seat.me in
-    let s = c.enlist.ensures.fits.seated in
     let p : LastingPass = record c.enlist.new.pass { seat = c.aim.new.seat } in
-    let p' = c.renew.new.pass in
-    let done = c.in-Ends.ensures.renews.1 in
-    elim c.match-aim.branch [
-      | in-Cold w ↦ puts_before k c.args.pass.now p p' c.args.key None (aims c.args.pass.now s c.enlist.ensures.adds _ m w.in-Cold.ensures.aimed)
-          (let few = w.in-Cold.ensures.aimed.met in omega (arith, c.enlist.ensures.met)) (slot_low t low) c.args.file c.in-Ends.put c.in-Ends.released done
-      | in-Hot w ↦ puts_before k c.args.pass.now p p' c.args.key None (aims c.args.pass.now s c.enlist.ensures.adds _ m w.in-Hot.ensures.aimed)
-          (let few = w.in-Hot.ensures.aimed.met in omega (arith, c.enlist.ensures.met)) (slot_low t low) c.args.file c.in-Ends.put c.in-Ends.released done
-    ]
+    let aimed = c.in-Some.ensures.aimed in
+    puts_before t.table.shared.key c.args.pass.now p c.renew.new.pass c.args.key None (aims c.args.pass.now c.enlist.ensures.fits.seated c.enlist.ensures.adds _ c.aim.new.seat.me aimed)
+    (let few = aimed.met in omega (arith, c.enlist.ensures.met)) (slot_low t low) c.args.file c.in-Ends.put c.in-Ends.released c.in-Ends.ensures.renews.1
 
 pub returns-in-Moved-clause-placed : goal.returns-in-Moved-clause-placed
 returns-in-Moved-clause-placed c =
@@ -54,18 +45,13 @@ returns-in-Moved-clause-placed c =
     let k : Start = t.table.shared.key in
     let low : c.args.key.slot < t.size = omega (arith, c.if-self-key.false) in
     let m = c.aim.new.seat.me in
-    let s = c.enlist.ensures.fits.seated in
     let p₁ = c.renew.new.pass in
     let p' = c.renew_cold.new.pass in
     let moved = c.in-Moved.ensures.renews in
-    let before : FreesFirst (opening_of k) (view_of c.args.pass.now) c.in-Moved.freed (view_of p₁) = elim c.match-aim.branch [
-      | in-Cold w ↦ frees_later k (view_of c.args.pass.now) (pass_of m.0) (view_of p₁) c.in-Moved.freed (aims c.args.pass.now s c.enlist.ensures.adds _ m w.in-Cold.ensures.aimed) moved.2.frees
-      | in-Hot w ↦ frees_later k (view_of c.args.pass.now) (pass_of m.0) (view_of p₁) c.in-Moved.freed (aims c.args.pass.now s c.enlist.ensures.adds _ m w.in-Hot.ensures.aimed) moved.2.frees
-    ] in
-    let few : meetings c.args.pass.now ≤ meetings p₁ = elim c.match-aim.branch [
-      | in-Cold w ↦ let seen = w.in-Cold.ensures.aimed.met in omega (arith, c.enlist.ensures.met, c.renew.ensures.met, seen)
-      | in-Hot w ↦ let seen = w.in-Hot.ensures.aimed.met in omega (arith, c.enlist.ensures.met, c.renew.ensures.met, seen)
-    ] in
+    let aimed = c.in-Some.ensures.aimed in
+    let before = frees_later k (view_of c.args.pass.now) (pass_of m.0) (view_of p₁) c.in-Moved.freed
+    (aims c.args.pass.now c.enlist.ensures.fits.seated c.enlist.ensures.adds _ m aimed) moved.2.frees in
+    let few : meetings c.args.pass.now ≤ meetings p₁ = let seen = aimed.met in omega (arith, c.enlist.ensures.met, c.renew.ensures.met, seen) in
     let done : PutsAlone k p₁ c.args.key c.args.file c.renew_cold.result.put None c.renew_cold.result.released p' =
     subst (λ (z : Closed). PutsAlone k p₁ c.args.key z c.renew_cold.result.put None c.renew_cold.result.released p') moved.0 c.renew_cold.ensures.placed in
     subst (λ (z : Option Closed). PutsAlone k c.args.pass.now c.args.key c.args.file c.renew_cold.result.put z c.renew_cold.result.released p') (sym c.renew_cold.ensures.freed)
@@ -75,7 +61,5 @@ returns-in-Moved-clause-placed c =
 pub returns-in-Moved-clause-steps : goal.returns-in-Moved-clause-steps
 returns-in-Moved-clause-steps c =
     let moved = c.in-Moved.ensures.renews in
-    elim c.match-aim.branch [
-      | in-Cold w ↦ let few = w.in-Cold.ensures.aimed.steps in omega (arith, c.enlist.ensures.steps, c.renew_cold.ensures.steps, moved.2.steps, c.args.self.now.key.0)
-      | in-Hot w ↦ let few = w.in-Hot.ensures.aimed.steps in omega (arith, c.enlist.ensures.steps, c.renew_cold.ensures.steps, moved.2.steps, c.args.self.now.key.0)
-    ]
+    let few = c.in-Some.ensures.aimed.steps in
+    omega (arith, c.enlist.ensures.steps, c.renew_cold.ensures.steps, moved.2.steps, c.args.self.now.key.0)
