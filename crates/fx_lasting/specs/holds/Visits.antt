@@ -1,10 +1,9 @@
 -- The round of a retirement through the hold words of the other passes.
-use Rattle.std.specs.Prelude.{◌≡◌, ℕ, ◌+◌, ◌-◌, ◌*◌, ◌/◌, ◌<◌, ◌≤◌, Bool, false, [], if◌then◌else◌}
+use Rattle.std.specs.Prelude.{◌≡◌, ℕ, ◌+◌, ◌-◌, ◌*◌, ◌/◌, ◌<◌, ◌≤◌, false, []}
 use Rattle.fx_plain.specs.declared.event.File.{File}
 use Rattle.fx_lasting.specs.Ends.{Does}
 use Rattle.fx_lasting.specs.Laws.{IsPassed}
 use Rattle.fx_lasting.specs.Passes.{Sat}
-use Rattle.fx_lasting.specs.Effects.{round_at}
 use Rattle.fx_lasting.specs.declared.view.Round.{Round}
 use Rattle.fx_lasting.specs.declared.view.Work.TheVariants.{Retiring}
 
@@ -25,13 +24,6 @@ pub record HasVisited (passes number node : ℕ) (f : File) (takes first words l
   pub few : most + 2 * first ≤ 2 * next + words
   pub fewer : first ≤ number → number < next → most + 2 * first + 2 ≤ 2 * next + words
   pub does : Does m [] (Retiring f node takes (round_to next words last) charges) most m'
-
--- a visit to the pass: it was charged, or it doesn't announce the node
-abbrev pub Visited : ℕ → ℕ → Sat → Bool → Sat → Type 0
-Visited node pass m is_charged m' = (f : File) (takes : ℕ) (round : Round) (charges : ℕ)
-    → m.0.work ≡ Retiring f node takes round charges
-    → Does m [] (Retiring f node takes (round_at round pass)
-    (charges + (if is_charged then 1 else 0))) 2 m'
 
 -- all passes that it has to visit were visited, with this many charges
 abbrev pub HasCharged : ℕ → ℕ → File → ℕ → ℕ → Sat → ℕ → Sat → Type 0

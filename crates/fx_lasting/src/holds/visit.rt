@@ -1,14 +1,11 @@
 //! The round of a retirement through the other passes: each announcement of the removed file is
 //! charged. A pass that isn't listed announces nothing, and isn't visited.
-ghost use Rattle.std.specs.Prelude.{◌≡◌, ◌≢◌, ◌+◌, ◌*◌, ◌-◌, ◌<◌, ◌≤◌, ℕ};
-ghost use Rattle.std.specs.Prelude.{◌⊎◌, false};
+ghost use Rattle.std.specs.Prelude.{◌≡◌, ◌+◌, ◌*◌, ◌≤◌, ◌⊎◌, ℕ};
 ghost use Rattle.fx_plain.specs.declared.event.File.{File};
 ghost use Rattle.fx_lasting.specs.AtWork.{IsAtWork};
-ghost use Rattle.fx_lasting.specs.Laws.{IsPassed};
 ghost use Rattle.fx_lasting.specs.Passes.{Sat};
 ghost use Rattle.fx_lasting.specs.Effects.{new_round};
-ghost use Rattle.fx_lasting.specs.holds.Visits.{HasVisited, Visited, HasCharged};
-ghost use Rattle.fx_lasting.specs.declared.view.Round.{Round};
+ghost use Rattle.fx_lasting.specs.holds.Visits.{HasVisited, HasCharged};
 ghost use Rattle.fx_lasting.specs.declared.view.Work.TheVariants.{Retiring};
 
 use crate::fields::{announced, charged};
@@ -91,8 +88,8 @@ impl LastingTable {
         charges
     }
 
-    // Visits the pass, unless it is this one, in at most two steps. Returns the number of charges
-    // that it made.
+    // Visits the pass, unless it is this one, and charges its announcement if it announces the node,
+    // in at most two steps. Returns the number of charges that it made.
     fn visit(
         &self,
         seat: &mut Seat<Option<OpenFile>, View>,
@@ -119,41 +116,14 @@ impl LastingTable {
         if pass == number {
             return 0;
         }
-        if self.charge(seat, number, node, pass) {
-            1
-        } else {
-            0
-        }
-    }
-
-    // Charges the announcement of another pass, if it announces the node, in at most two steps.
-    // Returns whether it did.
-    fn charge(
-        &self,
-        seat: &mut Seat<Option<OpenFile>, View>,
-        number: u32,
-        node: u32,
-        pass: u32,
-    ) -> bool
-        requires table { seat.old.table_id ≡ self.now.table.shared.table_id }
-        requires at { IsAtWork self.now.table.shared.key number seat.old.me }
-        requires visiting { (f : File) × (takes : ℕ) × (round : Round) × (charges : ℕ)
-            × (seat.old.me.0.work ≡ Retiring f node takes round charges) × (round.next ≤ pass)
-            × ((p : ℕ) → round.next ≤ p → p < pass → IsPassed number round p)
-            × (round.guarded ≡ false) }
-        requires other { pass ≢ number }
-        requires pass { pass ≤ self.now.passes }
-        ensures table { seat.new.table_id ≡ seat.old.table_id }
-        ensures places { seat.new.me.1 ≡ seat.old.me.1 }
-        ensures visited { Visited node pass seat.old.me result seat.new.me }
-    {
         let shared = &self.table.shared;
         let place = hold_place(self.size, pass);
         let named = announced(node);
         let word = shared.load::<Visiting>(seat, place);
         if word != named {
-            return false;
+            return 0;
         }
-        shared.compare_exchange::<Charging>(seat, place, named, charged(node)) == named
+        let found = shared.compare_exchange::<Charging>(seat, place, named, charged(node));
+        if found == named { 1 } else { 0 }
     }
 }
