@@ -48,12 +48,6 @@ module _ (c : After-load-rest) where
       c.args.first c.requires.visited.6 c.load-rest.new.seat.me c.load-rest.new.seat.me
   here = let v = c.requires.visited in from_here (loaded v.0 v.1 v.2 v.3 v.4 v.5 v.6 v.7 v.8) at
 
-pub visit-charges-requires-clause-at : goal.visit-charges-requires-clause-at
-visit-charges-requires-clause-at c =
-    let a = (goal.at.visit-charges-requires-clause-at c).After-load-rest in
-    let v = c.requires.visited in
-    still_at_work (at a) (c.loop-rest.invariant.visited c.load-rest.new.seat.me v.1 v.2 (here a).0 v.6 (here a).1).does
-
 -- the bits that are left, from a pass on that has not been passed yet
 module _ (a : After-load-rest) (pass rest : ℕ) (low : a.args.first ≤ pass) (high : pass ≤ a.args.first + 64)
     (left : rest ≡ word a / 2 ^ (pass - a.args.first)) where
@@ -87,30 +81,28 @@ module _ (a : After-load-rest) (pass rest : ℕ) (low : a.args.first ≤ pass) (
   idle_on : rest ≡ 0 → (n p : ℕ) → pass ≤ p → p < a.args.first + 64 → IsIdleIn (round_to n (words_at a.args.first) (word a)) p
   idle_on none n = idle_at n a.requires.visited.4 (word a) (first_is a) low (omega arith) (λ i from before. none_left (word a) (pass - a.args.first) fits (sym left ∙ none) i from)
 
-pub visit-charges-requires-clause-pass : goal.visit-charges-requires-clause-pass
-visit-charges-requires-clause-pass c =
-    let a = (goal.at.visit-charges-requires-clause-pass c).After-load-rest in
-    let i = c.loop-rest.invariant in
-    let some : 0 < c.loop-rest.rest = omega (arith, c.loop-rest-test.true) in
-    inside a c.loop-rest.pass c.loop-rest.rest i.low i.high i.left some
-
-pub visit-charges-requires-clause-visited : goal.visit-charges-requires-clause-visited
-visit-charges-requires-clause-visited c =
-    let a = (goal.at.visit-charges-requires-clause-visited c).After-load-rest in
+pub visit-charges-requires : goal.visit-charges-requires
+visit-charges-requires c =
+    let a = (goal.at.visit-charges-requires c).After-load-rest in
     let i = c.loop-rest.invariant in
     let v = c.requires.visited in
-    let some : 0 < c.loop-rest.rest = omega (arith, c.loop-rest-test.true) in (
-      c.load-rest.new.seat.me,
-      v.1,
-      v.2,
-      (here a).0,
-      words_at c.args.first,
-      word a,
-      v.6 + c.loop-rest.charges,
-      goes_past (omega arith)
-          (idle a c.loop-rest.pass c.loop-rest.rest i.low i.high i.left some c.loop-rest.pass)
-          (i.visited c.load-rest.new.seat.me v.1 v.2 (here a).0 v.6 (here a).1),
-    )
+    let some : 0 < c.loop-rest.rest = omega (arith, c.loop-rest-test.true) in
+    let past = i.visited c.load-rest.new.seat.me v.1 v.2 (here a).0 v.6 (here a).1 in
+    record {
+      table = i.table ∙ (c.load-rest.ensures.0 ∙ c.requires.table);
+      at = still_at_work (at a) past.does;
+      pass = inside a c.loop-rest.pass c.loop-rest.rest i.low i.high i.left some;
+      visited = (
+        c.load-rest.new.seat.me,
+        v.1,
+        v.2,
+        (here a).0,
+        words_at c.args.first,
+        word a,
+        v.6 + c.loop-rest.charges,
+        goes_past (omega arith) (idle a c.loop-rest.pass c.loop-rest.rest i.low i.high i.left some c.loop-rest.pass) past,
+      );
+    }
 
 pub loop-rest-preserved : goal.loop-rest-preserved
 loop-rest-preserved c =

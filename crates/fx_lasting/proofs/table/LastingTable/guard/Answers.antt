@@ -32,34 +32,29 @@ load-word-requires c =
           c.slot_place.ensures,
     )
 
-pub returns-then-is_hot_at-clause-guards : goal.returns-then-is_hot_at-clause-guards
-returns-then-is_hot_at-clause-guards c =
+pub returns-then-is_hot_at : goal.returns-then-is_hot_at
+returns-then-is_hot_at c =
     let goes = c.store.ensures.2.goes c.args.slot c.args.node c.requires.saw in
     let still : (full_name_in c.load-word.result ≡ c.args.node + 1) × IsHot c.load-word.result = c.is_hot_at.ensures.0 c.if-is_hot_at.true in
     let h = c.load-word.ensures.2.holds c.args.slot c.args.node (goes.stepped.glance ∙ c.requires.saw) (announced_so goes.stepped.work c.requires.may) still.0 still.1 in
     let m₁ = c.store.new.seat.me in
     let did = subst (λ (w : Work). Runs m₁ ([] ▷ Look c.args.slot (Some h.0)) w Nothing m₁.0.change 1 c.load-word.new.seat.me)
     (ap (guarding h.0) goes.stepped.work) (runs_goes h.2) in
-    (h.0, c.entry_of.ensures ∙ h.1, looks_then (runs_goes goes) did)
+    record {
+      table = c.load-word.ensures.0 ∙ c.store.ensures.0;
+      guards = (h.0, c.entry_of.ensures ∙ h.1, looks_then (runs_goes goes) did);
+      places = h.2.carried ∙ goes.carried;
+    }
 
-pub returns-else-is_hot_at-clause-guards : goal.returns-else-is_hot_at-clause-guards
-returns-else-is_hot_at-clause-guards c =
+pub returns-else-is_hot_at : goal.returns-else-is_hot_at
+returns-else-is_hot_at c =
     let goes = c.store.ensures.2.goes c.args.slot c.args.node c.requires.saw in
     let moved : (full_name_in c.load-word.result ≡ c.args.node + 1) × IsHot c.load-word.result → ⊥ = search rules in
     let h = c.load-word.ensures.2.moved c.args.slot c.args.node (goes.stepped.glance ∙ c.requires.saw) (announced_so goes.stepped.work c.requires.may) moved in
     let m₁ = c.store.new.seat.me in
-    looks_then (runs_goes goes) (subst (λ (w : Work). Runs m₁ [] w (Cold c.args.slot) m₁.0.change 1 c.load-word.new.seat.me) goes.stepped.work (runs_goes h))
-
-pub returns-then-is_hot_at-clause-places : goal.returns-then-is_hot_at-clause-places
-returns-then-is_hot_at-clause-places c =
-    let goes = c.store.ensures.2.goes c.args.slot c.args.node c.requires.saw in
-    let still : (full_name_in c.load-word.result ≡ c.args.node + 1) × IsHot c.load-word.result = c.is_hot_at.ensures.0 c.if-is_hot_at.true in
-    (c.load-word.ensures.2.holds c.args.slot c.args.node (goes.stepped.glance ∙ c.requires.saw) (announced_so goes.stepped.work c.requires.may) still.0 still.1).2.carried
-    ∙ goes.carried
-
-pub returns-else-is_hot_at-clause-places : goal.returns-else-is_hot_at-clause-places
-returns-else-is_hot_at-clause-places c =
-    let goes = c.store.ensures.2.goes c.args.slot c.args.node c.requires.saw in
-    let moved : (full_name_in c.load-word.result ≡ c.args.node + 1) × IsHot c.load-word.result → ⊥ = search rules in
-    (c.load-word.ensures.2.moved c.args.slot c.args.node (goes.stepped.glance ∙ c.requires.saw) (announced_so goes.stepped.work c.requires.may) moved).carried
-    ∙ goes.carried
+    record {
+      table = c.load-word.ensures.0 ∙ c.store.ensures.0;
+      guards = looks_then (runs_goes goes)
+          (subst (λ (w : Work). Runs m₁ [] w (Cold c.args.slot) m₁.0.change 1 c.load-word.new.seat.me) goes.stepped.work (runs_goes h));
+      places = h.carried ∙ goes.carried;
+    }

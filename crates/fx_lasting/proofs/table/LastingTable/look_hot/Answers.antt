@@ -43,23 +43,20 @@ withdraw-freed-requires-clause-announced c = (vain c.requires.idle c.in-None.ens
 pub withdraw-freed-requires-clause-places : goal.withdraw-freed-requires-clause-places
 withdraw-freed-requires-clause-places c = c.guard.ensures.places ∙ c.requires.seated.places
 
-pub look_cold-found-requires-clause-seated : goal.look_cold-found-requires-clause-seated
-look_cold-found-requires-clause-seated c =
+pub look_cold-found-requires : goal.look_cold-found-requires
+look_cold-found-requires c =
     let s = c.requires.seated in
-    let lets = charges_run c.guard.new.seat.me c.withdraw-freed.new.seat.me 3 c.withdraw-freed.result c.withdraw-freed.ensures.withdraws in
-    still_seat s _ (at_ease s (does_then (vain c.requires.idle c.in-None.ensures.guards) lets.1)) (refl, refl) (c.withdraw-freed.ensures.table ∙ c.guard.ensures.table)
-    c.withdraw-freed.ensures.places (refl, s.next)
-
-pub look_cold-found-requires-clause-listed : goal.look_cold-found-requires-clause-listed
-look_cold-found-requires-clause-listed c = (charges_run c.guard.new.seat.me c.withdraw-freed.new.seat.me 3 c.withdraw-freed.result c.withdraw-freed.ensures.withdraws).1.listed
-    ∙ ((vain c.requires.idle c.in-None.ensures.guards).listed ∙ c.requires.listed)
-
-pub look_cold-found-requires-clause-idle : goal.look_cold-found-requires-clause-idle
-look_cold-found-requires-clause-idle c = (charges_run c.guard.new.seat.me c.withdraw-freed.new.seat.me 3 c.withdraw-freed.result c.withdraw-freed.ensures.withdraws).1.work
-
-pub look_cold-found-requires-clause-cold : goal.look_cold-found-requires-clause-cold
-look_cold-found-requires-clause-cold c = (charges_run c.guard.new.seat.me c.withdraw-freed.new.seat.me 3 c.withdraw-freed.result c.withdraw-freed.ensures.withdraws).1.glance
-    ∙ (vain c.requires.idle c.in-None.ensures.guards).glance
+    let first = vain c.requires.idle c.in-None.ensures.guards in
+    let lets = (charges_run c.guard.new.seat.me c.withdraw-freed.new.seat.me 3 c.withdraw-freed.result c.withdraw-freed.ensures.withdraws).1 in
+    record {
+      seated = still_seat s _ (at_ease s (does_then first lets)) (refl, refl) (c.withdraw-freed.ensures.table ∙ c.guard.ensures.table) c.withdraw-freed.ensures.places
+          (refl, s.next);
+      idle = lets.work;
+      unkept = c.requires.unkept;
+      listed = lets.listed ∙ (first.listed ∙ c.requires.listed);
+      cold = lets.glance ∙ first.glance;
+      slot = c.requires.slot;
+    }
 
 pub returns-in-None : goal.returns-in-None
 returns-in-None c =

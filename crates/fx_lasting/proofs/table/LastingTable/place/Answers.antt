@@ -37,29 +37,23 @@ load-word-requires c =
       resumes_keep _ _ _ _ (node a) (kept a).1 c.args.seat.now.me _ c.requires.at.pass (works a) (node_word t (node a) c.node_place-place.ensures),
     )
 
-pub put_in-requires-clause-placing : goal.put_in-requires-clause-placing
-put_in-requires-clause-placing c =
-    let a = (goal.at.put_in-requires-clause-placing c).Then-keeps in (
-      (kept a).1,
-      (c.put_tag.ensures.stored (kept a).1 (c.load-word.ensures.2.goes (node a) (kept a).1 (works a)).0.work).work
-          ∙ ap (λ (z : ℕ). Placing (node a) (as_written (kept a).1 (Tag z))) c.tag.ensures,
-    )
-
-pub put_in-requires-clause-at : goal.put_in-requires-clause-at
-put_in-requires-clause-at c =
-    let a = (goal.at.put_in-requires-clause-at c).Then-keeps in
+pub put_in-requires : goal.put_in-requires
+put_in-requires c =
+    let a = (goal.at.put_in-requires c).Then-keeps in
     let resumed = c.load-word.ensures.2.goes (node a) (kept a).1 (works a) in
-    (c.args.number, still_at_work (still_at_work c.requires.at (runs_one resumed.0)) (c.put_tag.ensures.stored (kept a).1 resumed.0.work))
+    let tagged = c.put_tag.ensures.stored (kept a).1 resumed.0.work in
+    record {
+      table = c.put_tag.ensures.table ∙ (c.load-word.ensures.0 ∙ c.requires.table);
+      at = (c.args.number, still_at_work (still_at_work c.requires.at (runs_one resumed.0)) tagged);
+      placing = ((kept a).1, tagged.work ∙ ap (λ (z : ℕ). Placing (node a) (as_written (kept a).1 (Tag z))) c.tag.ensures);
+      place = c.put_tag.ensures.places ∙ resumed.1 ∙ ap (λ (l : List (ℕ × Option Closed)). (node a, None) ∷ l) c.requires.places;
+      word = c.node_place-place.ensures;
+    }
 
 pub put_tag-requires-clause-placing : goal.put_tag-requires-clause-placing
 put_tag-requires-clause-placing c =
     let a = (goal.at.put_tag-requires-clause-placing c).Then-keeps in
     ((kept a).1, (c.load-word.ensures.2.goes (node a) (kept a).1 (works a)).0.work)
-
-pub put_in-requires-clause-place : goal.put_in-requires-clause-place
-put_in-requires-clause-place c =
-    let a = (goal.at.put_in-requires-clause-place c).Then-keeps in
-    c.put_tag.ensures.places ∙ (c.load-word.ensures.2.goes (node a) (kept a).1 (works a)).1 ∙ ap (λ (l : List (ℕ × Option Closed)). (node a, None) ∷ l) c.requires.places
 
 pub overflow_sub-result : goal.overflow_sub-result
 overflow_sub-result c =
@@ -67,30 +61,26 @@ overflow_sub-result c =
     let counts = (c.load-word.ensures.2.goes (node a) (kept a).1 (works a)).2 in
     omega (arith, counts)
 
-pub returns-then-keeps-clause-placed : goal.returns-then-keeps-clause-placed
-returns-then-keeps-clause-placed c =
-    let a = (goal.at.returns-then-keeps-clause-placed c).Then-keeps in
+pub returns-then-keeps : goal.returns-then-keeps
+returns-then-keeps c =
+    let a = (goal.at.returns-then-keeps c).Then-keeps in
     let m = c.args.seat.now.me in
     let resumed = c.load-word.ensures.2.goes (node a) (kept a).1 (works a) in
     let counts = resumed.2 in
+    let few = resumed.3 in
     let lost : (kept a).1 ≡ 4294967297 - c.load-word.result = omega (arith, counts) in
     let tagged = c.put_tag.ensures.stored (kept a).1 resumed.0.work in
     let stored = c.put_in.ensures.stored (kept a).1 (tagged.work ∙ ap (λ (z : ℕ). Placing (node a) (as_written (kept a).1 (Tag z))) c.tag.ensures) in
-    subst (λ (z : ℕ). Does m [] (Placing (node a) (as_written z (label_of c.args.file))) (c.args.self.now.passes + 3) c.put_in.new.seat.me) lost
-    (runs_within (omega (arith, c.requires.start)) (does_then (does_then (runs_one resumed.0) tagged) stored))
-
-pub returns-then-keeps-clause-few_lost : goal.returns-then-keeps-clause-few_lost
-returns-then-keeps-clause-few_lost c =
-    let a = (goal.at.returns-then-keeps-clause-few_lost c).Then-keeps in
-    let resumed = c.load-word.ensures.2.goes (node a) (kept a).1 (works a) in
-    let counts = resumed.2 in
-    let few = resumed.3 in
-    omega (arith, counts, few)
-
-pub returns-then-keeps-clause-stocked : goal.returns-then-keeps-clause-stocked
-returns-then-keeps-clause-stocked c =
-    let a = (goal.at.returns-then-keeps-clause-stocked c).Then-keeps in
-    (kept a).3 ∙ ap some (sym (same a))
+    record {
+      table = c.put_in.ensures.table ∙ (c.put_tag.ensures.table ∙ c.load-word.ensures.0);
+      placed = subst (λ (z : ℕ). Does m [] (Placing (node a) (as_written z (label_of c.args.file))) (c.args.self.now.passes + 3) c.put_in.new.seat.me) lost
+          (runs_within (omega (arith, c.requires.start)) (does_then (does_then (runs_one resumed.0) tagged) stored));
+      few_lost = omega (arith, counts, few);
+      place = c.put_in.ensures.place;
+      stocked = (kept a).3 ∙ ap some (sym (same a));
+      entry = c.requires.start;
+      inside = its_inside c.requires.at (works a);
+    }
 
 pub put_in-requires-2-clause-placing : goal.put_in-requires-2-clause-placing
 put_in-requires-2-clause-placing c =
@@ -118,11 +108,6 @@ returns-clause-placed c =
     let tagged = c.store-2.ensures.2.goes c.seek-entry.result.1 0 Unlabelled born.0.work in
     does_then found (does_then (does_then (runs_one born.0) (runs_goes tagged)) (c.put_in-2.ensures.stored 0
     (tagged.stepped.work ∙ ap (λ (z : ℕ). Placing c.seek-entry.result.1 (as_written 0 (Tag z))) c.tag-2.ensures)))
-
-pub returns-then-keeps-clause-inside : goal.returns-then-keeps-clause-inside
-returns-then-keeps-clause-inside c =
-    let a = (goal.at.returns-then-keeps-clause-inside c).Then-keeps in
-    its_inside c.requires.at (works a)
 
 pub overflow_add-place : goal.overflow_add-place
 overflow_add-place c =

@@ -56,20 +56,19 @@ node_named-named-requires c =
     subst (λ (z : ℕ). name_in z ≢ 0) won
     (won_named c.requires.placing c.requires.change c.load-old.ensures.2.goes c.compare_exchange-found.ensures.2 won refl).0
 
-pub raise-requires-clause-at : goal.raise-requires-clause-at
-raise-requires-clause-at c =
+pub raise-requires : goal.raise-requires
+raise-requires c =
+    let tries = c.compare_exchange-found.ensures.2 in
+    let goes = c.load-old.ensures.2.goes in
     let won : c.compare_exchange-found.result ≡ c.load-old.result = omega (arith, c.if-found-old.false) in
-    (c.requires.at.0, won_at_work c.requires.placing c.requires.change c.load-old.ensures.2.goes c.compare_exchange-found.ensures.2 won refl c.requires.at.1)
-
-pub raise-requires-clause-inside : goal.raise-requires-clause-inside
-raise-requires-clause-inside c = sym (in_range_so (range_at_start c.args.self.now.table.shared.key) c.args.slot c.requires.range.0 c.requires.range.1)
-
-pub raise-requires-clause-change : goal.raise-requires-clause-change
-raise-requires-clause-change c =
-    let won : c.compare_exchange-found.result ≡ c.load-old.result = omega (arith, c.if-found-old.false) in
-    let run = won_run c.requires.placing c.requires.change c.load-old.ensures.2.goes c.compare_exchange-found.ensures.2 won
-    (ap slot_of c.slot_place-place.ensures ∙ slot_back c.args.slot) c.requires.placing.stocked.0 c.requires.placing.stocked.1 in
-    run.2.change ∙ λ i. Inside (group_of (range_at_start (c.requires.at.1.pass.0 i)) c.args.slot)
+    let run = won_run c.requires.placing c.requires.change goes tries won (ap slot_of c.slot_place-place.ensures ∙ slot_back c.args.slot)
+    c.requires.placing.stocked.0 c.requires.placing.stocked.1 in
+    record {
+      table = c.compare_exchange-found.ensures.0 ∙ (c.load-old.ensures.0 ∙ c.requires.table);
+      at = (c.requires.at.0, won_at_work c.requires.placing c.requires.change goes tries won refl c.requires.at.1);
+      inside = sym (in_range_so (range_at_start c.args.self.now.table.shared.key) c.args.slot c.requires.range.0 c.requires.range.1);
+      change = run.2.change ∙ λ i. Inside (group_of (range_at_start (c.requires.at.1.pass.0 i)) c.args.slot);
+    }
 
 pub returns-clause-tries : goal.returns-clause-tries
 returns-clause-tries c =
