@@ -1,5 +1,5 @@
 -- The keys that are written one after another.
-use Rattle.std.proofs.Common.{arith, ◌≡◌, ℕ, ◌+◌, ◌<◌, ◌≤◌, List, [], ◌∷◌, ◌++◌, length, refl, sym, ap, ◌∙◌, subst, map, take, slice_set}
+use Rattle.std.proofs.Common.{arith, ◌≡◌, ℕ, ◌+◌, ◌<◌, ◌≤◌, List, [], ◌∷◌, ◌++◌, length, sym, ap, ◌∙◌, subst, map, take, slice_set}
 use Rattle.std.specs.Prelude.{slice_index}
 use Rattle.std.specs.List.{AllByRecursion}
 use Rattle.std.proofs.lemmas.List.{append_assoc, length-append, length-set, get_or-set_other, take_more_set, map_push}
@@ -18,18 +18,6 @@ pub record WritesSoFar (slots : List Slot) (old new : List ℕ) (count : ℕ) (l
   pub same : length new ≡ length old
   pub written : take count new ≡ map (λ k. bits_of k 0) front
   pub rest : (i : ℕ) → count ≤ i → slice_index new i ≡ slice_index old i
-
-pub begun : (slots : List Slot) (old : List ℕ) (left : List LifeKey) → AreKeysOf slots left → AllByRecursion FitsBits left → WritesSoFar slots old old 0 left
-begun slots old left are fits = record {
-  front = [];
-  are = are;
-  fits = fits;
-  size = refl;
-  inside = omega arith;
-  same = refl;
-  written = refl;
-  rest = λ i above. refl;
-}
 
 pub one_more : (slots : List Slot) (old new : List ℕ) (count : ℕ) (k : LifeKey) (left : List LifeKey)
     → WritesSoFar slots old new count (k ∷ left) → count < length old → WritesSoFar slots old (slice_set new count (bits_of k 0)) (count + 1) left
