@@ -12,7 +12,6 @@ use Rattle.fx_server.specs.Workers.{Notes, its_pass, its_start, tag_in}
 use Rattle.fx_server.specs.declared.answers.FoundFile.{FoundFile}
 use Rattle.fx_server.specs.declared.answers.Removal.{Removal}
 use Rattle.fx_server.specs.declared.answers.ServerRefusal.{ServerRefusal}
-use Rattle.fx_server.specs.declared.answers.ServerRefusal.TheVariants as refusal
 use Rattle.fx_server.specs.declared.file_numbers.FileNumbers.{FileNumbers}
 use Rattle.fx_server.specs.declared.worker.TableWorker.{TableWorker}
 

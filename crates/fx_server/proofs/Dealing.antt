@@ -1,6 +1,7 @@
 -- The workers of a new table: a pass of the table for each, in their order.
-use Rattle.std.proofs.Common.{◌≡◌, ℕ, zero, suc, ◌+◌, arith, length-append, List, [], ◌∷◌, ◌++◌, All, Option, ap, subst, slice_index_or, refl, sym, ◌∙◌, length, map, reverse}
+use Rattle.std.proofs.Common.{◌≡◌, ℕ, ◌+◌, arith, length-append, List, [], ◌∷◌, ◌++◌, All, Option, ap, subst, slice_index_or, refl, sym, ◌∙◌, length, map, reverse}
 use Rattle.std.proofs.lemmas.List.{map-append, append_assoc, reverse-append, length-map}
+use Rattle.std.proofs.lemmas.List.FromFn.{map-range_with_len_more}
 use Rattle.std.proofs.lemmas.List.Elements.{All-cons, All-head, All-nil, All-push, All-same, All-tail, All-weaker}
 use Rattle.std.specs.Arc.{arc_value}
 use Rattle.std.specs.Global.{Box}
@@ -22,25 +23,18 @@ use Rattle.fx_server.specs.declared.worker.TableWorker.{TableWorker}
 workers_push : (xs : List (Box TableWorker)) (b : Box TableWorker) → workers_in (xs ++ b ∷ []) ≡ workers_in xs ++ b.value ∷ []
 workers_push xs b = map-append (λ (it : Box TableWorker). it.value) xs (b ∷ [])
 
--- one number more in a row
-row_more : (a n : ℕ) → range_with_len a (suc n) ≡ range_with_len a n ++ (a + n) ∷ []
-row_more a zero = let e : a ≡ a + 0 = omega arith in ap (λ (m : ℕ). m ∷ []) e
-row_more a (suc n) = let e : a + 1 + n ≡ a + suc n = omega arith in
-    ap (λ (l : List ℕ). a ∷ l) (row_more (a + 1) n ∙ ap (λ (m : ℕ). range_with_len (a + 1) n ++ m ∷ []) e)
-
 -- one worker more has what a worker at its place, from a, has
 pub in_places : {A : Type 0} (its : TableWorker → A) (at : ℕ → A) (a : ℕ) (xs ys : List (Box TableWorker)) (b : Box TableWorker) → ys ≡ xs ++ b ∷ []
     → its b.value ≡ at (a + length xs) → map its (workers_in xs) ≡ map at (range_with_len a (length (workers_in xs)))
     → map its (workers_in ys) ≡ map at (range_with_len a (length (workers_in ys)))
 in_places its at a xs ys b e one was =
     let value : Box TableWorker → TableWorker = λ it. it.value in
-    let more : suc (length (workers_in xs)) ≡ length (workers_in ys) = omega (arith, length-map xs value, length-map ys value, ap length e, length-append xs (b ∷ [])) in
-    let here : a + length xs ≡ a + length (workers_in xs) = omega (arith, length-map xs value) in
+    let more : length (workers_in xs) + 1 ≡ length (workers_in ys) = omega (arith, length-map xs value, length-map ys value, ap length e, length-append xs (b ∷ [])) in
+    let here : a + length (workers_in xs) ≡ a + length xs = omega (arith, length-map xs value) in
     ap (λ (l : List (Box TableWorker)). map its (workers_in l)) e
     ∙ (ap (map its) (workers_push xs b) ∙ (map-append its (workers_in xs) (b.value ∷ [])
-    ∙ ((λ i. was i ++ (one ∙ ap at here) i ∷ [])
-    ∙ (sym (map-append at (range_with_len a (length (workers_in xs))) ((a + length (workers_in xs)) ∷ []))
-    ∙ (ap (map at) (sym (row_more a (length (workers_in xs)))) ∙ ap (λ (n : ℕ). map at (range_with_len a n)) more)))))
+    ∙ ((λ i. was i ++ one i ∷ []) ∙ (sym (map-range_with_len_more at a (length (workers_in xs)) (a + length xs) here)
+    ∙ ap (λ (n : ℕ). map at (range_with_len a n)) more))))
 
 abbrev pub passes_of : List TableWorker → List LastingPass
 passes_of list = map (λ (w : TableWorker). w.pass) list
@@ -84,9 +78,10 @@ opened_of shared contents passes list slots workers installing d opening empty c
       of_list,
     )
 
-of_passes : (P : LastingPass → Type 0) (list : List TableWorker) → All P (passes_of list) → All (λ (w : TableWorker). P w.pass) list
-of_passes P [] all = All-nil (λ (w : TableWorker). P w.pass)
-of_passes P (w ∷ ws) all = All-cons (λ (it : TableWorker). P it.pass) w ws (All-head P w.pass (passes_of ws) all) (of_passes P ws (All-tail P w.pass (passes_of ws) all))
+-- what holds of each image of a list
+pub unmapped : {A B : Type 0} (P : B → Type 0) (its : A → B) (list : List A) → All P (map its list) → All (λ (a : A). P (its a)) list
+unmapped P its [] all = All-nil (λ a. P (its a))
+unmapped P its (a ∷ list) all = All-cons (λ b. P (its b)) a list (All-head P (its a) (map its list) all) (unmapped P its list (All-tail P (its a) (map its list) all))
 
 abbrev IsReady : LastingTable → LastingPass → Type 0
 IsReady t p = IsPassOfTable t p × IsIdle (view_of p)
@@ -95,7 +90,7 @@ pub good_of : (shared : Shared) (passes : List LastingPass) (installing : ℕ) (
     → All (λ p. IsPassOfTable shared.table p × IsIdle (view_of p)) passes → All IsGood list
 good_of shared passes installing list d ready k other low =
     let t = shared.table in
-    let of : All (λ (w : TableWorker). IsReady t w.pass) list = of_passes (IsReady t) list (All-same (IsReady t) (passes_of list) passes d.order ready) in
+    let of : All (λ (w : TableWorker). IsReady t w.pass) list = unmapped (IsReady t) (λ (w : TableWorker). w.pass) list (All-same (IsReady t) (passes_of list) passes d.order ready) in
     let w : TableWorker = slice_index_or list k other in
     record {
       fits = subst (λ (it : Shared). IsPassOfTable it.table w.pass) (sym (d.shares k other low)) (of k other low).0;

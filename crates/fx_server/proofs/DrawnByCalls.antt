@@ -54,11 +54,7 @@ added_none o v actions doing use' w adds none f it = nones v v.own actions none 
 
 pub added_one : (o : Opening) (v : PassView) (a : Action) (doing : Doing) (use' : Use) (w : PassView) (new : File) → Adds o v ([] ▷ a) doing use' w → installed_by a ≡ Some new
     → AddsOne v.own w.own new
-added_one o v a doing use' w new adds is f it = step (subst (λ (own : List Event). IsInstalled own f) adds.own it)
-  where
-    step : IsInstalled (v.own ▷ event_of v a) f → IsInstalled v.own f ⊎ (f ≡ new)
-    step (inl was) = inl was
-    step (inr its) = let e : Some f ≡ Some new = sym its ∙ is in inr cc
+added_one o v a doing use' w new adds is f it = let its = rw adds.own at it in grind arith
 
 pub same_none : (v w : PassView) → w ≡ v → AddsNone v.own w.own
 same_none v w same f it = subst (λ (p : PassView). IsInstalled p.own f) same it
@@ -67,20 +63,12 @@ pub both_none : (a b c : List Event) → AddsNone a b → AddsNone b c → AddsN
 both_none a b c one two f it = one f (two f it)
 
 pub none_then : (a b c : List Event) (new : File) → AddsNone a b → AddsOne b c new → AddsOne a c new
-none_then a b c new one two f it = elim (two f it) [
-  | inl was ↦ inl (one f was)
-  | inr is ↦ inr is
-]
+none_then a b c new one two f it = let its = two f it in grind (arith, one)
 
 -- a release, and an installation after it
 pub added_after : (o : Opening) (v : PassView) (g : File) (a : Action) (doing : Doing) (use' : Use) (w : PassView) (new : File) → Adds o v ([] ▷ Release g ▷ a) doing use' w
     → installed_by a ≡ Some new → AddsOne v.own w.own new
-added_after o v g a doing use' w new adds is f it = step (subst (λ (own : List Event). IsInstalled own f) adds.own it)
-  where
-    step : IsInstalled (v.own ▷ event_of v (Release g) ▷ event_of v a) f → IsInstalled v.own f ⊎ (f ≡ new)
-    step (inl (inl was)) = inl was
-    step (inl (inr bad)) = let none : None ≡ Some f = bad in cc
-    step (inr its) = let e : Some f ≡ Some new = sym its ∙ is in inr cc
+added_after o v g a doing use' w new adds is f it = let its = rw adds.own at it in grind arith
 
 pub one_then : (a b c : List Event) (new : File) → AddsOne a b new → AddsNone b c → AddsOne a c new
 one_then a b c new one two f it = one f (two f it)

@@ -1,5 +1,5 @@
 -- A removal or a replacement by key that is done has made the event that ends the key.
-use Rattle.std.proofs.Common.{◌≡◌, ℕ, List, [], ◌∷◌, map, Option, Some, None, Ok, Result, refl, ap, subst, ◌∙◌}
+use Rattle.std.proofs.Common.{◌≡◌, ℕ, List, [], ◌∷◌, map, Option, Some, None, Ok, refl, ap, ◌∙◌}
 use Rattle.fx_base.specs.Identity.{Identity}
 use Rattle.fx_plain.specs.History.{◌▷◌, ◌▷▷◌}
 use Rattle.fx_plain.specs.declared.event.Action.TheVariants.{Close, Look, Put, Release, Take}
@@ -13,13 +13,11 @@ use Rattle.fx_table.specs.Pass.{PassView, event_of}
 use Rattle.fx_table.specs.declared.values.Retired.{Retired}
 use Rattle.fx_lasting.specs.slots.ByKey.{IsKeyOf}
 use Rattle.fx_lasting.specs.declared.key.Key.{Key}
-use Rattle.fx_server.specs.ByKey.{RemovesByKey, ReplacesByKey, ReplacesByKeyNext}
+use Rattle.fx_server.specs.ByKey.{RemovesByKey, ReplacesByKey}
 use Rattle.fx_server.specs.EndsOfKeys.{DoneRemovalsEndKeys, DoneReplacementsEndKeys, HasEnded, file_leaving}
 use Rattle.fx_server.specs.Workers.{RetiresAs, its_opening, its_pass, its_start}
-use Rattle.fx_server.specs.declared.answers.Placed.{Placed}
 use Rattle.fx_server.specs.declared.answers.Removal.{Removal}
 use Rattle.fx_server.specs.declared.answers.Removal.TheVariants.{Closed, InUse, Nothing}
-use Rattle.fx_server.specs.declared.answers.ServerRefusal.{ServerRefusal}
 use Rattle.fx_server.specs.declared.worker.TableWorker.{TableWorker}
 
 -- what a retirement adds to the pass's events
@@ -74,10 +72,9 @@ replacement_ends w w' key tag number removal freed released it =
 
 pub done_removals : DoneRemovalsEndKeys
 done_removals w w' key answer out removal done is =
-    removal_ends w w' key removal done.call.freed done.call.released
-    (subst (λ (r : Result Removal ServerRefusal). RemovesByKey w key r done.call.freed done.call.released w') is done.removed)
+    removal_ends w w' key removal done.call.freed done.call.released (rw is at done.removed)
 
 pub done_replacements : DoneReplacementsEndKeys
 done_replacements w w' key tag answer out placed done is =
-    let next = subst (λ (r : Result Placed ServerRefusal). ReplacesByKeyNext w key tag r done.call.freed done.call.released w') is done.placed in
+    let next = rw is at done.placed in
     replacement_ends w w' key tag placed.number placed.removal done.call.freed done.call.released next.1

@@ -1,11 +1,11 @@
 -- A file that was removed is at no slot again, and so a key ends once.
-use Rattle.std.proofs.Common.{◌≡◌, ◌≢◌, ◌⊎◌, inl, inr, ℕ, ◌<◌, ◌++◌, List, [], ◌∷◌, map, true, false, Option, Some, None, refl, sym, ap, ◌∙◌, arith}
+use Rattle.std.proofs.Common.{◌≡◌, ◌≢◌, ◌⊎◌, inl, inr, ℕ, ◌<◌, ◌++◌, List, [], ◌∷◌, map, false, Some, None, sym, ap, ◌∙◌, arith}
 use Rattle.fx_plain.specs.History.{AllowsAll, action_of, state_after}
 use Rattle.fx_plain.specs.Laws.{IsInstalled, IsStart, installed_by}
 use Rattle.fx_plain.specs.State.{State}
-use Rattle.fx_plain.specs.Step.{Allows, after, changed_at}
+use Rattle.fx_plain.specs.Step.{Allows, after}
 use Rattle.fx_plain.specs.declared.event.Action.{Action}
-use Rattle.fx_plain.specs.declared.event.Action.TheVariants.{Allocate, Clear, Look, Put, Take}
+use Rattle.fx_plain.specs.declared.event.Action.TheVariants.{Clear, Look, Put, Take}
 use Rattle.fx_plain.specs.declared.event.Event.{Event}
 use Rattle.fx_plain.specs.declared.event.File.{File}
 use Rattle.fx_server.specs.EndsOfKeys.{KeysEndOnce, file_leaving}
@@ -20,49 +20,19 @@ pub record IsPast (n : ℕ) (st : State) : Type 0 where
   used : st.fresh n ≡ false
   nowhere : (slot : ℕ) (f : File) → slot < st.size → st.at slot ≡ Some f → f.number ≢ n
 
-same_size : (st : State) (a : Action) → (after st a).size ≡ st.size
-same_size st (Look slot None) = refl
-same_size st _ = refl
-
--- a new file at a slot has a fresh number
-apart_with : (st : State) (slot : ℕ) (f : File) (removed : ℕ → Option File) → st.fresh f.number ≡ true → AreApart st
-    → AreApart (record st { at = changed_at st.at slot (Some f); fresh = changed_at st.fresh f.number false; removed = removed })
-apart_with st slot f removed fresh apart = record {
+apart_after : (st : State) (a : Action) → Allows st a → AreApart st → AreApart (after st a)
+apart_after st (Look slot None) may apart = apart
+apart_after st _ may apart = record {
   distinct = λ s t g h low_s low_t at_s at_t same. grind (arith, apart.distinct, apart.used);
   used = λ s g low at_s. grind (arith, apart.used);
 }
 
-apart_without : (st : State) (slot : ℕ) (removed : ℕ → Option File) → AreApart st → AreApart (record st { at = changed_at st.at slot None; removed = removed })
-apart_without st slot removed apart = record {
-  distinct = λ s t g h low_s low_t at_s at_t same. grind (arith, apart.distinct);
-  used = λ s g low at_s. grind (arith, apart.used);
-}
-
-apart_after : (st : State) (a : Action) → Allows st a → AreApart st → AreApart (after st a)
-apart_after st (Look slot None) may apart = apart
-apart_after st (Put slot f replaced) may apart = apart_with st slot f _ may.1 apart
-apart_after st (Clear slot found) may apart = apart_without st slot _ apart
-apart_after st (Take slot found) may apart = apart_without st slot _ apart
-apart_after st (Allocate slot f) may apart = apart_with st slot f st.removed may.3 apart
-apart_after st _ may apart = record { distinct = apart.distinct; used = apart.used }
-
-past_with : (n : ℕ) (st : State) (slot : ℕ) (f : File) (removed : ℕ → Option File) → st.fresh f.number ≡ true → IsPast n st
-    → IsPast n (record st { at = changed_at st.at slot (Some f); fresh = changed_at st.fresh f.number false; removed = removed })
-past_with n st slot f removed fresh past = record {
+past_after : (n : ℕ) (st : State) (a : Action) → Allows st a → IsPast n st → IsPast n (after st a)
+past_after n st (Look slot None) may past = past
+past_after n st _ may past = record {
   used = grind (arith, past.used);
   nowhere = λ s g low at_s same. grind (arith, past.used, past.nowhere);
 }
-
-past_without : (n : ℕ) (st : State) (slot : ℕ) (removed : ℕ → Option File) → IsPast n st → IsPast n (record st { at = changed_at st.at slot None; removed = removed })
-past_without n st slot removed past = record { used = past.used; nowhere = λ s g low at_s same. grind (arith, past.nowhere) }
-
-past_after : (n : ℕ) (st : State) (a : Action) → Allows st a → IsPast n st → IsPast n (after st a)
-past_after n st (Look slot None) may past = past
-past_after n st (Put slot f replaced) may past = past_with n st slot f _ may.1 past
-past_after n st (Clear slot found) may past = past_without n st slot _ past
-past_after n st (Take slot found) may past = past_without n st slot _ past
-past_after n st (Allocate slot f) may past = past_with n st slot f st.removed may.3 past
-past_after n st _ may past = record { used = past.used; nowhere = past.nowhere }
 
 past_all : (n : ℕ) (start : State) (h more : List Event) → AllowsAll start (map action_of (more ++ h)) → IsPast n (state_after start (map action_of h))
     → IsPast n (state_after start (map action_of (more ++ h)))
@@ -91,28 +61,16 @@ was_at st _ f may is = cc
 
 -- its number is past from then on
 past_now : (st : State) (a : Action) (f : File) → Allows st a → file_leaving a ≡ Some f → AreApart st → IsPast f.number (after st a)
-past_now st (Put slot new replaced) f may is apart = let here : st.at slot ≡ Some f = sym may.2 ∙ is in record {
+past_now st (Look slot None) f may is apart = cc
+past_now st _ f may is apart = record {
   used = grind (arith, apart.used);
   nowhere = λ s g low at_s same. grind (arith, apart.distinct, apart.used);
 }
-past_now st (Clear slot found) f may is apart = let here : st.at slot ≡ Some f = sym may.1 ∙ is in record {
-  used = apart.used slot f may.0 here;
-  nowhere = λ s g low at_s same. grind (arith, apart.distinct);
-}
-past_now st (Take slot found) f may is apart = let here : st.at slot ≡ Some f = sym may.1 ∙ is in record {
-  used = apart.used slot f may.0 here;
-  nowhere = λ s g low at_s same. grind (arith, apart.distinct);
-}
-past_now st _ f may is apart = cc
 
 -- a file at a slot was there before, or is installed
 installed_step : (st : State) (a : Action) (slot : ℕ) (f : File) → (after st a).at slot ≡ Some f → (st.at slot ≡ Some f) ⊎ (installed_by a ≡ Some f)
 installed_step st (Look s None) slot f is = inl is
-installed_step st (Put s new replaced) slot f is = grind arith
-installed_step st (Clear s found) slot f is = grind arith
-installed_step st (Take s found) slot f is = grind arith
-installed_step st (Allocate s new) slot f is = grind arith
-installed_step st _ slot f is = inl is
+installed_step st _ slot f is = grind arith
 
 -- if the table was opened empty, it was installed
 installed_at : (start : State) (h : List Event) (slot : ℕ) (f : File) → ((s : ℕ) → start.at s ≡ None) → AllowsAll start (map action_of h)

@@ -27,7 +27,7 @@ use Rattle.fx_server.specs.declared.answers.Placed.{Placed}
 use Rattle.fx_server.specs.declared.answers.PlacedAt.{PlacedAt}
 use Rattle.fx_server.specs.declared.answers.Removal.{Removal}
 use Rattle.fx_server.specs.declared.answers.ServerRefusal.{ServerRefusal}
-use Rattle.fx_server.specs.declared.answers.ServerRefusal.TheVariants.{Again, Busy, Empty, Full as NoFree, Idle, NoSlot, Reader, Stale}
+use Rattle.fx_server.specs.declared.answers.ServerRefusal.TheVariants.{Again, Busy, Empty, Full as NoFree, Idle, NoSlot, Stale}
 use Rattle.fx_server.specs.declared.worker.TableWorker.{TableWorker}
 use Rattle.fx_server.proofs.DrawnByCalls.{AddsNone, AddsOne, added_after, added_none, added_one, none_then, both_none, held_none, installs, installs_kept, keeps, key_none, looked_none, number_of_new, one_then, released_none, retired_none, same_none, spends, stays}
 
@@ -41,9 +41,7 @@ same w w' is f it = subst (λ (u : TableWorker). IsInstalled (its u) f) is it
 finds_none : (w w' : TableWorker) (slot : ℕ) (found : Result FoundFile ServerRefusal) (freed : Option ℕ) → Finds w slot found freed w' → AddsNone (its w) (its w')
 finds_none w w' slot (Ok found) freed it = looked_none (its_opening w) (its_pass w) slot (Ok (hold_in it.0)) it.2.out (its_pass w') it.2.looked
 finds_none w w' slot (Err Empty) freed it = looked_none (its_opening w) (its_pass w) slot (Err EmptySlot) it.1.out (its_pass w') it.1.looked
-finds_none w w' slot (Err NoSlot) freed it = same w w' it.1.1
-finds_none w w' slot (Err Busy) freed it = same w w' it.1.1
-finds_none w w' slot (Err _) freed it = absurd it
+finds_none w w' slot (Err _) freed it = search same
 
 by_key_none : (w w' : TableWorker) (key : Key) (found : Result Hold KeyFault) (freed released : Option ℕ) → LooksKey w key found freed released w' → AddsNone (its w) (its w')
 by_key_none w w' key found freed released it = key_none (its_start w) (its_pass w) key found it.out it.back (its_pass w') it.looked
@@ -51,10 +49,7 @@ by_key_none w w' key found freed released it = key_none (its_start w) (its_pass 
 finds_key_none : (w w' : TableWorker) (key : Key) (found : Result FoundFile ServerRefusal) (freed released : Option ℕ) → FindsByKey w key found freed released w' → AddsNone (its w) (its w')
 finds_key_none w w' key (Ok found) freed released it = by_key_none w w' key (Ok (hold_in it.0)) freed released it.2
 finds_key_none w w' key (Err NoSlot) freed released it = by_key_none w w' key (Err fault.NoSlot) freed released it.1
-finds_key_none w w' key (Err Empty) freed released it = by_key_none w w' key (Err fault.Empty) freed released it.1
-finds_key_none w w' key (Err Stale) freed released it = by_key_none w w' key (Err fault.Other) freed released it.1
-finds_key_none w w' key (Err Busy) freed released it = same w w' it.2.1
-finds_key_none w w' key (Err _) freed released it = absurd it
+finds_key_none w w' key (Err _) freed released it = search (by_key_none, same)
 
 release_none : (w w' : TableWorker) (result : Result (Option ℕ) ServerRefusal) → ReleasesHeld w result w' → AddsNone (its w) (its w')
 release_none w w' (Ok tag) it = released_none (its_opening w) (its_pass w) it.5.0 it.1 (its_pass w') it.5.2
@@ -74,15 +69,11 @@ any_none o v (Some retired) removal u it = retired_none o v retired removal u it
 insert_none : (w w' : TableWorker) (tag number : ℕ) (reason : ServerRefusal) → PutsAny w tag number (Err reason) w' → AddsNone (its w) (its w')
 insert_none w w' tag number NoFree it = added_none (its_opening w) (its_pass w) _ _ _ (its_pass w') it (refl, tt)
 insert_none w w' tag number Again it = added_none (its_opening w) (its_pass w) _ _ _ (its_pass w') it.0 tt
-insert_none w w' tag number Busy it = same w w' it.1
-insert_none w w' tag number Reader it = same w w' it.1
-insert_none w w' tag number _ it = absurd it
+insert_none w w' tag number _ it = search same
 
 replace_at_none : (w w' : TableWorker) (slot tag number : ℕ) (reason : ServerRefusal) → Puts w slot tag number (Err reason) w' → AddsNone (its w) (its w')
 replace_at_none w w' slot tag number Busy it = same w w' it.1
-replace_at_none w w' slot tag number NoSlot it = same w w' it.1
-replace_at_none w w' slot tag number Reader it = same w w' it.1
-replace_at_none w w' slot tag number _ it = absurd it
+replace_at_none w w' slot tag number _ it = search same
 
 -- a pass alone that left the slot as it was
 alone_none : (k : Start) (p : LastingPass) (key : Key) (why : KeyFault) (out back : Option Identity) (p' : LastingPass) → TakesAlone k p key (Err why) out back p'
@@ -104,12 +95,7 @@ none_removed w w' key why freed released it =
 remove_none : (w w' : TableWorker) (key : Key) (result : Result Removal ServerRefusal) (freed released : Option ℕ) → RemovesByKey w key result freed released w' → AddsNone (its w) (its w')
 remove_none w w' key (Ok removal) freed released it = one_removes w w' key removal freed released it
 remove_none w w' key (Err NoSlot) freed released it = none_removed w w' key fault.NoSlot freed released it
-remove_none w w' key (Err Empty) freed released it = none_removed w w' key fault.Empty freed released it
-remove_none w w' key (Err Stale) freed released it = none_removed w w' key fault.Other freed released it
-remove_none w w' key (Err Again) freed released it = none_removed w w' key fault.Again freed released it
-remove_none w w' key (Err Busy) freed released it = same w w' it.2.1
-remove_none w w' key (Err Reader) freed released it = same w w' it.2.1
-remove_none w w' key (Err _) freed released it = absurd it
+remove_none w w' key (Err _) freed released it = search (none_removed, same)
 
 none_replaced : (w w' : TableWorker) (key : Key) (tag number : ℕ) (why : KeyFault) (freed released : Option ℕ) → KeepsAlone w key tag number why freed released w' → AddsNone (its w) (its w')
 none_replaced w w' key tag number why freed released it =
@@ -118,12 +104,7 @@ none_replaced w w' key tag number why freed released it =
 replace_none : (w w' : TableWorker) (key : Key) (tag number : ℕ) (reason : ServerRefusal) (freed released : Option ℕ) → ReplacesByKey w key tag number (Err reason) freed released w'
     → AddsNone (its w) (its w')
 replace_none w w' key tag number NoSlot freed released it = none_replaced w w' key tag number fault.NoSlot freed released it
-replace_none w w' key tag number Empty freed released it = none_replaced w w' key tag number fault.Empty freed released it
-replace_none w w' key tag number Stale freed released it = none_replaced w w' key tag number fault.Other freed released it
-replace_none w w' key tag number Again freed released it = none_replaced w w' key tag number fault.Again freed released it
-replace_none w w' key tag number Busy freed released it = same w w' it.2.1
-replace_none w w' key tag number Reader freed released it = same w w' it.2.1
-replace_none w w' key tag number _ freed released it = absurd it
+replace_none w w' key tag number _ freed released it = search (none_replaced, same)
 
 -- a replacement makes one file
 record Renewed (w w' : TableWorker) (tag number : ℕ) : Type 0 where
@@ -146,26 +127,18 @@ remove_at_none : (w w' : TableWorker) (slot : ℕ) (result : Result Removal Serv
 remove_at_none w w' slot (Ok removal) it = both_none (its w) it.between.own (its w') (added_none (its_opening w) (its_pass w) _ _ _ it.between it.taken.2 (refl, tt))
     (retired_none (its_opening w) it.between it.retired removal (its_pass w') it.retires)
 remove_at_none w w' slot (Err Empty) it = added_none (its_opening w) (its_pass w) _ _ _ (its_pass w') it.1 (refl, tt)
-remove_at_none w w' slot (Err NoSlot) it = same w w' it.1
-remove_at_none w w' slot (Err Busy) it = same w w' it.1
-remove_at_none w w' slot (Err Reader) it = same w w' it.1
-remove_at_none w w' slot (Err _) it = absurd it
+remove_at_none w w' slot (Err _) it = search same
 
 put_empty_none : (w w' : TableWorker) (slot tag number : ℕ) (reason : ServerRefusal) → PutsEmpty w slot tag number (Err reason) w' → AddsNone (its w) (its w')
 put_empty_none w w' slot tag number Stale it = added_none (opening_of (its_start w)) (its_pass w) _ _ _ (its_pass w') it.1.adds tt
 put_empty_none w w' slot tag number Again it = added_none (opening_of (its_start w)) (its_pass w) _ _ _ (its_pass w') it.1.adds tt
-put_empty_none w w' slot tag number NoSlot it = same w w' it.1
-put_empty_none w w' slot tag number Reader it = same w w' it.1
-put_empty_none w w' slot tag number Busy it = same w w' it.1
-put_empty_none w w' slot tag number _ it = absurd it
+put_empty_none w w' slot tag number _ it = search same
 
 find_none : (w w' : TableWorker) (result : Result ℕ ServerRefusal) → FindsSlot w result w' → AddsNone (its w) (its w')
 find_none w w' (Ok slot) it = added_none (opening_of (its_start w)) (its_pass w) _ _ _ (its_pass w') it.1.adds tt
 find_none w w' (Err NoFree) it = added_none (opening_of (its_start w)) (its_pass w) _ _ _ (its_pass w') it (refl, tt)
 find_none w w' (Err Again) it = added_none (opening_of (its_start w)) (its_pass w) _ _ _ (its_pass w') it.0 tt
-find_none w w' (Err Busy) it = same w w' it.1
-find_none w w' (Err Reader) it = same w w' it.1
-find_none w w' (Err _) it = absurd it
+find_none w w' (Err _) it = search same
 
 inserts : (w w' : TableWorker) (tag : ℕ) (result : Result PlacedAt ServerRefusal) → PutsAnyNext w tag result w' → KeepsItsNumbers w w'
 inserts w w' tag (Ok placed) it installing place some low d =

@@ -1,5 +1,5 @@
 -- A look-up of the table is one of the worker.
-use Rattle.std.proofs.Common.{◌≡◌, ◌≢◌, ℕ, Option, Some, None, Result, Ok, Err, refl, sym, subst}
+use Rattle.std.proofs.Common.{◌≡◌, ◌≢◌, ℕ, Option, Some, None, Result, Ok, Err, refl}
 use Rattle.fx_base.specs.Identity.{Identity}
 use Rattle.fx_table.specs.Calls.{LookedUp}
 use Rattle.fx_table.specs.declared.values.Hold.{Hold}
@@ -16,9 +16,7 @@ use Rattle.fx_server.specs.declared.worker.TableWorker.{TableWorker}
 pub looks : (w w' : TableWorker) (slot : ℕ) (found : Result Hold TableFault) (out : Option Identity) (result : Result FoundFile ServerRefusal) (tag : Option ℕ)
     (v : PassView) → its_pass w' ≡ v → Notes v found result w'.held → found ≢ Err Spent → tag ≡ tag_in out
     → LookedUp (its_opening w) (its_pass w) slot found out v → Finds w slot result tag w'
-looks w w' slot found out result tag v same notes spent is looked = go found spent
-    (subst (λ (z : PassView). Notes z found result w'.held) (sym same) notes)
-    (subst (λ (z : PassView). LookedUp (its_opening w) (its_pass w) slot found out z) (sym same) looked)
+looks w w' slot found out result tag v same notes spent is looked = go found spent (rw (← same) at notes) (rw (← same) at looked)
   where
     go : (found : Result Hold TableFault) → found ≢ Err Spent → Notes (its_pass w') found result w'.held
         → LookedUp (its_opening w) (its_pass w) slot found out (its_pass w') → Finds w slot result tag w'

@@ -1,7 +1,9 @@
 -- A worker of a table that was just opened has installed nothing.
-use Rattle.std.proofs.Common.{◌≡◌, inl, ℕ, zero, suc, ◌+◌, ◌<◌, List, [], ◌∷◌, All, refl, ap, subst, ◌∙◌, arith, drop, length, map, slice_index_or}
+use Rattle.std.proofs.Common.{◌≡◌, inl, ℕ, ◌+◌, ◌<◌, List, [], All, refl, ap, subst, ◌∙◌, arith, length, map, slice_index_or, sym}
 use Rattle.std.specs.List.{range_with_len}
-use Rattle.std.proofs.lemmas.List.Elements.{All-cons, All-head, All-nil, All-same, All-tail}
+use Rattle.std.proofs.lemmas.List.{get_or-map, length-map}
+use Rattle.std.proofs.lemmas.List.Elements.{All-map, All-same}
+use Rattle.std.proofs.lemmas.List.FromFn.{get_or-map-range_with_len, length-map-range_with_len}
 use Rattle.fx_plain.specs.Laws.{IsInstalled}
 use Rattle.fx_plain.specs.declared.event.Event.{Event}
 use Rattle.fx_plain.specs.declared.event.File.{File}
@@ -12,37 +14,27 @@ use Rattle.fx_server.specs.FilesNumbers.{OpenedWorkersDrawTheirNumbers}
 use Rattle.fx_server.specs.Workers.{its_pass}
 use Rattle.fx_server.specs.declared.file_numbers.FileNumbers.{FileNumbers}
 use Rattle.fx_server.specs.declared.worker.TableWorker.{TableWorker}
+use Rattle.fx_server.proofs.Dealing.{unmapped}
 
 -- the pass has made no event
 abbrev IsNew : PassView → Type 0
 IsNew v = v.own ≡ []
 
 all_new : (installing first n : ℕ) → All IsNew (map (as_first installing) (map new_pass (range_with_len first n)))
-all_new installing first zero = All-nil IsNew
-all_new installing first (suc n) = All-cons IsNew (as_first installing (new_pass first)) _ refl (all_new installing (first + 1) n)
-
-of_views : {A : Type 0} (its : A → PassView) (list : List A) → All IsNew (map its list) → All (λ (a : A). IsNew (its a)) list
-of_views its [] all = All-nil (λ a. IsNew (its a))
-of_views its (a ∷ list) all = All-cons (λ b. IsNew (its b)) a list (All-head IsNew (its a) (map its list) all) (of_views its list (All-tail IsNew (its a) (map its list) all))
-
-abbrev first_or : {A : Type 0} → List A → A → A
-first_or [] d = d
-first_or (x ∷ xs) d = x
+all_new installing first n = All-map IsNew (as_first installing) _ (All-map (λ v. IsNew (as_first installing v)) new_pass (range_with_len first n) (λ k d low. refl))
 
 -- what the worker at each place has
 at_place : {A : Type 0} (its : TableWorker → A) (at : ℕ → A) (first n : ℕ) (list : List TableWorker) (k : ℕ) (other : TableWorker) → map its list ≡ map at (range_with_len first n) → k < length list
     → its (slice_index_or list k other) ≡ at (first + k)
-at_place its at first n [] k other is low = let bad : ⊥ = omega arith in absurd bad
-at_place its at first zero (w ∷ ws) k other is low = let bad : ⊥ = omega (arith, ap length is) in absurd bad
-at_place {A} its at first (suc n) (w ∷ ws) zero other is low = let e : first ≡ first + 0 = omega arith in ap (λ (l : List A). first_or l (its w)) is ∙ ap at e
-at_place its at first (suc n) (w ∷ ws) (suc k) other is low =
-    let e : first + 1 + k ≡ first + suc k = omega arith in at_place its at (first + 1) n ws k other (ap (drop 1) is) (omega (arith, low)) ∙ ap at e
+at_place {A} its at first n list k other is low =
+    let inside : k < n = omega (arith, length-map list its, ap length is, length-map-range_with_len at first n) in
+    sym (get_or-map its list k other (its other) low) ∙ (ap (λ (l : List A). slice_index_or l k (its other)) is ∙ get_or-map-range_with_len at first n k (first + k) (its other) inside refl)
 
 pub opened_draw : OpenedWorkersDrawTheirNumbers
 opened_draw slots workers installing list opened place other low =
     let all = All-same IsNew (map its_pass list) _ opened.passes (all_new installing 1 workers) in
     let w = slice_index_or list place other in
-    let own : (its_pass w).own ≡ [] = of_views its_pass list all place other low in
+    let own : (its_pass w).own ≡ [] = unmapped IsNew its_pass list all place other low in
     let numbers : w.numbers ≡ first_numbers installing (1 + place) = at_place (λ (u : TableWorker). u.numbers) (first_numbers installing) 1 workers list place other opened.numbers low in
     let none : (f : File) → IsInstalled (its_pass w).own f → ⊥ = λ f it. subst (λ (events : List Event). IsInstalled events f) own it in
     record {

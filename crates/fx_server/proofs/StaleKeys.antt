@@ -1,6 +1,6 @@
 -- A call by key that says `Stale`: the slot had another file at a moment of the call.
 use Rattle.fx_table.proofs.Calls.{follows_shown, seen_further}
-use Rattle.fx_table.proofs.Words.{◌≡◌, inl, inr, ℕ, ◌++◌, List, [], ◌∷◌, map, refl, sym, ap, subst, ◌∙◌, append_assoc, dite, ℕ_discrete, eq-eqb, ne_eqb, Option, Some, Result}
+use Rattle.fx_table.proofs.Words.{◌≡◌, inl, inr, ℕ, ◌++◌, List, [], ◌∷◌, map, refl, sym, ap, subst, ◌∙◌, append_assoc, dite, ℕ_discrete, eq-eqb, ne_eqb, Option, Some}
 use Rattle.std.proofs.Common.{None, Ok, Err}
 use Rattle.fx_base.specs.Identity.{Identity}
 use Rattle.fx_plain.specs.History.{◌▷◌, AllowsAll, IsSeenBy, action_of, part_of_pass, state_after}
@@ -26,13 +26,8 @@ use Rattle.fx_lasting.specs.declared.key.Key.{Key}
 use Rattle.fx_lasting.specs.declared.key_answers.KeyFault.TheVariants.{Other}
 use Rattle.fx_lasting.specs.declared.view.Start.{Start}
 use Rattle.fx_lasting.specs.slots.Alone.{TakesAlone}
-use Rattle.fx_server.specs.ByKey.{FindsByKey, RemovesByKey, ReplacesByKeyNext}
 use Rattle.fx_server.specs.StaleKeys.{HadAnother, IsAnother, StaleKeysHadAnother}
 use Rattle.fx_server.specs.Workers.{IsGood, its_pass, its_start}
-use Rattle.fx_server.specs.declared.answers.FoundFile.{FoundFile}
-use Rattle.fx_server.specs.declared.answers.Placed.{Placed}
-use Rattle.fx_server.specs.declared.answers.Removal.{Removal}
-use Rattle.fx_server.specs.declared.answers.ServerRefusal.{ServerRefusal}
 use Rattle.fx_server.specs.declared.worker.TableWorker.{TableWorker}
 
 -- a history, split at its last event of a pass
@@ -116,9 +111,8 @@ module _ (k : Start) (key : Key) where
 
   left_other : (v between w : PassView) (node : ℕ) (m : Miss) → Other ≡ fault_for m → WasSo k key.slot (FitsMiss k node m) between.front w.front
       → WasSo k key.slot (FitsMiss k node miss.Other) between.front w.front
-  left_other v between w node miss.Empty is was = cc
   left_other v between w node miss.Other is was = was
-  left_other v between w node miss.Again is was = cc
+  left_other v between w node _ is was = cc
 
 module _ (w w' : TableWorker) (key : Key) (good : IsGood w) where
   -- a pass of the worker found the other file
@@ -138,12 +132,12 @@ module _ (w w' : TableWorker) (key : Key) (good : IsGood w) where
 pub stale_keys : StaleKeysHadAnother
 stale_keys = record {
   gets = λ w w' key answer out done good is.
-      let found = subst (λ (r : Result FoundFile ServerRefusal). FindsByKey w key r done.call.freed done.call.released w') is done.found in
+      let found = rw is at done.found in
       by_pass w w' key good found.1.out found.1.back found.1.looked;
   removes = λ w w' key answer out done good is.
-      let removed = subst (λ (r : Result Removal ServerRefusal). RemovesByKey w key r done.call.freed done.call.released w') is done.removed in
+      let removed = rw is at done.removed in
       by_alone w w' key good removed.takes.out removed.takes.back removed.takes.takes;
   replaces = λ w w' key tag answer out done good is.
-      let placed = subst (λ (r : Result Placed ServerRefusal). ReplacesByKeyNext w key tag r done.call.freed done.call.released w') is done.placed in
+      let placed = rw is at done.placed in
       by_alone w w' key good placed.1.puts.out placed.1.puts.back placed.1.puts.puts.1;
 }

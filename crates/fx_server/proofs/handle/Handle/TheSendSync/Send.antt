@@ -1,15 +1,7 @@
 -- A handle may go to another thread, as its worker may.
-use denote.Param.Send.{AllSend, IsSend, owning_send, struct_send, sendable}
-use denote.Struct.Owning.{fields, shape, to}
-use denote.Struct.Struct.{exits_of}
-use Rattle.std_alloc.proofs.SendSync.{quiet}
+use denote.Param.Send.{IsSend, owning_send, sendable}
 use Rattle.fx_server.proofs.Sending.{at_handle}
 use Rattle.fx_server.specs.contracts.handle.Handle.{the_row, the_type}
 
-all_fields : AllSend (fields the_type)
-all_fields = (search sendable, (search sendable, tt))
-
 pub send : IsSend the_row
-send = owning_send the_type all_fields (λ d. at_handle d.ptr d.worker)
-    (λ k. quiet (to the_type) (exits_of k (fields the_type))
-    ((struct_send (shape the_type) all_fields).leaving k))
+send = owning_send the_type (search sendable, (search sendable, tt)) (λ d. at_handle d.ptr d.worker) (λ k x w. tt)

@@ -1,7 +1,5 @@
-use Rattle.std.proofs.Common.{refl, sym, subst}
-use Rattle.fx_table.specs.Pass.{PassView}
+use Rattle.std.proofs.Common.{refl}
 use Rattle.fx_lasting.specs.Tables.{view_of, opening_of_table}
-use Rattle.fx_server.specs.Workers.{DoesAsHeld}
 use Rattle.fx_server.proofs.Looking.{looks, does_as_held}
 use Rattle.fx_server.proofs.worker.TableWorker.get_at.Goals as goal
 
@@ -12,7 +10,7 @@ returns-clause-good c =
     let t = c.deref.result.now.table in
     record {
       fits = rw (← c.deref.ensures) noted.fits;
-      does = subst (λ (v : PassView). DoesAsHeld v c.note-found.new.held) (sym noted.same) (does_as_held (opening_of_table t) (view_of c.args.self.now.pass)
+      does = rw noted.same (does_as_held (opening_of_table t) (view_of c.args.self.now.pass)
           (view_of call.new.pass) c.args.slot call.result.found call.result.freed c.note-found.result c.note-found.new.held noted.notes
           call.ensures.never_spent call.ensures.looked);
     }

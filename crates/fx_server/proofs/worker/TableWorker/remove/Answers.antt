@@ -1,17 +1,10 @@
-use Rattle.std.proofs.Common.{Result, subst}
-use Rattle.fx_table.specs.declared.values.Retired.{Retired}
-use Rattle.fx_lasting.specs.slots.Alone.{TakesAlone}
-use Rattle.fx_lasting.specs.declared.key_answers.KeyFault.{KeyFault}
 use Rattle.fx_server.specs.ByKey.{key_of}
-use Rattle.fx_server.specs.Workers.{its_start}
 use Rattle.fx_server.proofs.ByKey.{leaves_alone}
 use Rattle.fx_server.proofs.worker.TableWorker.remove.Goals as goal
 
 pub returns-in-Ok-clause-removed : goal.returns-in-Ok-clause-removed
 returns-in-Ok-clause-removed c =
-    let w = c.args.self.now in
     let call = c.take_key-taken in
-    let key = key_of c.args.slot c.args.number in
     record {
       retired = c.in-Ok.retired;
       between = call.new.pass;
@@ -19,8 +12,7 @@ returns-in-Ok-clause-removed c =
         out = call.result.freed;
         back = call.result.released;
         tags = record { its_freed = c.tag_of-freed.ensures; its_released = c.tag_of-released.ensures };
-        takes = subst (λ (t : Result Retired KeyFault). TakesAlone (its_start w) w.pass key t call.result.freed call.result.released call.new.pass)
-            c.in-Ok.is (rw (← c.deref.ensures) call.ensures.taken);
+        takes = rw c.deref.ensures at (rw c.in-Ok.is at call.ensures.taken);
       };
       retires = rw (← c.deref.ensures) c.retire.ensures.retired;
     }
@@ -29,14 +21,12 @@ pub returns-in-Err-clause-removed : goal.returns-in-Err-clause-removed
 returns-in-Err-clause-removed c =
     let w = c.args.self.now in
     let call = c.take_key-taken in
-    let key = key_of c.args.slot c.args.number in
-    leaves_alone w (record w { pass = call.new.pass }) key c.tag_of-freed.result c.tag_of-released.result c.in-Err.fault c.key_refusal.result c.key_refusal.ensures
+    leaves_alone w (record w { pass = call.new.pass }) (key_of c.args.slot c.args.number) c.tag_of-freed.result c.tag_of-released.result c.in-Err.fault c.key_refusal.result c.key_refusal.ensures
     (record {
       takes = record {
         out = call.result.freed;
         back = call.result.released;
         tags = record { its_freed = c.tag_of-freed.ensures; its_released = c.tag_of-released.ensures };
-        takes = subst (λ (t : Result Retired KeyFault). TakesAlone (its_start w) w.pass key t call.result.freed call.result.released call.new.pass)
-            c.in-Err.is (rw (← c.deref.ensures) call.ensures.taken);
+        takes = rw c.in-Err.is at (rw c.deref.ensures at call.ensures.taken);
       };
     })

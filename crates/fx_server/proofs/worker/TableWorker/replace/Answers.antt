@@ -1,8 +1,6 @@
-use Rattle.std.proofs.Common.{Result, ap, subst, ◌∙◌}
-use Rattle.fx_server.specs.ByKey.{ReplacesByKey, key_of}
+use Rattle.std.proofs.Common.{ap, ◌∙◌}
+use Rattle.fx_server.specs.ByKey.{key_of}
 use Rattle.fx_server.specs.FileNumbers.{after_draw}
-use Rattle.fx_server.specs.declared.answers.Removal.{Removal}
-use Rattle.fx_server.specs.declared.answers.ServerRefusal.{ServerRefusal}
 use Rattle.fx_server.specs.declared.file_numbers.FileNumbers.{FileNumbers}
 use Rattle.fx_server.proofs.ByKey.{replaced_drawn}
 use Rattle.fx_server.proofs.worker.TableWorker.replace.Goals as goal
@@ -15,5 +13,5 @@ returns-in-Ok-clause-placed c =
     let number = c.draw-number.ensures.number ∙ ap (λ (it : FileNumbers). it.next) call.ensures.numbers in (
       (number, c.draw-number.ensures.drawn ∙ ap after_draw call.ensures.numbers),
       replaced_drawn w call.new.self key call.result.freed call.result.released c.args.tag w.numbers.next c.draw-number.result c.in-Ok.removal c.draw-number.new.self number
-          (subst (λ (r : Result Removal ServerRefusal). ReplacesByKey w key c.args.tag w.numbers.next r call.result.freed call.result.released call.new.self) c.in-Ok.is call.ensures.placed),
+          (rw c.in-Ok.is at call.ensures.placed),
     )
