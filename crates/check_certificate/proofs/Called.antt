@@ -5,23 +5,15 @@ use Rattle.check_certificate.proofs.Words.{Happening, Completed, Contains-append
 use Rattle.check_certificate.proofs.Words.{Answered, made_by, Asked, Contains, Looks, take}
 use Rattle.check_certificate.proofs.Intended.{IsIntended, intended}
 use Rattle.check_certificate.proofs.Orders.{IsHere, flies, here, may_at, older, ring, s}
-use Rattle.check_certificate.proofs.Parts.{part_of_part}
+use Rattle.check_certificate.proofs.Parts.{get_front, part_of_part}
 use Rattle.check_certificate.specs.Evidence.{IsEventAt, slot_count}
 use Rattle.check_certificate.specs.Forced.{TimedFlight}
 use Rattle.check_certificate.specs.declared.beginning.LogBeginning.{LogBeginning}
 use Rattle.fx_flight.proofs.Chains.{answer_place}
 use Rattle.fx_flight.proofs.InTime.{in_log}
+use Rattle.fx_flight.proofs.Submission.{got_next}
 use Rattle.fx_flight.specs.Events.{first_of_call}
 use Rattle.std.proofs.lemmas.Option.{slice_get_read}
-
-pub get_front : {X : Type 0} (xs ys : List X) (k : ℕ) (x : X) → slice_get xs k ≡ Some x → slice_get (xs ++ ys) k ≡ Some x
-get_front [] ys k x is = absurd (cc)
-get_front (y ∷ xs) ys zero x is = is
-get_front (y ∷ xs) ys (suc k) x is = get_front xs ys k x is
-
-pub get_here : {X : Type 0} (front : List X) (x : X) (rest : List X) → slice_get (front ++ x ∷ rest) (length front) ≡ Some x
-get_here [] x rest = refl
-get_here (y ∷ front) x rest = get_here front x rest
 
 module _ {b : LogBeginning} (f : TimedFlight b) where
   -- the call of an access before an event, in the log
@@ -65,6 +57,6 @@ module _ {b : LogBeginning} (f : TimedFlight b) where
       let member = may.2 in
       let place = answer_place (ring f).catalogue (ring f).size (first_of_call id) (take (length member.earlier + 1) may.0) member.own
       (member.earlier ++ c ∷ []) member.earlier c [] member.done refl in
-      let got : slice_get (f.legal.answers id) (length member.earlier) ≡ Some c = rw member.answer (get_here member.earlier c member.later) in
+      let got : slice_get (f.legal.answers id) (length member.earlier) ≡ Some c = rw member.answer (got_next member.earlier c member.later) in
       let number : c.place.member - 1 ≡ length member.earlier = omega arith in
       ap (slice_get (f.legal.answers id)) number ∙ got

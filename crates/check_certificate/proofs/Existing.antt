@@ -7,12 +7,13 @@ use Rattle.check_certificate.proofs.Words.{FindsFull, true, false, cases_Bool}
 use Rattle.check_certificate.proofs.Life.{IsPutAt, put_later}
 use Rattle.check_certificate.proofs.Marks.{put_once}
 use Rattle.check_certificate.proofs.Members.{access_times}
-use Rattle.check_certificate.proofs.Parts.{before_end, one_more, part_cases, part_is_flight, part_length, whole}
+use Rattle.check_certificate.proofs.Parts.{before_end, one_more, same_or_not, part_cases, part_is_flight, part_length, whole}
 use Rattle.check_certificate.specs.declared.certificate.Point.{Point}
 use Rattle.check_certificate.specs.declared.certificate.Point.TheVariants.{Event, Gone, Put, Access as At}
 use Rattle.fx_flight.proofs.Beginnings.{lasts}
 use Rattle.fx_flight.specs.Events.{first_of_call}
 use Rattle.fx_order.proofs.Apart.{file_Decides, option_Decides, same_file}
+use Rattle.fx_order.proofs.ChainsFront.{front_is}
 use Rattle.fx_order.proofs.Words.{false≢true}
 use Rattle.std.specs.Option.{option_eq}
 
@@ -27,17 +28,6 @@ parts_at : {X : Type 0} (xs : List X) (i : ℕ) → ((front : List X) × (x : X)
 parts_at [] i = inr (omega arith)
 parts_at (x ∷ xs) zero = inl ([], x, xs, refl, refl)
 parts_at (x ∷ xs) (suc i) = ⊎_elim (λ p. inl (x ∷ p.0, p.1, p.2, ap (λ l. x ∷ l) p.3, omega (arith, p.4))) (λ past. inr (omega arith)) (parts_at xs i)
-
-same_parts : {X : Type 0} (front other : List X) (x y : X) (rest more : List X) → front ++ x ∷ rest ≡ other ++ y ∷ more → length front ≡ length other
-    → (front ≡ other) × (x ≡ y)
-same_parts [] [] x y rest more is few = let same : x ≡ y = cc in (refl, same)
-same_parts [] (z ∷ other) x y rest more is few = absurd (omega arith)
-same_parts (z ∷ front) [] x y rest more is few = absurd (omega arith)
-same_parts (w ∷ front) (z ∷ other) x y rest more is few =
-    let head : w ≡ z = cc in
-    let tail : front ++ x ∷ rest ≡ other ++ y ∷ more = cc in
-    let same = same_parts front other x y rest more tail (omega arith) in
-    ((λ i. head i ∷ same.0 i), same.1)
 
 -- an event of the log, in the flight
 event_at : (flight : List Moment) (front : List Happening) (e : Happening) (rest : List Happening) → log_of flight ≡ front ++ e ∷ rest
@@ -58,14 +48,8 @@ event_at (Logged d ∷ flight) front e rest is =
 
 -- whether an access installs a file
 puts_file : (a : Access) (file : Identity) → ((slot : ℕ) × IsPut a slot file) ⊎ ((slot : ℕ) → IsPut a slot file → ⊥)
-puts_file (Puts own f removed) file = elim (cases_Bool (same_file f file)) [
-  | inl alike ↦ inl (own, (refl, (file_Decides f file).0 alike))
-  | inr differs ↦ inr (λ slot is. false≢true (sym differs ∙ (file_Decides f file).1 is.1))
-]
-puts_file (Allocates own f) file = elim (cases_Bool (same_file f file)) [
-  | inl alike ↦ inl (own, (refl, (file_Decides f file).0 alike))
-  | inr differs ↦ inr (λ slot is. false≢true (sym differs ∙ (file_Decides f file).1 is.1))
-]
+puts_file (Puts own f removed) file = ⊎_elim (λ same. inl (own, (refl, same))) (λ other. inr (λ slot is. other is.1)) (same_or_not f file)
+puts_file (Allocates own f) file = ⊎_elim (λ same. inl (own, (refl, same))) (λ other. inr (λ slot is. other is.1)) (same_or_not f file)
 puts_file (Looks own found) file = inr (λ slot is. is)
 puts_file (Clears own removed) file = inr (λ slot is. is)
 puts_file (Takes own removed) file = inr (λ slot is. is)
@@ -157,8 +141,10 @@ module _ (old : RingState) (answers : ℕ → List Completed) (flight : List Mom
         length at.0,
         times.0,
         λ front e rest so few.
-            let same : (p.0 ≡ front) × (p.1 ≡ e) = same_parts p.0 front p.1 e p.2 rest (sym p.3 ∙ so) (p.4 ∙ sym few) in
-            moved s flight p.0 front p.1 e (length at.0) times.0 same.0 same.1 one,
+            let mine = front_is p.0 (p.1 ∷ p.2) (log_of flight) i p.3 p.4 in
+            let own = front_is front (e ∷ rest) (log_of flight) i so few in
+            let both : p.1 ∷ p.2 ≡ e ∷ rest = sym mine.1 ∙ own.1 in
+            moved s flight p.0 front p.1 e (length at.0) times.0 (sym mine.0 ∙ own.0) (cc) one,
       ))
       (λ past. (0, (λ _. 0), λ front e rest so few. let long = ap length so in let more = length-append front (e ∷ rest) in absurd (omega arith)))
       (parts_at (log_of flight) i)

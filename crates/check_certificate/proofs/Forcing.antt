@@ -9,7 +9,7 @@ use Rattle.check_certificate.proofs.Leaving.{same_chain, taken_gone, there_after
 use Rattle.check_certificate.proofs.Life.{IsPutAt, is_gone, put_before, put_here}
 use Rattle.check_certificate.proofs.Marks.{mark_at}
 use Rattle.check_certificate.proofs.Orders.{IsHere, IsSaid, call_before, event_order, here, may_at, new_file, older, ring, s, said, said_may, table}
-use Rattle.check_certificate.proofs.Parts.{part_length, part_of_part, shorter}
+use Rattle.check_certificate.proofs.Parts.{by_put, part_length, part_of_part, shorter}
 use Rattle.check_certificate.specs.Forced.{IsForced, IsOfCall, IsContradicted, IsInOrder, TimedFlight, gap_of, log_of_beginning, ring_of_beginning}
 use Rattle.check_certificate.specs.Evidence.{IsEventAt, IsAccessMade, IsEvident, left_at, slot_count}
 use Rattle.check_certificate.specs.declared.beginning.LogBeginning.{LogBeginning}
@@ -27,6 +27,7 @@ use Rattle.fx_table.proofs.SumLemmas.{contains_map}
 use Rattle.fx_flight.specs.Events.{all_happenings, happening_of}
 use Rattle.fx_flight.specs.declared.event.LogEvent.{LogEvent}
 use Rattle.fx_order.proofs.Accesses.{at_itself}
+use Rattle.fx_order.proofs.ChainsFront.{front_is}
 use Rattle.std.proofs.lemmas.List.{length-map}
 use Rattle.std.proofs.lemmas.Option.{slice_get-get_or, slice_get-map, slice_get_read}
 use Rattle.std.specs.Prelude.{All, IfSome, option_map, slice_index_or}
@@ -79,10 +80,6 @@ left_so t a (Finds own file) slot left is so may =
     let found : Permits t (Looks own (Some file)) = rw is at may in
     subst (λ k. (table_with t a).at k ≡ Some file) p.0 (subst (λ x. (table_with t x).at own ≡ Some file) (sym is) (sym found.1)) ∙ p.1
 
-take_front : {X : Type 0} (xs ys : List X) → take (length xs) (xs ++ ys) ≡ xs
-take_front [] ys = refl
-take_front (y ∷ xs) ys = ap (λ l. y ∷ l) (take_front xs ys)
-
 -- an event calls one call
 pub call_id : (e : Happening) (one other : ℕ) → IsCallOf one e → IsCallOf other e → one ≡ other
 call_id (Called n requests) one other is so = sym is ∙ so
@@ -99,10 +96,6 @@ module _ (b : LogBeginning) where
       → (IsLeftAt (table f) part slot file → ⊥) → f.at (Gone file slot) < length part
   gone_by f slot file =
       is_gone (table f) slot file f.legal.flight (f.at (Put file)) (f.times.put file) (f.at (Gone file slot)) (f.times.gone file slot)
-
-  front_is : (front : List Happening) (e : Happening) (rest : List Happening) (n : ℕ) → log_of_beginning b ≡ front ++ e ∷ rest → length front ≡ n
-      → take n (log_of_beginning b) ≡ front
-  front_is front e rest n is few = rw (is, ← few) (take_front front (e ∷ rest))
 
   pub begins_forced : (call answer k : ℕ) (evidence : Evidence) (o : PointOrder) → o ≡ strict_from (Event call) (At answer k)
       → IsAccessMade b call answer k evidence → IsForced b o
@@ -207,7 +200,7 @@ module _ (b : LogBeginning) where
       let here_put : IsPutAt x.earlier slot file (f.at (Put file)) = (put.0, put.1, put.2, (put.3.0, part, put.3.2)) in
       ⊎_elim
       (λ there. let low = (f.times.gone file slot).last (Logged AllSettled ∷ x.earlier) x.inside there in strict_order f.at (Event settled) (Gone file slot) (omega arith))
-      (λ taken. absurd (unclosed (rw (front_is x.front AllSettled x.rest settled x.parts x.few)
+      (λ taken. absurd (unclosed (rw (front_is x.front (AllSettled ∷ x.rest) (log_of_beginning b) settled x.parts x.few).0
       (rw x.same at (in_log x.earlier (FileClosed file) (may_at f x file taken))))))
       (there_or_taken (s f) f.legal.flight f.legal.is file new (f.at (Put file)) (f.times.put file) slot x.earlier inside here_put))
       (f.times.gone file slot).there
@@ -297,7 +290,7 @@ module _ (b : LogBeginning) where
   closes_held answer close id file first second low held f =
       let x = here f second in
       let freed = (may_at f x).unheld id (is_earlier answer close (LookAnswered id (Some file)) (FileClosed file) first low f x) in
-      absurd (held (rw (front_is x.front (FileClosed file) x.rest close x.parts x.few) (rw x.same at (in_log x.earlier (Freed id) freed))))
+      absurd (held (rw (front_is x.front (FileClosed file ∷ x.rest) (log_of_beginning b) close x.parts x.few).0 (rw x.same at (in_log x.earlier (Freed id) freed))))
 
   -- accesses of different calls are at different times
   pub differs_forced : (call answer k other later j : ℕ) (one two : Evidence) (id jd : ℕ) (d e : Happening) → IsAccessMade b call answer k one → IsAccessMade b other later j two
@@ -316,21 +309,14 @@ module _ (b : LogBeginning) where
       let begins_y : y.begins ≡ e = cc in
       differ (call_id d id x.id d_is (rw begins_x at x.own) ∙ (same ∙ sym (call_id e jd y.id e_is (rw begins_y at y.own)))))
 
-  put_inside : (t : Table) (a : Access) (slot : ℕ) (file : Identity) → Permits t a → IsPut a slot file → slot < t.size
-  put_inside t (Puts own f removed) slot file may is = rw (← is.0) may.0
-  put_inside t (Allocates own f) slot file may is = rw (← is.0) may.0.0
-  put_inside t (Looks own found) slot file may is = absurd is
-  put_inside t (Clears own removed) slot file may is = absurd is
-  put_inside t (Takes own removed) slot file may is = absurd is
-  put_inside t FindsFull slot file may is = absurd is
-
   -- no access installs a file past the last slot
   pub outside : (call answer slot : ℕ) (file : Identity) → IsAccessMade b call answer 0 (Installs slot file) → (slot < slot_count b → ⊥)
       → IsForced b (strict_from (Event answer) (Event answer))
   outside call answer slot file made past f =
       let x = said f made in
       let t = table f in
-      let low = put_inside (table_left_by t x.time.0) x.access slot file (said_may f x) x.is in
+      let low = by_put slot file (λ (a : Access). Permits (table_left_by t x.time.0) a → slot < (table_left_by t x.time.0).size) (λ _ may. may.0)
+      (λ may. may.0.0) x.access x.is (said_may f x) in
       let size = size_stays t x.time.0 in absurd (past (rw (← size) low))
 
   pub cant_answer : (call answer : ℕ) → IsAccessMade b call answer 0 Never → IsForced b (strict_from (Event answer) (Event answer))
@@ -394,9 +380,3 @@ request_is chain k m r request same low is asked =
     let there : slice_get (all_asked chain) k ≡ Some request = ap (slice_get (all_asked chain)) same ∙ asked in
     let both : Some (asked_of r) ≡ Some request = sym here ∙ there in
     cc
-
-pub take_happenings : (events : List LogEvent) (n : ℕ) → take n (all_happenings events) ≡ all_happenings (take n events)
-take_happenings [] zero = refl
-take_happenings [] (suc n) = refl
-take_happenings (e ∷ events) zero = refl
-take_happenings (e ∷ events) (suc n) = ap (λ l. happening_of e ∷ l) (take_happenings events n)

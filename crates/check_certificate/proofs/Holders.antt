@@ -9,7 +9,7 @@ use Rattle.check_certificate.proofs.Leaving.{same_access, same_slot}
 use Rattle.check_certificate.proofs.Life.{put_here, was_put}
 use Rattle.check_certificate.proofs.Marks.{has_in, mark_at, no_look, of_chain}
 use Rattle.check_certificate.proofs.Orders.{flies, here, new_file, older, ring, said, said_may, table}
-use Rattle.check_certificate.proofs.Parts.{access_of_part, before_end, part_length, shorter}
+use Rattle.check_certificate.proofs.Parts.{access_of_part, before_end, part_length, same_or_not, shorter}
 use Rattle.check_certificate.specs.Evidence.{IsAccessMade, IsEventAt, IsEvident}
 use Rattle.check_certificate.specs.Forced.{IsForced, IsOfCall, TimedFlight}
 use Rattle.check_certificate.proofs.Called.{answer_is, of_log}
@@ -25,7 +25,6 @@ use Rattle.check_certificate.specs.declared.evidence.Evidence.TheVariants.{Empti
 use Rattle.fx_base.specs.Catalogue.{IsCatalogue}
 use Rattle.fx_flight.proofs.InTime.{size_stays}
 use Rattle.fx_flight.specs.Events.{first_of_call}
-use Rattle.fx_order.proofs.Apart.{file_Decides, same_file}
 use Rattle.fx_order.proofs.Words.{false≢true, negsuc, pos, ℤ}
 use Rattle.std.specs.Prelude.{IsSome}
 
@@ -114,10 +113,7 @@ module _ (b : LogBeginning) where
           → (f.at (Put file) < f.at (At h.answer h.access)) × (f.at (At h.answer h.access) ≤ f.at (Gone file h.slot))
       holder_is file only =
           let x = holder in
-          let same : file ≡ x.file = elim (cases_Bool (same_file file x.file)) [
-            | inl alike ↦ (file_Decides file x.file).0 alike
-            | inr differs ↦ absurd (x.other (λ held. false≢true (sym differs ∙ (file_Decides file x.file).1 (only x.file held))))
-          ] in
+          let same : file ≡ x.file = ⊎_elim (λ same. same) (λ other. absurd (x.other (λ held. other (only x.file held)))) (same_or_not file x.file) in
           subst (λ (g : Identity). (f.at (Put g) < f.at (At h.answer h.access)) × (f.at (At h.answer h.access) ≤ f.at (Gone g h.slot))) (sym same)
           (x.early, x.late)
 

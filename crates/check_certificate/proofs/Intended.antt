@@ -4,6 +4,7 @@ use Rattle.check_certificate.proofs.Words.{⊎_elim, Option, Some, None, slice_g
 use Rattle.check_certificate.proofs.Words.{Has, placed, placed-append, Closed, Submitted, either_option, either_way, severs, next_member, length-append, Identity, IsPut}
 use Rattle.check_certificate.proofs.Words.{Puts, Allocates, Looks, Clears, Takes, FindsFull}
 use Rattle.check_certificate.proofs.Marks.{IsOfChain, chain_own}
+use Rattle.check_certificate.proofs.Parts.{none_of}
 use Rattle.check_certificate.specs.Absent.{MayInstall}
 use Rattle.fx_base.specs.Catalogue.{IsCatalogue}
 use Rattle.fx_chain.proofs.Cases.{both_options}
@@ -17,9 +18,6 @@ use Rattle.fx_order.proofs.Placed.{has_either}
 use Rattle.fx_order.proofs.RequestCases.{each_placed}
 use Rattle.fx_order.proofs.Words.{IsOf, ℤ, pos}
 use Rattle.fx_order.specs.Requests.{IsDoneAtTable}
-
-none_of : {X : Type 0} (front : List X) (x : X) (rest : List X) → [] ≡ front ++ x ∷ rest → ⊥
-none_of front x rest is = let long = ap length is in let more = length-append front (x ∷ rest) in omega arith
 
 -- an element of a list of two parts is in one of them
 split : {X : Type 0} (xs ys front : List X) (a : X) (rest : List X) → xs ++ ys ≡ front ++ a ∷ rest

@@ -6,20 +6,15 @@ use Rattle.check_certificate.proofs.Words.{IsLeftAt, IsAccessAt, IsPutTime, Tabl
 use Rattle.check_certificate.proofs.Words.{Identity, IsFlight, FlightSetting, table_of, Puts, Allocates, Looks, Clears, Takes, FindsFull, Permits}
 use Rattle.check_certificate.proofs.Words.{Contains-append_left, Contains-append_right, Contains-append_cases, contains_head, length-append}
 use Rattle.check_certificate.proofs.Life.{IsPutAt, put_before, put_here, stays}
-use Rattle.check_certificate.proofs.Parts.{one_more, part_is_flight, part_length, part_of_part, shorter, whole}
+use Rattle.check_certificate.proofs.Parts.{by_put, one_more, part_is_flight, part_length, part_of_part, shorter, whole}
 use Rattle.fx_order.proofs.Accesses.{at_itself}
 use Rattle.fx_order.proofs.Placed.{emptied, left_or_removed}
-use Rattle.fx_order.specs.Access.{with_file}
 use Rattle.check_certificate.proofs.Life.{put_of}
 
 -- an access that installs a file leaves it there
 pub there_after : (t : Table) (a : Access) (slot : ℕ) (file : Identity) → IsPut a slot file → (table_with t a).at slot ≡ Some file
-there_after t (Puts own f removed) slot file is = (λ i. (with_file t (is.0 i) (Some (is.1 i))).at slot) ∙ at_itself slot (Some file) (t.at slot)
-there_after t (Allocates own f) slot file is = (λ i. (with_file t (is.0 i) (Some (is.1 i))).at slot) ∙ at_itself slot (Some file) (t.at slot)
-there_after t (Looks own found) slot file is = absurd is
-there_after t (Clears own removed) slot file is = absurd is
-there_after t (Takes own removed) slot file is = absurd is
-there_after t FindsFull slot file is = absurd is
+there_after t a slot file = by_put slot file (λ (x : Access). (table_with t x).at slot ≡ Some file) (λ _. at_itself slot (Some file) (t.at slot))
+    (at_itself slot (Some file) (t.at slot)) a
 
 -- an access that took the file from its slot
 pub record Taking (flight : List Moment) (file : Identity) : Type 0 where
@@ -70,15 +65,7 @@ same_chain flight time id jd a b one other = (same_moment flight time id jd a b 
 
 -- an access installs a file at one slot
 pub same_slot : (a b : Access) (one other : ℕ) (file : Identity) → a ≡ b → IsPut a one file → IsPut b other file → one ≡ other
-same_slot a b one other file same first second = own b one other (rw same at first) second
-  where
-    own : (c : Access) (one other : ℕ) → IsPut c one file → IsPut c other file → one ≡ other
-    own (Puts slot f removed) one other x y = sym x.0 ∙ y.0
-    own (Allocates slot f) one other x y = sym x.0 ∙ y.0
-    own (Looks slot found) one other x y = absurd x
-    own (Clears slot removed) one other x y = absurd x
-    own (Takes slot removed) one other x y = absurd x
-    own FindsFull one other x y = absurd x
+same_slot a b one other file same first = by_put one file (λ (x : Access). IsPut x other file → one ≡ other) (λ _ y. y.0) (λ y. y.0) b (rw same at first)
 
 module _ (s : FlightSetting) (flight : List Moment) (is : IsFlight s flight) (file : Identity)
     (new : (slot : ℕ) → (table_of s.old).at slot ≡ Some file → ⊥) (put : ℕ) (is_put : IsPutTime flight file put) where

@@ -4,7 +4,7 @@ use Rattle.check_certificate.proofs.Words.{⊎_elim, append_assoc, cases_lt, Mom
 use Rattle.check_certificate.proofs.Words.{IsAccessAt, Has, placed, placed_by, placed-append, has_left, has_right, Puts, Allocates, Looks, Clears, Takes}
 use Rattle.check_certificate.proofs.Words.{FindsFull, Identity, Closed, Submitted, Asked, Place, Completed, IsChainDone, IsFlight, FlightSetting}
 use Rattle.check_certificate.proofs.Words.{MayAccess, FileEntry, Option, RingState, either_way, if◌then◌else◌, severs, next_member, made_by, by_equality}
-use Rattle.check_certificate.proofs.Parts.{part_is_flight, shorter}
+use Rattle.check_certificate.proofs.Parts.{by_put, part_is_flight, shorter}
 use Rattle.fx_flight.proofs.InTime.{made_by-parts}
 use Rattle.fx_flight.specs.Events.{first_of_call}
 use Rattle.fx_order.proofs.Apart.{Own, own_both, own_none, own_weaker, once_between}
@@ -31,20 +31,12 @@ module _ (catalogue : List FileEntry) (size : ℕ) where
       (either_way {R = Own (IsOfChain (next_member place)) (placed x.1)} (severs request x.2)
       (λ _ y. rw y.0 own_none) (λ _ y. chain_own (next_member place) requests x.1 x.3 y) x.7))
 
-has_put : (a : Access) (slot : ℕ) (file : Identity) → IsPut a slot file → Has (placed_by a) slot file
-has_put (Puts own f removed) slot file is = inl (λ i. (is.0 i, is.1 i))
-has_put (Allocates own f) slot file is = inl (λ i. (is.0 i, is.1 i))
-has_put (Looks own found) slot file is = absurd is
-has_put (Clears own removed) slot file is = absurd is
-has_put (Takes own removed) slot file is = absurd is
-has_put FindsFull slot file is = absurd is
-
 -- of a list with this access in it
 pub has_in : (front : List Access) (a : Access) (rest : List Access) (slot : ℕ) (file : Identity) → IsPut a slot file
     → Has (placed (front ++ a ∷ rest)) slot file
 has_in front a rest slot file is =
     rw (placed-append front (a ∷ rest)) (has_right (placed front) (placed_by a ++ placed rest) slot file
-    (has_left (placed_by a) (placed rest) slot file (has_put a slot file is)))
+    (has_left (placed_by a) (placed rest) slot file (by_put slot file (λ (x : Access). Has (placed_by x) slot file) (λ _. inl refl) (inl refl) a is)))
 
 pub no_look : (a : Access) (looked : ℕ) (found : Option Identity) (slot : ℕ) (file : Identity) → a ≡ Looks looked found → IsPut a slot file → ⊥
 no_look a looked found slot file same is = let put : IsPut (Looks looked found) slot file = rw same at is in put

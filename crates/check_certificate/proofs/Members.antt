@@ -5,13 +5,10 @@ use Rattle.check_certificate.proofs.Words.{Access, IsAccessAt, AreTimesOf, AreAc
 use Rattle.check_certificate.proofs.Words.{Completed, IsChainDone, IsRequestDone, FlightSetting, MayFollow, FileEntry, RingState, either_way, severs}
 use Rattle.check_certificate.proofs.Words.{next_member, made_by, by_equality, canceled, refusal, ECANCELED, if◌then◌else◌, Happening, Answered, Called}
 use Rattle.check_certificate.proofs.Words.{LookAnswered, LookCalled, Freed, FileClosed, AllSettled}
-use Rattle.check_certificate.proofs.Parts.{one_more}
+use Rattle.check_certificate.proofs.Parts.{get_front, none_of, one_more}
 use Rattle.fx_flight.proofs.Chains.{answer_place}
 use Rattle.fx_flight.specs.Events.{first_of_call}
 use Rattle.fx_order.proofs.RequestCases.{request_place}
-
-none_of : {X : Type 0} (front : List X) (x : X) (rest : List X) → [] ≡ front ++ x ∷ rest → ⊥
-none_of front x rest is = let long = ap length is in let more = length-append front (x ∷ rest) in omega arith
 
 canceled_at : (place : Place) (requests : List Asked) (k : ℕ) (front : List Completed) (c : Completed) (rest : List Completed)
     → canceled place (take k requests) ≡ front ++ c ∷ rest
@@ -82,11 +79,6 @@ get_more [] y (suc n) a is = absurd (cc)
 get_more (x ∷ xs) y zero a is = inl is
 get_more (x ∷ xs) y (suc n) a is = ⊎_elim (λ here. inl here) (λ last. inr (last.0, omega (arith, last.1))) (get_more xs y n a is)
 
-get_left : (xs ys : List Access) (k : ℕ) (a : Access) → slice_get xs k ≡ Some a → slice_get (xs ++ ys) k ≡ Some a
-get_left [] ys k a is = absurd (cc)
-get_left (x ∷ xs) ys zero a is = is
-get_left (x ∷ xs) ys (suc k) a is = get_left xs ys k a is
-
 get_right : (xs ys : List Access) (k : ℕ) (a : Access) → slice_get ys k ≡ Some a → slice_get (xs ++ ys) (length xs + k) ≡ Some a
 get_right [] ys k a is = let e : 0 + k ≡ k = omega arith in rw e is
 get_right (x ∷ xs) ys k a is = let e : length (x ∷ xs) + k ≡ suc (length xs + k) = omega arith in rw e (get_right xs ys k a is)
@@ -119,7 +111,7 @@ module _ (flight : List Moment) (id : ℕ) (front mine rest : List Access) (is :
   time_at k None none = (0, λ a so. absurd (cc (none, so)))
   time_at k (Some b) some =
       let here : slice_get (made_by id flight) (length front + k) ≡ Some b =
-      rw is (get_right front (mine ++ rest) k b (get_left mine rest k b some)) in
+      rw is (get_right front (mine ++ rest) k b (get_front mine rest k b some)) in
       let at = time_of flight id (length front + k) b here in
       (at.0, λ a so. let same : b ≡ a = cc (some, so) in subst (λ y. IsNumbered flight id (length front + k) y at.0) same at.1)
 

@@ -16,6 +16,7 @@ use Rattle.fx_flight.specs.Events.{first_of_call}
 use Rattle.fx_flight.specs.Laws.{IsCallOf}
 use Rattle.fx_ring.specs.Ring.{RingState}
 use Rattle.fx_order.proofs.Words.{Bool, true, false, ◌&&◌, false≢true, slice_index_or}
+use Rattle.std.proofs.lemmas.Bool.{and_parts}
 use Rattle.std.specs.List.{list_all}
 
 -- the parts of a list around one of its positions
@@ -25,15 +26,11 @@ get_parts [] i x is = absurd (cc)
 get_parts (y ∷ xs) zero x is = let same : y ≡ x = cc in ([], xs, ap (λ z. z ∷ xs) same, refl)
 get_parts (y ∷ xs) (suc i) x is = let p = get_parts xs i x is in (y ∷ p.0, p.1, ap (λ l. y ∷ l) p.2, omega (arith, p.3))
 
-both_true : (c d : Bool) → (c && d) ≡ true → (c ≡ true) × (d ≡ true)
-both_true true d is = (refl, is)
-both_true false d is = absurd (false≢true is)
-
 each_of_no_call : (files : List (Option Identity)) (k : ℕ) → list_all is_of_no_call files ≡ true → is_of_no_call (slice_index_or files k None) ≡ true
 each_of_no_call [] zero all = refl
 each_of_no_call [] (suc k) all = refl
-each_of_no_call (file ∷ files) zero all = (both_true (is_of_no_call file) (list_all is_of_no_call files) all).0
-each_of_no_call (file ∷ files) (suc k) all = each_of_no_call files k (both_true (is_of_no_call file) (list_all is_of_no_call files) all).1
+each_of_no_call (file ∷ files) zero all = (and_parts (is_of_no_call file) (list_all is_of_no_call files) all).0
+each_of_no_call (file ∷ files) (suc k) all = each_of_no_call files k (and_parts (is_of_no_call file) (list_all is_of_no_call files) all).1
 
 module _ {b : LogBeginning} (f : TimedFlight b) where
   abbrev pub ring : RingState

@@ -1,6 +1,10 @@
 -- Parts of a flight: its oldest moments.
 use Rattle.check_certificate.proofs.Words.{◌≡◌, ◌⊎◌, ℕ, ◌+◌, ◌<◌, ◌≤◌, List, [], ◌∷◌, ◌++◌, length, refl, sym, ap, ◌∙◌, arith, inl, inr}
 use Rattle.check_certificate.proofs.Words.{append_assoc, length-append, Moment, IsOlderPart, Access, Accesses, IsAccessAt, FlightSetting, IsFlight}
+use Rattle.check_certificate.proofs.Words.{Some, Option, Identity, IsPut, Puts, Allocates, Looks, Clears, Takes, FindsFull, cases_Bool, slice_get, zero}
+use Rattle.check_certificate.proofs.Words.{suc, ⊎_elim}
+use Rattle.fx_order.proofs.Apart.{file_Decides, same_file}
+use Rattle.fx_order.proofs.Words.{false≢true}
 
 pub whole : (flight : List Moment) → IsOlderPart flight flight
 whole flight = ([], refl)
@@ -38,6 +42,31 @@ part_is_flight s flight part (later, is) h = drop_later later (subst_is is h)
     drop_later : (later : List Moment) → IsFlight s (later ++ part) → IsFlight s part
     drop_later [] given = given
     drop_later (m ∷ later) given = drop_later later given.0
+
+-- a list with an element isn't empty
+pub none_of : {X : Type 0} (front : List X) (x : X) (rest : List X) → [] ≡ front ++ x ∷ rest → ⊥
+none_of front x rest is = let long = ap length is in let more = length-append front (x ∷ rest) in omega arith
+
+-- the elements of a list keep their numbers before other ones
+pub get_front : {X : Type 0} (xs ys : List X) (k : ℕ) (x : X) → slice_get xs k ≡ Some x → slice_get (xs ++ ys) k ≡ Some x
+get_front [] ys k x is = absurd (cc)
+get_front (y ∷ xs) ys zero x is = is
+get_front (y ∷ xs) ys (suc k) x is = get_front xs ys k x is
+
+-- two files are one, or they aren't
+pub same_or_not : (a b : Identity) → (a ≡ b) ⊎ (a ≡ b → ⊥)
+same_or_not a b = ⊎_elim (λ yes. inl ((file_Decides a b).0 yes)) (λ no. inr (λ same. false≢true (sym no ∙ (file_Decides a b).1 same)))
+    (cases_Bool (same_file a b))
+
+-- an access that installs a file is of one of two kinds
+pub by_put : (slot : ℕ) (file : Identity) (P : Access → Type 0) → ((removed : Option Identity) → P (Puts slot file removed))
+    → P (Allocates slot file) → (a : Access) → IsPut a slot file → P a
+by_put slot file P puts allocates (Puts own f removed) is = rw (is.0, is.1) (puts removed)
+by_put slot file P puts allocates (Allocates own f) is = rw (is.0, is.1) allocates
+by_put slot file P puts allocates (Looks own found) is = absurd is
+by_put slot file P puts allocates (Clears own removed) is = absurd is
+by_put slot file P puts allocates (Takes own removed) is = absurd is
+by_put slot file P puts allocates FindsFull is = absurd is
 
 pub access_of_part : {flight part : List Moment} (id : ℕ) (a : Access) (time : ℕ) → IsOlderPart part flight → IsAccessAt part id a time
     → IsAccessAt flight id a time

@@ -11,7 +11,7 @@ use Rattle.check_certificate.proofs.Leaving.{there_after}
 use Rattle.check_certificate.proofs.Life.{put_here}
 use Rattle.check_certificate.proofs.Marks.{no_look as installs_not}
 use Rattle.check_certificate.proofs.Orders.{IsHere, call_before, flies, here, new_file, older, said, table}
-use Rattle.check_certificate.proofs.Parts.{access_of_part, one_more, part_cases, part_length, part_of_part, shorter, whole}
+use Rattle.check_certificate.proofs.Parts.{access_of_part, none_of, one_more, part_cases, part_length, part_of_part, shorter, whole}
 use Rattle.check_certificate.specs.Absent.{IsInEach, MayInstall, is_negative}
 use Rattle.check_certificate.specs.Evidence.{IsAccessMade, IsEventAt}
 use Rattle.check_certificate.specs.Forced.{IsForced, IsOfCall, TimedFlight}
@@ -98,9 +98,6 @@ takes_it t (Allocates own new) slot file may was gone =
 takes_it t FindsFull slot file may was gone = absurd (gone was)
 
 -- A member that failed takes no file.
-
-none_of : {X : Type 0} (front : List X) (x : X) (rest : List X) → [] ≡ front ++ x ∷ rest → ⊥
-none_of front x rest is = let long = ap length is in let more = length-append front (x ∷ rest) in omega arith
 
 only : (x : Access) (front : List Access) (a : Access) (rest : List Access) → x ∷ [] ≡ front ++ a ∷ rest → x ≡ a
 only x [] a rest is = cc

@@ -1,8 +1,8 @@
 //! The beginning of a log that is to be refuted, and its events.
-ghost use Rattle.std.specs.Prelude.{◌≡◌, ◌≤◌, Contains, IfSome, IsTrue, Some, length, take};
+ghost use Rattle.std.specs.Prelude.{◌≡◌, Contains, IfSome, IsTrue, Some};
 ghost use Rattle.fx_flight.specs.Events.{AllSettled, FileClosed, Freed, LookAnswered};
 ghost use Rattle.fx_flight.specs.Events.{all_happenings, happening_of};
-ghost use Rattle.check_certificate.specs.Forced.{IsOfCall, log_of_beginning};
+ghost use Rattle.check_certificate.specs.Forced.{IsOfCall};
 ghost use Rattle.check_certificate.specs.Evidence.{IsCallAt, IsEventAt};
 
 use fx_base::{Catalogue, Closed as File, Mark};
@@ -121,21 +121,5 @@ impl LogBeginning<'_> {
             Some(LogEvent::Settled) => true,
             _ => false,
         }
-    }
-
-    /// Checks whether a file was closed before a position.
-    pub(crate) fn closed_before(&self, at: usize, file: File) -> bool
-        requires { at ≤ length self.now.events.now }
-        ensures { Contains (take at (log_of_beginning self.now)) (FileClosed file) → IsTrue result }
-    {
-        was_closed(&self.events[..at], file)
-    }
-
-    /// Checks whether the hold of a look began to end before a position.
-    pub(crate) fn freed_before(&self, at: usize, look: u32) -> bool
-        requires { at ≤ length self.now.events.now }
-        ensures { Contains (take at (log_of_beginning self.now)) (Freed look) → IsTrue result }
-    {
-        was_freed(&self.events[..at], look)
     }
 }

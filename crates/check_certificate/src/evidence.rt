@@ -17,7 +17,7 @@ use fx_flight::LogEvent;
 
 /// The evidence in an answer for one access of its member.
 #[derive(Clone, Copy, Debug)]
-pub(crate) enum Evidence {
+pub enum Evidence {
     /// The access takes a file from the slot.
     Removes(u32),
     /// The access finds some file at the slot.
@@ -37,7 +37,7 @@ pub(crate) enum Evidence {
 impl Evidence {
     /// Returns the slot of the access, and the file that it leaves there, or `None` if the slot is
     /// empty afterwards. Returns `None` if the answer doesn't say so.
-    pub(crate) fn left(self) -> Option<(u32, Option<File>)>
+    pub fn left(self) -> Option<(u32, Option<File>)>
         ensures { result ≡ left_at self }
     {
         match self {
@@ -51,8 +51,8 @@ impl Evidence {
     }
 }
 
-// Returns the evidence in the answer of a request for the access that it intended.
-fn evidence_of(intent: Intent, c: &Completion) -> Evidence
+/// Returns the evidence in the answer of a request for the access that it intended.
+pub fn evidence_of(intent: Intent, c: &Completion) -> Evidence
     ensures { result ≡ evidence_of intent c.now.res }
 {
     match intent {

@@ -23,4 +23,5 @@ mod walk;
 pub use answers::is_impossible;
 pub use beginning::{was_closed, was_freed};
 pub use certificate::{Holding, OnlyFile, Point, PointOrder, Step};
+pub use evidence::{Evidence, evidence_of};
 pub use refuted::is_refuted;

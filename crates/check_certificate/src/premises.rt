@@ -4,7 +4,7 @@ ghost use Rattle.check_certificate.specs.Forced.{IsForced, IsForcedBy, IsForcedB
 ghost use Rattle.check_certificate.specs.declared.certificate.Point.TheVariants.{Event, Gone, Put};
 ghost use Rattle.check_certificate.specs.declared.certificate.Point.TheVariants.{Access};
 
-use crate::beginning::{LogBeginning, call_of};
+use crate::beginning::{LogBeginning, call_of, was_closed, was_freed};
 use crate::certificate::{Point, PointOrder};
 use crate::evidence::Evidence;
 use crate::rules::{not_after, ordered};
@@ -166,7 +166,7 @@ impl LogBeginning<'_> {
         if settled >= self.events.len() || !self.is_settled_at(settled) {
             return None;
         }
-        if self.closed_before(settled, file) {
+        if was_closed(&self.events[..settled], file) {
             return None;
         }
         Some(ordered(Point::Event(settled), Point::Gone(file, slot)))
@@ -227,7 +227,7 @@ impl LogBeginning<'_> {
         if answer >= close || found != file || close >= self.events.len() {
             return None;
         }
-        if self.freed_before(close, look) {
+        if was_freed(&self.events[..close], look) {
             return None;
         }
         Some(ordered(Point::Event(close), Point::Event(close)))

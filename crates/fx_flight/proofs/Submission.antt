@@ -218,7 +218,7 @@ got_front [] rest k x low at = absurd (omega arith)
 got_front (y ∷ front) rest zero x low at = ap Some at
 got_front (y ∷ front) rest (suc k) x low at = got_front front rest k x (omega arith) at
 
-got_next : {X : Type 0} (front : List X) (x : X) (rest : List X) → slice_get (front ++ x ∷ rest) (length front) ≡ Some x
+pub got_next : {X : Type 0} (front : List X) (x : X) (rest : List X) → slice_get (front ++ x ∷ rest) (length front) ≡ Some x
 got_next [] x rest = refl
 got_next (y ∷ front) x rest = got_next front x rest
 

@@ -2,7 +2,8 @@ use Rattle.check_certificate.proofs.Words.{◌≡◌, ◌∙◌, arith, rules, s
 use Rattle.std.proofs.lemmas.Grind.{common_steps}
 use Rattle.check_certificate.proofs.Forcing.{closes_held}
 use Rattle.check_certificate.specs.Forced.{IsForced}
-use Rattle.fx_order.proofs.Words.{false≢true}
+use Rattle.fx_flight.specs.Events.{happening_of}
+use Rattle.fx_order.proofs.Words.{false≢true, take-map}
 use Rattle.check_certificate.proofs.beginning.LogBeginning.closes_held.Goals as goal
 
 pub returns : goal.returns
@@ -10,4 +11,4 @@ returns c =
     let same : c.in_ok-look.found ≡ c.in_ok-file.file = first_of (search rules, grind (arith, common_steps)) in
     subst (IsForced c.args.self.now) (sym c.ordered.ensures)
     (closes_held c.args.self.now c.args.answer c.args.close c.in_ok-look.look c.in_ok-file.file (rw same at c.in_ok-look.ensures) c.in_ok-file.ensures
-    (omega arith) (λ inside. false≢true (sym c.if-freed_before.false ∙ c.freed_before.ensures inside)))
+    (omega arith) (λ inside. false≢true (sym c.if-was_freed.false ∙ c.was_freed.ensures (rw (take-map happening_of c.args.close c.args.self.now.events.now) at inside))))

@@ -3,7 +3,8 @@ use Rattle.std.proofs.lemmas.Grind.{common_steps}
 use Rattle.check_certificate.proofs.Forcing.{settles_forced, strict_from}
 use Rattle.check_certificate.specs.Forced.{IsForced}
 use Rattle.check_certificate.specs.declared.certificate.Point.TheVariants.{Put, Gone, Event}
-use Rattle.fx_order.proofs.Words.{false≢true}
+use Rattle.fx_flight.specs.Events.{happening_of}
+use Rattle.fx_order.proofs.Words.{false≢true, take-map}
 use Rattle.check_certificate.proofs.beginning.LogBeginning.settles.Goals as goal
 
 pub returns : goal.returns
@@ -16,6 +17,6 @@ returns c = λ known there.
     subst (IsForced c.args.self.now) c.in_ok-file.ensures there in
     subst (IsForced c.args.self.now) (sym c.ordered.ensures)
     (settles_forced c.args.self.now c.args.settled c.in_ok-_call._call c.in_ok-file.slot c.in_ok-file.file (c.is_settled_at.ensures c.if-not-is_settled_at.false)
-    c.in_ok-_call.ensures (λ inside. false≢true (sym c.if-closed_before.false ∙ c.closed_before.ensures inside))
+    c.in_ok-_call.ensures (λ inside. false≢true (sym c.if-was_closed.false ∙ c.was_closed.ensures (rw (take-map happening_of c.args.settled c.args.self.now.events.now) at inside)))
     (subst (λ f. IsForced c.args.self.now (strict_from (Put f) (Event c.args.settled))) early first)
     (subst (λ f. IsForced c.args.self.now (strict_from (Put c.in_ok-file.file) (Gone f c.in_ok-file.slot))) own placed))
