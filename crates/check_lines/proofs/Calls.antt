@@ -119,11 +119,6 @@ one_told ring head None a b is_ring all first second = first ∙ sym second
 one_told ring head (Some files) a b is_ring all (closes, has, is) second =
     is ∙ sym (closes_printed ring files closes head b is_ring all has second)
 
-pub one_line : (ring : RingState) (command : Instruction) (a b : List ℕ) → IsRing ring → Tells ring (call_of ring command) a
-    → Tells ring (call_of ring command) b → a ≡ b
-one_line ring command a b is_ring =
-    let call = call_of ring command in one_told ring (result_line call.word (pos call.res)) call.closed a b is_ring (there ring command)
-
 -- and it isn't the line of an allocation failure
 pub tail_of : (ring : RingState) (head : List ℕ) (closed : Option (List Closed)) (line : List ℕ) → YieldsClosed ring head closed line
     → (tail : List ℕ) × (line ≡ head ++ tail)
@@ -205,7 +200,9 @@ pub one_line_of : {ring : RingState} (command : Instruction) {a b : List ℕ} �
 one_line_of (SubmitsAll asked) is_ring =
     both_options (fault_of asked) (λ first second. first ∙ sym second) (λ fault first second. first ∙ sym second)
 one_line_of {ring} command {a} {b} is_ring =
-    let call = call_of ring command in either_line call.refusal call.word (Tells ring call) (one_line ring command a b is_ring)
+    let call = call_of ring command in
+    either_line call.refusal call.word (Tells ring call)
+    (one_told ring (result_line call.word (pos call.res)) call.closed a b is_ring (there ring command))
 
 -- nor is the line of a call that finds memory that of one that finds none
 

@@ -19,7 +19,7 @@ alone_or_cut [] res same = inl (refl, same ∙ append-nil (signed_decimal res))
 alone_or_cut (b ∷ got) res same = let some : 0 < length (b ∷ got) = omega arith in
     inr (some, same ∙ ap (λ (t : List ℕ). signed_decimal res ++ t) (some_got (b ∷ got) some))
 
-no_bytes : IsBytes []
+pub no_bytes : IsBytes []
 no_bytes i = omega arith
 
 -- the result alone

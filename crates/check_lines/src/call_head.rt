@@ -94,10 +94,7 @@ pub(crate) fn given(tags: &Option<Vec<u64>>) -> Option<&[u64]>
     ensures { option_map (λ given. given.now) result
         ≡ option_map (λ given. given.items) tags.now }
 {
-    match tags {
-        Some(tags) => Some(tags.as_slice()),
-        None => None,
-    }
+    tags.as_deref()
 }
 
 /// Returns the word of a call that may fail to allocate, or `None` if the call is refused, sets the
