@@ -113,11 +113,8 @@ const PLACE_BYTES: usize = 8;
 
 // Returns the sum of some numbers, or the largest number.
 fn total(numbers: &[usize]) -> usize {
-    let mut sum = 0usize;
-    for number in numbers {
-        sum = sum.saturating_add(*number);
-    }
-    sum
+    let mut numbers = numbers.iter();
+    numbers.fold(0usize, |sum, number| sum.saturating_add(*number))
 }
 
 /// The orders that are kept, the number of states that the searches of a script have met, and that
