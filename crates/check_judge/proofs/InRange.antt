@@ -12,6 +12,7 @@ use Rattle.check_judge.proofs.Words.{All-filter, AllByRecursion, completion_so, 
 use Rattle.fx_base.specs.declared.catalogue.TheConstants.{LONGEST_ENTRY}
 use Rattle.fx_base.specs.declared.errno.Errno.TheVariants.{ECANCELED, ENOENT}
 use Rattle.fx_base.specs.declared.tag_completion.TagCompletion.{TagCompletion}
+use Rattle.check_lines.proofs.CompletionTexts.{no_bytes}
 use Rattle.check_judge.proofs.StrandClaims.{possible_of_chain}
 use Rattle.check_judge.proofs.Refuting.{possible_all}
 use Rattle.check_judge.proofs.OrderFiles.{IsCounted, closed_in_range, may_close_all, short_runs}
@@ -19,10 +20,6 @@ use Rattle.check_judge.proofs.OrderFiles.{IsCounted, closed_in_range, may_close_
 -- an element of a list of which each is so
 all_got : {A : Type 0} (P : A → Type 0) (xs : List A) (i : ℕ) {x : A} → All P xs → slice_get xs i ≡ Some x → P x
 all_got P xs i {x} all is = subst P (get_or_from_slice_get xs i x x is) (All-get_or P xs i x (slice_get_within xs i x is) all)
-
-no_bytes : IsBytes []
-no_bytes zero = omega arith
-no_bytes (suc i) = omega arith
 
 taken_bytes : (n : ℕ) (xs : List ℕ) → IsBytes xs → IsBytes (take n xs)
 taken_bytes n xs fits i = elim (cases_lt i n) [

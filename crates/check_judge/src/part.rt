@@ -80,11 +80,8 @@ fn judge_slots(
     ensures { IfOk result (IsTableVerdict table.now) }
 {
     for slot in slots {
-        if *slot >= table.slots.at.len() {
-            continue;
-        }
-        let cells = [cell_of(table, *slot)];
-        let outcome = judge_part(alloc, table, &cells, limits, Reason::Slot(*slot as u32))?;
+        let cells = cells_of(alloc, table, &[*slot])?;
+        let outcome = judge_part(alloc, table, &cells, limits, reason_of(&[*slot]))?;
         if let PartVerdict::Refuted(reason) = outcome {
             return Ok(PartVerdict::Refuted(reason));
         }
@@ -148,10 +145,8 @@ fn judge_components(
 
 // Returns the limits of a first search, before slots are judged by themselves.
 fn first_limits(table: &TableRecorded<'_>, limits: Limits) -> Limits {
-    let mut states = FEW_STATES;
-    for claims in table.chains {
-        states = states.saturating_add(claims.len());
-    }
+    let sizes = table.chains.iter().map(|claims| claims.len());
+    let states = sizes.fold(FEW_STATES, |sum, size| sum.saturating_add(size));
     Limits {
         states: states.min(limits.states),
         ..limits

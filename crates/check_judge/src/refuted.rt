@@ -32,12 +32,7 @@ fn is_bringing(claim: &Claim, file: Closed) -> bool
 fn has_bringing(claims: &[Claim], file: Closed) -> bool
     ensures { IsTrue result ↔ Any (λ claim. Brings claim file) claims.now }
 {
-    for claim in claims {
-        if is_bringing(claim, file) {
-            return true;
-        }
-    }
-    false
+    claims.iter().any(|claim| is_bringing(claim, file))
 }
 
 // Checks whether a claim of one of the chains leaves this file at its slot.
@@ -130,21 +125,15 @@ fn suspects(alloc: Global, table: &TableRecorded<'_>) -> Result<Vec<usize>, NoMe
     let slots: Vec<usize> = (0..table.slots.at.len()).collect(alloc)?;
     let cells = cells_of(alloc, table, &slots)?;
     let strands = strands_of(alloc, &cells, table.chains)?;
-    dead_slots(alloc, &Steps::new(alloc, &strands, &cells)?)
-}
-
-// Returns the slots whose counts of claims differ, by the claims at each.
-fn dead_slots(alloc: Global, steps: &Steps<'_>) -> Result<Vec<usize>, NoMemory> {
-    let tallies = steps.tallies(alloc)?;
-    let start = steps.start(alloc)?;
-    let mut slots = Vec::new(alloc);
+    let steps = Steps::new(alloc, &strands, &cells)?;
+    let (tallies, start) = (steps.tallies(alloc)?, steps.start(alloc)?);
+    let mut dead = Vec::new(alloc);
     for slot in 0..tallies.len() {
-        let found = steps.file(&start, slot);
-        if tallies[slot].is_dead(found) {
-            slots.push(slot)?;
+        if tallies[slot].is_dead(steps.file(&start, slot)) {
+            dead.push(slot)?;
         }
     }
-    Ok(slots)
+    Ok(dead)
 }
 
 /// Looks for the first slot whose counts show, without a search, that the table has no order.

@@ -74,10 +74,7 @@ fn access_of(cells: &[Cell], claim: &Claim) -> Access {
     let Claim::At(slot, condition, leaves) = claim else {
         return Access::FindsFull;
     };
-    let found = match cell_at(cells, *slot) {
-        Some(resident) => Some(resident.file),
-        None => None,
-    };
+    let found = cell_at(cells, *slot).map(|resident| resident.file);
     match (condition, leaves) {
         (Condition::NothingToTake, _) => Access::Takes(*slot, None),
         (_, Leaves::Same) => Access::Looks(*slot, found),
