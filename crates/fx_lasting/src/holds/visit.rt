@@ -88,8 +88,8 @@ impl LastingTable {
         charges
     }
 
-    // Visits the pass, unless it is this one, and charges its announcement if it announces the node,
-    // in at most two steps. Returns the number of charges that it made.
+    // Visits the pass, unless it is this one, and charges its announcement if it announces the
+    // node, in at most two steps. Returns the number of charges that it made.
     fn visit(
         &self,
         seat: &mut Seat<Option<OpenFile>, View>,

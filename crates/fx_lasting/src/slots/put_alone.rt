@@ -101,8 +101,8 @@ impl LastingTable {
         pass.listed = true;
     }
 
-    // Loads the slot's word, in one step. Returns `None` if the slot is empty. A cold slot's file is
-    // to be taken, and a hot slot's node, which it returns, is to be announced.
+    // Loads the slot's word, in one step. Returns `None` if the slot is empty. A cold slot's file
+    // is to be taken, and a hot slot's node, which it returns, is to be announced.
     #[inline(always)]
     fn aim(&self, seat: &mut Seat<Option<OpenFile>, View>, slot: u32) -> Option<Option<u32>>
         requires table { seat.old.table_id ≡ self.now.table.shared.table_id }
