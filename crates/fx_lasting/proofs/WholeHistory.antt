@@ -96,10 +96,8 @@ module _ (k : Start) (s : Shared) (r : Agrees k s) where
         go _ is at = absurd (omega arith)
 
     owes : (seat : ℕ) (w : Work) (word debt : ℕ) → debt ≡ n + 1 → HoldAgrees word debt w → WorkAgrees k r.phase seat w → Uses f n w
-    owes seat (Announced m) word debt is h at = ⊎_elim (λ clean. let a = clean.1 in absurd (omega arith)) (λ full. let a = full.1 in omega arith) h
     owes seat (Guarded g m) word debt is h at = ⊎_elim (λ clean. let a = clean.1 in absurd (omega arith))
         (λ full. let same : m ≡ n = (let a = full.1 in omega arith) in same_file g (rw same at at)) h
-    owes seat (Nearing m own w) word debt is h at = ⊎_elim (λ clean. let a = clean.1 in absurd (omega arith)) (λ full. let a = full.1 in omega arith) h
     owes seat (Relieving g m own w) word debt is h at = ⊎_elim (λ clean. let a = clean.1 in absurd (omega arith))
         (λ full. let same : m ≡ n = (let a = full.1 in omega arith) in same_file g (rw same at at.0)) h
     owes seat (Retiring g m t rd e) word debt is h at = still rd.guarded h
@@ -109,9 +107,8 @@ module _ (k : Start) (s : Shared) (r : Agrees k s) where
             (λ full. let same : m ≡ n = (let a = full.1 in omega arith) in let its : HoldsAt k r.phase g m = (at.0, ap file_in at.1) in
             same_file g (rw same at its)) names
         still false unnamed = let a = unnamed.1 in absurd (omega arith)
-    owes seat (Owing m) word debt is h at = let a = h.1 in omega arith
     owes seat (Yielding g m) word debt is h at = let same : m ≡ n = (let a = h.1 in omega arith) in same_file g (rw same at at)
-    owes seat _ word debt is h at = let a = h.1 in absurd (omega arith)
+    owes seat _ word debt is h at = grind arith
 
     abbrev HasOne : Type 0
     HasOne = (seat : ℕ) × (v : View) × (get_elem? s.views seat ≡ some v) × Uses f n v.work

@@ -79,18 +79,12 @@ module _ (turn : Turn) (f : File) (n t : ℕ) (nx : Round) (m : ℕ) (works : tu
 
     -- a hold word that names the node isn't charged, and its pass owes nothing
     clean_debt : (e : Work) → HoldAgrees word (r.debt pass) e → word ≡ announced n → r.debt pass ≡ 0
-    clean_debt (Announced k) hold is = (named_clean k hold is).0
-    clean_debt (Guarded h k) hold is = (named_clean k hold is).0
-    clean_debt (Nearing k own l) hold is = (named_clean k hold is).0
-    clean_debt (Relieving h k own l) hold is = (named_clean k hold is).0
     clean_debt (Retiring h k a b c) hold is = still b.guarded hold
       where
         still : (z : Bool) → StillNames z word (r.debt pass) k → r.debt pass ≡ 0
         still true names = (named_clean k names is).0
         still false unnamed = unnamed.1
-    clean_debt (Owing k) hold is = absurd (let a = hold.0 in omega arith)
-    clean_debt (Yielding h k) hold is = absurd (let a = hold.0 in omega arith)
-    clean_debt _ hold is = hold.1
+    clean_debt _ hold is = let small = r.shape.nodes in let l = (its turn f n t nx m works).0 in grind arith
 
     -- the charged word, and the debt
     charges_name : (k : ℕ) → NamesNode word (r.debt pass) k → word ≡ announced n → NamesNode (announced n + charge) (n + 1) k

@@ -122,18 +122,12 @@ module _ {k : Start} {st : Shared} (r : Agrees k st) where
   takes_use n _ = omega arith
 
   owes_use : (n : ℕ) (word : ℕ) (d : Work) → HoldAgrees word (n + 1) d → named_by d ≡ n + 1
-  owes_use n word (Announced m) o = ⊎_elim (λ (c : (word ≡ m + 1) × (n + 1 ≡ 0)). absurd (let a = c.1 in omega arith)) (λ c. sym c.1) o
-  owes_use n word (Guarded f m) o = ⊎_elim (λ (c : (word ≡ m + 1) × (n + 1 ≡ 0)). absurd (let a = c.1 in omega arith)) (λ c. sym c.1) o
-  owes_use n word (Nearing m own l) o = ⊎_elim (λ (c : (word ≡ m + 1) × (n + 1 ≡ 0)). absurd (let a = c.1 in omega arith)) (λ c. sym c.1) o
-  owes_use n word (Relieving f m own l) o = ⊎_elim (λ (c : (word ≡ m + 1) × (n + 1 ≡ 0)). absurd (let a = c.1 in omega arith)) (λ c. sym c.1) o
   owes_use n word (Retiring f m t nx k) o = still nx.guarded o
     where
       still : (b : Bool) → StillNames b word (n + 1) m → m + 1 ≡ n + 1
       still true h = ⊎_elim (λ (c : (word ≡ m + 1) × (n + 1 ≡ 0)). absurd (let a = c.1 in omega arith)) (λ c. sym c.1) h
       still false h = absurd (let a = h.1 in omega arith)
-  owes_use n word (Owing m) o = sym o.1
-  owes_use n word (Yielding f m) o = sym o.1
-  owes_use n word _ o = absurd (let a = o.1 in omega arith)
+  owes_use n word _ o = grind arith
 
   -- a pass works with a node that isn't free, unless a slot names it
   used : (n : ℕ) → n < nodes_of k → ((s : ℕ) → r.nodes.where_is n ≢ at_slot s) → ((j : ℕ) (l : Placement) → Does st.views j (Placing n l) → 1 ≤ view_use n) → (ph : Phase) → r.phase n ≡ ph → (ph ≡ free → ⊥)

@@ -14,11 +14,7 @@ use Rattle.fx_lasting.specs.Retries.{is_at, others_at, Try, met_in, EachIsOverta
 
 acts_is_at : (slot : ℕ) (a : Action) → ActsAt slot a → is_at slot a ≡ true
 acts_is_at slot (Look s found) at = eq-eqb s slot at
-acts_is_at slot (Put s new found) at = eq-eqb s slot at
-acts_is_at slot (Clear s found) at = eq-eqb s slot at
-acts_is_at slot (Take s found) at = eq-eqb s slot at
-acts_is_at slot (Allocate s new) at = eq-eqb s slot at
-acts_is_at slot _ at = absurd at
+acts_is_at slot _ at = first_of (search eq-eqb, grind arith)
 
 module _ (slot number : ℕ) where
   abbrev counts : Event → ℕ

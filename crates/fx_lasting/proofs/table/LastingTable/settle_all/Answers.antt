@@ -34,12 +34,9 @@ loop-index-preserved c =
       same = map-set_same view_of ps c.loop-index.index p c.index_mut.result.now (c.settle.ensures.same ∙ ap view_of c.index_mut.ensures.value) ∙ i.same;
     }
 
-pub returns-clause-ready : goal.returns-clause-ready
-returns-clause-ready c = c.loop-index.invariant.ready
-
-pub returns-clause-unkept : goal.returns-clause-unkept
-returns-clause-unkept c = λ k p l. let i = c.loop-index.invariant in
-    i.unkept k p (omega arith) (omega (arith, l, i.count, c.loop-index-test.false, c.len-index-end.ensures))
-
-pub returns-clause-same : goal.returns-clause-same
-returns-clause-same c = c.loop-index.invariant.same
+pub returns : goal.returns
+returns c = let i = c.loop-index.invariant in record {
+  ready = i.ready;
+  unkept = λ k p l. i.unkept k p (omega arith) (omega (arith, l, i.count, c.loop-index-test.false, c.len-index-end.ensures));
+  same = i.same;
+}
