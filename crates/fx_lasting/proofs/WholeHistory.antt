@@ -1,8 +1,8 @@
 -- One history has what all passes did, and each removed file that is open has a user.
-use Rattle.fx_lasting.proofs.Words.{its_pass, Renewing, Nearing, Relieving, StillNames, contents_of, ◌≡◌, ℕ, suc, ◌+◌, ◌<◌, ◌≤◌, List, [], ◌∷◌}
+use Rattle.fx_lasting.proofs.Words.{its_pass, Renewing, Relieving, StillNames, contents_of, ◌≡◌, ℕ, suc, ◌+◌, ◌<◌, ◌≤◌, List, [], ◌∷◌}
 use Rattle.fx_lasting.proofs.Words.{length, sym, refl, ap, ◌∙◌, subst, arith, Some, None, some, get_elem?, ⊎_elim, dite, dec_le, eqb, Bool, true}
 use Rattle.fx_lasting.proofs.Words.{false, cond, at_index, found_sum, File, Agrees, WorkAgrees, HoldAgrees, HoldsAt, OwnerAgrees, Shared}
-use Rattle.fx_lasting.proofs.Words.{Start, View, Work, Phase, Announced, Counted, Guarded, Owing, Yielding, Retiring}
+use Rattle.fx_lasting.proofs.Words.{Start, View, Work, Phase, Counted, Guarded, Yielding, Retiring}
 use Rattle.fx_lasting.proofs.Words.{seated, leaving, retired, file_in, removed_in, file_if_numbered, eq-eqb, taken_of, taking}
 use Rattle.fx_lasting.proofs.Words.{owed, sum_by, bit_else, slots_of, nodes_of, state_after_all, state_at_start, node_of_number}
 use Rattle.fx_lasting.proofs.Words.{state_of, lt-ltb, ℕ_discrete, not, eqb-true, named_same, opening_is_start, numbered_anew, PassView, find_pass}

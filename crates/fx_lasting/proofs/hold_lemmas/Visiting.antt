@@ -3,7 +3,7 @@
 use Rattle.fx_lasting.proofs.Words.{Nearing, Relieving, StillNames, Bool, true, false, Round, round_at, IsToVisit, IsPassed, ◌≡◌, ◌≢◌, ℕ, ◌+◌, ◌<◌}
 use Rattle.fx_lasting.proofs.Words.{◌≤◌, List, [], set, sym, refl, ap, ◌∙◌, subst, arith, Option, none, keeps, Closed, File, HoldAgrees, GuardAgrees}
 use Rattle.fx_lasting.proofs.Words.{MayBeUncharged, slots_of, hold_word_of, owed, Phase, leaving, changed_at, changed_here, changed_else, Work}
-use Rattle.fx_lasting.proofs.Words.{Announced, Guarded, Owing, Yielding, Retiring, Visits, Charges, VisitsKeep, ChargesKeep, step, inr, ⊎_elim, dite}
+use Rattle.fx_lasting.proofs.Words.{Announced, Guarded, Retiring, Visits, Charges, VisitsKeep, ChargesKeep, step, inr, ⊎_elim, dite}
 use Rattle.fx_lasting.proofs.Words.{ℕ_discrete, eqb, one_if, announced, charge, set-get_or, exchanged, bit_here, bit_else, NamesNode, Goes, Start}
 use Rattle.fx_lasting.proofs.Words.{dec_le, Agrees, either, find_pass}
 use Rattle.fx_lasting.proofs.Counts.{owed_changed}

@@ -5,7 +5,7 @@ use Rattle.std.proofs.lemmas.Bool.{eq-eqb, ne_eqb, lt-ltb}
 use Rattle.std.proofs.lemmas.List.Sums.{sum_by-append, sum_by-cons}
 use Rattle.fx_plain.specs.History.{IsSeenBy, ◌▷◌}
 use Rattle.fx_plain.specs.declared.event.Action.{Action}
-use Rattle.fx_plain.specs.declared.event.Action.TheVariants.{Look, Put, Clear, Take, Allocate}
+use Rattle.fx_plain.specs.declared.event.Action.TheVariants.{Look}
 use Rattle.fx_plain.specs.declared.event.Event.{Event}
 use Rattle.fx_lasting.specs.slots.ByNode.{HasMet}
 use Rattle.fx_lasting.specs.Tables.{view_of, meetings}
@@ -14,7 +14,7 @@ use Rattle.fx_lasting.specs.Retries.{is_at, others_at, Try, met_in, EachIsOverta
 
 acts_is_at : (slot : ℕ) (a : Action) → ActsAt slot a → is_at slot a ≡ true
 acts_is_at slot (Look s found) at = eq-eqb s slot at
-acts_is_at slot _ at = first_of (search eq-eqb, grind arith)
+acts_is_at slot _ at = first_of (grind arith, search eq-eqb)
 
 module _ (slot number : ℕ) where
   abbrev counts : Event → ℕ
