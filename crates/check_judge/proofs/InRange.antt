@@ -1,5 +1,5 @@
 -- The lines of a report have numbers that their types have.
-use Rattle.check_judge.proofs.Words.{◌≡◌, inl, inr, ℕ, zero, suc, ◌+◌, ◌<◌, ◌≤◌, ◌^◌, pos, List, [], ◌∷◌, length, take, drop, All, refl, subst, arith}
+use Rattle.check_judge.proofs.Words.{◌≡◌, inl, inr, ℕ, suc, ◌+◌, ◌<◌, ◌≤◌, ◌^◌, pos, List, [], ◌∷◌, length, take, drop, All, refl, subst, arith}
 use Rattle.check_judge.proofs.Words.{Option, Some, None, slice_get, get_or_from_slice_get, slice_get_within, All-append, All-cons, All-get_or}
 use Rattle.check_judge.proofs.Words.{All-head, All-nil, All-tail, FileEntry, Errno, Completed, completed, next_member, canceled, first_member, severs}
 use Rattle.check_judge.proofs.Words.{Asked, Operation, Place, accesses_of, accesses_of_chain, Access, ChainAccess, IsRequestDone, IsChainDone}
