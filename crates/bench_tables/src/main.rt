@@ -163,13 +163,10 @@ fn try_table<S: Subject, R: Wait + Print>(
 // fails.
 fn try_tables<R: Wait + Print>(rt: &R, alloc: Global) -> Option<()> {
     let catalogue = &one_entry(alloc)?;
-    let tried = try_table::<Shared<CountedTable, Chains>, R>(
-        rt, alloc, catalogue, "counted",
-    ).is_some()
-        && try_table::<Shared<LastingTable, Lasts>, R>(rt, alloc, catalogue, "lasting").is_some()
-        && try_table::<Shared<BatonTable, Chains>, R>(rt, alloc, catalogue, "baton").is_some()
-        && try_table::<Locked, R>(rt, alloc, catalogue, "mutex").is_some();
-    tried.then_some(())
+    try_table::<Shared<CountedTable, Chains>, R>(rt, alloc, catalogue, "counted")?;
+    try_table::<Shared<LastingTable, Lasts>, R>(rt, alloc, catalogue, "lasting")?;
+    try_table::<Shared<BatonTable, Chains>, R>(rt, alloc, catalogue, "baton")?;
+    try_table::<Locked, R>(rt, alloc, catalogue, "mutex")
 }
 
 // Returns the first 64 bytes of standard input as a text.
