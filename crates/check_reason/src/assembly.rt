@@ -32,158 +32,92 @@ struct Assembly {
     numbers: Vec<usize>,
 }
 
-// Returns a step with the numbers of its premises.
-fn with_premises(step: Step, first: usize, second: usize) -> Step {
+// Sets the numbers of a step's premises.
+fn set_premises(step: &mut Step, first: usize, second: usize) {
     match step {
-        Step::Settles { settled, .. } => Step::Settles {
-            settled,
-            installed: first,
-            placed: second,
-        },
-        Step::Empties {
-            call,
-            answer,
-            access,
+        Step::Settles {
+            installed,
+            placed,
             ..
-        } => Step::Empties {
-            call,
-            answer,
-            access,
-            installed: first,
-        },
-        Step::Precedes {
-            call,
-            answer,
-            access,
-            ..
-        } => Step::Precedes {
-            call,
-            answer,
-            access,
-            there: first,
-        },
-        Step::Displaces { .. } => Step::Displaces {
-            installed: first,
-            placed: second,
-        },
-        Step::Differs { call, other, .. } => Step::Differs {
-            call,
-            other,
-            order: first,
-        },
-        Step::Misses { slot, .. } => Step::Misses {
-            slot,
-            installed: first,
-        },
-        Step::Lands { slot, .. } => Step::Lands {
-            slot,
-            installed: first,
-        },
-        Step::Stays { until, .. } => Step::Stays {
-            until,
-            there: first,
-        },
-        Step::Takes { taker, .. } => Step::Takes {
-            taker,
-            there: first,
-            gone: second,
-        },
-        Step::TakenBy { taker, .. } => Step::TakenBy {
-            taker,
-            there: first,
-            gone: second,
-        },
-        Step::Outlives { .. } => Step::Outlives {
-            there: first,
-            placed: second,
-        },
-        _ => step,
+        } => (*installed, *placed) = (first, second),
+        Step::Displaces { installed, placed } => (*installed, *placed) = (first, second),
+        Step::Takes { there, gone, .. } => (*there, *gone) = (first, second),
+        Step::TakenBy { there, gone, .. } => (*there, *gone) = (first, second),
+        Step::Outlives { there, placed } => (*there, *placed) = (first, second),
+        Step::Empties { installed, .. } => *installed = first,
+        Step::Misses { installed, .. } => *installed = first,
+        Step::Lands { installed, .. } => *installed = first,
+        Step::Precedes { there, .. } => *there = first,
+        Step::Stays { there, .. } => *there = first,
+        Step::Differs { order, .. } => *order = first,
+        _ => {}
     }
 }
 
 // Returns the positions of two events that an edge puts in order.
-fn events_of(graph: &Graph, edge: usize) -> Option<(usize, usize)> {
-    match graph.edges.get(edge)?.step {
+fn events_of(edge: &Edge) -> Option<(usize, usize)> {
+    match edge.step {
         Step::Events { earlier, later } => Some((earlier, later)),
         _ => None,
     }
 }
 
-// Returns the path of a premise among the edges before one, which are then needed.
-fn path_of(
-    alloc: Global,
-    graph: &Graph,
-    premise: Option<Pair>,
-    below: usize,
-    is_needed: &mut [bool],
-) -> Result<Vec<usize>, NoMemory> {
-    let Some(order) = premise else {
-        return Ok(Vec::new(alloc));
-    };
-    let path = graph.path(alloc, order, below)?;
-    for edge in &path {
-        if let Some(own) = is_needed.get_mut(*edge) {
-            *own = true;
+impl Needs {
+    // Checks whether an edge is needed.
+    fn has(&self, edge: usize) -> bool {
+        self.is_needed.get(edge).copied().unwrap_or(false)
+    }
+
+    // Notes that the edges of a path are needed.
+    fn mark(&mut self, path: &[usize]) {
+        for edge in path {
+            if let Some(own) = self.is_needed.get_mut(*edge) {
+                *own = true;
+            }
         }
     }
-    Ok(path)
-}
 
-impl Needs {
-    // Notes the paths of the further premises of an edge.
-    fn take_list(
+    // Returns the path of a premise among the edges before one, which are then needed.
+    fn path_of(
         &mut self,
         alloc: Global,
         graph: &Graph,
-        list: usize,
-        edge: usize,
-    ) -> Result<(), NoMemory> {
-        let Some(pairs) = graph.lists.get(list) else {
-            return Ok(());
-        };
-        let mut paths = Vec::new(alloc);
-        for pair in pairs {
-            paths.push(path_of(alloc, graph, Some(*pair), edge, &mut self.is_needed)?)?;
+        premise: Option<Pair>,
+        below: usize,
+    ) -> Result<Vec<usize>, NoMemory> {
+        let mut path = Vec::new(alloc);
+        if let Some(order) = premise {
+            path = graph.path(alloc, order, below)?;
+            self.mark(&path);
         }
-        if let Some(own) = self.lists.get_mut(list) {
-            *own = paths;
-        }
-        Ok(())
+        Ok(path)
     }
 }
 
 // Returns what is needed of the edges for those of a path.
 fn needs_of(alloc: Global, graph: &Graph, path: &[usize]) -> Result<Needs, NoMemory> {
-    let count = graph.edges.len();
     let mut needs = Needs {
-        is_needed: vec![in alloc; false; count]?,
+        is_needed: vec![in alloc; false; graph.edges.len()]?,
         paths: Vec::new(alloc),
-        lists: Vec::new(alloc),
+        lists: graph.lists.iter().map(|_| Vec::new(alloc)).collect(alloc)?,
     };
-    for _ in 0..graph.lists.len() {
-        needs.lists.push(Vec::new(alloc))?;
-    }
-    for edge in path {
-        if let Some(own) = needs.is_needed.get_mut(*edge) {
-            *own = true;
+    needs.mark(path);
+    for (number, edge) in graph.edges.iter().enumerate().rev() {
+        let mut paths = (Vec::new(alloc), Vec::new(alloc));
+        if needs.has(number) {
+            paths.0 = needs.path_of(alloc, graph, edge.premises.0, number)?;
+            paths.1 = needs.path_of(alloc, graph, edge.premises.1, number)?;
+            if let Some(pairs) = graph.lists.get(edge.absent) {
+                let mut further = Vec::new(alloc);
+                for pair in pairs {
+                    further.push(needs.path_of(alloc, graph, Some(*pair), number)?)?;
+                }
+                if let Some(own) = needs.lists.get_mut(edge.absent) {
+                    *own = further;
+                }
+            }
         }
-    }
-    for back in 0..count {
-        let edge = count.saturating_sub(back).saturating_sub(1);
-        let Some(found) = graph.edges.get(edge).copied() else {
-            break;
-        };
-        let (mut first, mut second) = found.premises;
-        if !needs.is_needed.get(edge).copied().unwrap_or(false) {
-            first = None;
-            second = None;
-        }
-        let first = path_of(alloc, graph, first, edge, &mut needs.is_needed)?;
-        let second = path_of(alloc, graph, second, edge, &mut needs.is_needed)?;
-        needs.paths.push((first, second))?;
-        if needs.is_needed.get(edge).copied().unwrap_or(false) {
-            needs.take_list(alloc, graph, found.absent, edge)?;
-        }
+        needs.paths.push(paths)?;
     }
     needs.paths.reverse();
     Ok(needs)
@@ -242,12 +176,8 @@ impl Assembly {
         let mut last = usize::MAX;
         let mut run = None;
         for edge in path {
-            if let Some(events) = events_of(graph, *edge) {
-                let first = match run {
-                    Some((first, _)) => first,
-                    None => events.0,
-                };
-                run = Some((first, events.1));
+            if let Some(events) = graph.edges.get(*edge).and_then(events_of) {
+                run = Some((run.unwrap_or(events).0, events.1));
                 continue;
             }
             if let Some(events) = run {
@@ -273,7 +203,8 @@ impl Assembly {
     ) -> Result<usize, NoMemory> {
         let first = self.join(graph, first)?;
         let second = self.join(graph, second)?;
-        let step = with_premises(edge.step, first, second);
+        let mut step = edge.step;
+        set_premises(&mut step, first, second);
         let order = order_of(graph, edge.pair);
         self.steps.push(ReasonStep { step, order })?;
         Ok(self.steps.len().saturating_sub(1))
@@ -299,8 +230,8 @@ pub(crate) fn certificate_of(
     };
     for (number, edge) in graph.edges.iter().enumerate() {
         let mut own = usize::MAX;
-        if events_of(graph, number).is_none()
-            && needs.is_needed.get(number).copied().unwrap_or(false)
+        if events_of(edge).is_none()
+            && needs.has(number)
             && let Some((first, second)) = needs.paths.get(number)
         {
             if let Some(list) = needs.lists.get(edge.absent) {

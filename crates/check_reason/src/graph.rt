@@ -43,41 +43,37 @@ pub(crate) struct Graph {
     // The last edge from each point, and for each edge the one before it from the same point.
     last: Vec<usize>,
     before: Vec<usize>,
-    // For each point, a bit for each point that doesn't come before it, and for each that comes
+    // For each point, a bit for each point that doesn't come before it, and one for each that comes
     // after it.
     words: usize,
-    loose: Vec<u64>,
-    strict: Vec<u64>,
+    bits: Vec<(u64, u64)>,
 }
 
-/// The paths from a point: for each state the edge that leads to it, and the state before it, and
-/// the cost of the path; and the states from which edges are to be followed.
+/// The paths from a point: for each state the cost of the path, and the edge that leads to it with
+/// the state before it; and the states from which edges are to be followed.
 #[derive(Drop)]
 struct Paths {
-    by: Vec<usize>,
-    cost: Vec<usize>,
+    reached: Vec<(usize, usize)>,
     now: Vec<usize>,
     next: Vec<usize>,
 }
 
 impl Paths {
+    // Returns the edge that leads to a state, with the state before it, or `usize::MAX`.
+    fn by(&self, state: usize) -> usize {
+        self.reached.get(state).map_or(usize::MAX, |it| it.1)
+    }
+
     // Notes a path to a state, if it costs less than the known one. A free edge costs nothing.
     fn reach(&mut self, to: usize, by: usize, cost: usize, is_free: bool) -> Result<(), NoMemory> {
-        let cost = if is_free {
-            cost
-        } else {
-            cost.saturating_add(1)
-        };
-        let Some(known) = self.cost.get_mut(to) else {
+        let cost = cost.saturating_add(usize::from(!is_free));
+        let Some(known) = self.reached.get_mut(to) else {
             return Ok(());
         };
-        if *known <= cost {
+        if known.0 <= cost {
             return Ok(());
         }
-        *known = cost;
-        if let Some(own) = self.by.get_mut(to) {
-            *own = by;
-        }
+        *known = (cost, by);
         if is_free {
             self.now.push(to)?;
         } else {
@@ -111,8 +107,7 @@ impl Graph {
             last: Vec::new(alloc),
             before: Vec::new(alloc),
             words: 0,
-            loose: Vec::new(alloc),
-            strict: Vec::new(alloc),
+            bits: Vec::new(alloc),
         }
     }
 
@@ -127,8 +122,7 @@ impl Graph {
     pub(crate) fn begin(&mut self, alloc: Global) -> Result<(), NoMemory> {
         self.words = self.points.len() / BITS + 1;
         let size = self.words.saturating_mul(self.points.len());
-        self.loose = vec![in alloc; 0; size]?;
-        self.strict = vec![in alloc; 0; size]?;
+        self.bits = vec![in alloc; (0, 0); size]?;
         Ok(())
     }
 
@@ -137,40 +131,32 @@ impl Graph {
         point.saturating_mul(self.words).saturating_add(word)
     }
 
-    // Checks whether a point's bit of another one is set.
-    fn has(&self, bits: &[u64], from: usize, to: usize) -> bool {
-        match bits.get(self.place(from, to / BITS)) {
-            Some(word) => *word & bit_of(to) != 0,
-            None => false,
-        }
-    }
-
     /// Checks whether the orders say so of two points.
     pub(crate) fn holds(&self, pair: Pair) -> bool {
-        if pair.strict {
-            self.has(&self.strict, pair.from, pair.to)
-        } else {
-            self.has(&self.loose, pair.from, pair.to)
-        }
+        let place = self.place(pair.from, pair.to / BITS);
+        let (loose, after) = self.bits.get(place).copied().unwrap_or((0, 0));
+        bit_of(pair.to) & (if pair.strict { after } else { loose }) != 0
+    }
+
+    /// Returns the first of these orders that is known.
+    pub(crate) fn known_of(&self, pairs: [Pair; 2]) -> Option<Pair> {
+        pairs.into_iter().find(|pair| self.holds(*pair))
     }
 
     // Sets the bits of all points from `to` on in those of a point at or before `from`.
     fn extend(&mut self, point: usize, to: usize, strict: bool) {
         for word in 0..self.words {
             let (own, other) = (self.place(point, word), self.place(to, word));
-            let mut loose = self.loose.get(other).copied().unwrap_or(0);
-            let mut after = self.strict.get(other).copied().unwrap_or(0);
+            let (mut loose, mut after) = self.bits.get(other).copied().unwrap_or((0, 0));
             if to / BITS == word {
                 loose |= bit_of(to);
             }
             if strict {
                 after = loose;
             }
-            if let Some(bits) = self.loose.get_mut(own) {
-                *bits |= loose;
-            }
-            if let Some(bits) = self.strict.get_mut(own) {
-                *bits |= after;
+            if let Some(bits) = self.bits.get_mut(own) {
+                bits.0 |= loose;
+                bits.1 |= after;
             }
         }
     }
@@ -214,6 +200,34 @@ impl Graph {
         })
     }
 
+    /// Adds an order by a rule, unless it is known. Returns whether it was added.
+    pub(crate) fn add_new(&mut self, edge: Edge) -> Result<bool, NoMemory> {
+        if self.loops.is_some() || self.holds(edge.pair) {
+            return Ok(false);
+        }
+        self.add(edge)?;
+        Ok(true)
+    }
+
+    /// Adds an order by a rule with premises, if they hold and the order isn't known.
+    pub(crate) fn add_by(
+        &mut self,
+        pair: Pair,
+        step: Step,
+        first: Pair,
+        second: Option<Pair>,
+    ) -> Result<bool, NoMemory> {
+        if !self.holds(first) || matches!(second, Some(second) if !self.holds(second)) {
+            return Ok(false);
+        }
+        self.add_new(Edge {
+            pair,
+            step,
+            premises: (Some(first), second),
+            absent: usize::MAX,
+        })
+    }
+
     /// Returns a list of edges before the one with number `below` by which two points are in order.
     /// Of all such lists it has the fewest edges, not counting those from an event to the next one.
     pub(crate) fn path(
@@ -225,8 +239,7 @@ impl Graph {
         // A state is a point, and whether a strict edge led there.
         let count = self.points.len().saturating_mul(2);
         let mut paths = Paths {
-            by: vec![in alloc; usize::MAX; count]?,
-            cost: vec![in alloc; usize::MAX; count]?,
+            reached: vec![in alloc; (usize::MAX, usize::MAX); count]?,
             now: Vec::new(alloc),
             next: Vec::new(alloc),
         };
@@ -243,7 +256,7 @@ impl Graph {
             }
             paths.now.append(&mut paths.next)?;
         }
-        self.walk_back(alloc, order, &paths.by)
+        self.walk_back(alloc, order, &paths)
     }
 
     // Follows the edges from a state, to which a path of this cost leads.
@@ -261,11 +274,7 @@ impl Graph {
             };
             if edge < below {
                 let strict = found.pair.strict || state % 2 == 1;
-                let to = found
-                    .pair
-                    .to
-                    .saturating_mul(2)
-                    .saturating_add(strict as usize);
+                let to = found.pair.to.saturating_mul(2) | usize::from(strict);
                 let by = edge.saturating_mul(2).saturating_add(state % 2);
                 let is_free = matches!(found.step, Step::Events { .. });
                 paths.reach(to, by, cost, is_free)?;
@@ -276,15 +285,15 @@ impl Graph {
     }
 
     // Returns the edges that lead to a point, by the edge that leads to each state.
-    fn walk_back(&self, alloc: Global, order: Pair, by: &[usize]) -> Result<Vec<usize>, NoMemory> {
+    fn walk_back(&self, alloc: Global, order: Pair, paths: &Paths) -> Result<Vec<usize>, NoMemory> {
         let mut path = Vec::new(alloc);
         let end = order.to.saturating_mul(2);
         let mut state = end.saturating_add(1);
-        if !order.strict && by.get(end).copied().unwrap_or(usize::MAX) != usize::MAX {
+        if !order.strict && paths.by(end) != usize::MAX {
             state = end;
         }
-        for _ in 0..by.len() {
-            let edge = by.get(state).copied().unwrap_or(usize::MAX);
+        for _ in 0..paths.reached.len() {
+            let edge = paths.by(state);
             let Some(found) = self.edges.get(edge / 2) else {
                 break;
             };

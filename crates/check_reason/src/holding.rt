@@ -3,9 +3,9 @@
 use crate::graph::{Edge, Pair, in_order};
 use crate::problem::{AccessPoint, FilePoints, Problem};
 use crate::reading::Reading;
-use crate::shown::{Shown, ShownAccess, left_by};
+use crate::shown::ShownAccess;
 use crate::window::{MOST_SLOTS, Window};
-use check_certificate::{Holding, OnlyFile, Step};
+use check_certificate::{Evidence, Holding, OnlyFile, Step};
 use fx_base::{Closed as File, NoMemory};
 
 // The number of events before a call in which an access is looked for that leaves its slot.
@@ -15,10 +15,7 @@ const SINCE: usize = 4_096;
 // answered before a call.
 fn since(log: &Reading<'_>, slot: u32, before: usize) -> Option<ShownAccess> {
     let mut latest: Option<ShownAccess> = None;
-    for back in 0..SINCE {
-        let Some(at) = before.checked_sub(back + 1) else {
-            break;
-        };
+    for at in (before.saturating_sub(SINCE)..before).rev() {
         // an access that was answered before a call has an earlier call
         if matches!(latest, Some(last) if at < last.call) {
             break;
@@ -27,7 +24,7 @@ fn since(log: &Reading<'_>, slot: u32, before: usize) -> Option<ShownAccess> {
             let Some(shown) = log.shown_at(at, access) else {
                 continue;
             };
-            let is_left = matches!(left_by(shown.shown), Some((own, _)) if own == slot);
+            let is_left = matches!(shown.shown.left(), Some((own, _)) if own == slot);
             if is_left && !matches!(latest, Some(last) if last.call > shown.call) {
                 latest = Some(shown);
             }
@@ -40,7 +37,7 @@ fn since(log: &Reading<'_>, slot: u32, before: usize) -> Option<ShownAccess> {
 fn is_replaced(install: Option<ShownAccess>, file: File, since: Option<ShownAccess>) -> bool {
     if let Some(install) = install
         && let Some(since) = since
-        && let Some((_, left)) = left_by(since.shown)
+        && let Some((_, left)) = since.shown.left()
     {
         return install.answer < since.call && left != Some(file);
     }
@@ -57,20 +54,18 @@ impl Problem {
         let mut absent = Vec::new(log.alloc);
         let mut holder: Option<FilePoints> = None;
         for known in &window.files {
-            let is_here = match known.slot {
-                Some(own) => own == slot,
-                None => true,
-            };
-            if known.call > answer || !is_here {
-                continue;
-            }
-            if is_replaced(known.install, known.file, last) {
+            let is_here = known.call <= answer && known.slot.unwrap_or(slot) == slot;
+            if !is_here || is_replaced(known.install, known.file, last) {
                 continue;
             }
             let Some(own) = self.points_of(known.file) else {
                 return Ok(false);
             };
-            if let Some(pair) = self.absence(z, &own) {
+            let orders = [
+                in_order(z.point, own.put, false),
+                in_order(own.gone, z.point, true),
+            ];
+            if let Some(pair) = self.graph.known_of(orders) {
                 absent.push(pair)?;
                 continue;
             }
@@ -86,10 +81,7 @@ impl Problem {
             answer,
             access,
             slot,
-            since: match last {
-                Some(it) => (it.call, it.answer, it.access),
-                None => (0, 0, 0),
-            },
+            since: last.map_or((0, 0, 0), |it| (it.call, it.answer, it.access)),
             found: OnlyFile::Nothing,
         };
         let Some(own) = holder else {
@@ -109,7 +101,7 @@ impl Problem {
         holding: Holding,
         absent: usize,
     ) -> Result<bool, NoMemory> {
-        self.add_new(Edge {
+        self.graph.add_new(Edge {
             pair,
             step: Step::Holds(holding),
             premises: (None, None),
@@ -117,47 +109,21 @@ impl Problem {
         })
     }
 
-    // Applies the rule of accesses of different calls.
-    fn differ(&mut self, x: &AccessPoint, y: &AccessPoint) -> Result<bool, NoMemory> {
-        let loose = in_order(x.point, y.point, false);
-        let new = in_order(x.point, y.point, true);
-        if x.shown.call == y.shown.call {
-            return Ok(false);
-        }
-        let step = Step::Differs {
-            call: x.shown.call,
-            other: y.shown.call,
-            order: 0,
-        };
-        self.add_by(new, step, loose, None)
-    }
-
     /// Applies the rule of accesses of different calls to all. Returns whether an order was added.
     pub(crate) fn differ_all(&mut self) -> Result<bool, NoMemory> {
         let mut is_new = false;
-        for i in 0..self.accesses.len() {
-            for j in 0..self.accesses.len() {
-                if let Some(x) = self.accesses.get(i).copied()
-                    && let Some(y) = self.accesses.get(j).copied()
-                {
-                    is_new |= self.differ(&x, &y)?;
+        for x in &self.accesses {
+            for y in &self.accesses {
+                let (call, other, order) = (x.shown.call, y.shown.call, 0);
+                if call != other {
+                    let step = Step::Differs { call, other, order };
+                    let loose = in_order(x.point, y.point, false);
+                    let new = in_order(x.point, y.point, true);
+                    is_new |= self.graph.add_by(new, step, loose, None)?;
                 }
             }
         }
         Ok(is_new)
-    }
-
-    // Returns the order by which a file isn't at a slot just before an access.
-    fn absence(&self, z: &AccessPoint, own: &FilePoints) -> Option<Pair> {
-        let later = in_order(z.point, own.put, false);
-        let gone = in_order(own.gone, z.point, true);
-        if self.graph.holds(later) {
-            Some(later)
-        } else if self.graph.holds(gone) {
-            Some(gone)
-        } else {
-            None
-        }
     }
 
     /// Applies the rule of accesses that find a file to each of them. Returns whether an order was
@@ -169,8 +135,8 @@ impl Problem {
                 break;
             };
             let slots = match z.shown.shown {
-                Shown::Takes(slot) | Shown::Reads(slot) => slot..slot.saturating_add(1),
-                Shown::Full if window.log.size <= MOST_SLOTS => 0..window.log.size,
+                Evidence::Removes(slot) | Evidence::Sees(slot) => slot..slot.saturating_add(1),
+                Evidence::Full if window.log.size <= MOST_SLOTS => 0..window.log.size,
                 _ => 0..0,
             };
             for slot in slots {

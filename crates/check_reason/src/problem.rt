@@ -1,10 +1,10 @@
 //! The orders of a window of a log: those that its events show, and then those that the rules of
 //! certificates add, until a point comes before itself.
 
-use crate::graph::{Edge, Graph, Pair, in_order};
-use crate::shown::{Shown, ShownAccess, left_by};
+use crate::graph::{Graph, in_order};
+use crate::shown::ShownAccess;
 use crate::window::{Window, WindowFile};
-use check_certificate::{Point, Step};
+use check_certificate::{Evidence, Point, Step};
 use fx_base::{Closed as File, NoMemory};
 use fx_flight::LogEvent;
 
@@ -40,24 +40,6 @@ pub(crate) struct Problem {
     pub(crate) files: Vec<FilePoints>,
 }
 
-// Returns the step that says that a call comes before an access.
-fn begins(shown: &ShownAccess) -> Step {
-    Step::Begins {
-        call: shown.call,
-        answer: shown.answer,
-        access: shown.access,
-    }
-}
-
-// Returns the step that says that an access comes before its answer.
-fn ends(shown: &ShownAccess) -> Step {
-    Step::Ends {
-        call: shown.call,
-        answer: shown.answer,
-        access: shown.access,
-    }
-}
-
 impl Problem {
     /// Returns the orders that the events of a window show.
     pub(crate) fn of(window: &Window<'_>) -> Result<Problem, NoMemory> {
@@ -86,13 +68,10 @@ impl Problem {
         for at in &window.positions {
             self.graph.add_point(Point::Event(*at))?;
         }
-        for shown in &window.accesses {
+        for shown in window.accesses.iter().copied() {
             let own = Point::Access(shown.answer, shown.access);
             let point = self.graph.add_point(own)?;
-            self.accesses.push(AccessPoint {
-                shown: *shown,
-                point,
-            })?;
+            self.accesses.push(AccessPoint { shown, point })?;
         }
         for known in &window.files {
             let file = known.file;
@@ -127,14 +106,24 @@ impl Problem {
     // Adds the orders of an access: with its call, its answer, and the file that it finds.
     fn add_access(&mut self, window: &Window<'_>, access: &AccessPoint) -> Result<(), NoMemory> {
         let (shown, point) = (access.shown, access.point);
-        let (call, answer) = (shown.call, shown.answer);
+        let (call, answer, access) = (shown.call, shown.answer, shown.access);
+        let begins = Step::Begins {
+            call,
+            answer,
+            access,
+        };
         if let Ok(event) = window.positions.binary_search(&call) {
-            self.graph.add_known(event, point, begins(&shown))?;
+            self.graph.add_known(event, point, begins)?;
         }
+        let ends = Step::Ends {
+            call,
+            answer,
+            access,
+        };
         if let Ok(event) = window.positions.binary_search(&answer) {
-            self.graph.add_known(point, event, ends(&shown))?;
+            self.graph.add_known(point, event, ends)?;
         }
-        if let Shown::Finds(slot, file) = shown.shown
+        if let Evidence::Finds(slot, file) = shown.shown
             && let Some(own) = self.points_of(file)
         {
             self.graph
@@ -164,7 +153,21 @@ impl Problem {
                 .add_known(event, own.put, Step::Calls { call, file })?;
         }
         if let Some(shown) = known.install {
-            self.add_install(window, &shown, &own)?;
+            let (call, answer, access) = (shown.call, shown.answer, shown.access);
+            let places = Step::Places {
+                call,
+                answer,
+                access,
+            };
+            self.graph.add_known(own.put, own.gone, places)?;
+            let installs = Step::Installs {
+                call,
+                answer,
+                access,
+            };
+            if let Ok(event) = window.positions.binary_search(&answer) {
+                self.graph.add_known(own.put, event, installs)?;
+            }
         }
         if let Some(close) = known.close
             && let Ok(event) = window.positions.binary_search(&close)
@@ -177,63 +180,12 @@ impl Problem {
         }
         Ok(())
     }
+}
 
-    // Adds the orders of an access that installs a file.
-    fn add_install(
-        &mut self,
-        window: &Window<'_>,
-        shown: &ShownAccess,
-        own: &FilePoints,
-    ) -> Result<(), NoMemory> {
-        let (call, answer, access) = (shown.call, shown.answer, shown.access);
-        let places = Step::Places {
-            call,
-            answer,
-            access,
-        };
-        self.graph.add_known(own.put, own.gone, places)?;
-        let installs = Step::Installs {
-            call,
-            answer,
-            access,
-        };
-        if let Ok(event) = window.positions.binary_search(&answer) {
-            self.graph.add_known(own.put, event, installs)?;
-        }
-        Ok(())
-    }
-
-    /// Adds an order by a rule, unless it is known. Returns whether it was added.
-    pub(crate) fn add_new(&mut self, edge: Edge) -> Result<bool, NoMemory> {
-        if self.graph.loops.is_some() || self.graph.holds(edge.pair) {
-            return Ok(false);
-        }
-        self.graph.add(edge)?;
-        Ok(true)
-    }
-
-    /// Adds an order by a rule with premises, if they hold and the order isn't known.
-    pub(crate) fn add_by(
-        &mut self,
-        pair: Pair,
-        step: Step,
-        first: Pair,
-        second: Option<Pair>,
-    ) -> Result<bool, NoMemory> {
-        if !self.graph.holds(first) || matches!(second, Some(second) if !self.graph.holds(second)) {
-            return Ok(false);
-        }
-        self.add_new(Edge {
-            pair,
-            step,
-            premises: (Some(first), second),
-            absent: usize::MAX,
-        })
-    }
-
+impl Graph {
     // Applies the rules of an access that leaves a slot without a file.
     fn by_access(&mut self, z: &AccessPoint, f: &FilePoints) -> Result<bool, NoMemory> {
-        let Some((slot, left)) = left_by(z.shown.shown) else {
+        let Some((slot, left)) = z.shown.shown.left() else {
             return Ok(false);
         };
         if slot != f.slot || left == Some(f.file) {
@@ -285,8 +237,7 @@ impl Problem {
         let known = window.files.iter().find(|known| known.file == f.file);
         let close = known.and_then(|known| known.close);
         let mut is_new = false;
-        for (event, at) in window.positions.iter().enumerate() {
-            let settled = *at;
+        for (event, settled) in window.positions.iter().copied().enumerate() {
             let is_settled = matches!(window.log.events.get(settled), Some(LogEvent::Settled));
             let is_closed = matches!(close, Some(close) if close < settled);
             if !is_settled || is_closed {
@@ -304,27 +255,20 @@ impl Problem {
         }
         Ok(is_new)
     }
+}
 
+impl Problem {
     // Applies each rule with premises once to everything. Returns whether an order was added.
     fn go_on(&mut self, window: &Window<'_>) -> Result<bool, NoMemory> {
         let mut is_new = false;
-        for i in 0..self.files.len() {
-            let Some(f) = self.files.get(i).copied() else {
-                break;
-            };
-            for j in 0..self.accesses.len() {
-                let Some(z) = self.accesses.get(j).copied() else {
-                    break;
-                };
-                is_new |= self.by_access(&z, &f)?;
+        for f in &self.files {
+            for z in &self.accesses {
+                is_new |= self.graph.by_access(z, f)?;
             }
-            for j in 0..self.files.len() {
-                let Some(g) = self.files.get(j).copied() else {
-                    break;
-                };
-                is_new |= self.by_files(&f, &g)?;
+            for g in &self.files {
+                is_new |= self.graph.by_files(f, g)?;
             }
-            is_new |= self.by_settled(window, &f)?;
+            is_new |= self.graph.by_settled(window, f)?;
         }
         Ok(is_new)
     }

@@ -2,8 +2,10 @@
 //! answers, and the files that answered calls installed at each slot.
 
 use crate::removals::Remover;
-use crate::shown::{Shown, ShownAccess};
+use crate::shown::ShownAccess;
+use check_certificate::Evidence;
 use fx_base::{Catalogue, Closed as File, Mark, NoMemory};
+use fx_chain::Place;
 use fx_flight::LogEvent;
 use std::alloc::Global;
 
@@ -35,11 +37,20 @@ pub(crate) struct Reading<'a> {
     pub(crate) removers: Vec<Vec<Remover>>,
 }
 
-/// Returns the number of the call that installs a file, or 0 for a file of a registration.
-pub(crate) fn number_of(file: File) -> u32 {
+/// Returns the place of the member that installs a file, or `None` for a file of a registration.
+pub(crate) fn place_of(file: File) -> Option<Place> {
     match file.mark {
-        Mark::Submitted { submission, .. } => submission,
-        _ => 0,
+        Mark::Submitted {
+            submission,
+            chain,
+            member,
+            ..
+        } => Some(Place {
+            submission,
+            chain,
+            member,
+        }),
+        _ => None,
     }
 }
 
@@ -66,8 +77,8 @@ impl<'a> Reading<'a> {
             size,
             events,
             calls: Vec::new(alloc),
-            installs: Vec::new(alloc),
-            removers: Vec::new(alloc),
+            installs: (0..size).map(|_| Vec::new(alloc)).collect(alloc)?,
+            removers: (0..size).map(|_| Vec::new(alloc)).collect(alloc)?,
         };
         reading.read_calls()?;
         reading.read_installs()?;
@@ -95,15 +106,10 @@ impl<'a> Reading<'a> {
 
     // Notes the accesses that installed files.
     fn read_installs(&mut self) -> Result<(), NoMemory> {
-        for _ in 0..self.size {
-            self.installs.push(Vec::new(self.alloc))?;
-        }
         for at in 0..self.events.len() {
             for access in 0..self.accesses_at(at) {
-                let Some(shown) = self.shown_at(at, access) else {
-                    continue;
-                };
-                if let Shown::Installs(slot, _) = shown.shown
+                if let Some(shown) = self.shown_at(at, access)
+                    && let Evidence::Installs(slot, _) = shown.shown
                     && let Some(own) = self.installs.get_mut(slot as usize)
                 {
                     own.push(shown)?;
@@ -128,20 +134,12 @@ impl<'a> Reading<'a> {
 
     /// Returns the access that installed a file, if its answer shows it.
     pub(crate) fn install_of(&self, file: File) -> Option<ShownAccess> {
-        let Mark::Submitted {
-            submission,
-            member,
-            ..
-        } = file.mark
-        else {
-            return None;
-        };
-        let call = self.call(submission)?;
-        let answer = *call.answers.get((member as usize).checked_sub(1)?)?;
+        let place = place_of(file)?;
+        let call = self.call(place.submission)?;
+        let answer = *call.answers.get((place.member as usize).checked_sub(1)?)?;
         for access in 0..self.accesses_at(answer) {
-            let shown = self.shown_at(answer, access);
-            if let Some(shown) = shown
-                && let Shown::Installs(_, other) = shown.shown
+            if let Some(shown) = self.shown_at(answer, access)
+                && let Evidence::Installs(_, other) = shown.shown
                 && other == file
             {
                 return Some(shown);
@@ -152,11 +150,8 @@ impl<'a> Reading<'a> {
 
     /// Returns the position of the close of a file, from a position on.
     pub(crate) fn close_of(&self, from: usize, file: File) -> Option<usize> {
-        for at in from..self.events.len() {
-            if matches!(&self.events[at], LogEvent::Closed(other) if *other == file) {
-                return Some(at);
-            }
-        }
-        None
+        (from..self.events.len()).find(
+            |at| matches!(self.events.get(*at), Some(LogEvent::Closed(other)) if *other == file),
+        )
     }
 }

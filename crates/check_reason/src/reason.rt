@@ -49,25 +49,14 @@ fn propose(log: &Reading<'_>, width: usize) -> Result<Vec<ReasonStep>, NoMemory>
     }
 }
 
-// Returns the steps without their orders.
-fn steps_of(alloc: Global, steps: &[ReasonStep]) -> Result<Vec<Step>, NoMemory> {
-    let mut all = Vec::new(alloc);
-    for step in steps {
-        all.push(step.step)?;
-    }
-    Ok(all)
-}
-
 // Proposes a certificate of the beginning: first the contradiction of its last event, then one from
 // each window, until a window is the whole log. It is empty if the search finds none.
 fn search(log: &Reading<'_>, attempt: usize) -> Result<Vec<ReasonStep>, NoMemory> {
     let Some(last) = attempt.checked_sub(1) else {
-        let mut steps = Vec::new(log.alloc);
-        let Some(step) = direct(log) else {
-            return missing(log);
+        return match direct(log) {
+            Some(step) => Ok(Vec::from_slice(log.alloc, &[step])?),
+            None => missing(log),
         };
-        steps.push(step)?;
-        return Ok(steps);
     };
     let is_whole = WIDTHS
         .iter()
@@ -107,7 +96,7 @@ pub fn explain(
     let log = Reading::of(alloc, catalogue, size, &events[..count])?;
     for attempt in 0..WIDTHS.len() + 1 {
         let steps = search(&log, attempt)?;
-        let certificate = steps_of(alloc, &steps)?;
+        let certificate: Vec<Step> = steps.iter().map(|it| it.step).collect(alloc)?;
         if !steps.is_empty() && is_refuted(alloc, catalogue, slots, events, count, &certificate)? {
             return Ok(Some(LogReason { count, steps }));
         }

@@ -1,7 +1,7 @@
 //! The accesses that may take a file from each slot, by what their requests intend.
 
-use crate::reading::Reading;
-use fx_base::{Closed as File, Mark, NoMemory};
+use crate::reading::{Reading, place_of};
+use fx_base::{Closed as File, NoMemory};
 use fx_chain::{Intent, Place, Request, intent_of};
 use fx_flight::LogEvent;
 
@@ -31,23 +31,20 @@ fn slot_taken(intent: Intent) -> Option<(u32, Option<File>)> {
     }
 }
 
+/// Returns the place of a member of a call, by its number from 0.
+pub(crate) fn member_of(id: u32, n: usize) -> Option<Place> {
+    let member = u32::try_from(n).ok()?.saturating_add(1);
+    Some(Place {
+        submission: id,
+        chain: 1,
+        member,
+    })
+}
+
 impl Reading<'_> {
     /// Returns the slot at which a call of the log may install a file, if it isn't any slot.
     pub(crate) fn slot_of(&self, file: File) -> Option<u32> {
-        let Mark::Submitted {
-            submission,
-            chain,
-            member,
-            entry: _,
-        } = file.mark
-        else {
-            return None;
-        };
-        let place = Place {
-            submission,
-            chain,
-            member,
-        };
+        let place = place_of(file)?;
         let request = self.request(place)?;
         for access in 0..request.accesses() {
             let intent = intent_of(self.catalogue, self.size, place, request, access);
@@ -60,26 +57,13 @@ impl Reading<'_> {
         None
     }
 
-    // Checks whether the event at a position is the answer of a member that failed.
-    fn is_failure_at(&self, at: usize) -> bool {
-        matches!(self.events.get(at), Some(LogEvent::Done(c)) if c.res < 0)
-    }
-
     // Notes the accesses of a member of a call, by its number from 0.
     fn note_member(&mut self, id: u32, n: usize, request: &Request) -> Result<(), NoMemory> {
-        let Ok(before) = u32::try_from(n) else {
-            return Ok(());
-        };
-        let place = Place {
-            submission: id,
-            chain: 1,
-            member: before.saturating_add(1),
-        };
-        let Some(call) = self.call(id) else {
+        let (Some(place), Some(call)) = (member_of(id, n), self.call(id)) else {
             return Ok(());
         };
         let (call, answer) = (call.at, call.answers.get(n).copied().unwrap_or(usize::MAX));
-        let has_failed = self.is_failure_at(answer);
+        let has_failed = matches!(self.events.get(answer), Some(LogEvent::Done(c)) if c.res < 0);
         for access in 0..request.accesses() {
             let intent = intent_of(self.catalogue, self.size, place, request, access);
             if let Some(intent) = intent
@@ -101,9 +85,6 @@ impl Reading<'_> {
 
     /// Notes the accesses of all calls.
     pub(crate) fn read_removers(&mut self) -> Result<(), NoMemory> {
-        for _ in 0..self.size {
-            self.removers.push(Vec::new(self.alloc))?;
-        }
         let events = self.events;
         for event in events {
             if let LogEvent::Call { id, chain } = event {

@@ -35,23 +35,16 @@ struct Takers {
 impl Problem {
     // Returns the last event that comes before a file leaves its slot: its number and its position.
     fn last_before(&self, window: &Window<'_>, f: &FilePoints) -> Option<(usize, usize)> {
-        let mut last = None;
-        for (event, at) in window.positions.iter().enumerate() {
-            if self.graph.holds(in_order(event, f.gone, true)) {
-                last = Some((event, *at));
-            }
-        }
-        last
+        let events = window.positions.iter().copied().enumerate();
+        events
+            .filter(|(event, _)| self.graph.holds(in_order(*event, f.gone, true)))
+            .last()
     }
 
     // Returns the first event that doesn't come before a file leaves its slot.
     fn first_after(&self, window: &Window<'_>, f: &FilePoints) -> Option<(usize, usize)> {
-        for (event, at) in window.positions.iter().enumerate() {
-            if self.graph.holds(in_order(f.gone, event, false)) {
-                return Some((event, *at));
-            }
-        }
-        None
+        let mut events = window.positions.iter().copied().enumerate();
+        events.find(|(event, _)| self.graph.holds(in_order(f.gone, *event, false)))
     }
 
     // Returns the point of the time of an access, if the window has it.
@@ -80,17 +73,11 @@ impl Problem {
             }
         }
         let point = self.point_of(it);
-        if let Some(own) = point {
-            let later = in_order(f.gone, own, true);
-            let earlier = in_order(own, f.gone, true);
-            if self.graph.holds(later) {
-                return Chance::Not(later);
-            }
-            if self.graph.holds(earlier) {
-                return Chance::Not(earlier);
-            }
-        }
-        Chance::Perhaps(point)
+        let known = point.and_then(|own| {
+            let orders = [in_order(f.gone, own, true), in_order(own, f.gone, true)];
+            self.graph.known_of(orders)
+        });
+        known.map_or(Chance::Perhaps(point), Chance::Not)
     }
 
     // Returns the accesses of calls before a position that may take a file. Stops after `most`.
@@ -131,9 +118,7 @@ impl Problem {
         }
         Ok((takers, until))
     }
-}
 
-impl Problem {
     // Applies the rule of a file that no access takes. Returns whether an order was added.
     fn stay(
         &mut self,
@@ -145,20 +130,17 @@ impl Problem {
             return Ok(false);
         };
         let (takers, stop) = self.takers(window, f, (since.1, last), 0)?;
-        let event = match window.positions.binary_search(&stop) {
-            Ok(event) => event,
-            Err(next) => next.saturating_sub(1),
+        let next = window.positions.partition_point(|at| *at <= stop);
+        let Some(event) = next.checked_sub(1) else {
+            return Ok(false);
         };
         let Some(until) = window.positions.get(event).copied() else {
             return Ok(false);
         };
-        if until > stop {
-            return Ok(false);
-        }
         let absent = self.graph.lists.len();
         self.graph.lists.push(takers.absent)?;
         let there = in_order(since.0, f.gone, true);
-        self.add_new(Edge {
+        self.graph.add_new(Edge {
             pair: in_order(event, f.gone, true),
             step: Step::Stays { until, there: 0 },
             premises: (Some(there), None),
@@ -200,14 +182,14 @@ impl Problem {
             premises: (Some(there), Some(in_order(f.gone, event, false))),
             absent,
         };
-        let one = self.add_new(edge)?;
+        let one = self.graph.add_new(edge)?;
         edge.pair = in_order(f.gone, point, false);
         edge.step = Step::TakenBy {
             taker,
             there: 0,
             gone: 0,
         };
-        let other = self.add_new(edge)?;
+        let other = self.graph.add_new(edge)?;
         Ok(one || other)
     }
 
@@ -224,7 +206,7 @@ impl Problem {
                     slot: f.slot,
                     installed: 0,
                 };
-                return self.add_by(new, step, installed, None);
+                return self.graph.add_by(new, step, installed, None);
             }
         }
         Ok(false)

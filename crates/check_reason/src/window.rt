@@ -1,10 +1,12 @@
 //! The part of a log around a wrong event that a search for a reason looks at: calls, the accesses
 //! that their answers show, files, and the positions of all their events.
 
-use crate::reading::{Reading, call_number, number_of};
-use crate::shown::{Shown, ShownAccess, left_by, slot_of};
+use crate::reading::{Reading, call_number, place_of};
+use crate::removals::member_of;
+use crate::shown::{ShownAccess, slot_of};
+use check_certificate::Evidence;
 use fx_base::{Closed as File, NoMemory};
-use fx_chain::{Intent, Place, intent_of};
+use fx_chain::{Intent, intent_of};
 use fx_flight::LogEvent;
 
 /// A file, and what the log says of it.
@@ -36,8 +38,7 @@ pub(crate) struct Window<'a> {
     /// The positions of events in the window, and of others that concern its calls and files, in
     /// order.
     pub(crate) positions: Vec<usize>,
-    // The calls with events in the window, and their slots.
-    calls: Vec<u32>,
+    // The slots of the calls with events in the window.
     slots: Vec<u32>,
 }
 
@@ -61,18 +62,16 @@ impl<'a> Window<'a> {
             from,
             accesses: Vec::new(alloc),
             files: Vec::new(alloc),
-            positions: Vec::new(alloc),
-            calls: Vec::new(alloc),
+            positions: (from..log.events.len()).collect(alloc)?,
             slots: Vec::new(alloc),
         };
-        for at in from..log.events.len() {
-            window.positions.push(at)?;
-            let id = call_number(&log.events[at]);
-            if id > 0 {
-                note(&mut window.calls, id)?;
-            }
+        let mut calls = Vec::new(alloc);
+        for event in log.events.iter().skip(from) {
+            note(&mut calls, call_number(event))?;
         }
-        window.take_calls()?;
+        for id in &calls {
+            window.take_call(*id)?;
+        }
         window.take_closed()?;
         window.take_present()?;
         window.positions.sort_unstable();
@@ -80,48 +79,33 @@ impl<'a> Window<'a> {
         Ok(window)
     }
 
-    // Adds the accesses of the calls, and their files.
-    fn take_calls(&mut self) -> Result<(), NoMemory> {
-        let log = self.log;
-        for i in 0..self.calls.len() {
-            let Some(id) = self.calls.get(i).copied() else {
-                break;
-            };
-            let Some(call) = log.call(id) else {
-                continue;
-            };
-            self.positions.push(call.at)?;
-            for answer in &call.answers {
-                self.positions.push(*answer)?;
-                for access in 0..log.accesses_at(*answer) {
-                    if let Some(shown) = log.shown_at(*answer, access) {
-                        self.take_access(shown)?;
-                    }
-                }
-            }
-            self.take_open_members(id)?;
-        }
-        Ok(())
-    }
-
-    // Adds the files that members of a call without an answer may have installed.
-    fn take_open_members(&mut self, id: u32) -> Result<(), NoMemory> {
+    // Adds the accesses of a call, and its files.
+    fn take_call(&mut self, id: u32) -> Result<(), NoMemory> {
         let log = self.log;
         let Some(call) = log.call(id) else {
             return Ok(());
         };
+        self.positions.push(call.at)?;
+        for answer in &call.answers {
+            self.positions.push(*answer)?;
+            for access in 0..log.accesses_at(*answer) {
+                if let Some(shown) = log.shown_at(*answer, access) {
+                    self.take_access(shown)?;
+                }
+            }
+        }
         for member in call.answers.len()..log.members(id) {
-            let Ok(before) = u32::try_from(member) else {
-                break;
-            };
-            let place = Place {
-                submission: id,
-                chain: 1,
-                member: before.saturating_add(1),
-            };
-            let Some(request) = log.request(place) else {
-                break;
-            };
+            self.take_open_member(id, member)?;
+        }
+        Ok(())
+    }
+
+    // Adds the files that a member of a call without an answer may have installed.
+    fn take_open_member(&mut self, id: u32, member: usize) -> Result<(), NoMemory> {
+        let log = self.log;
+        if let Some(place) = member_of(id, member)
+            && let Some(request) = log.request(place)
+        {
             for access in 0..request.accesses() {
                 match intent_of(log.catalogue, log.size, place, request, access) {
                     Some(Intent::Put(slot, file)) => self.take_file(file, Some(slot))?,
@@ -138,15 +122,15 @@ impl<'a> Window<'a> {
         if let Some(slot) = slot_of(shown.shown) {
             note(&mut self.slots, slot)?;
         }
-        if shown.shown == Shown::Full && self.log.size <= MOST_SLOTS {
+        if matches!(shown.shown, Evidence::Full) && self.log.size <= MOST_SLOTS {
             for slot in 0..self.log.size {
                 note(&mut self.slots, slot)?;
             }
         }
-        if let Some((slot, Some(file))) = left_by(shown.shown) {
+        if let Some((slot, Some(file))) = shown.shown.left() {
             self.take_file(file, Some(slot))?;
         }
-        if !matches!(shown.shown, Shown::Installs(_, _)) {
+        if !matches!(shown.shown, Evidence::Installs(_, _)) {
             self.accesses.push(shown)?;
         }
         Ok(())
@@ -158,7 +142,7 @@ impl<'a> Window<'a> {
         if self.files.iter().any(|other| other.file == file) {
             return Ok(());
         }
-        let Some(call) = log.call(number_of(file)) else {
+        let Some(call) = place_of(file).and_then(|place| log.call(place.submission)) else {
             return Ok(());
         };
         let install = log.install_of(file);
@@ -185,8 +169,8 @@ impl<'a> Window<'a> {
     // Adds the files that are closed in the window.
     fn take_closed(&mut self) -> Result<(), NoMemory> {
         let log = self.log;
-        for at in self.from..log.events.len() {
-            if let LogEvent::Closed(file) = &log.events[at] {
+        for event in log.events.iter().skip(self.from) {
+            if let LogEvent::Closed(file) = event {
                 self.take_file(*file, None)?;
             }
         }
@@ -205,10 +189,7 @@ impl<'a> Window<'a> {
                 continue;
             };
             let mut latest = 0;
-            for back in 0..own.len() {
-                let Some(shown) = own.get(own.len().saturating_sub(back).saturating_sub(1)) else {
-                    break;
-                };
+            for shown in own.iter().rev() {
                 if shown.answer >= self.from {
                     continue;
                 }
@@ -216,7 +197,7 @@ impl<'a> Window<'a> {
                     break;
                 }
                 latest = latest.max(shown.call);
-                if let Shown::Installs(slot, file) = shown.shown {
+                if let Evidence::Installs(slot, file) = shown.shown {
                     self.take_file(file, Some(slot))?;
                 }
             }
