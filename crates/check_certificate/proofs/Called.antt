@@ -1,5 +1,5 @@
 -- The calls of a log that make the accesses of a flight, and the answers of their members.
-use Rattle.check_certificate.proofs.Words.{◌≡◌, ◌⊎◌, ℕ, zero, suc, ◌+◌, ◌-◌, ◌<◌, List, [], ◌∷◌, ◌++◌, length, refl, sym, ap, ◌∙◌, arith, ⊎_elim}
+use Rattle.check_certificate.proofs.Words.{◌≡◌, ℕ, ◌+◌, ◌-◌, ◌<◌, List, [], ◌∷◌, ◌++◌, length, refl, sym, ap, ◌∙◌, arith, ⊎_elim}
 use Rattle.check_certificate.proofs.Words.{append_assoc, Option, Some, slice_get, Moment, Logged, Accesses, IsOlderPart, Access, IsAccessAt, Identity}
 use Rattle.check_certificate.proofs.Words.{Happening, Completed, Contains-append_right, IsBegun, MayAccess, contains_tail, WasLogged, Called}
 use Rattle.check_certificate.proofs.Words.{Answered, made_by, Asked, Contains, Looks, take}

@@ -1,9 +1,9 @@
 -- Each flight has times of all points.
-use Rattle.check_certificate.proofs.Words.{◌≡◌, ◌⊎◌, ℕ, zero, ◌+◌, ◌≤◌, List, [], ◌∷◌, ◌++◌, length, refl, sym, ap, ◌∙◌, arith, inl, inr, suc, ⊎_elim}
+use Rattle.check_certificate.proofs.Words.{◌≡◌, ◌⊎◌, ℕ, zero, ◌≤◌, List, [], ◌∷◌, ◌++◌, length, refl, sym, ap, ◌∙◌, arith, inl, inr, suc, ⊎_elim}
 use Rattle.check_certificate.proofs.Words.{append_assoc, length-append, Some, Moment, Logged, Accesses, IsOlderPart, Access, IsPut, IsLeftAt}
 use Rattle.check_certificate.proofs.Words.{IsEventTime, IsPutTime, IsGoneTime, AreTimes, Identity, Completed, IsFlight, FlightSetting, RingState}
 use Rattle.check_certificate.proofs.Words.{Table, table_of, table_left_by, log_of, Happening, MayFollow, Puts, Allocates, Looks, Clears, Takes}
-use Rattle.check_certificate.proofs.Words.{FindsFull, true, false, cases_Bool}
+use Rattle.check_certificate.proofs.Words.{FindsFull, cases_Bool}
 use Rattle.check_certificate.proofs.Life.{IsPutAt, put_later}
 use Rattle.check_certificate.proofs.Marks.{put_once}
 use Rattle.check_certificate.proofs.Members.{access_times}

@@ -1,9 +1,9 @@
 -- Each rule of certificates adds an order that every flight keeps.
-use Rattle.check_certificate.proofs.Words.{◌≡◌, ◌⊎◌, ℕ, ◌+◌, ◌-◌, ◌<◌, ◌≤◌, List, [], ◌∷◌, ◌++◌, length, take, refl, sym, ap, ◌∙◌, arith, Some, None}
+use Rattle.check_certificate.proofs.Words.{◌≡◌, ℕ, ◌+◌, ◌<◌, ◌≤◌, List, [], ◌∷◌, ◌++◌, length, take, refl, sym, ap, ◌∙◌, arith, Some, None}
 use Rattle.check_certificate.proofs.Words.{Option, ⊎_elim, Contains, contains_head, cases_lt, slice_get, Moment, Logged, Accesses, Access, IsLeftAt}
 use Rattle.check_certificate.proofs.Words.{true, false, Identity, IsOlderPart, Table, table_with, table_left_by, Happening, WasLogged, Permits}
-use Rattle.check_certificate.proofs.Words.{Answered, Called, LookAnswered, LookCalled, Freed, FileClosed, AllSettled, IsPut, Allocates, Clears}
-use Rattle.check_certificate.proofs.Words.{FindsFull, Looks, Puts, Takes, zero, suc, contains_tail, if◌then◌else◌, subst}
+use Rattle.check_certificate.proofs.Words.{Answered, Called, LookAnswered, LookCalled, Freed, FileClosed, AllSettled}
+use Rattle.check_certificate.proofs.Words.{Looks, zero, suc, contains_tail, subst}
 use Rattle.check_certificate.proofs.Existing.{times_of_flight}
 use Rattle.check_certificate.proofs.Leaving.{same_chain, taken_gone, there_after, there_or_taken}
 use Rattle.check_certificate.proofs.Life.{IsPutAt, is_gone, put_before, put_here}

@@ -1,8 +1,8 @@
 -- An access that finds a file at its slot: some file was installed there before.
-use Rattle.check_certificate.proofs.Words.{◌≡◌, ◌⊎◌, ℕ, ◌+◌, ◌-◌, ◌<◌, ◌≤◌, List, [], ◌∷◌, ◌++◌, refl, sym, ◌∙◌, arith, inl, inr, subst, ⊎_elim}
+use Rattle.check_certificate.proofs.Words.{◌≡◌, ℕ, ◌+◌, ◌-◌, ◌<◌, ◌≤◌, List, [], ◌∷◌, ◌++◌, refl, sym, ◌∙◌, arith, subst, ⊎_elim}
 use Rattle.check_certificate.proofs.Words.{append_assoc, Option, Some, None, slice_get, Moment, Logged, Accesses, IsOlderPart, Access, IsAccessAt}
 use Rattle.check_certificate.proofs.Words.{IsPut, Identity, Table, table_with, table_left_by, Happening, Completed, Answered, made_by, Permits, Looks}
-use Rattle.check_certificate.proofs.Words.{Takes, FindsFull, Puts, Allocates, Clears, Submitted, true, cases_Bool, Has, placed}
+use Rattle.check_certificate.proofs.Words.{Takes, FindsFull, Puts, Allocates, Clears, Submitted, true, Has, placed}
 use Rattle.check_certificate.proofs.Forcing.{loose_order, not_after, strict_from, strict_order}
 use Rattle.check_certificate.proofs.Intended.{chain_number, may_install}
 use Rattle.check_certificate.proofs.Leaving.{same_access, same_slot}

@@ -1,5 +1,5 @@
 -- Answers that a request can't have.
-use Rattle.check_certificate.proofs.Words.{◌≡◌, ◌⊎◌, ℕ, zero, suc, ◌+◌, ◌<◌, List, [], ◌∷◌, refl, sym, ap, ◌∙◌, inl, inr, subst, Some, None, Option}
+use Rattle.check_certificate.proofs.Words.{◌≡◌, ℕ, zero, suc, ◌+◌, ◌<◌, List, [], ◌∷◌, refl, sym, ap, ◌∙◌, inl, inr, subst, Some, None, Option}
 use Rattle.check_certificate.proofs.Words.{⊎_elim, slice_get, Access, Asked, Place, Completed, FileEntry, refusal, ECANCELED, Looks, Takes}
 use Rattle.check_certificate.specs.Answers.{IsImpossible, MayHaveAnswer}
 use Rattle.fx_base.specs.Identity.{Identity}

@@ -1,8 +1,8 @@
 -- An access of a chain is one that a member of it intends; a member that fails installs no file.
-use Rattle.check_certificate.proofs.Words.{◌≡◌, ◌⊎◌, ℕ, zero, suc, ◌+◌, ◌-◌, ◌<◌, List, [], ◌∷◌, ◌++◌, length, refl, sym, ap, ◌∙◌, arith, inl, inr, subst}
+use Rattle.check_certificate.proofs.Words.{◌≡◌, ◌⊎◌, ℕ, zero, suc, ◌+◌, List, [], ◌∷◌, ◌++◌, length, refl, sym, ap, ◌∙◌, arith, inl, inr, subst}
 use Rattle.check_certificate.proofs.Words.{⊎_elim, Option, Some, None, slice_get, Access, Asked, Place, Completed, FileEntry, IsChainDone, IsRequestDone}
-use Rattle.check_certificate.proofs.Words.{Has, placed, placed-append, Closed, Submitted, either_option, either_way, severs, next_member, length-append, Identity, IsPut}
-use Rattle.check_certificate.proofs.Words.{Puts, Allocates, Looks, Clears, Takes, FindsFull}
+use Rattle.check_certificate.proofs.Words.{Has, placed, placed-append, Closed, Submitted, either_option, either_way, severs, next_member, Identity, IsPut}
+use Rattle.check_certificate.proofs.Words.{Allocates, Looks, Clears, Takes, FindsFull}
 use Rattle.check_certificate.proofs.Marks.{IsOfChain, chain_own}
 use Rattle.check_certificate.proofs.Parts.{none_of}
 use Rattle.check_certificate.specs.Absent.{MayInstall}
@@ -16,7 +16,7 @@ use Rattle.fx_chain.specs.declared.intent.Intent.TheVariants.{Look, Put, Clear, 
 use Rattle.fx_order.proofs.Intents.{same_opened, zip_at}
 use Rattle.fx_order.proofs.Placed.{has_either}
 use Rattle.fx_order.proofs.RequestCases.{each_placed}
-use Rattle.fx_order.proofs.Words.{IsOf, ℤ, pos}
+use Rattle.fx_order.proofs.Words.{IsOf, pos}
 use Rattle.fx_order.specs.Requests.{IsDoneAtTable}
 
 -- an element of a list of two parts is in one of them

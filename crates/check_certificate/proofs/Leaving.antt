@@ -1,9 +1,9 @@
 -- A file that was taken from its slot is at no slot afterwards; one that is installed and wasn't
 -- taken is there.
-use Rattle.check_certificate.proofs.Words.{◌≡◌, ◌⊎◌, ℕ, ◌+◌, ◌<◌, List, [], ◌∷◌, ◌++◌, length, refl, sym, ap, ◌∙◌, arith, inl, inr, Some}
+use Rattle.check_certificate.proofs.Words.{◌≡◌, ◌⊎◌, ℕ, ◌<◌, List, [], ◌∷◌, ◌++◌, length, refl, sym, ap, arith, inl, inr, Some}
 use Rattle.check_certificate.proofs.Words.{None, Option, ⊎_elim, Contains, contains_cases, contains_none, Moment, Logged, Accesses, IsOlderPart, Access, ChainAccess, IsPut}
 use Rattle.check_certificate.proofs.Words.{IsLeftAt, IsAccessAt, IsPutTime, Table, table_with, table_left_by, taken_in, file_removed_by, option_to_list}
-use Rattle.check_certificate.proofs.Words.{Identity, IsFlight, FlightSetting, table_of, Puts, Allocates, Looks, Clears, Takes, FindsFull, Permits}
+use Rattle.check_certificate.proofs.Words.{Identity, IsFlight, FlightSetting, table_of, Permits}
 use Rattle.check_certificate.proofs.Words.{Contains-append_left, Contains-append_right, Contains-append_cases, contains_head, length-append}
 use Rattle.check_certificate.proofs.Life.{IsPutAt, put_before, put_here, stays}
 use Rattle.check_certificate.proofs.Parts.{by_put, one_more, part_is_flight, part_length, part_of_part, shorter, whole}

@@ -1,5 +1,5 @@
 -- The life of a file at a slot: from the access that installs it on, until it is gone.
-use Rattle.check_certificate.proofs.Words.{◌≡◌, ◌⊎◌, ℕ, ◌+◌, ◌<◌, ◌≤◌, List, [], ◌∷◌, ◌++◌, length, refl, arith, inl, inr, Some}
+use Rattle.check_certificate.proofs.Words.{◌≡◌, ◌⊎◌, ℕ, ◌<◌, ◌≤◌, List, [], ◌∷◌, ◌++◌, length, refl, arith, inl, inr, Some}
 use Rattle.check_certificate.proofs.Words.{⊎_elim, length-append, cases_lt, Moment, Logged, Accesses, IsOlderPart, Access, IsPut, IsLeftAt, IsAccessAt}
 use Rattle.check_certificate.proofs.Words.{IsPutTime, IsGoneTime, Table, table_left_by, step_from, Has, placed_by, Puts, Allocates, Clears, Takes, Looks}
 use Rattle.check_certificate.proofs.Words.{FindsFull, Identity}

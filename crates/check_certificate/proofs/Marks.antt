@@ -1,8 +1,8 @@
 -- No two accesses of a flight install files with the same mark.
-use Rattle.check_certificate.proofs.Words.{◌≡◌, ◌⊎◌, ℕ, ◌+◌, ◌<◌, ◌≤◌, List, [], ◌∷◌, ◌++◌, refl, sym, ap, ◌∙◌, arith, inl, inr}
+use Rattle.check_certificate.proofs.Words.{◌≡◌, ℕ, ◌<◌, ◌≤◌, List, [], ◌∷◌, ◌++◌, refl, sym, ap, ◌∙◌, arith, inl, inr}
 use Rattle.check_certificate.proofs.Words.{⊎_elim, append_assoc, cases_lt, Moment, Accesses, IsOlderPart, Access, IsPut}
-use Rattle.check_certificate.proofs.Words.{IsAccessAt, Has, placed, placed_by, placed-append, has_left, has_right, Puts, Allocates, Looks, Clears, Takes}
-use Rattle.check_certificate.proofs.Words.{FindsFull, Identity, Closed, Submitted, Asked, Place, Completed, IsChainDone, IsFlight, FlightSetting}
+use Rattle.check_certificate.proofs.Words.{IsAccessAt, Has, placed, placed_by, placed-append, has_left, has_right, Looks}
+use Rattle.check_certificate.proofs.Words.{Identity, Closed, Submitted, Asked, Place, Completed, IsChainDone, IsFlight, FlightSetting}
 use Rattle.check_certificate.proofs.Words.{MayAccess, FileEntry, Option, RingState, either_way, if◌then◌else◌, severs, next_member, made_by, by_equality}
 use Rattle.check_certificate.proofs.Parts.{by_put, part_is_flight, shorter}
 use Rattle.fx_flight.proofs.InTime.{made_by-parts}

@@ -1,7 +1,7 @@
 -- The accesses of a member, or of a look, whose answer is in a flight, and their times.
 use Rattle.check_certificate.proofs.Words.{◌≡◌, ◌⊎◌, ℕ, zero, ◌+◌, ◌-◌, ◌<◌, List, [], ◌∷◌, ◌++◌, length, take, refl, sym, ap, ◌∙◌, arith, inl, inr, suc}
-use Rattle.check_certificate.proofs.Words.{⊎_elim, append_assoc, append-nil, length-append, Option, Some, None, slice_get, subst, Moment, Logged, Accesses}
-use Rattle.check_certificate.proofs.Words.{Access, IsAccessAt, AreTimesOf, AreAccessTimes, Asked, Place}
+use Rattle.check_certificate.proofs.Words.{⊎_elim, append_assoc, append-nil, Option, Some, None, slice_get, subst, Moment, Logged, Accesses}
+use Rattle.check_certificate.proofs.Words.{Access, IsAccessAt, AreAccessTimes, Asked, Place}
 use Rattle.check_certificate.proofs.Words.{Completed, IsChainDone, IsRequestDone, FlightSetting, MayFollow, FileEntry, RingState, either_way, severs}
 use Rattle.check_certificate.proofs.Words.{next_member, made_by, by_equality, canceled, refusal, ECANCELED, if◌then◌else◌, Happening, Answered, Called}
 use Rattle.check_certificate.proofs.Words.{LookAnswered, LookCalled, Freed, FileClosed, AllSettled}

@@ -1,5 +1,5 @@
 -- The rules of certificates: what each flight's times are like.
-use Rattle.check_certificate.proofs.Words.{◌≡◌, ◌⊎◌, ℕ, zero, ◌+◌, ◌-◌, ◌<◌, List, [], ◌∷◌, ◌++◌, length, refl, sym, ap, ◌∙◌, arith, suc, Some, None}
+use Rattle.check_certificate.proofs.Words.{◌≡◌, ℕ, zero, ◌<◌, List, [], ◌∷◌, ◌++◌, length, refl, sym, ap, ◌∙◌, arith, suc, Some, None}
 use Rattle.check_certificate.proofs.Words.{Option, ⊎_elim, length-append, Contains, contains_head, Contains-append_right, subst, cases_lt, slice_get}
 use Rattle.check_certificate.proofs.Words.{Moment, Logged, IsOlderPart, Access, IsAccessAt, AreAccessTimes, IsEventTime, Identity, FlightSetting}
 use Rattle.check_certificate.proofs.Words.{IsFlight, Table, table_of, log_of, made_by, Happening, MayFollow, MayAccess, WasLogged, Answered, Called}
@@ -15,7 +15,7 @@ use Rattle.fx_flight.proofs.Numbers.{new_number, one_call}
 use Rattle.fx_flight.specs.Events.{first_of_call}
 use Rattle.fx_flight.specs.Laws.{IsCallOf}
 use Rattle.fx_ring.specs.Ring.{RingState}
-use Rattle.fx_order.proofs.Words.{Bool, true, false, ◌&&◌, false≢true, slice_index_or}
+use Rattle.fx_order.proofs.Words.{true, false≢true, slice_index_or}
 use Rattle.std.proofs.lemmas.Bool.{and_parts}
 use Rattle.std.specs.List.{list_all}
 

@@ -1,5 +1,5 @@
 -- Parts of a flight: its oldest moments.
-use Rattle.check_certificate.proofs.Words.{◌≡◌, ◌⊎◌, ℕ, ◌+◌, ◌<◌, ◌≤◌, List, [], ◌∷◌, ◌++◌, length, refl, sym, ap, ◌∙◌, arith, inl, inr}
+use Rattle.check_certificate.proofs.Words.{◌≡◌, ◌⊎◌, ℕ, ◌<◌, ◌≤◌, List, [], ◌∷◌, ◌++◌, length, refl, sym, ap, ◌∙◌, arith, inl, inr}
 use Rattle.check_certificate.proofs.Words.{append_assoc, length-append, Moment, IsOlderPart, Access, Accesses, IsAccessAt, FlightSetting, IsFlight}
 use Rattle.check_certificate.proofs.Words.{Some, Option, Identity, IsPut, Puts, Allocates, Looks, Clears, Takes, FindsFull, cases_Bool, slice_get, zero}
 use Rattle.check_certificate.proofs.Words.{suc, ⊎_elim}

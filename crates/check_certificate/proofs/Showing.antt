@@ -1,5 +1,5 @@
 -- Evidence in the result of a request for its accesses.
-use Rattle.check_certificate.proofs.Words.{◌≡◌, ◌⊎◌, ℕ, zero, suc, ◌+◌, ◌-◌, ◌<◌, List, [], ◌∷◌, length, refl, sym, ap, arith, inl, inr}
+use Rattle.check_certificate.proofs.Words.{◌≡◌, ◌⊎◌, ℕ, zero, suc, ◌+◌, ◌<◌, List, [], ◌∷◌, length, refl, sym, ap, arith, inl, inr}
 use Rattle.check_certificate.proofs.Words.{Some, None, Option, ⊎_elim, slice_get, Access, Identity, Asked, Place, Completed, FileEntry}
 use Rattle.check_certificate.proofs.Words.{refusal, ECANCELED, Puts, Allocates, Looks, Clears, Takes, FindsFull, either_way}
 use Rattle.check_certificate.specs.Evidence.{IsEvident, IsEvidentOf, IsEvidentByLook, IsEvidentByMember, evidence_of}

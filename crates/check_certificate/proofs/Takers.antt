@@ -1,5 +1,5 @@
 -- A file that leaves its slot is taken by an access: which one it can be.
-use Rattle.check_certificate.proofs.Words.{◌≡◌, ◌⊎◌, ℕ, ◌+◌, ◌-◌, ◌<◌, ◌≤◌, List, [], ◌∷◌, ◌++◌, length, refl, sym, ap, ◌∙◌, arith, inl, inr, subst}
+use Rattle.check_certificate.proofs.Words.{◌≡◌, ℕ, ◌+◌, ◌-◌, ◌<◌, ◌≤◌, List, [], ◌∷◌, ◌++◌, length, refl, sym, ap, ◌∙◌, arith, inl, inr, subst}
 use Rattle.check_certificate.proofs.Words.{⊎_elim, cases_lt, length-append, Option, Some, None, slice_get, Moment, Logged, Accesses, IsOlderPart}
 use Rattle.check_certificate.proofs.Words.{Access, IsAccessAt, IsPut, IsLeftAt, Identity, Table, table_with, table_left_by, Happening, Completed}
 use Rattle.check_certificate.proofs.Words.{FileEntry, Answered, made_by, by_equality, if◌then◌else◌, Permits, Place, IsRequestDone, true, Looks}

@@ -1,5 +1,5 @@
 -- The walk over all accesses that calls intend: its steps.
-use Rattle.check_certificate.proofs.Words.{◌≡◌, ℕ, ◌+◌, ◌<◌, ◌≤◌, List, length, refl, sym, ap, ◌∙◌, arith, Some, None, Option, ⊎_elim, cases_lt, subst}
+use Rattle.check_certificate.proofs.Words.{◌≡◌, ℕ, ◌+◌, ◌<◌, ◌≤◌, List, length, sym, ap, ◌∙◌, arith, Some, Option, ⊎_elim, cases_lt, subst}
 use Rattle.check_certificate.proofs.Words.{slice_get, slice_index_or, Asked, Place, Called, Happening, FileEntry, either_option}
 use Rattle.check_certificate.proofs.Forcing.{event_is, request_is}
 use Rattle.check_certificate.proofs.Intended.{intent_once}
@@ -14,7 +14,7 @@ use Rattle.fx_chain.specs.Operation.{Operation, all_asked, asked_of}
 use Rattle.fx_chain.specs.Refusal.{refusal_of}
 use Rattle.fx_chain.specs.declared.intent.Intent.{Intent}
 use Rattle.fx_chain.specs.declared.request.Request.{Request}
-use Rattle.fx_flight.specs.Events.{all_happenings, happening_of}
+use Rattle.fx_flight.specs.Events.{happening_of}
 use Rattle.fx_flight.specs.declared.event.LogEvent.{LogEvent}
 use Rattle.fx_order.proofs.Intents.{as_many_intents}
 use Rattle.fx_order.proofs.Words.{slice_get_within}

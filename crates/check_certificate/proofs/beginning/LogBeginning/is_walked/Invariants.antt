@@ -1,4 +1,4 @@
-use Rattle.check_certificate.proofs.Words.{◌≡◌, ℕ, ◌<◌, Asked, Called, List}
+use Rattle.check_certificate.proofs.Words.{ℕ, ◌<◌, Asked, Called, List}
 use Rattle.check_certificate.proofs.beginning.LogBeginning.is_walked.Given as goal
 use Rattle.check_certificate.specs.Walked.{AreAllRuledOut, end_of}
 use Rattle.check_certificate.specs.Evidence.{IsEventAt}
