@@ -40,8 +40,8 @@ extern "C" {
 
 /* The version of this header. The shared library of the same major version has the name
  * libyachtbanyan.so.MAJOR. */
-#define YACHT_VERSION "5.0.0"
-#define YACHT_VERSION_MAJOR 5
+#define YACHT_VERSION "6.0.0"
+#define YACHT_VERSION_MAJOR 6
 #define YACHT_VERSION_MINOR 0
 #define YACHT_VERSION_PATCH 0
 
@@ -51,7 +51,7 @@ const char *yacht_version(void);
 
 /* The library's name of yacht_open has the major version. So a program that was compiled with the
  * header of another one doesn't link with the library. */
-#define yacht_open yacht_open_5
+#define yacht_open yacht_open_6
 
 /* The largest numbers of slots, of handles that install values, and of handles and readers
  * together. */

@@ -50,12 +50,12 @@ extern "C" {
 
 /* The version of this header. The shared library of the same major version has the name
  * libyachtdirect.so.MAJOR. */
-#define YACHT_DIRECT_VERSION "5.0.0"
-#define YACHT_DIRECT_VERSION_MAJOR 5
+#define YACHT_DIRECT_VERSION "6.0.0"
+#define YACHT_DIRECT_VERSION_MAJOR 6
 #define YACHT_DIRECT_VERSION_MINOR 0
 #define YACHT_DIRECT_VERSION_PATCH 0
 
-/* Returns the version of the library, such as "5.0.0". The string is never freed. */
+/* Returns the version of the library, such as "6.0.0". The string is never freed. */
 const char *yacht_direct_version(void);
 
 /* The largest number of slots, and the largest kind. */

@@ -23,8 +23,8 @@ extern "C" {
 
 /* The version of this header. The shared library of the same major version has the name
  * libyachtjudge.so.MAJOR. */
-#define YACHT_JUDGE_VERSION "5.0.0"
-#define YACHT_JUDGE_VERSION_MAJOR 5
+#define YACHT_JUDGE_VERSION "6.0.0"
+#define YACHT_JUDGE_VERSION_MAJOR 6
 #define YACHT_JUDGE_VERSION_MINOR 0
 #define YACHT_JUDGE_VERSION_PATCH 0
 

@@ -297,7 +297,7 @@ class Checks(Counted):
         """Returns whether kernel/conform skips a rule without the library, and names it."""
         command = [f"{ROOT}/kernel/conform", "--scripts", "10", "--rule", rule]
         status, text, _ = run(command, env={**os.environ, "YACHTBANYAN_LIB_DIR": ROOT})
-        return status == 0 and f"  ok 1 {rule} # SKIP The library {ROOT}/libyachtjudge.so.5 was not found." in text
+        return status == 0 and f"  ok 1 {rule} # SKIP The library {ROOT}/libyachtjudge.so.6 was not found." in text
 
     def is_found(self, program, words, count):
         """Returns whether one of the logs of a recorder is not legal."""

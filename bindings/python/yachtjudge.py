@@ -1,7 +1,7 @@
 """The verified judge of io_uring's registered file table: judge(script, text), outcomes(script), judge_events(log) and explain_events(log, line).
 
 A script is what fixfiles plays. A text is what fixfiles, or a kernel, prints for it. Both are str or bytes. A log is one of calls in flight,
-as the module yachtlog reads it. The library libyachtjudge.so.5 is looked for in the folder YACHTBANYAN_LIB_DIR if that is set, else beside
+as the module yachtlog reads it. The library libyachtjudge.so.6 is looked for in the folder YACHTBANYAN_LIB_DIR if that is set, else beside
 this file and in the folders lib above it; and at last where the system finds libraries.
 
     >>> import yachtjudge
@@ -32,7 +32,7 @@ if TYPE_CHECKING:
 
 __all__ = ["BadEvent", "BadScript", "LogVerdict", "NoMemory", "Outcomes", "Point", "Step", "Verdict", "explain_events", "judge", "judge_events",
            "outcomes"]
-__version__ = "5.0.0"
+__version__ = "6.0.0"
 
 # what a script or a text may be
 Words = Union[str, bytes, bytearray, memoryview]
@@ -159,7 +159,7 @@ class _Judgement(ctypes.Structure):
 
 def _paths() -> Iterator[Path]:
     """Yields where the library may be, but for the folders of the system."""
-    name = "libyachtjudge.so.5"
+    name = "libyachtjudge.so.6"
     given = os.environ.get("YACHTBANYAN_LIB_DIR")
     if given:
         yield Path(given) / name

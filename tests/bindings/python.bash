@@ -37,8 +37,8 @@ $room/none: not a log: line 3: a read has at most 4096 bytes, not 4097" ] || ret
 another_version() {
     printf '%s\n' 'unsigned yacht_judge(void) { return 0; }' 'unsigned yacht_outcomes(void) { return 0; }' \
         'unsigned yacht_judge_events(void) { return 0; }' "${@:2}" > "$room/stub.c"
-    gcc -shared -fPIC -o "$room/libyachtjudge.so.5" "$room/stub.c" || return 1
-    without_library "$room" "$room/libyachtjudge.so.5 has $1, and this module needs 5."
+    gcc -shared -fPIC -o "$room/libyachtjudge.so.6" "$room/stub.c" || return 1
+    without_library "$room" "$room/libyachtjudge.so.6 has $1, and this module needs 6."
 }
 
 # without_library FOLDER WORDS: the module says in a sentence that its library is missing there
@@ -72,11 +72,11 @@ in_python() {
     want 'the judge from Python is wrong over the stand-in' over_the_stand_in_of_rows
     want 'the judge of logs from Python is wrong' judges_rows log_rows 49
     want 'the verified judge of yachtlog is wrong' proved_logs
-    want 'a missing library is not explained' without_library "$room" "$room/libyachtjudge.so.5 was not found."
-    echo > "$room/libyachtjudge.so.5"
-    want 'a library that does not load is not explained' without_library "$room" "$room/libyachtjudge.so.5 can't be loaded: "
+    want 'a missing library is not explained' without_library "$room" "$room/libyachtjudge.so.6 was not found."
+    echo > "$room/libyachtjudge.so.6"
+    want 'a library that does not load is not explained' without_library "$room" "$room/libyachtjudge.so.6 can't be loaded: "
     want 'a library without a version is not refused' another_version 'no version'
-    want 'a library of another version is not refused' another_version 'the version 4.9.1' 'const char *yacht_judge_version(void) { return "4.9.1"; }'
+    want 'a library of another version is not refused' another_version 'the version 5.9.1' 'const char *yacht_judge_version(void) { return "5.9.1"; }'
 }
 
 # takes modules with wrong changes, which the rows must refuse

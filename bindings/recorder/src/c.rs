@@ -26,7 +26,7 @@ const FULL: c_int = -6;
 const STALE: c_int = -10;
 
 extern "C" {
-    #[link_name = "yacht_open_5"]
+    #[link_name = "yacht_open_6"]
     fn yacht_open(
         table: *mut *mut RawTable,
         slots: u32,

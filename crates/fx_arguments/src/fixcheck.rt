@@ -9,7 +9,7 @@ const ABOUT: &str =
                      for instance what a kernel printed for it";
 
 /// The version, as the file VERSION has it.
-const VERSION: &str = "5.0.0";
+const VERSION: &str = "6.0.0";
 
 const STATUSES: &str = "\
 It prints `legal` and an order of requests for each accepted submission that gives the text;
