@@ -3,11 +3,11 @@ bindings/c/core.h and bindings/rust/src/access/exports.rs; the functions and the
 headers; the numbers of the table of docs/use/LIMITS.md, from the constants that its rows name; and the version, from VERSION, in each file
 that has it."""
 import contextlib
+import functools
 import re
 import textwrap
 
-from tests.number_sources import constant
-from scripts.repository import ROOT, read, write
+from scripts.repository import ROOT, files_of, read, write
 
 WIDTH = 100
 SOURCE = "crates/fx_server_c/src/exports.rt"
@@ -86,6 +86,16 @@ def fields():
 def folded(words, first, rest):
     """Returns a text in lines of at most 100 columns."""
     return textwrap.fill(words, WIDTH, initial_indent=first, subsequent_indent=rest, break_long_words=False, break_on_hyphens=False)
+
+
+@functools.cache
+def constant(crate, name):
+    """Returns a constant of a crate or of a header."""
+    texts = [read(f"include/{crate}.h")] if crate.startswith("yacht") else [read(it) for it in files_of(crate, "src")]
+    found = {it.strip() for text in texts for it in re.findall(rf"\b{name}(?:: \w+)? = (-?[\d_ <()+-]+)[;,\s}}]", text)}
+    if len(found) != 1:
+        raise ValueError(f"{crate} has {len(found)} constants {name}")
+    return eval(found.pop().replace("_", ""))
 
 
 def for_c():

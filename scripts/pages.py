@@ -1,6 +1,11 @@
-"""Reads the pages of this repository: headings, sections, tables and indented blocks."""
+"""Reads the pages of this repository: headings, sections, tables, indented blocks and the newest changes."""
 import functools
 import re
+
+
+def newest(changes):
+    """Returns the part of CHANGELOG.md of the newest version."""
+    return re.split(r"^## ", changes, flags=re.MULTILINE)[1]
 
 
 def anchor_of(heading):

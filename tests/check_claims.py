@@ -2,10 +2,8 @@
 clauses of its row; that each promise of README.md links to such a table; that each public call with a `requires` is among its
 preconditions; that its reading list has the files and lines that the headline's definition reaches; each quoted line of a law, and of
 the examples in README.md and docs/inside/LIBRARY.md; that each refusal in crates/WRONG_BODIES.md exists; the types and functions that any
-page names; the atomic steps of calls in docs/inside/PROOFS.md; the options of each command; and each number of the pages, by the
-rows of tests/numbers.txt (page_numbers.py). So it finds a page that is older than the code. Each kind of claims has some, and a wrong
-page of each is refused. It prints a row for each number that has none. `check-claims --spoil N` changes a digit of each of N numbers, at
-random, and prints the changes that are not noticed.
+page names; the atomic steps of calls in docs/inside/PROOFS.md; and the options of each command. So it finds a page that is older than the
+code. Each kind of claims has some, and a wrong page of each is refused.
 
 A claim is written '`f`, `g`: `x`, `y`; `h`: `z`': f and g both have the clauses x and y, and h has z. Without clauses it refers to
 the whole contract. A word with a capital letter is a definition that the contract cites."""
@@ -15,24 +13,20 @@ import copy
 import glob
 import io
 import os
-import random
 import re
 from typing import NamedTuple
 
 from scripts import edits
 from scripts.clauses import functions_of
-from tests import page_numbers
-from scripts.checks import Counted, arguments
-from scripts.pages import anchor_of, blocks, rows, section
+from scripts.checks import Counted
+from scripts.pages import anchor_of, blocks, newest, rows, section
 from scripts.repository import ROOT, SOURCES, files_of, read
 
 PROOFS, BODIES = "docs/inside/PROOFS.md", "crates/WRONG_BODIES.md"
 CALLER = "Preconditions of the public calls"
 # the least number of claims of each kind
 LEAST = {"tables": 600, "conditions": 85, "reading list": 4, "promises": 6, "wrong bodies": 480, "quotes": 170,
-         "atomic steps": 14, "options": 20, "wrong claims": 3, "pages": 450, "numbers": 1350, "wrong numbers": 66}
-# the least number of numbers that are computed, in a file, or run by a check
-LEAST_HELD = 1300
+         "atomic steps": 14, "options": 20, "wrong claims": 3, "pages": 450}
 # where the reading list of docs/inside/PROOFS.md begins
 HEADLINE = "crates/fx_ring/specs/Submission.antt"
 
@@ -192,7 +186,7 @@ def atomic_steps(page):
 def options(page):
     """Yields each option of a command on a page, and whether the command has it."""
     commands = {it: read(f"completions/{it}") for it in ("fixfiles", "fixcheck")}
-    rooms = {"kernel": ("conform", "litmus", "judge-linux", "in-vm"), "scripts": ("draw-history",), "bindings/python": ("yachtlog.py",), "tests": ("check-claims",)}
+    rooms = {"kernel": ("conform", "litmus", "judge-linux", "in-vm"), "scripts": ("draw-history",), "bindings/python": ("yachtlog.py",)}
     commands |= {it: read(f"{room}/{it.removesuffix('.py').replace('-', '_')}.py") for room, those in rooms.items() for it in those}
     for name, words in re.findall(rf"\b({'|'.join(commands)})\b((?: (?![#.|])\[?[\w./=<>-]+\]?)+)", page):
         for option in re.findall(r"--([a-z][a-z-]*)", words):
@@ -211,43 +205,10 @@ def numbers(claims):
     for kind, (claimed, pages, wrong) in NUMBERS.items():
         claims.kind = kind
         for page in pages:
-            for what, holds in claimed(page_numbers.newest(read(page)) if page == "CHANGELOG.md" else read(page)):
+            for what, holds in claimed(newest(read(page)) if page == "CHANGELOG.md" else read(page)):
                 claims.want(holds, f"{page}: not right: {what}")
         found = list(claimed(wrong))
         claims.want(len(found) > 1 and not any(holds for _, holds in found), f"of wrong {kind} it is said: {found}")
-
-
-# a page, a row of it, and rows that are wrong
-PAGE_OF_ROWS, RIGHT_ROW = "at most 1,024 guards", ("at most {=fx_lasting.MOST_PASSES} guards", "")
-WRONG_ROWS = (
-    ("at most {=fx_lasting.MOST_INSTALLING} guards", ""), ("at most 1,024 guards", ""), ("up to 99 slots", "measured"), ("{=fx_base.NO_SUCH} names", ""),
-    ("most 1,024{=fx_base.MOST_ENTRIES}", ""), ("at most 1,024 guards", "in README.md"), ("at most 1,024 guards", "run by tests/check-names"),
-)
-
-
-def numbers_of_pages(claims, spoiled):
-    """Each number of a page is in a row of tests/numbers.txt, and each row is right. Wrong rows, and numbers with another digit,
-    are noticed."""
-    claims.kind, those, kinds = "numbers", page_numbers.read_rows(), collections.Counter()
-    every, pages = page_numbers.of_every_page(those), {it: page_numbers.Page(it, read(it)) for it in page_numbers.pages()}
-    for (row, reason), part in zip(those.pop(page_numbers.EVERY), every, strict=True):
-        is_held = any(part in it.text for it in pages.values()) and not page_numbers.lacks_source("", row, reason)
-        claims.want(is_held, f"no page has, or nothing holds, this row of every page: {row}")
-    claims.want(those.keys() <= pages.keys(), f"{page_numbers.ROWS} has rows of no page: {those.keys() - pages.keys()}")
-    for path, page in pages.items():
-        for it in page_numbers.complaints(page, those.get(path, []), every, kinds):
-            claims.want(False, it)
-    for _ in range(kinds.total()):
-        claims.want(True, "")
-    print("# numbers: " + ", ".join(f"{count} {kind}" for kind, count in kinds.most_common()))
-    held = kinds.total() - kinds["explained"]
-    claims.want(held >= LEAST_HELD, f"{held} numbers are computed, in a file or run by a check, and not {LEAST_HELD}")
-    claims.kind = "wrong numbers"
-    for row in (RIGHT_ROW, *WRONG_ROWS):
-        is_refused = any(page_numbers.complaints(page_numbers.Page("README.md", PAGE_OF_ROWS), [row]))
-        claims.want(is_refused == (row != RIGHT_ROW), f"{'nothing' if row != RIGHT_ROW else 'something'} is said of the row {row} of {PAGE_OF_ROWS!r}")
-    for what, is_noticed in page_numbers.spoiled(random.Random(spoiled), spoiled):
-        claims.want(is_noticed, f"a wrong number isn't noticed: {what}")
 
 
 def refuses(name, refusal):
@@ -366,7 +327,6 @@ def wrong_pages(claims):
 
 
 def command():
-    given = arguments("check-claims [--spoil N]", options={"spoil": 60})
     claims = Claims()
     headings, told = tables_of_proofs(claims)
     for claims.kind, what in (("conditions", lambda: claims.conditions(told)), ("reading list", lambda: reading_list(claims)),
@@ -374,7 +334,6 @@ def command():
                               ("quotes", lambda: quotes(claims)), ("wrong claims", lambda: wrong_pages(claims))):
         what()
     numbers(claims)
-    numbers_of_pages(claims, given.spoil)
     claims.kind = "pages"
     for path in ("README.md", "CHANGELOG.md", *(it for way in ("*/*.md", "docs/*/*.md") for it in sorted(glob.glob(way, root_dir=ROOT)))):
         claims.page(path)

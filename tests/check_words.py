@@ -15,8 +15,8 @@ import signal
 from dataclasses import dataclass
 
 from scripts.checks import Counted
+from scripts.pages import newest
 from scripts.repository import ROOMS, ROOT, SOURCES, files_of, read
-from tests.page_numbers import newest
 from tests.sentences import long_ones, try_sentences
 
 GROUPS = "pages", "docs", "comments", "names"
