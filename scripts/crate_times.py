@@ -64,6 +64,25 @@ def expected(left, running, below, lanes):
     return clock
 
 
+def spread(seconds, below, lanes):
+    """Returns the seconds by the clock that crates take in that many lanes: if no lane is ever free, and if each crate has one lane."""
+    return sum(seconds.values()) / lanes, expected(seconds, {}, below, lanes)
+
+
+def spread_in_words(least, most):
+    """Returns two numbers of seconds as a range of minutes."""
+    first, last = max(round(least / 60), 1), max(round(most / 60), 1)
+    return f"{first} to {last} minutes" if first < last else in_words(most).removeprefix("about ")
+
+
+def minutes(*roots):
+    """Returns how long it takes to prove these crates and all that they depend on, or all crates with their tests, on 4 cores."""
+    below, known = crates(), measured()
+    those = {it for root in roots for it in needed(root, below)} or set(below)
+    seconds = {it: sum(known.get(it, (UNMEASURED, 0))) for it in below if it in those}
+    return spread_in_words(*spread(seconds, below, 4))
+
+
 def in_words(seconds, is_least=False):
     """Returns some seconds in words: an estimate, or a lower bound."""
     minutes = max(round(seconds / 60), 1)

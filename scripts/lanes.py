@@ -20,7 +20,7 @@ import tempfile
 import time
 
 from scripts import refusals
-from scripts.crate_times import KEPT, UNMEASURED, behind, crates, expected, in_words, measured, needed, static_libraries
+from scripts.crate_times import KEPT, UNMEASURED, behind, crates, expected, in_words, measured, needed, spread, spread_in_words, static_libraries
 from scripts.proved import copy_below, take_back
 from scripts.repository import ROOT, SOURCES, files_of, is_newer
 
@@ -144,6 +144,10 @@ class Lanes:
             is_least |= is_late
         return in_words(expected({it: self.seconds[it] * scale for it in self.left}, running, self.below, self.lanes), is_least)
 
+    def range(self):
+        """Returns how long all takes, in words, before the first crate has begun."""
+        return spread_in_words(*spread(self.seconds, self.below, self.lanes))
+
     def words(self, name, jobs):
         """Returns the command that proves a crate with that many jobs. Of a library the statements are kept and not the proofs, as in the
         gate, so that dependent crates have less to read. The program is built by a run on an empty script, which prints nothing, or
@@ -202,7 +206,7 @@ class Lanes:
     def prove(self):
         """Returns whether all crates were proved. Stops at the first that isn't, or if the user interrupts it."""
         left = len(self.those) - len(self.kept)
-        self.tell(f"Proving and building the program, {left} of {len(self.those)} crates: that takes {self.expected()} here.")
+        self.tell(f"Proving and building the program, {left} of {len(self.those)} crates: that takes {self.range()} here.")
         while self.left or self.jobs:
             self.start()
             time.sleep(0.2)
@@ -230,7 +234,7 @@ def plan(words):
     if len(roots) > 1 and shutil.which("rt"):
         lanes = Lanes(*roots)
         those = f"{', '.join(roots[:-1])} and {roots[-1]} need {len(lanes.those) - len(lanes.kept)} crates that are not proved"
-        lanes.tell(f"Proving and building {len(roots)} programs, one after another: {those}. That takes {lanes.expected()} here.")
+        lanes.tell(f"Proving and building {len(roots)} programs, one after another: {those}. That takes {lanes.range()} here.")
     return 0
 
 

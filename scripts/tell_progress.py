@@ -7,7 +7,7 @@ import re
 import sys
 import time
 
-from scripts.crate_times import UNMEASURED, crates, expected, in_words, measured
+from scripts.crate_times import UNMEASURED, crates, expected, in_words, measured, spread, spread_in_words
 from scripts.proved import VERDICT
 from scripts.repository import read_bytes
 
@@ -39,7 +39,7 @@ def main(path):
     begin, parent, minutes = time.monotonic(), os.getppid(), 0
     seconds, below = work()
     whole, said = expected(seconds, {}, below, PROCESSORS), ""
-    print(f"The gate proves {len(seconds)} crates and tests: that takes {in_words(whole, True)} here.", file=sys.stderr, flush=True)
+    print(f"The gate proves {len(seconds)} crates and tests: that takes {spread_in_words(*spread(seconds, below, PROCESSORS))} here.", file=sys.stderr, flush=True)
     while os.getppid() == parent and not VERDICT.search(said):
         time.sleep(1)
         said = read_bytes(os.path.abspath(path)).decode(errors="replace") if os.path.exists(path) else ""

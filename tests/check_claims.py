@@ -2,8 +2,9 @@
 clauses of its row; that each promise of README.md links to such a table; that each public call with a `requires` is among its
 preconditions; that its reading list has the files and lines that the headline's definition reaches; each quoted line of a law, and of
 the examples in README.md and docs/inside/LIBRARY.md; that each refusal in crates/WRONG_BODIES.md exists; the types and functions that any
-page names; the atomic steps of calls in docs/inside/PROOFS.md; and the options of each command. So it finds a page that is older than the
-code. Each kind of claims has some, and a wrong page of each is refused.
+page names; the atomic steps of calls in docs/inside/PROOFS.md; the options of each command; and the tables and minutes that
+bench/write-tables writes. So it finds a page that is older than the code. Each kind of claims has some, and a wrong page of each is
+refused.
 
 A claim is written '`f`, `g`: `x`, `y`; `h`: `z`': f and g both have the clauses x and y, and h has z. Without clauses it refers to
 the whole contract. A word with a capital letter is a definition that the contract cites."""
@@ -16,6 +17,7 @@ import os
 import re
 from typing import NamedTuple
 
+from bench import tables
 from scripts import edits
 from scripts.clauses import functions_of
 from scripts.checks import Counted
@@ -26,7 +28,7 @@ PROOFS, BODIES = "docs/inside/PROOFS.md", "crates/WRONG_BODIES.md"
 CALLER = "Preconditions of the public calls"
 # the least number of claims of each kind
 LEAST = {"tables": 600, "conditions": 85, "reading list": 4, "promises": 6, "wrong bodies": 480, "quotes": 170,
-         "atomic steps": 14, "options": 20, "wrong claims": 3, "pages": 450}
+         "atomic steps": 14, "options": 20, "wrong claims": 3, "pages": 450, "measurements": 30}
 # where the reading list of docs/inside/PROOFS.md begins
 HEADLINE = "crates/fx_ring/specs/Submission.antt"
 
@@ -211,6 +213,21 @@ def numbers(claims):
         claims.want(len(found) > 1 and not any(holds for _, holds in found), f"of wrong {kind} it is said: {found}")
 
 
+def is_written(path, text):
+    """Checks whether a page has the tables and the minutes that bench/write-tables writes."""
+    with contextlib.suppress(KeyError, ValueError):
+        return tables.written(path, text) == text
+
+
+def measurements(claims):
+    """Each page is as bench/write-tables writes it, and each table is on one page. Pages with another number are refused."""
+    for path in tables.pages():
+        claims.want(is_written(path, read(path)), f"{path}: bench/write-tables writes another table, or other minutes")
+    claims.want(sorted(tables.named()) == sorted(tables.TABLES), f"the pages have the tables {sorted(tables.named())}, and not {sorted(tables.TABLES)}")
+    for path, old, new in (("README.md", " minutes of proofs", "0 minutes of proofs"), ("docs/use/SPEED.md", "0.9", "0.8"), ("docs/use/LIMITS.md", "-tables machine", "-tables other")):
+        claims.want(old in read(path) and not is_written(path, read(path).replace(old, new, 1)), f"{path} with {new!r} in place of {old!r} is taken for a right one")
+
+
 def refuses(name, refusal):
     """Whether there is an edit of that name, a wrong step table, a test, an example or a check."""
     if refusal == "make steps":
@@ -331,7 +348,7 @@ def command():
     headings, told = tables_of_proofs(claims)
     for claims.kind, what in (("conditions", lambda: claims.conditions(told)), ("reading list", lambda: reading_list(claims)),
                               ("promises", lambda: promises_of_readme(claims, headings)), ("wrong bodies", lambda: wrong_bodies(claims)),
-                              ("quotes", lambda: quotes(claims)), ("wrong claims", lambda: wrong_pages(claims))):
+                              ("quotes", lambda: quotes(claims)), ("measurements", lambda: measurements(claims)), ("wrong claims", lambda: wrong_pages(claims))):
         what()
     numbers(claims)
     claims.kind = "pages"

@@ -1,0 +1,328 @@
+"""write-tables: writes the tables of measurements into the pages, from the kept runs beside this file, and the minutes of proofs, from
+scripts/seconds.txt. A page has each table between two lines: `<!-- bench/write-tables NAME -->` and `<!-- end -->`. tests/check-claims
+complains of a page that has another text there."""
+import glob
+import operator
+import re
+import statistics
+
+from bench.ratios import read_kept, title
+from scripts.crate_times import minutes
+from scripts.repository import ROOT, read, write
+
+# of the logs of a wrong table, the part that isn't legal from which on a table of that many calls is said to show it
+SHOWING = 0.9
+FULL = "128 of 256 full", "2,048 of 4,096 full", "32,768 of 65,536 full"
+
+
+def found(path, pattern):
+    """Returns what a pattern finds in a kept run, at each place."""
+    those = re.findall(pattern, read(path), re.MULTILINE)
+    if not those:
+        raise ValueError(f"{path} has nothing of {pattern}")
+    return those
+
+
+def span(numbers, decimals=2):
+    """Returns the least and the greatest of some numbers."""
+    numbers = sorted(float(str(it).replace(",", "")) for it in numbers)
+    return " to ".join(dict.fromkeys(f"{it:,.{decimals}f}" for it in (numbers[0], numbers[-1])))
+
+
+def lines(rows):
+    """Returns rows of cells as an indented block, in columns."""
+    widths = [max(map(len, it)) for it in zip(*rows)]
+    return "\n".join("    " + "   ".join(cell.ljust(width) for cell, width in zip(row, widths)).rstrip() for row in rows)
+
+
+def cells(rows):
+    """Returns rows of cells as a table, the first one as its head."""
+    head, *rest = ("| " + " | ".join(row) + " |" for row in rows)
+    return "\n".join([head, "|" + "---|" * len(rows[0]), *rest])
+
+
+def ratio(path, what, own, other):
+    """Returns how often a table took another one's time in a row: of each kept run the median, and of these the median."""
+    runs = [statistics.median(map(operator.truediv, times[own], times[other])) for row, times in read_kept(read(path).splitlines()) if row == what]
+    return statistics.median(runs)
+
+
+def on_threads(path, name, own, other):
+    return [f"{ratio(path, title(name, threads), own, other):.2f}" for threads in (1, 2, 4)]
+
+
+def crate(name, other, own="Rust crate"):
+    return on_threads("bench/rust.txt", name, own, other)
+
+
+def pairs(full, own="Rust crate"):
+    return crate(f"insert, get and remove, {full}", "sharded-slab keys", own)
+
+
+def elsewhere(name):
+    """Returns the ratios of a row on the other machine, the least and the greatest on 1, 2 and 4 threads."""
+    return [number for it in found("bench/elsewhere.txt", rf"^{name}: (.*)$")[0].split("; ") for number in it.split(" to ")]
+
+
+LOOKS, BY_KEY = "look and release, 256 slots: crate / arc-swap load", "insert, get and remove by key: crate / sharded-slab"
+
+
+def on_machines():
+    """Returns the ratios of two rows, the least and the greatest of both machines."""
+    here = {LOOKS: [*crate("look and release, 256 slots", "arc-swap load"), *crate("look and release, 1 slot", "arc-swap load")],
+            BY_KEY: [it for full in FULL for it in pairs(full, "Rust crate keys")]}
+    return [span([*here[it], *elsewhere(it)], 1) for it in (LOOKS, BY_KEY)]
+
+
+def summary():
+    """Returns the first table of the page of speed."""
+    looks, by_key = on_machines()
+    slab = [crate(f"look and release, {slots} slots", "sharded-slab keys")[2] for slots in ("4,096", "65,536")]
+    return cells([
+        ("on 1 to 4 threads", "times as long as", "ratio"),
+        ("a look-up by slot, and the drop of its guard", "`load` of arc-swap", f"{looks} (two machines)"),
+        ("", "a look-up of sharded-slab", f"{slab[0]} of 4,096 slots, {slab[1]} of 65,536 (four threads)"),
+        ("90 % look-ups, 10 % replacements", "the same with arc-swap", f"{crate('90 % look, 10 % replace, 256 slots', 'arc-swap load')[2]} (four threads)"),
+        ("an insertion, a look-up and a removal, by slot", "the same with sharded-slab", f"{span(pairs(it)[2] for it in FULL)} (four threads)"),
+        ("the same by key", "", f"{by_key} (two machines)"),
+    ])
+
+
+def of_crate():
+    rows = [("crate / other", "1 thread", "2 threads", "4 threads")]
+    rows += [(f"{it}: arc-swap load", *crate(it, "arc-swap load")) for it in ("look and release, 256 slots", "look and release, 1 slot")]
+    for it in ("look and release, 4,096 slots", "look and release, 65,536 slots"):
+        rows += [(f"{it}: sharded-slab", *crate(it, "sharded-slab keys")), ("the same by key", *crate(it, "sharded-slab keys", "Rust crate keys"))]
+    rows += [("90 % look, 10 % replace, 256 slots: arc-swap", *crate("90 % look, 10 % replace, 256 slots", "arc-swap load"))]
+    rows += [(f"insert, get and remove, {it}: sharded-slab", *pairs(it)) for it in FULL]
+    rows += [(f"the same by key, {it}", *pairs(it, "Rust crate keys")) for it in FULL]
+    return lines(rows)
+
+
+def of_calls():
+    """Returns the instructions and the locked steps of calls, and the lines of memory that a look-up at random waits for."""
+    tables = {"crate": "crate", "by key": "crate by key", "core for C": "core", "arc-swap load": "arc-swap load", "sharded-slab": "sharded-slab"}
+    text, rows = read("bench/calls.txt"), [("", *tables)]
+    for name in ("look", "insert, remove", "insert, look, remove", "replace"):
+        # an arc-swap has no free slots
+        those = ["" if it == "arc-swap load" and name.startswith("insert") else it for it in tables.values()]
+        counts = [re.search(rf"^{it}: {name}: ([\d.]+) instructions, ([\d.]+) locked", text, re.MULTILINE) for it in those]
+        rows.append((name, *(f"{float(it[1]):.0f} ({it[2]})" if it else "" for it in counts)))
+    misses = [re.search(rf"^{it}: look at random: .*, ([\d.]+) beyond 1 MB", text, re.MULTILINE) for it in tables.values()]
+    return lines([*rows, ("lines fetched at random", *(it[1] if it else "" for it in misses))])
+
+
+def median(path, name, word):
+    """Returns the median, over the kept runs, of what follows a word in a row."""
+    return statistics.median(map(int, found(path, rf"^\w+: {re.escape(name)}: .*?\b{word} ([\d ]+)")[0].split()))
+
+
+def of_tails():
+    """Returns the nanoseconds of single calls, the least and the greatest of the calls of a table."""
+    rows = [("", "half", "99 %", "99.99 %")]
+    for shown, table, calls in (("the crate's calls", "Rust crate", ("look and release", "insert", "remove")),
+                                ("arc-swap: look up", "arc-swap load", ("look and release",)), ("arc-swap: replace", "arc-swap load", ("insert", "remove"))):
+        names = [f"{table}, {writing} writing: {it}" for writing in (1, 58) for it in calls]
+        rows.append((shown, *(span((median("bench/tails.txt", it, word) for it in names), 0) for word in ("p50", "p99", r"p99\.99"))))
+    return lines(rows)
+
+
+def of_searches():
+    """Returns the microseconds of an insertion and a removal in a table with two empty slots."""
+    rows = [("microseconds", "4,096 slots", "65,536 slots", "1,048,576 slots")]
+    for who in ("the same handle", "another one"):
+        names = [f"insert and remove by {who}, 2 of {slots} slots empty" for slots in (4096, 65536, 1048576)]
+        rows.append((f"removed by {who}", *(f"{median('bench/searches.txt', it, 'median') / 1000:.1f}" for it in names)))
+    return lines(rows)
+
+
+def of_lasting():
+    rows = [("the core's calls / sharded-slab, by its own keys", "1 thread", "2 threads", "4 threads")]
+    names = [f"own-slot chains, {it}" for it in (*FULL[:2], "4,092 of 4,096 full", FULL[2])]
+    names += [f"allocation and take, {it}" for it in (*FULL[:2], "3,850 of 4,096 full", "4,092 of 4,096 full", FULL[2], "61,600 of 65,536 full")]
+    names += ["look and release, 4,096 slots", "look and release, 65,536 slots"]
+    return lines([*rows, *((it, *on_threads("bench/tables.txt", it, "lasting", "sharded-slab keys")) for it in names)])
+
+
+def of_others():
+    """Returns ratios of the core and of the crate to others, the least and the greatest of several rows."""
+    titles = dict.fromkeys(row for row, _ in read_kept(read("bench/tables.txt").splitlines()))
+
+    def ratios(pattern, own, other):
+        return span(ratio("bench/tables.txt", it, own, other) for it in titles if re.match(pattern, it))
+
+    return lines([
+        ("chains and allocations, 1 thread: core / plain words", ratios("(own-slot|allocation).*1 thread$", "lasting", "lasting words")),
+        ("the same, 2 and 4 threads", ratios("(own-slot|allocation).*threads$", "lasting", "lasting words")),
+        ("allocations, half full: core / slots over a slab", ratios(f"allocation.*({'|'.join(FULL)})", "lasting", "sharded-slab")),
+        ("allocations of the last four slots, 2 and 4 threads", ratios("allocation.*4,092 of 4,096 full, . threads", "lasting", "sharded-slab")),
+        ("opening and closing, 4,096 slots: core / plain words", ratios("opening", "lasting", "lasting words")),
+        ("the same: crate / sharded-slab", ratios("opening", "Rust crate", "sharded-slab keys")),
+    ])
+
+
+def of_counted():
+    """Returns the ratios of the table of a submission to others, row by row."""
+    others = {"plain words": "counted words", "arc-swap load": "arc-swap load", "load_full": "arc-swap load_full", "crossbeam-epoch": "crossbeam-epoch", "Mutex": "std's Mutex"}
+    titles = dict.fromkeys(row for row, _ in read_kept(read("bench/counted.txt").splitlines()))
+    return lines([("CountedTable /", *others), *((row, *(f"{ratio('bench/counted.txt', row, 'counted', it):.2f}" for it in others.values())) for row in titles)])
+
+
+def of_program():
+    """Returns the instructions of fixfiles by those of plain Rust, and the times of more workers by those of one."""
+    rows = [("script", "fixfiles / plain")]
+    rows += [it for it in found("bench/program.txt", r"^bench: (.*?)(?: over words)?: ([\d.]+) times the plain") if "baton" not in it[0]]
+    workers, text = [("by the clock, times as long as on one worker", "2 workers", "4 workers")], "bench/program.txt"
+    for name in ("1,023 reads of 4,096 bytes", "1,023 chains of 16 at one of 256 slots each"):
+        those = found(text, rf"^bench: {name}, \d+ times: .*?words, ([\d.]+) times that on 2 and ([\d.]+) times")
+        workers.append((name, *(f"{statistics.median(map(float, it)):.2f}" for it in zip(*those))))
+    opening = span(found(text, r"opening and closing, .*: counted / baton ([\d.]+)"), 0)
+    return f"{lines(rows)}\n\n{lines(workers)}\n\n{lines([('opening and closing for 1,023 chains: CountedTable / BatonTable', opening)])}"
+
+
+def of_judge():
+    """Returns the CPU seconds of the judge of logs."""
+    rows = [("log", "seconds of CPU time")]
+    for calls, count, seconds in found("bench/logs.txt", r"^(\d+) calls, 5 open, (\d+) lines: legal ([\d.]+)"):
+        rows.append((f"{int(calls):,} calls, 5 open, {int(count):,} lines: legal", seconds))
+    calls, seconds, more = found("bench/logs.txt", r"^(\d+) calls, 6 open, .*: not legal ([\d.]+); \d+ steps ([\d.]+)")[0]
+    rows += [(f"{int(calls):,} calls, 6 open: not legal", seconds), ("the reason of that one", more)]
+    rows.append(("5,000 calls, 3 to 8 open: not legal / legal", span(found("bench/logs.txt", r"^5000 calls.* ratio ([\d.]+)"), 1)))
+    return lines(rows)
+
+
+def of_lives():
+    """Returns the instructions of one life of a direct descriptor."""
+    machine, slab, other = found("bench/direct.txt", r"^machine (.*), slab (.*), ratio (.*)$")[0]
+    return lines([("libyachtdirect", "slab in plain Rust", "ratio"), (f"{machine} instructions", slab, other)])
+
+
+def of_machine():
+    """Returns the bytes that a machine of lives allocates."""
+    (few, least), (many, most) = [map(int, it) for it in found("bench/direct.txt", r"^a machine of (\d+) slots: (\d+) bytes")]
+    each = (most - least) // (many - few)
+    return f"A machine of lives (`fx_direct`) with S slots allocates {each} S + {least - each * few} bytes when it opens, and nothing later."
+
+
+def of_memory():
+    """Returns the memory of tables of the Rust crate."""
+    (seat, handle), = found("bench/memory.txt", r"each seat ([\d.]+) bytes, and each handle ([\d.]+) for each seat")
+    (first, further), = found("bench/memory.txt", r"first 4096 slots ([\d.]+) bytes, each further one ([\d.]+)")
+    rows = [("memory of", "")]
+    rows += [(f"a table of {int(slots):,} slots, {handles} handles, {int(seats):,} seats", f"{size} MB") for slots, handles, seats, size in
+             found("bench/memory.txt", r"^memory: (\d+) slots, (\d+) handles, (\d+) seats: ([\d.]+) MB")]
+    each = ("each of the first 4,096 slots", first), ("each further slot", further), ("each seat", seat), ("each handle, for each seat", handle)
+    return cells([*rows, *((words, f"{size} bytes") for words, size in each)])
+
+
+def of_fixcheck():
+    """Returns how many texts were undecided, and the longest and the largest run."""
+    rows = [("submissions", "played", "longest, largest", "spoiled", "longest, largest")]
+    kinds = dict.fromkeys(found("bench/fixcheck.txt", "^(.*), played: "))
+    for kind in kinds:
+        row = [kind]
+        for how in ("played", "spoiled"):
+            *counts, seconds, memory = found("bench/fixcheck.txt", rf"^{re.escape(kind)}, {how}: (\d+) legal, (\d+) not legal, (\d+) undecided; ([\d.]+) s, (.*)$")[0]
+            row += [f"{counts[-1]} of {sum(map(int, counts))}", f"{float(seconds):.1f} s, {memory}"]
+        rows.append(row)
+    others = [it for it in found("bench/fixcheck.txt", r"^(.* files closed): 1 legal.*; ([\d.]+ s), (.*)$")]
+    return f"{lines(rows)}\n\n{lines([('one text', 'seconds', 'memory'), *others])}"
+
+
+def of_wrong():
+    """Returns for each way in which a table is wrong: of one wrong call in how many, and the calls, what was judged of its logs."""
+    rows = {}
+    for way, rare, wrong, logs, calls in found("bench/recording.txt", r"^(\w+):(\d+): (\d+) of (\d+) not legal; (\d+) calls"):
+        rows.setdefault(way, {}).setdefault(int(rare), {})[int(calls)] = int(wrong), int(logs)
+    return rows
+
+
+def of_rare_calls():
+    ways = {"stale": "a look returns what the slot had before", "early": "a removed value is dropped in use", "lost": "a removed value is never dropped",
+            "take": "a removal says the opposite", "full": "a put at any slot says that all are full"}
+    rows, those = [], of_wrong()
+    for way, words in ways.items():
+        least = [[calls for calls, (wrong, logs) in sorted(sizes.items()) if wrong >= SHOWING * logs] for _, sizes in sorted(those[way].items())]
+        rows.append((words, *(f"{it[0]:,}" if it else "more" for it in least)))
+    return cells([("wrong call", *(f"one of {it:,}" for it in sorted(those["stale"]))), *rows])
+
+
+def of_stale_looks():
+    rares = of_wrong()["stale"]
+    rows = [(f"{calls:,}", *("{} of {}".format(*rares[it][calls]) for it in sorted(rares))) for calls in sorted(rares[100])]
+    return cells([("calls", *(f"stale at one of {it:,} looks" for it in sorted(rares))), *rows])
+
+
+def of_vm():
+    """Returns how long kernels in a virtual machine took."""
+    def started(kernel):
+        return span(found("bench/in_vm.txt", rf"^in-vm: kernel {kernel}, started in ([\d.]+) s"), 1) + " s"
+
+    user, system = found("bench/in_vm.txt", r"^build: ([\d.]+) seconds of user and ([\d.]+) of system")[0]
+    kernels, bisected = found("bench/in_vm.txt", r"^bisection of 8 commits: (\d+) kernels, found commit 6, in (\d+) s")[0]
+    return lines([
+        ("the build of the small kernel", f"{round((float(user) + float(system)) / 60)} minutes of CPU time"),
+        ("its image", f"{int(found('bench/in_vm.txt', r'^image: (.*) bytes')[0]) / 1e6:.1f} MB"),
+        ("its start", started(r"6\.1\.192")),
+        ("the start of Debian's own kernel (package linux-image-cloud-amd64)", started(".*cloud-amd64")),
+        ("one rule", found("bench/in_vm.txt", r"^conform took (\d+ s)")[0]),
+        ("conform with 100 random scripts", found("bench/in_vm.txt", r"^conform took (\d+ s)")[-1]),
+        ("the bisection", f"{kernels} kernels built, {round(int(bisected) / 60)} minutes"),
+    ])
+
+
+def of_conform():
+    return "\n".join(f"    {it}" for it in found("bench/conform.txt", r"^# scripts: .*|^# Totals: .*"))
+
+
+def of_contending():
+    return "\n".join(f"    {it}" for it in found("bench/conform.txt", r"^(?:as it is|with IOSQE_ASYNC): .*"))
+
+
+def of_litmus():
+    return "\n".join(f"    {it}".rstrip() for it in read("bench/litmus.txt").splitlines() if not it.startswith("#"))
+
+
+TABLES = {
+    "calls": of_calls, "conform": of_conform, "contending": of_contending, "counted": of_counted, "crate": of_crate, "fixcheck": of_fixcheck, "judge": of_judge,
+    "lasting": of_lasting, "litmus": of_litmus, "lives": of_lives, "machine": of_machine, "memory": of_memory, "others": of_others, "program": of_program,
+    "rare-calls": of_rare_calls, "searches": of_searches, "stale-looks": of_stale_looks, "summary": summary, "tails": of_tails, "vm": of_vm,
+}
+# what stands between other words of a page: the words before it, what it looks like, and what writes it
+MINUTES, RATIOS = r"\d+ to \d+ minutes", r"[\d.]+ to [\d.]+"
+INLINE = (
+    ("README.md", "    make run +# ", MINUTES, lambda: minutes("fx_cli")), ("README.md", "    make test +# ", MINUTES, minutes),
+    ("README.md", r"builds `fixcheck` \(", MINUTES, lambda: minutes("check_cli")),
+    ("README.md", r"looks up in \[", RATIOS, lambda: on_machines()[0]), ("README.md", r"inserts and removes in \[", RATIOS, lambda: on_machines()[1]),
+    ("docs/use/CHECKING.md", r"builds `fixcheck` before that \(", MINUTES, lambda: minutes("check_cli")),
+    ("docs/use/KERNEL.md", r"build `fixcheck` once \(", MINUTES, lambda: minutes("check_cli")),
+    ("docs/use/LINUX.md", r"builds `fixcheck` \(", MINUTES, lambda: minutes("check_cli")),
+    ("docs/use/LITMUS.md", r"`fixfiles` and `fixcheck` \(", MINUTES, lambda: minutes("fx_cli", "check_cli")),
+    ("docs/inside/LIBRARY.md", r"crates below, in ", MINUTES, lambda: minutes("example_library")),
+)
+MARKED = re.compile(r"(<!-- bench/write-tables ([\w-]+) -->\n\n)(.*?)(\n\n<!-- end -->)", re.DOTALL)
+
+
+def pages():
+    ways = "README.md", "docs/*/*.md", "bindings/*/README.md"
+    return [it for way in ways for it in sorted(glob.glob(way, root_dir=ROOT))]
+
+
+def written(path, text):
+    """Returns a page with the tables, minutes and ratios that are written into it."""
+    for _, before, form, made in (it for it in INLINE if it[0] == path):
+        text, count = re.subn(rf"({before}){form}", lambda it, its=made: it[1] + its(), text)
+        if count != 1:
+            raise ValueError(f"{path} has {count} times {before!r} and {form!r}")
+    return MARKED.sub(lambda it: it[1] + TABLES[it[2]]() + it[4], text)
+
+
+def named():
+    """Returns the names of the tables on the pages."""
+    return [name for it in pages() for _, name, *_ in MARKED.findall(read(it))]
+
+
+def command():
+    for it in pages():
+        write(f"{ROOT}/{it}", written(it, read(it)))
+    return 0
