@@ -10,7 +10,7 @@ from bench.ratios import read_kept, title
 from scripts.crate_times import minutes
 from scripts.repository import ROOT, read, write
 
-# of the logs of a wrong table, the part that isn't legal from which on a table of that many calls is said to show it
+# the part of a wrong table's logs that are not legal, from which on their size shows the fault
 SHOWING = 0.9
 FULL = "128 of 256 full", "2,048 of 4,096 full", "32,768 of 65,536 full"
 
@@ -288,7 +288,7 @@ TABLES = {
     "lasting": of_lasting, "litmus": of_litmus, "lives": of_lives, "machine": of_machine, "memory": of_memory, "others": of_others, "program": of_program,
     "rare-calls": of_rare_calls, "searches": of_searches, "stale-looks": of_stale_looks, "summary": summary, "tails": of_tails, "vm": of_vm,
 }
-# what stands between other words of a page: the words before it, what it looks like, and what writes it
+# what is between other words of a page: the words before it, its form, and what writes it
 MINUTES, RATIOS = r"\d+ to \d+ minutes", r"[\d.]+ to [\d.]+"
 INLINE = (
     ("README.md", "    make run +# ", MINUTES, lambda: minutes("fx_cli")), ("README.md", "    make test +# ", MINUTES, minutes),
