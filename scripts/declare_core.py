@@ -1,9 +1,10 @@
 """declare-core: writes the declarations of the core's exports for C and Rust, from the sources of fx_server_c and fx_server:
 bindings/c/core.h and bindings/rust/src/access/exports.rs; the functions and the limits of yachtbanyan(3) and yachtdirect(3), from the
 headers; the numbers of the table of docs/use/LIMITS.md, from the constants that its rows name; and the version, from VERSION, in each file
-that has it."""
+that has it. If a limit has changed, it prints the lines of other pages and headers that have the old number."""
 import contextlib
 import functools
+import glob
 import re
 import textwrap
 
@@ -199,6 +200,17 @@ def for_limits():
     return re.sub(r"^    (2\^\d+ - 1|[\d,]+) (.* {2,})(\w+): ([A-Z_]+)$", row, read(LIMITS), flags=re.M)
 
 
+def old_limits():
+    """Yields each line of a page or a header that has the number which the page of limits has of a constant, and the constant hasn't."""
+    old, new = ({name: number for number, name in re.findall(r"^    ([\d,]+) .*: ([A-Z_]+)$", it, re.M)} for it in (read(LIMITS), for_limits()))
+    ways = "README.md", "docs/*/*.md", "bindings/*/README.md", "man/*", "include/*.h"
+    for name, number in ((name, number) for name, number in old.items() if new[name] != number):
+        for path in (it for way in ways for it in sorted(glob.glob(way, root_dir=ROOT)) if it != LIMITS):
+            for nth, line in enumerate(read(path).splitlines(), 1):
+                if re.search(rf"(?<![\w,.]){number}(?![,.]?\w)", line):
+                    yield f"{path}:{nth}: {name} was {number}, and is {new[name]}: {line.strip()}"
+
+
 def with_version(path, count):
     """Returns a function that returns a file with the version where it has it, which is at that number of places."""
     def made():
@@ -245,6 +257,8 @@ def stale():
 
 
 def command():
+    for it in old_limits():
+        print(it)
     for path, made in FILES.items():
         write(f"{ROOT}/{path}", made())
     return 0
