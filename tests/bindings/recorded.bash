@@ -4,7 +4,7 @@ recorder=$PWD/build/bindings/recorder
 
 builds_recorder() {
     rm -rf "$room/bindings" && mkdir "$room/bindings" && cp -r bindings/rust bindings/recorder "$room/bindings" || return 1
-    (cd "$room/bindings/recorder" && CARGO_TARGET_DIR=$recorder YACHTBANYAN_LIB_DIR=$libraries cargo build --release --offline --quiet)
+    (cd "$room/bindings/recorder" && CARGO_TARGET_DIR=$recorder YACHTBANYAN_LIB_DIR=$libraries cargo build --release --offline --quiet --bins --examples)
 }
 
 # judged WORD: the verdict on the log is this word; a log that breaks the rules is named by its line
@@ -18,10 +18,15 @@ records() {
     timeout "${limit:-120}" "$recorder/release/recorder" "$@" > "$room/log"
 }
 
-# refuses_arguments WORDS ARGUMENT..: the recorder prints these words and no log
+# refuses_arguments PROGRAM WORDS ARGUMENT..: a recorder prints these words and no log
 refuses_arguments() {
-    "$recorder/release/recorder" "${@:2}" > "$room/log" 2> "$room/found"
-    [ $? -eq 2 ] && [ ! -s "$room/log" ] && grep -qxF "recorder: $1" "$room/found"
+    "$recorder/release/$1" "${@:3}" > "$room/log" 2> "$room/found"
+    [ $? -eq 2 ] && [ ! -s "$room/log" ] && grep -qxF "${1##*/}: $2" "$room/found"
+}
+
+# ends_early: a recording of a table that panics, or never returns, has a log up to there
+ends_early() {
+    (cd "$room/bindings/recorder" && CARGO_TARGET_DIR=$recorder timeout 300 cargo test --offline --quiet --no-default-features --test cut)
 }
 
 # legal TABLE NUMBER..: the logs of three seeds are legal
@@ -56,7 +61,7 @@ in_turns() {
     local seed
     gcc -O2 -shared -fPIC tests/step.c -o "$room/step.so" -ldl || return 1
     for seed in 1 2 3 4 5 6; do
-        SEED=$seed TURN=30 LD_PRELOAD=$room/step.so limit=30 records "$1" "$seed" 3 2 20 "$2" || continue
+        SEED=$seed TURN=30 LD_PRELOAD=$room/step.so limit=60 records "$1" "$seed" 3 2 20 "$2" || continue
         judged legal && return
         return 1
     done
@@ -66,12 +71,15 @@ in_turns() {
 recorded() {
     want 'the recorder is not built' builds_recorder
     want 'a bound or a lifetime of the recorder is wrong' over_the_library "$room/bindings/recorder" "$recorder" --doc bounds
-    want 'a recorder without arguments says something else' refuses_arguments 'no table is given'
-    want 'a number of threads that is none is not refused' refuses_arguments "THREADS is a number from 1 to 64, not '0'" slots 1 0
-    want 'a table by keys with too few slots is not refused' refuses_arguments "SLOTS is a number from 600 to 1048576, not '64'" c-keys 1 3 2 100 64
-    want 'a table that there is none of is not refused' refuses_arguments \
+    want 'a recorder without arguments says something else' refuses_arguments recorder 'no table is given'
+    want 'a number of threads that is none is not refused' refuses_arguments recorder "THREADS is a number from 1 to 64, not '0'" slots 1 0
+    want 'a table by keys with too few slots is not refused' refuses_arguments recorder "SLOTS is a number from 600 to 1048576, not '64'" c-keys 1 3 2 100 64
+    want 'a table that there is none of is not refused' refuses_arguments recorder \
         "TABLE is yachtbanyan, c, keys, c-keys, slots, stale, early, walk, or, wrong at one of N calls, stale:N, early:N, lost:N, take:N or full:N, \
 not 'none'" none 1
+    want 'a seed of the example that is none is not refused' refuses_arguments examples/cached "SEED is a number from 0 to 4294967295, not 'abc'" abc
+    want 'a word of the example that is none is not refused' refuses_arguments examples/cached "'rihgt' is not 'right'" 2 rihgt
+    want 'a recording of a table that panics or never returns has no log' ends_early
     want 'a log of the Rust crate is not legal' legal yachtbanyan 3 20 300 3
     want 'a log of the Rust crate with one slot is not legal' legal yachtbanyan 4 20 200 1
     want 'a log of the C library is not legal' legal c 3 20 300 3
@@ -96,6 +104,7 @@ wrong_recorded() {
 # a key of sharded-slab that is removed twice while a guard lives
 slab_recorded() {
     want 'that sharded-slab removes a key twice is not noticed' slab_found
+    want 'a seed of the slab that is none is not refused' refuses_arguments record_sharded_slab "SEED is a number from 0 to 4294967295, not 'abc'" abc
 }
 
 slab_found() {

@@ -1,9 +1,12 @@
 //! cached SEED [right]: records random calls of three threads on a table whose readers keep copies,
 //! and prints the log (docs/use/RECORDING.md). The table has a bug; with `right` it has none.
+//! SEED is a number.
 use recorder::{record, Handle, Plan, Table, Value};
 use std::cell::RefCell;
+use std::process::ExitCode;
 use std::sync::atomic::{AtomicUsize, Ordering::SeqCst};
 use std::sync::{Arc, Mutex};
+use std::time::Duration;
 
 type Found = Option<Arc<Value>>;
 
@@ -92,17 +95,40 @@ impl Handle for CachedHandle<'_> {
     }
 }
 
-fn main() {
+/// Reads the arguments: the seed, and whether the table is right.
+fn arguments(words: &[String]) -> Result<(u64, bool), String> {
+    let (seed, is_right) = match words {
+        [seed] => (seed, false),
+        [seed, word] if word == "right" => (seed, true),
+        [_, word] => return Err(format!("'{word}' is not 'right'")),
+        _ => return Err(format!("{} arguments are not 1 or 2", words.len())),
+    };
+    match seed.parse::<u32>() {
+        Ok(seed) => Ok((seed.into(), is_right)),
+        Err(_) => Err(format!(
+            "SEED is a number from 0 to {}, not '{seed}'",
+            u32::MAX
+        )),
+    }
+}
+
+fn main() -> ExitCode {
     let words: Vec<String> = std::env::args().skip(1).collect();
-    let seed = words.first().and_then(|it| it.parse().ok()).unwrap_or(1);
+    let (seed, is_right) = match arguments(&words) {
+        Ok(given) => given,
+        Err(fault) => {
+            eprintln!("cached: {fault}\nusage: cached SEED [right]");
+            return ExitCode::from(2);
+        }
+    };
     let plan = Plan {
         seed,
         threads: 3,
         rounds: 20,
         calls: 300,
         slots: 3,
+        silence: Duration::from_secs(20),
     };
     let slots = (0..plan.slots).map(|_| Slot::default()).collect();
-    let is_right = words.get(1).is_some_and(|it| it == "right");
-    print!("{}", record(Cached { slots, is_right }, plan));
+    record(Cached { slots, is_right }, plan).print()
 }

@@ -3,20 +3,20 @@
 //!
 //! | type | `Send` | `Sync` | it doesn't outlive |
 //! |---|---|---|---|
-//! | `Value`, `Log`, `Plan`, `Slots`, `Keyed`, `Fault` | yes | yes | |
+//! | `Value`, `Log`, `Plan`, `Cut`, `Slots`, `Keyed`, `CTable`, `CKeyed`, `Fault` | yes | yes | |
 //! | `SlotsHandle`, `KeyedHandle` | yes | no | its table; `KeyedHandle` keeps it |
-//! | `CTable`, `CKeyed` | no | yes | |
 //! | `CHandle`, `CKeyedHandle` | no | no | its table |
 //! | `CGuard` | no | no | its handle |
 //!
 //! ```
 //! use recorder::library::{Keyed, KeyedHandle};
 //! use recorder::tables::{Fault, Slots, SlotsHandle};
-//! use recorder::{Log, Plan, Value};
+//! use recorder::c::{CKeyed, CTable};
+//! use recorder::{Cut, Log, Plan, Value};
 //!
 //! fn shared<T: Send + Sync>() {}
 //! fn send<T: Send>() {}
-//! shared::<(Value, Log, Plan, Slots, Keyed, Fault)>();
+//! shared::<(Value, Log, Plan, Cut, Slots, Keyed, CTable, CKeyed, Fault)>();
 //! send::<(SlotsHandle<'static>, KeyedHandle)>();
 //! ```
 //!
@@ -50,35 +50,7 @@
 //! send::<KeyedHandle>();
 //! ```
 //!
-//! The table of the C library is shared, and its handles and guards stay on their threads:
-//!
-//! ```compile_fail,E0277
-//! # use recorder::c::CTable;
-//! # fn send<T: Send>() {}
-//! # fn sync<T: Sync>() {}
-//! send::<CTable>();
-//! ```
-//!
-//! ```
-//! # use recorder::c::CTable;
-//! # fn send<T: Send>() {}
-//! # fn sync<T: Sync>() {}
-//! sync::<CTable>();
-//! ```
-//!
-//! ```compile_fail,E0277
-//! # use recorder::c::CKeyed;
-//! # fn send<T: Send>() {}
-//! # fn sync<T: Sync>() {}
-//! send::<CKeyed>();
-//! ```
-//!
-//! ```
-//! # use recorder::c::CKeyed;
-//! # fn send<T: Send>() {}
-//! # fn sync<T: Sync>() {}
-//! sync::<CKeyed>();
-//! ```
+//! Handles and guards of the C library's table stay on their threads:
 //!
 //! ```compile_fail,E0277
 //! # use recorder::c::CHandle;

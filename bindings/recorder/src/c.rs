@@ -67,6 +67,8 @@ pub struct CTable {
     handles: AtomicU32,
 }
 
+// SAFETY: any thread frees a table that no handle is in use of, and its values go to any thread
+unsafe impl Send for CTable {}
 // SAFETY: threads may use a table at the same time, each by a handle of its own
 unsafe impl Sync for CTable {}
 

@@ -16,21 +16,23 @@ pub mod c;
 #[cfg(feature = "yachtbanyan")]
 pub mod library;
 mod log;
+mod meeting;
 mod play;
 pub mod tables;
 
 pub use log::{Log, Value};
+pub use meeting::Cut;
 pub use play::{record, Plan};
 use std::ops::Deref;
 
 /// A table of slots that threads share.
-pub trait Table: Sync {
+pub trait Table: Send + Sync + 'static {
     /// A thread's access to the table.
     type Handle<'a>: Handle
     where
         Self: 'a;
 
-    /// Returns an access for the calling thread.
+    /// Returns an access for the calling thread. Panics if the table has none for another thread.
     fn handle(&self) -> Self::Handle<'_>;
 }
 
@@ -62,6 +64,7 @@ pub trait Handle {
     /// Empties a slot, and returns whether it had a value, which its last user drops.
     fn take(&self, slot: usize) -> bool;
 
-    /// Drops what the handle keeps for later calls. Called when no thread is in a call.
+    /// Drops what the handle keeps for later calls, and waits for threads of the table that drop
+    /// values. Called when no thread is in a call of the table but this one.
     fn rest(&self) {}
 }

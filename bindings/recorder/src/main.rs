@@ -7,10 +7,13 @@
 //!
 //! Each of THREADS (3) makes CALLS (50) calls in each of ROUNDS (20), after which all rest. The
 //! table has SLOTS: 3, or by keys as many as all calls, since each call may keep its value.
+//!
+//! The exit status is 1 if the table panics or a call never returns, with a log up to there, 2 if an
+//! argument is invalid, and 4 if the log can't be printed.
 use recorder::tables::{Fault, Slots, Wrong};
 use recorder::{record, Log, Plan};
-use std::io::Write;
 use std::process::ExitCode;
+use std::time::Duration;
 
 const USAGE: &str = "usage: recorder TABLE SEED [THREADS [ROUNDS [CALLS [SLOTS]]]]";
 const TABLES: &str =
@@ -54,6 +57,7 @@ fn plan_of(words: &[String]) -> Result<(&str, Plan), String> {
         rounds,
         calls,
         slots,
+        silence: Duration::from_secs(20),
     };
     Ok((table, plan))
 }
@@ -137,10 +141,7 @@ fn main() -> ExitCode {
             eprintln!(
                 "recorder: {calls} calls; 95 of 100 such logs have a fault of 1 call in {rare}"
             );
-            match write!(std::io::stdout().lock(), "{log}") {
-                Ok(()) => ExitCode::SUCCESS,
-                Err(_) => ExitCode::from(4),
-            }
+            log.print()
         }
         Err(fault) => {
             eprintln!("recorder: {fault}\n{USAGE}");

@@ -1,8 +1,12 @@
 //! Random calls of several threads.
-use crate::log::{next_call, note, taken, Call, Event};
+use crate::log::{Call, Event, Notes};
+use crate::meeting::{Cut, Meeting};
 use crate::{Handle, Log, Table, Value};
+use std::mem::ManuallyDrop;
+use std::panic::{catch_unwind, AssertUnwindSafe};
 use std::sync::atomic::{AtomicUsize, Ordering::SeqCst};
-use std::sync::{Barrier, Mutex};
+use std::sync::Arc;
+use std::time::Duration;
 
 const EBADF: i64 = -9;
 const ENFILE: i64 = -23;
@@ -23,6 +27,9 @@ pub struct Plan {
     pub calls: usize,
     /// The number of slots of the table, which are numbered from 0.
     pub slots: usize,
+    /// If no call begins or returns for this time, the log ends, and [`Log::cut`] says so: a call
+    /// never returns.
+    pub silence: Duration,
 }
 
 struct Random(u64);
@@ -35,69 +42,80 @@ impl Random {
     }
 }
 
-/// A thread that plays: its handle, and the keys that all threads share.
+/// What all threads share, but the table.
+struct Shared {
+    plan: Plan,
+    notes: Arc<Notes>,
+    meeting: Meeting,
+    keys: [AtomicUsize; KEYS],
+}
+
+/// A thread that plays.
 struct Thread<'a, H> {
     handle: H,
     random: Random,
-    keys: &'a [AtomicUsize],
-    slots: usize,
+    shared: &'a Shared,
 }
 
 impl<H: Handle> Thread<'_, H> {
+    fn note(&self, event: Event) {
+        self.shared.notes.note(event);
+    }
+
     fn slot(&mut self) -> usize {
         if H::CHOOSES {
-            self.keys[self.random.below(KEYS)].load(SeqCst)
+            self.shared.keys[self.random.below(KEYS)].load(SeqCst)
         } else {
-            self.random.below(self.slots)
+            self.random.below(self.shared.plan.slots)
         }
     }
 
     fn get(&mut self, id: usize) {
         let slot = self.slot();
-        note(Event::Call(id, Call::Get(slot)));
+        self.note(Event::Call(id, Call::Get(slot)));
         let Some(guard) = self.handle.get(slot) else {
-            note(Event::Done(id, EBADF, None));
+            self.note(Event::Done(id, EBADF, None));
             return;
         };
-        note(Event::Done(id, 0, Some(guard.call)));
+        self.note(Event::Done(id, 0, Some(guard.call)));
         if self.random.below(3) == 0 {
             std::thread::yield_now();
         }
-        note(Event::Free(id));
+        self.note(Event::Free(id));
     }
 
     fn put(&mut self, id: usize) {
         let slot = self.slot();
-        note(Event::Call(id, Call::Put(slot)));
-        self.handle.put(slot, Value::new(id));
-        note(Event::Done(id, 0, None));
+        self.note(Event::Call(id, Call::Put(slot)));
+        self.handle.put(slot, Value::new(id, &self.shared.notes));
+        self.note(Event::Done(id, 0, None));
     }
 
     fn put_any(&mut self, id: usize) {
-        note(Event::Call(id, Call::PutAny));
-        match self.handle.put_any(Value::new(id)) {
+        self.note(Event::Call(id, Call::PutAny));
+        match self.handle.put_any(Value::new(id, &self.shared.notes)) {
             Ok(slot) => {
-                note(Event::PutAt(id, slot));
+                self.note(Event::PutAt(id, slot));
                 if H::CHOOSES {
-                    self.keys[self.random.below(KEYS)].store(slot, SeqCst);
+                    self.shared.keys[self.random.below(KEYS)].store(slot, SeqCst);
                 }
             }
             Err(value) => {
                 value.discard();
-                note(Event::Done(id, ENFILE, None));
+                self.note(Event::Done(id, ENFILE, None));
             }
         }
     }
 
     fn take(&mut self, id: usize) {
         let slot = self.slot();
-        note(Event::Call(id, Call::Take(slot)));
+        self.note(Event::Call(id, Call::Take(slot)));
         let result = if self.handle.take(slot) { 0 } else { EBADF };
-        note(Event::Done(id, result, None));
+        self.note(Event::Done(id, result, None));
     }
 
     fn call(&mut self) {
-        let id = next_call();
+        let id = self.shared.notes.next_call();
         match self.random.below(10) {
             0..=4 => self.get(id),
             5 | 6 if !H::CHOOSES => self.put(id),
@@ -107,44 +125,71 @@ impl<H: Handle> Thread<'_, H> {
     }
 }
 
-/// Plays random calls on a table, and returns their log.
-pub fn record<T: Table>(table: T, plan: Plan) -> Log {
-    let barrier = Barrier::new(plan.threads);
-    let lines = Mutex::new(Vec::new());
-    // no key of a table is the largest number
-    let keys: Vec<_> = (0..KEYS).map(|_| AtomicUsize::new(usize::MAX)).collect();
-    std::thread::scope(|scope| {
-        for number in 0..plan.threads {
-            let (table, barrier, lines, keys) = (&table, &barrier, &lines, &keys);
-            scope.spawn(move || {
-                let random = Random(plan.seed * 1000 + number as u64);
-                let handle = table.handle();
-                let slots = plan.slots;
-                let mut thread = Thread {
-                    handle,
-                    random,
-                    keys,
-                    slots,
-                };
-                for _ in 0..plan.rounds {
-                    (0..plan.calls).for_each(|_| thread.call());
-                    thread.handle.rest();
-                    if barrier.wait().is_leader() {
-                        note(Event::Settled);
-                    }
-                    barrier.wait();
-                }
-                drop(thread);
-                lines.lock().unwrap().append(&mut taken());
-            });
-        }
+/// Plays the calls of one thread. After a cut, and if a call panics, the thread drops nothing: a
+/// drop may panic too, or wait for another thread.
+fn play<T: Table>(table: &T, number: usize, shared: &Shared) {
+    let plan = shared.plan;
+    let mut thread = ManuallyDrop::new(Thread {
+        handle: table.handle(),
+        random: Random(plan.seed * 1000 + number as u64),
+        shared,
     });
-    // the values that are left: no call removes them
-    drop(table);
-    taken();
-    Log::new(
-        lines.into_inner().unwrap(),
+    for _ in 0..plan.rounds {
+        for _ in 0..plan.calls {
+            if shared.meeting.is_cut() {
+                return;
+            }
+            thread.call();
+        }
+        if !shared.meeting.wait(|| ()) {
+            return;
+        }
+        thread.handle.rest();
+        if !shared.meeting.wait(|| thread.note(Event::Settled)) {
+            return;
+        }
+    }
+    drop(ManuallyDrop::into_inner(thread));
+}
+
+/// Plays random calls on a table, and returns their log. If the table panics, or a call never
+/// returns, the log has all up to there, and [`Log::cut`] the reason. Then the table is not
+/// dropped, and a thread whose call never returns is left in it.
+pub fn record<T: Table>(table: T, plan: Plan) -> Log {
+    let table = Arc::new(table);
+    let shared = Arc::new(Shared {
+        plan,
+        notes: Arc::new(Notes::new(plan.threads)),
+        meeting: Meeting::new(plan.threads),
+        // no key of a table is the largest number
+        keys: [const { AtomicUsize::new(usize::MAX) }; KEYS],
+    });
+    for number in 0..plan.threads {
+        let (table, shared) = (table.clone(), shared.clone());
+        std::thread::spawn(move || {
+            Notes::begin_thread(number);
+            let played = catch_unwind(AssertUnwindSafe(|| play(&*table, number, &shared)));
+            if played.is_err() {
+                shared.meeting.cut(Cut::Panicked);
+            }
+            match shared.meeting.is_cut() {
+                true => std::mem::forget(table),
+                false => drop(table),
+            }
+            shared.meeting.end();
+        });
+    }
+    let tickets = || shared.notes.tickets();
+    let cut = shared.meeting.wait_for_end(plan.silence, tickets);
+    let log = Log::new(
+        &shared.notes,
         plan.slots,
         <T::Handle<'_> as Handle>::CHOOSES,
-    )
+        cut,
+    );
+    if cut.is_some() {
+        std::mem::forget(table);
+    }
+    // the values that are left have no line: no call removes them
+    log
 }

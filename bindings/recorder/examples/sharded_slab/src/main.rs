@@ -3,6 +3,8 @@
 use recorder::{record, Handle, Plan, Table, Value};
 use sharded_slab::{Entry, Slab};
 use std::ops::Deref;
+use std::process::ExitCode;
+use std::time::Duration;
 
 struct Slabs(Slab<Value>);
 struct SlabHandle<'a>(&'a Slab<Value>);
@@ -44,15 +46,33 @@ impl Handle for SlabHandle<'_> {
     }
 }
 
-fn main() {
-    let word = std::env::args().nth(1);
-    let seed = word.and_then(|word| word.parse().ok()).unwrap_or(1);
+/// Reads the only argument, the seed.
+fn seed_of(words: &[String]) -> Result<u64, String> {
+    let [seed] = words else {
+        return Err(format!("{} arguments are not 1", words.len()));
+    };
+    match seed.parse::<u32>() {
+        Ok(seed) => Ok(seed.into()),
+        Err(_) => Err(format!("SEED is a number from 0 to {}, not '{seed}'", u32::MAX)),
+    }
+}
+
+fn main() -> ExitCode {
+    let words: Vec<String> = std::env::args().skip(1).collect();
+    let seed = match seed_of(&words) {
+        Ok(seed) => seed,
+        Err(fault) => {
+            eprintln!("record_sharded_slab: {fault}\nusage: record_sharded_slab SEED");
+            return ExitCode::from(2);
+        }
+    };
     let plan = Plan {
         seed,
         threads: 3,
         rounds: 1,
         calls: 240,
         slots: 0,
+        silence: Duration::from_secs(20),
     };
-    print!("{}", record(Slabs(Slab::new()), plan));
+    record(Slabs(Slab::new()), plan).print()
 }
