@@ -81,7 +81,7 @@ check:
 	@scripts/run-script check
 
 litmus:
-	@kernel/litmus
+	@kernel/litmus --build
 
 prove:
 	@scripts/prove "$$CRATE"

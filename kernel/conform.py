@@ -24,7 +24,7 @@ import time
 from kernel import flights
 from scripts.checks import arguments
 from kernel.kernels import FIXCHECK, LEFT_OUT, NO_KERNEL, PLAYER, UNSAID
-from kernel.kernels import built_player, found_of_kernel, large_differences, listed, of_older_kernels, text_of_kernel, verdict_of
+from kernel.kernels import built_player, found_of_kernel, large_differences, listed, missing_program, of_older_kernels, text_of_kernel, verdict_of
 from scripts.programs import LEGAL, TooLong, in_parallel
 from scripts.progress import Progress
 from model.random_scripts import random_scripts
@@ -348,7 +348,7 @@ def command():
             print(f"1..0 # SKIP {missing if status == NO_KERNEL else 'the player cannot be built: ' + missing.splitlines()[0]}")
             return NOTHING_TO_PLAY_ON
     if not os.path.exists(options.fixcheck):
-        print(f"1..0 # SKIP there is no program {os.path.relpath(options.fixcheck, ROOT)}")
+        print(f"1..0 # SKIP {missing_program(os.path.relpath(options.fixcheck, ROOT), 'check')}")
         return NOTHING_TO_PLAY_ON
     what = f"rule {options.rule}" if options.rule not in ("", RANDOM) else f"{options.scripts} random scripts, seed {options.seed}"
     print(f"# {judged}; {what}", flush=True)

@@ -17,7 +17,7 @@ import os
 import re
 import sys
 
-from kernel.kernels import FIXCHECK, Linux, listed
+from kernel.kernels import FIXCHECK, Linux, listed, missing_program
 from model.model import Script, fault_of, requests_of
 from model import orders
 from scripts.programs import LEGAL, NOT_LEGAL, UNDECIDED, run
@@ -204,7 +204,7 @@ def command():
         print(f"judge-linux: {error.filename} can't be read: {error.strerror}", file=sys.stderr)
         return CANT_READ
     if not os.path.exists(given.fixcheck):
-        print(f"judge-linux: there is no program {given.fixcheck}", file=sys.stderr)
+        print(f"judge-linux: {missing_program(given.fixcheck, 'check')}", file=sys.stderr)
         return CANT_READ
     status, said = judged(given, given_text)
     if status not in (NOT_LEGAL, UNDECIDED):

@@ -53,6 +53,11 @@ def built_player():
     return status, (text + message).strip().removeprefix("kernel: skipped: ")
 
 
+def missing_program(program, goal):
+    """Returns what is printed of a program that is missing: what proves and builds it, and who has it built."""
+    return f"there is no program {program}: `make {goal}` proves and builds it in the repository, and the archive has it"
+
+
 def verdict_of(fixcheck, text, written):
     """Returns LEGAL, NOT_LEGAL or UNDECIDED, and what fixcheck prints."""
     for states in (STATES, MOST_STATES):

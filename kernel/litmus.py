@@ -1,6 +1,6 @@
-"""litmus [SCRIPT [N]] [--fixfiles PROGRAM] [--fixcheck PROGRAM]: lists every text that the rules allow for a script, and counts how
+"""litmus [SCRIPT [N]] [--fixfiles PROGRAM] [--fixcheck PROGRAM] [--build]: lists every text that the rules allow for a script, and counts how
 often this machine's kernel and fixfiles gave each in N plays (default 1,000). SCRIPT and N default to the variables of these names. If
-no PROGRAM is given, bin/fixfiles and bin/fixcheck are used, and are built first in the repository.
+no PROGRAM is given, bin/fixfiles and bin/fixcheck are used; --build, which `make litmus` gives, proves and builds them first.
 
 The kernel plays the script as it is, and with each request started by a thread of its own (IOSQE_ASYNC). fixfiles plays on 4 and on 16
 workers, and on 2 to 16 in turns of a few instructions (tests/step.c). A text that the rules don't allow is explained by differences
@@ -293,22 +293,13 @@ def checked_plays(word):
     return int(word)
 
 
-def built(given, *words):
-    """Returns the path of a program. If none is given, it is that of bin/, which is built first in the repository."""
-    if given is None:
-        builder = f"{ROOT}/scripts/build-program"
-        if os.path.exists(builder):
-            subprocess.run([builder, *words], check=True)
-        given = os.path.join(ROOT, "bin", words[-1])
-    return os.path.abspath(given)
-
-
 def command():
     parser = argparse.ArgumentParser(usage=__doc__)
     parser.add_argument("script", nargs="?", default=os.environ.get("SCRIPT", ""))
     parser.add_argument("plays", nargs="?", default=os.environ.get("N") or str(PLAYS))
-    parser.add_argument("--fixfiles")
-    parser.add_argument("--fixcheck")
+    parser.add_argument("--fixfiles", default=os.path.join(ROOT, "bin/fixfiles"), type=os.path.abspath)
+    parser.add_argument("--fixcheck", default=kernels.FIXCHECK, type=os.path.abspath)
+    parser.add_argument("--build", action="store_true")
     options = parser.parse_args()
     usage = typed("make litmus SCRIPT=", "./litmus ") + "examples/questions/open_any_beside_a_close.script"
     variables = {**os.environ, "SCRIPT": options.script, "USAGE": usage}
@@ -316,14 +307,14 @@ def command():
     if status:
         return status
     times = checked_plays(options.plays)
-    if os.path.exists(f"{ROOT}/scripts/lanes.py") and not (options.fixfiles and options.fixcheck):
-        subprocess.run([f"{ROOT}/scripts/run", "scripts.lanes", "--plan", "fx_cli", "fixfiles", "check_cli", "fixcheck"], check=False)
-    try:
-        both = built(options.fixfiles, "fx_cli", "fixfiles"), built(options.fixcheck, "check_cli", "fixcheck")
-    except subprocess.CalledProcessError:
-        return 1
-    for program in both:
+    if options.build:
+        words = "fx_cli", "fixfiles", "check_cli", "fixcheck"
+        subprocess.run([f"{ROOT}/scripts/run", "scripts.lanes", "--plan", *words], check=False)
+        for both in (words[:2], words[2:]):
+            if subprocess.run([f"{ROOT}/scripts/build-program", *both], check=False).returncode:
+                return 1
+    for program in (options.fixfiles, options.fixcheck):
         if not os.path.exists(program):
-            print(f"litmus: there is no program {program}", file=sys.stderr)
-            return 2
-    return count_texts(os.path.abspath(options.script), times, *both)
+            print(f"litmus: {kernels.missing_program(program, 'litmus')}", file=sys.stderr)
+            return 4
+    return count_texts(os.path.abspath(options.script), times, options.fixfiles, options.fixcheck)
