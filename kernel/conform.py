@@ -28,6 +28,7 @@ from kernel.kernels import built_player, found_of_kernel, large_differences, lis
 from scripts.programs import LEGAL, TooLong, in_parallel
 from scripts.progress import Progress
 from model.random_scripts import random_scripts
+from scripts.examples import rows
 from scripts.repository import BUILD, ROOT, keep, scripts_of, write
 
 PASSED, FAILED, INVALID, NOTHING_TO_PLAY_ON = 0, 1, 2, 4
@@ -218,8 +219,8 @@ def name_of(path):
 def kept_scripts():
     """Returns the scripts of the rules by their names: those of the differences, and the others. Invalid scripts are left out."""
     differences = [*((name_of(path), script) for path, script in scripts_of("kernel/differences")), *large_differences()]
-    folders = ("examples", "examples/faults", "examples/questions")
-    others = [(name_of(path), script) for it in folders for path, script in scripts_of(it) if "/faults/bad_" not in path]
+    others = [(name_of(path), script) for path, script in scripts_of("examples", "examples/questions")]
+    others += [(it.name, it.script) for it in rows() if not it.fault]
     there = {name for name, _ in differences + others}
     wanted = " ".join(scripts for rules in RULES.values() for _, scripts in rules.values()).split()
     if sorted(there) != sorted(wanted):

@@ -65,14 +65,3 @@ def files_of(crate, *parts):
     """The files in these folders of a crate, or of each crate for `*`, by their paths from the top; without a folder the crate's own."""
     found = (glob.glob(f"crates/{crate}/{part}", root_dir=ROOT, recursive=True) for part in ([f"{it}/**/*.*" for it in parts] or ["*.*"]))
     return sorted(it for those in found for it in those)
-
-
-def text_beside(path):
-    """The text that is kept beside a script."""
-    return read(path.removesuffix("script") + "text")
-
-
-def kept_beside(path, ending):
-    """Returns the text of another file of a script's name, or nothing if it doesn't exist."""
-    file = path.removesuffix("script") + ending
-    return read(file) if os.path.exists(os.path.join(ROOT, file)) else ""

@@ -18,7 +18,7 @@ import re
 from typing import NamedTuple
 
 from bench import tables
-from scripts import edits
+from scripts import edits, examples
 from scripts.clauses import functions_of
 from scripts.checks import Counted
 from scripts.pages import anchor_of, blocks, newest, rows, section
@@ -102,7 +102,7 @@ class Claims(Counted):
         ways = "include/*.h", "bindings/rust*/src/**/*.rs", "bindings/python/*.py"
         bindings = (os.path.relpath(it, ROOT) for way in ways for it in glob.glob(f"{ROOT}/{way}", recursive=True))
         others = "kernel/conform.py", "kernel/rules.py", "kernel/kernels.py", "kernel/flights.py", "kernel/direct/traps.c", *files_of("bench_rust", "src"), *bindings
-        self.scripts |= {word for it in others for word in re.findall(r"\w+", read(it))}
+        self.scripts |= {word for it in others for word in re.findall(r"\w+", read(it))} | {it.name.split("/")[1] for it in examples.rows()}
 
     def want(self, holds, what):
         self.kinds[self.kind] += 1
@@ -232,6 +232,8 @@ def refuses(name, refusal):
     """Whether there is an edit of that name, a wrong step table, a test, an example or a check."""
     if refusal == "make steps":
         return re.search(rf"^{name}\t", read("tests/wrong_steps.txt"), re.MULTILINE)
+    if refusal.startswith(f"{examples.TABLE} "):
+        return any(it.name == f"faults/{refusal.split()[1]}" for it in examples.rows())
     if refusal.startswith(("examples/", "tests/")):
         return os.path.exists(f"{ROOT}/{refusal}")
     if "::" in refusal:

@@ -20,7 +20,8 @@ from tests.litmus_rows import complaints_of_litmus
 from model.model import SLOTS, Script
 from tests.players import RANDOM
 from scripts.programs import given_time, run, run_bytes
-from scripts.repository import ROOT, copy_changed, read, read_bytes, scripts_of, write
+from scripts.examples import rows
+from scripts.repository import ROOT, copy_changed, read, read_bytes, write
 from kernel.rules import Linux
 
 # changes of kernel/*.c
@@ -149,10 +150,10 @@ class Checks(Counted):
         self.want(not missing, f"no script shows {', '.join(sorted(missing))}, which docs/use/LINUX.md lists")
         most = re.search(r"^# at most (\d+) texts", report.text, re.MULTILINE)
         self.want(most and int(most[1]) > 1, "the kernel gave a single text for each contending script: its chains do not run concurrently")
-        for path, script in scripts_of("examples/faults"):
-            if "/bad_" in path:
-                found = found_of_kernel(PLAYER, self.fixcheck, script, frozenset())
-                self.want(found.standing in (AGREES, UNSAID), f"the kernel's player takes {path}, or refuses it for another line")
+        for it in rows():
+            if it.fault:
+                found = found_of_kernel(PLAYER, self.fixcheck, it.script, frozenset())
+                self.want(found.standing in (AGREES, UNSAID), f"the kernel's player takes {it.name}, or refuses it for another line")
         for player, tag in ((PLAYER, b"tag 4\n"), (mistaken, b"tag 5\n")):
             # the player prints tags by their completions: a mistaken completion shows as a tag of
             # no closed file

@@ -2,8 +2,7 @@
 text, status and standard error. It plays one of them with standard input and output that fail at each byte, or transfer few bytes at
 a time (tests/watch.c). With --few it plays two.
 
-An example is NAME.script in examples or examples/faults, with its text NAME.text, with NAME.status if the status is not 0, and with
-NAME.fault if the script is bad: its line and its fault, as the program prints them."""
+The examples are the scripts of examples, with the text beside each, and the rows of examples/faults.txt."""
 import errno
 import os
 import shutil
@@ -11,15 +10,16 @@ import subprocess
 import tempfile
 
 from scripts.checks import Counted, arguments
+from scripts.examples import examples, text_beside
 from scripts.programs import built, difference, preloaded, run
-from scripts.repository import ROOT, kept_beside, read_bytes, scripts_of, text_beside
+from scripts.repository import ROOT, read_bytes
 
 TABLES = "words", "baton"
-FEW = "examples/faults/bad_two_spaces.script", "examples/open_read_close.script"
+FEW = "faults/bad_two_spaces", "examples/open_read_close.script"
 # These have a chain whose answer depends on what another chain has done: their texts are those of
 # one worker, who plays the chains in their order.
-IN_ORDER = ("allocation_fills_its_range", "read_of_nothing_wants_a_file",
-            "replaced_between_two_members")
+IN_ORDER = [f"examples/{it}.script" for it in (
+    "allocation_fills_its_range", "read_of_nothing_wants_a_file", "replaced_between_two_members")]
 OPEN_READ_CLOSE = "examples/open_read_close.script"
 # standard input, output or error that can't be read or written, with the status and what is said
 STREAMS = [
@@ -27,8 +27,8 @@ STREAMS = [
     ("closed standard input", "<&-", 4, "fixfiles: read failed\n"),
     ("a write to a full device", f"< {OPEN_READ_CLOSE} > /dev/full", 4, "fixfiles: write failed\n"),
     ("closed standard output", f"< {OPEN_READ_CLOSE} >&-", 4, "fixfiles: write failed\n"),
-    ("nothing to write", "< examples/faults/submit_alone.script >&-", 0, ""),
-    ("closed standard error", "< examples/faults/bad_two_spaces.script 2>&-", 3, ""),
+    ("nothing to write", ">&- << end\nsubmit\nend\n", 0, ""),
+    ("closed standard error", "2>&- << end\nsparse  2\nend\n", 3, ""),
 ]
 # how often standard input is read before that fails, and with which errors a read fails
 MOST_READS = 8_388_608
@@ -58,13 +58,11 @@ class Examples(Counted):
             self.compare(f"{name} on {workers} workers over {table}", found, wanted)
 
     def examples(self, is_few):
-        for path, script in scripts_of("examples", "examples/faults"):
-            if is_few and path not in FEW:
+        for it in examples("examples"):
+            if is_few and it.name not in FEW:
                 continue
-            name = os.path.basename(path).removesuffix(".script")
-            status, fault = (kept_beside(path, it).strip() for it in ("status", "fault"))
-            for workers in (1,) if name in IN_ORDER else (1, 2, 3, 16):
-                self.play(name, workers, script, text_beside(path), int(status or 0), fault)
+            for workers in (1,) if it.name in IN_ORDER else (1, 2, 3, 16):
+                self.play(it.name, workers, it.script, it.text, it.status, it.fault)
 
     def run(self, streams, *arguments):
         """Runs a shell's command in the folder of the repository, with redirected streams."""

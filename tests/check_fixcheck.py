@@ -28,12 +28,13 @@ from scripts.checks import Counted, arguments
 from model import contradictions, orders
 from tests import fixcheck_rows, spoiled_lines
 from tests.fixcheck_rows import LEGAL_SIZES, PARTS
-from model.model import Player, play
+from model.model import Player
 from model.orders import TooManyOrders, ending_of
 from scripts.programs import LEGAL, NOT_LEGAL, UNDECIDED, in_parallel, in_processes, run, verdict
 from model.random_scripts import random_scripts
 from model.replay import replayed
-from scripts.repository import keep, scripts_of, text_beside
+from scripts.examples import examples
+from scripts.repository import keep
 from tests.spoiled_lines import parsed
 from model.told_history import complaint_of
 from model.illegal import Illegal
@@ -117,14 +118,12 @@ def is_legal(fixcheck, counts, script, text, what):
 
 
 def check_examples(fixcheck, counts, is_few):
-    for name, script in list(scripts_of("examples", "examples/faults"))[: FEW if is_few else None]:
-        text, fault = text_beside(name), play(script)[2]
-        if fault is None:
-            is_legal(fixcheck, counts, script, text, name)
+    for it in list(examples("examples"))[:: FEW if is_few else 1]:
+        if not it.fault:
+            is_legal(fixcheck, counts, it.script, it.text, it.name)
             continue
-        wanted = 3, [], f"fixcheck: script: line {fault.line}: {fault.name}\n"
-        holds = verdict(fixcheck, script, text) == wanted
-        counts.want(holds, f"{name} isn't refused at line {fault.line} with {fault.name}")
+        holds = verdict(fixcheck, it.script, it.text) == (it.status, [], f"fixcheck: script: {it.fault}\n")
+        counts.want(holds, f"{it.name} isn't refused for {it.fault}")
 
 
 def texts_of(fixfiles, script):

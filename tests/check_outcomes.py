@@ -27,7 +27,8 @@ from model.model import Player, Script
 from scripts.programs import in_parallel, in_processes, kept_script, run
 from model.random_scripts import random_scripts
 from model.replay import replayed
-from scripts.repository import ROOT, scripts_of, text_beside
+from scripts.examples import text_beside
+from scripts.repository import ROOT, scripts_of
 
 # a script with more orders is replaced by another one; the most of a hundred that may be left out
 MOST_ORDERS, LEFT_OUT_OF_100 = 400, 12

@@ -14,6 +14,7 @@ from scripts.programs import difference, run
 from model.random_scripts import random_scripts
 from model.replay import results_in
 from scripts.repository import read_bytes, scripts_of, write
+from scripts.examples import rows
 
 # how many of the largest submissions there are
 LARGE = 8
@@ -64,7 +65,8 @@ def large_scripts(seed):
 def kept_scripts():
     whole = read_bytes("examples/open_read_close.script")
     yield from (whole[:count] for count in range(len(whole)))
-    yield from (script for _, script in scripts_of("examples", "examples/faults", "examples/questions"))
+    yield from (script for _, script in scripts_of("examples", "examples/questions"))
+    yield from (it.script for it in rows())
     yield from (script.encode() for _, script, *_ in limits())
 
 

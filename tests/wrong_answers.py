@@ -14,7 +14,8 @@ from kernel.kernels import AGREES
 from model.model import Script, play
 from scripts.programs import LEGAL, NOT_LEGAL, UNDECIDED, run, verdict
 from model.replay import replayed
-from scripts.repository import ROOT, read, read_bytes, scripts_of, text_beside
+from scripts.examples import text_beside
+from scripts.repository import ROOT, read, read_bytes, scripts_of
 from tests.check_verdicts import verdicts_of
 from tests.spoiled_lines import Spoiled
 from model.told_history import complaint_of
