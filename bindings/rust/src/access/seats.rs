@@ -153,8 +153,11 @@ pub(super) struct Seats {
     free_handles: Free,
     free_readers: Free,
     free_guards: Free,
-    /// The number of handles, which is at most the number of installing seats.
+    /// The number of handles that have their seats. It is raised after the seats are claimed, and
+    /// lowered before they are returned, so it is never larger than the number of claimed ones.
     handles: AtomicU32,
+    /// The number of threads that wait for a handle.
+    waiting: AtomicU32,
 }
 
 impl Seats {
@@ -183,6 +186,7 @@ impl Seats {
             free_readers: Free::new(options.readers),
             free_guards: Free::new(options.guards),
             handles: AtomicU32::new(0),
+            waiting: AtomicU32::new(0),
         })
     }
 
@@ -209,28 +213,20 @@ impl Seats {
     /// Claims the seats of a handle, both of which have the number of the place that is returned.
     /// If a call of the table uses the last one, it waits for the end of that call.
     pub(super) fn claim_handle(&self) -> Result<Place, NoSeat> {
-        let most = self.most_handles();
-        let one_more = |count| (count < most).then_some(count + 1);
-        self.handles
-            .fetch_update(Ordering::Relaxed, Ordering::Relaxed, one_more)
-            .map_err(|in_use| NoSeat::Handle { in_use })?;
-        loop {
-            match self.free_handles.claim() {
-                Some(number) => return Ok(self.place(number)),
-                None => sync::yield_now(),
-            }
-        }
+        self.waiting.fetch_add(1, Ordering::Relaxed);
+        let claimed = self.claim_installing().inspect(|_| {
+            self.handles.fetch_add(1, Ordering::Relaxed);
+        });
+        self.waiting.fetch_sub(1, Ordering::Relaxed);
+        claimed.map(|number| self.place(number))
     }
 
-    /// Claims the seats of a handle for one call of the table. If other such calls use all that no
-    /// handle has, it waits for the end of one.
-    pub(super) fn claim_call(&self) -> Result<Call<'_>, NoSeat> {
+    /// Claims an installing seat. If calls of the table use all that no handle has, it waits for
+    /// the end of one.
+    fn claim_installing(&self) -> Result<u32, NoSeat> {
         loop {
             if let Some(number) = self.free_handles.claim() {
-                return Ok(Call {
-                    seats: self,
-                    number,
-                });
+                return Ok(number);
             }
             let in_use = self.handles.load(Ordering::Relaxed);
             if in_use == self.most_handles() {
@@ -238,6 +234,20 @@ impl Seats {
             }
             sync::yield_now();
         }
+    }
+
+    /// Claims the seats of a handle for one call of the table. If other such calls use all that no
+    /// handle has, it waits for the end of one. It steps back once for a thread that waits for a
+    /// handle, whose turn would else seldom come between calls.
+    pub(super) fn claim_call(&self) -> Result<Call<'_>, NoSeat> {
+        if self.waiting.load(Ordering::Relaxed) > 0 {
+            sync::yield_now();
+        }
+        let number = self.claim_installing()?;
+        Ok(Call {
+            seats: self,
+            number,
+        })
     }
 
     /// Claims the seat of a reader.
@@ -262,8 +272,8 @@ impl Seats {
         } else if number >= self.most_handles() {
             self.free_readers.give_back(number - self.most_handles());
         } else {
-            self.free_handles.give_back(number);
             self.handles.fetch_sub(1, Ordering::Relaxed);
+            self.free_handles.give_back(number);
         }
     }
 }

@@ -3,8 +3,8 @@
 use super::super::sync::SeqCst;
 use super::range::Emptied;
 use super::words::{
-    announced, bit_of, empty_word, file_word, is_hot, named_in, node_in, Table, BORN, FREE, HEAT,
-    CHARGE, TAKES,
+    announced, bit_of, empty_word, file_word, is_hot, named_in, node_in, Table, BORN, CHARGE, FREE,
+    HEAT, TAKES,
 };
 
 /// A pass: its number, from 1; its stock of nodes; the entry of the stock where its next search

@@ -38,6 +38,8 @@ struct Scene {
     alive: Rc<Cell<usize>>,
     // the calls that removed or replaced the first value by its key
     ends: Rc<Cell<u32>>,
+    // the calls that have a seat
+    calls: Rc<Cell<u32>>,
     // the values' places, which last as long as the scene
     places: Rc<RefCell<Vec<Rc<Cell<bool>>>>>,
     // a guard that a thread hands over, and its flag
@@ -111,6 +113,7 @@ impl Family {
             table: self.options.open().unwrap(),
             alive: Rc::default(),
             ends: Rc::default(),
+            calls: Rc::default(),
             places: Rc::default(),
             given: Rc::new((AtomicU32::new(0), Cell::new(None))),
         };
@@ -165,6 +168,21 @@ const HANDLE: Part = |it, _, _| match it.table.handle() {
 const CALL: Part = |it, _, _| match it.table.insert(it.value()) {
     Ok(_) => (),
     Err(refused) => assert!(matches!(refused.reason, Reason::NoSeat(_))),
+};
+
+// No call is refused while a call has the only seat.
+const SEAT: Part = |it, _, _| match it.table.values().seats.claim_call() {
+    Ok(call) => {
+        it.calls.set(1);
+        it.given.0.load(Relaxed);
+        it.calls.set(0);
+        drop(call);
+    }
+    Err(_) => assert_eq!(
+        it.calls.get(),
+        0,
+        "a call is refused, and there is no handle"
+    ),
 };
 
 const GIVE: Part = |it, _, _| {
@@ -261,16 +279,17 @@ fn no_order_at_the_seats_is_wrong() {
     Family::seats(16, [1, 1, 0, 3], &[LOOK_OWNED; 3]).has(2501);
     // the number depends on the memory that values get
     assert!(Family::seats(16, [2, 1, 0, 1], &[INSERT_AND_REMOVE; 3]).states() > 3000);
-    Family::seats(16, [4, 1, 0, 1], &[HANDLE, HANDLE, CALL]).has(542);
-    Family::seats(16, [4, 1, 0, 1], &[HANDLE, CALL, CALL]).has(688);
-    Family::seats(16, [1, 1, 0, 2], &[GIVE, TAKE, REPLACE]).has(269);
-    Family::seats(16, [1, 1, 1, 1], &[READ, READ, REPLACE]).has(291);
+    Family::seats(16, [4, 1, 0, 1], &[HANDLE, SEAT, SEAT]).has(1516);
+    Family::seats(16, [4, 1, 0, 1], &[HANDLE, HANDLE, CALL]).has(5053);
+    Family::seats(16, [4, 1, 0, 1], &[HANDLE, CALL, CALL]).has(1580);
+    Family::seats(16, [1, 1, 0, 2], &[GIVE, TAKE, REPLACE]).has(317);
+    Family::seats(16, [1, 1, 1, 1], &[READ, READ, REPLACE]).has(335);
 }
 
 #[test]
 fn no_order_of_guards_is_wrong() {
-    Family::seats(16, [1, 1, 0, 2], &[LOOK_OWNED, LOOK_OWNED, REPLACE]).has(1647);
-    Family::seats(0, [1, 1, 0, 2], &[LOOK_OWNED, LOOK_OWNED, REPLACE]).has(1503);
+    Family::seats(16, [1, 1, 0, 2], &[LOOK_OWNED, LOOK_OWNED, REPLACE]).has(1827);
+    Family::seats(0, [1, 1, 0, 2], &[LOOK_OWNED, LOOK_OWNED, REPLACE]).has(1659);
 }
 
 #[test]
