@@ -76,6 +76,9 @@ pub enum JudgeError {
     },
     /// The table of a log has more than 1,048,576 slots.
     TooManySlots,
+    /// The requests, the entries of updates or the bytes of reads before some event of a log are
+    /// 2^32 or more.
+    TooLong,
     /// An allocation of the judge failed.
     NoMemory,
 }
@@ -86,6 +89,7 @@ impl fmt::Display for JudgeError {
             JudgeError::BadScript { line, fault } => write!(f, "line {line}: {fault}"),
             JudgeError::BadEvent { at, fault } => write!(f, "event {at}: {fault}"),
             JudgeError::TooManySlots => f.write_str("the table has more than 1,048,576 slots"),
+            JudgeError::TooLong => f.write_str("the log has 2^32 bytes, entries or requests"),
             JudgeError::NoMemory => f.write_str("an allocation of the judge failed"),
         }
     }

@@ -23,6 +23,7 @@ mod bounds;
 mod core;
 mod errors;
 mod log;
+mod part;
 mod reason;
 mod script;
 

@@ -1,6 +1,7 @@
 //! Logs of calls in flight.
 use crate::core;
 use crate::errors::{JudgeError, LogFault};
+use crate::part::part_of;
 use crate::Limits;
 
 /// The link of a request to the next one of its chain (io_uring_enter(2), "flags").
@@ -146,6 +147,8 @@ pub struct Log {
     requests: Vec<core::Request>,
     entries: Vec<i32>,
     bytes: Vec<u8>,
+    // some position or length is 2^32 or more
+    is_too_long: bool,
 }
 
 impl Log {
@@ -160,7 +163,17 @@ impl Log {
             requests: Vec::new(),
             entries: Vec::new(),
             bytes: Vec::new(),
+            is_too_long: false,
         }
+    }
+
+    /// Returns the position of a part and its length as the judge reads them. A log with one that
+    /// the judge can't read isn't judged.
+    pub(crate) fn part(&mut self, first: usize, count: usize) -> (u32, u32) {
+        part_of(first, count).unwrap_or_else(|| {
+            self.is_too_long = true;
+            (0, 0)
+        })
     }
 
     fn add(&mut self, event: core::Event) {
@@ -197,9 +210,9 @@ impl Log {
             Op::Read { slot, first, count } => (core::REQUEST_READ, *slot, *first, *count, 0),
             Op::Close { slot } => (core::REQUEST_CLOSE, *slot, 0, 0, 0),
             Op::Update { slot, entries } => {
-                let first = self.entries.len() as u32;
+                let (first, count) = self.part(self.entries.len(), entries.len());
                 self.entries.extend(entries);
-                (core::REQUEST_UPDATE, *slot, first, entries.len() as u32, 0)
+                (core::REQUEST_UPDATE, *slot, first, count, 0)
             }
         };
         let fixed = u8::from(matches!(request.op, Op::Read { .. }));
@@ -220,7 +233,7 @@ impl Log {
 
     /// Appends the call of a chain of requests. Returns its number.
     pub fn call(&mut self, chain: &[Request]) -> u32 {
-        let first = self.requests.len() as u32;
+        let (first, count) = self.part(self.requests.len(), chain.len());
         for it in chain {
             let request = self.request(it);
             self.requests.push(request);
@@ -228,14 +241,14 @@ impl Log {
         self.add_call(core::Event {
             kind: core::EVENT_CALL,
             first,
-            count: chain.len() as u32,
+            count,
             ..core::Event::default()
         })
     }
 
     /// Appends the answer of a member, from 1, of a call: its result, and the bytes of a read.
     pub fn done(&mut self, call: u32, member: u32, res: i32, bytes: &[u8]) {
-        let first = self.bytes.len() as u32;
+        let (first, count) = self.part(self.bytes.len(), bytes.len());
         self.bytes.extend(bytes);
         self.add(core::Event {
             kind: core::EVENT_DONE,
@@ -243,7 +256,7 @@ impl Log {
             member,
             res,
             first,
-            count: bytes.len() as u32,
+            count,
             ..core::Event::default()
         });
     }
@@ -326,6 +339,7 @@ impl Log {
     }
 
     fn judge_by(&self, whole: bool, limits: Limits) -> Result<LogVerdict, JudgeError> {
+        self.check_length()?;
         let judge = if whole {
             core::yacht_judge_whole_updates
         } else {
@@ -358,6 +372,14 @@ impl Log {
             core::UNDECIDED => Ok(LogVerdict::Undecided),
             _ => Err(self.error(number, at, judgement.fault)),
         }
+    }
+
+    /// Returns an error if a position or a length is 2^32 or more.
+    pub(crate) fn check_length(&self) -> Result<(), JudgeError> {
+        if self.is_too_long {
+            return Err(JudgeError::TooLong);
+        }
+        Ok(())
     }
 
     /// Returns the error that a number other than a verdict's says.

@@ -193,8 +193,9 @@ impl Log {
     ///
     /// # Errors
     /// [`JudgeError::BadScript`], [`JudgeError::BadEvent`] if the catalogue lacks a file,
-    /// [`JudgeError::TooManySlots`] or [`JudgeError::NoMemory`].
+    /// [`JudgeError::TooManySlots`], [`JudgeError::TooLong`] or [`JudgeError::NoMemory`].
     pub fn explain(&self, at: usize) -> Result<Vec<Step>, JudgeError> {
+        self.check_length()?;
         let (mut number, mut reason, mut steps) = self.explained(at, 256);
         if reason.steps as usize > steps.len() {
             (number, reason, steps) = self.explained(at, reason.steps as usize);
