@@ -28,6 +28,10 @@
  * - The drop function returns: it throws no C++ exception, makes no longjmp and doesn't end its
  *   thread. It doesn't use the handle in whose call it runs. It waits for no lock that a thread may
  *   hold around a call of this header.
+ * - The function `make` of yacht_insert_with returns, too. If an exception or a longjmp leaves it,
+ *   each later insertion by the handle returns YACHT_BUSY.
+ * - No pointer is NULL but `with`, the table of yacht_free, and what a function that returns
+ *   YACHT_BAD_ARGUMENT gets beside its handle.
  * - No function is called from a signal handler, or in the forked child of a process with threads.
  * - malloc, calloc, realloc and free are one allocator, whose blocks are aligned for any type, as C
  *   requires. */
@@ -134,7 +138,8 @@ int yacht_key_of(yacht_handle *handle, yacht_key *key);
 int yacht_release(yacht_handle *handle);
 
 /* Installs a value, not NULL, at a free slot. It may wait while other threads change slots, and for
- * as long as one other thread is stopped within an insertion, a replacement or a removal.
+ * as long as one other thread is stopped within an insertion, a replacement or a removal. A thread
+ * with real-time priority keeps a thread of lower priority on its processor stopped.
  * Returns the slot; or YACHT_FULL, YACHT_BUSY, YACHT_READER or YACHT_BAD_ARGUMENT: then the caller
  * still owns the value. */
 int yacht_insert(yacht_handle *handle, void *value);
@@ -155,6 +160,8 @@ typedef void *yacht_make(yacht_key key, void *with);
 /* Makes a value from its key, installs it at a free slot, and writes the key to *key. It calls
  * `make` with the key that a value gets at a slot that was empty. If the slot is filled meanwhile,
  * the value is dropped, and `make` is called again, with another key. It may wait as yacht_insert.
+ * If `make` leaves the handle with a value that it holds, the made value is dropped, and the call
+ * returns YACHT_BUSY.
  * Returns the slot; or YACHT_FULL, YACHT_BUSY, YACHT_READER or YACHT_BAD_ARGUMENT, this also if
  * `make` returns NULL: then it has installed and written nothing. */
 int yacht_insert_with(yacht_handle *handle, yacht_make *make, void *with, yacht_key *key);

@@ -6,6 +6,10 @@ use std::{env, fs, process::Command};
 
 const LIBRARY: &str = "libyachtbanyan.a";
 const NAMES: [&str; 2] = ["yachtbanyan", "yachtdirect"];
+/// What to do if there is no library.
+const HELP: &str = "In the repository, `make libraries` makes it in the folder lib; set \
+                    YACHTBANYAN_LIB_DIR to that folder. RUSTFLAGS='--cfg yachtbanyan_stand_in' \
+                    builds the crate without a library, over a stand-in, of which nothing is proved";
 
 fn by_pkg_config() -> Option<PathBuf> {
     let mut asked = Command::new("pkg-config");
@@ -20,7 +24,7 @@ fn by_pkg_config() -> Option<PathBuf> {
         .then(|| PathBuf::from(folder.trim()))
 }
 
-// Returns the targets that have a library in a folder, or a dash if there is none.
+/// Returns which targets have a library in a folder.
 fn targets_in(folder: &Path) -> String {
     let entries = fs::read_dir(folder).into_iter().flatten().flatten();
     let with_library = entries.filter(|it| it.path().join(LIBRARY).exists());
@@ -29,9 +33,9 @@ fn targets_in(folder: &Path) -> String {
         .collect();
     names.sort();
     if names.is_empty() {
-        return "-".to_string();
+        return "has none".to_string();
     }
-    names.join(", ")
+    format!("has one for these targets: {}", names.join(", "))
 }
 
 /// Checks whether the crate is compiled for ThreadSanitizer.
@@ -59,7 +63,7 @@ fn link(folder: &Path, name: &str, by: &str) {
     let library = folder.join(&file);
     if !library.exists() {
         let folder = folder.display();
-        panic!("there is no {file} in {folder}, the folder that {by} names");
+        panic!("there is no {file} in {folder}, the folder that {by} names. {HELP}");
     }
     println!("cargo:rerun-if-changed={}", library.display());
     println!("cargo:rustc-link-lib=static={name}");
@@ -94,8 +98,7 @@ fn main() {
     let known = given.or_else(|| own.join(LIBRARY).exists().then_some(own));
     let Some(folder) = known.or_else(|| is_host.then(by_pkg_config).flatten()) else {
         panic!(
-            "there is no {LIBRARY} for {target}. The folder {} has one for each of these targets: \
-             {}. Set YACHTBANYAN_LIB_DIR to the folder of another",
+            "there is no {LIBRARY} for {target}. The folder {} {}. {HELP}",
             all.display(),
             targets_in(&all)
         );

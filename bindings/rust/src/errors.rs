@@ -17,7 +17,7 @@ pub enum OpenError {
     Slots(u32),
     /// The number of handles is out of range.
     Handles(u32),
-    /// The number of seats, three for each handle and one for each reader and each guard, is out of
+    /// The number of seats, two for each handle and one for each reader and each guard, is out of
     /// range.
     Seats(u64),
     /// An allocation of the core failed.
@@ -227,7 +227,7 @@ impl fmt::Display for OpenError {
             }
             OpenError::Seats(seats) => write!(
                 f,
-                "{seats} seats, three for each handle and one for each reader and each guard: \
+                "{seats} seats, two for each handle and one for each reader and each guard: \
                  a table has at most {MOST_WORKERS}"
             ),
             OpenError::NoMemory => f.write_str("an allocation failed"),

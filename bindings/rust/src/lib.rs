@@ -25,6 +25,6 @@ pub use options::Options;
 pub const MOST_SLOTS: u32 = access::MOST_SLOTS;
 /// The largest number of handles of a table.
 pub const MOST_HANDLES: u32 = access::MOST_INSTALLING;
-/// The largest number of seats of a table: three for each handle, one for each reader, and one for
-/// each other living guard.
+/// The largest number of seats of a table: two for each handle, one for each reader, and one for
+/// each further living guard.
 pub const MOST_SEATS: u32 = access::MOST_WORKERS;

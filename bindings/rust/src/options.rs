@@ -90,8 +90,11 @@ impl Options {
     /// ```
     /// use yachtbanyan::{OpenError, Options};
     ///
-    /// let error = Options::new(1).handles(64).readers(0).guards(900).open::<u64>().unwrap_err();
-    /// assert_eq!(error, OpenError::Seats(1_028));
+    /// let options = Options::new(1).handles(64).readers(0); // 128 seats
+    /// assert!(options.guards(1_024 - 128).open::<u64>().is_ok());
+    /// let error = options.guards(1_025 - 128).open::<u64>().unwrap_err();
+    /// assert_eq!(error, OpenError::Seats(1_025));
+    /// assert!(error.to_string().starts_with("1025 seats, two for each handle and one for each"));
     /// ```
     pub fn open<T>(self) -> Result<Table<T>, OpenError> {
         if !(1..=MOST_SLOTS).contains(&self.slots) {
