@@ -22,7 +22,7 @@ endif
 .DEFAULT_GOAL := help
 .PHONY: help help-all run try check litmus pictures texts kernel conform prove test examples limits compare workers
 .PHONY: dist install uninstall meetings allocation-failures steps mistakes checks break
-.PHONY: libraries bindings must-spend allocations wrong-bodies layout bench bench-rust gate clean
+.PHONY: libraries bindings must-spend allocations wrong-bodies layout style bench bench-rust gate clean
 .NOTPARALLEL:
 
 help:
@@ -54,8 +54,9 @@ help-all: help
 	@echo '  make break                    applies the bug from README.md and expects the prover to reject it'
 	@echo '  make wrong-bodies             applies the wrong bodies for which the gate has no time, and expects the prover to reject each'
 	@echo '  make must-spend               checks that the compiler rejects a program that loses a file'
-	@echo 'Test, further (each is part of make test):'
+	@echo 'Test, further (each but style is part of make test):'
 	@echo '  make layout                   checks the files of the repository'
+	@echo '  make style                    prints avoided words and long sentences'
 	@echo '  make examples                 runs every example and the samples of the pages on the built program'
 	@echo '  make limits                   runs scripts at the limits of the language and the table, and measures their memory'
 	@echo '  make compare                  compares the program with an independent model, on random scripts and the largest submissions'
@@ -156,6 +157,9 @@ wrong-bodies:
 
 layout:
 	@tests/check-layout
+
+style:
+	@tests/check-style
 
 bench:
 	@scripts/build-program

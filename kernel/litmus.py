@@ -1,6 +1,6 @@
 """litmus [SCRIPT [N]] [--fixfiles PROGRAM] [--fixcheck PROGRAM] [--build]: lists every text that the rules allow for a script, and counts how
 often this machine's kernel and fixfiles gave each in N plays (default 1,000). SCRIPT and N default to the variables of these names. If
-no PROGRAM is given, bin/fixfiles and bin/fixcheck are used; --build, which `make litmus` gives, proves and builds them first.
+no PROGRAM is given, bin/fixfiles and bin/fixcheck are used; --build, which `make litmus` passes, proves and builds them first.
 
 The kernel plays the script as it is, and with each request started by a thread of its own (IOSQE_ASYNC). fixfiles plays on 4 and on 16
 workers, and on 2 to 16 in turns of a few instructions (tests/step.c). A text that the rules don't allow is explained by differences

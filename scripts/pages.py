@@ -1,4 +1,4 @@
-"""Reads the pages of this repository: headings, sections, tables, indented blocks and the newest changes."""
+"""Reads the pages of this repository: headings, sections, tables, indented blocks, the newest changes, prose and its sentences."""
 import functools
 import re
 
@@ -42,3 +42,48 @@ def blocks(text, spans_gaps=False):
     gap = r"|^\n(?=    )" if spans_gaps else ""
     for block in re.findall(rf"(?:^    .*\n{gap})+", text + "\n", re.MULTILINE):
         yield [line[4:] for line in block.split("\n") if line]
+
+
+def blank(text):
+    """Returns a text of the same lines, in which no word is found."""
+    return re.sub(r"[^\n]+", "\0", text) if "\n" in text else text and "\0"
+
+
+def prose_of_page(text):
+    """Returns a page without its code: fenced and indented blocks, backticks, the targets of links. An indented line of a list of names,
+    each with its meaning, is prose."""
+    text = re.sub(r"^```.*?^```", lambda it: blank(it[0]), text, flags=re.MULTILINE | re.DOTALL)
+    text = re.sub(r"^    (?! *[\w/().-]+ {2,}\S).*$|`[^`]*`|(?<=\])\([^)\s]*\)", lambda it: blank(it[0]), text, flags=re.MULTILINE)
+    return text
+
+
+# the most words of a sentence, and where a sentence or a part of it ends
+MOST_WORDS = 25
+END = re.compile(r"(?<=[.?!])(?:\*\*)?\s+(?=[A-Z\[`*(\"\d])|(?<=[.?!]\*\*)\s+|(?<=[;:])(?:\*\*)?\s+")
+
+
+def paragraphs(page):
+    """Yields the number of the first line of each paragraph, item of a list and cell of a table, and its text."""
+    page = re.sub(r"^```.*?^```", lambda it: "\n" * it[0].count("\n"), page, flags=re.MULTILINE | re.DOTALL)
+    kept = []
+    for number, line in enumerate([*page.split("\n"), ""], 1):
+        item = re.match(r"\s*(?:-|\d+\.) +(.*)", line)
+        is_text = line.strip() and not re.match(r"    |#|!\[|\|", line)
+        if kept and (item or not is_text):
+            yield kept[0][0], " ".join(it for _, it in kept)
+            kept = []
+        if line.startswith("|"):
+            yield from ((number, it) for it in line.strip("|").split("|"))
+        elif is_text:
+            kept.append((number, item[1] if item else line.strip()))
+
+
+def long_sentences(page):
+    """Yields each sentence with too many words: the number of its paragraph's first line, the number of words, and the sentence. A part
+    before a colon or a semicolon counts by itself, as an item of a list does; a name in backticks is a word."""
+    for number, text in paragraphs(page):
+        plain = re.sub(r"`[^`]*`", "Code", re.sub(r"\]\([^)]*\)", "]", text))
+        for sentence in END.split(plain):
+            words = sum(bool(re.search(r"\w", it)) for it in sentence.split())
+            if words > MOST_WORDS:
+                yield number, words, sentence

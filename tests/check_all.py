@@ -17,7 +17,9 @@ from scripts.repository import ROOT, read, write
 # what tests/all calls beside the checks
 SCRIPTS = "need", "keep-program", "build-libraries", "tell-progress"
 # checks that others run, by the file of the other
-INSIDE = {"claims": "layout", "edits": "layout", "links": "layout", "names": "layout", "words": "layout", "wrong bodies": "layout"}
+INSIDE = {"claims": "layout", "edits": "layout", "links": "layout", "wrong bodies": "layout"}
+# a check that make test does not run
+APART = "style"
 VERDICT = "7 passed, 0 failed"
 # how the gate ends: its lines and its status
 GATES = {"well": (VERDICT, 0), "with a failure": ("6 passed, 1 failed", 1), "with a failure after its line": (VERDICT, 3), "without its line": ("", 0)}
@@ -97,7 +99,7 @@ def check_all(checks):
     cases = [("", "", "well")] + [(it, "", "well") for it in [*called, "tests/check-examples by-rattle"]]
     cases += [("", it, "well") for it in called if it.startswith("tests/")] + [("", "tests/check-steps few", "well")]
     cases += [("", "", it) for it in GATES if it != "well"]
-    kept = {file_of(it) for it in kept_numbers() if it == name_of(it) and " without " not in it and it not in INSIDE}
+    kept = {file_of(it) for it in kept_numbers() if it == name_of(it) and " without " not in it and it not in (*INSIDE, APART)}
     checks.want(kept == {f"tests/{it}" for it in listed()}, f"tests/all runs other checks than have numbers in tests/cases.txt: {sorted(kept)}")
     with tempfile.TemporaryDirectory(prefix="all-") as room:
         # all are written before the first one runs: no program can be started while a child that
