@@ -9,7 +9,7 @@ mod machine {
         pub slots: *mut std::ffi::c_void,
     }
     extern "C" {
-        pub fn yacht_direct_open(machine: *mut Direct, slots: u32) -> i32;
+        pub fn yacht_direct_open_6(machine: *mut Direct, slots: u32) -> i32;
         pub fn yacht_direct_free(machine: Direct);
         pub fn yacht_direct_reserve(machine: *mut Direct, key: *mut u64, slot: *mut u32) -> i32;
         pub fn yacht_direct_opened(machine: *mut Direct, key: u64, result: i32) -> i32;
@@ -158,7 +158,7 @@ fn main() {
             let mut it = Direct {
                 slots: std::ptr::null_mut(),
             };
-            assert_eq!(yacht_direct_open(&mut it, 1024), 0);
+            assert_eq!(yacht_direct_open_6(&mut it, 1024), 0);
             for _ in 0..lives {
                 assert!(yacht_direct_reserve(&mut it, &mut key, &mut slot) == 0);
                 assert!(yacht_direct_opened(&mut it, black_box(key), black_box(0)) == 0);

@@ -58,6 +58,10 @@ extern "C" {
 /* Returns the version of the library, such as "6.0.0". The string is never freed. */
 const char *yacht_direct_version(void);
 
+/* The library's name of yacht_direct_open has the major version. So a program that was compiled
+ * with the header of another one doesn't link with the library. */
+#define yacht_direct_open yacht_direct_open_6
+
 /* The largest number of slots, and the largest kind. */
 enum { YACHT_DIRECT_MOST_SLOTS = 1048576, YACHT_DIRECT_MOST_KIND = 15 };
 

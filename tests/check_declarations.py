@@ -82,14 +82,19 @@ def constants_of_python(text):
         yield from ((name, it) for name, it in zip(names.split(", "), numbers) if isinstance(it, int))
 
 
+def symbols(text):
+    """Returns the symbol of each function that a macro of a header renames: its name and the major version."""
+    return dict(re.findall(r"^#define (yacht_\w+) (yacht_\w+)$", text, re.M))
+
+
 def declared(language, text):
     """Returns what a text declares: the shapes of the result and the parameters of each function, the fields of each struct, and the values
     of constants."""
     _, function, struct, field, constant = FORMS[language]
-    found = {}
+    found, renamed = {}, symbols(text)
     for it in re.finditer(function, text, re.S):
         result = it["result"] or "void"
-        found[it["name"]] = ["nothing" if result == "void" else shape(result), *parameters(it["given"])]
+        found[renamed.get(it["name"], it["name"])] = ["nothing" if result == "void" else shape(result), *parameters(it["given"])]
     for it in re.finditer(struct, text, re.S):
         fields = [f"{each['name']} {shape(each['type'])}" for each in re.finditer(field, it["fields"])]
         found[f"struct {it['name'].title()}"] = fields
@@ -133,9 +138,15 @@ def changes(language, text, exported):
     """Yields what is changed in a text of a language, where, and what replaces it: the name of each function of Rattle, each number in its
     declaration and in that of a struct, and each constant."""
     _, function, struct, _, constant = FORMS[language]
+    renamed = symbols(text)
+    for name, symbol in renamed.items():
+        if symbol in exported:
+            at = text.index(f" {symbol}\n") + 1
+            yield f"the symbol of {name}", (at, at + len(symbol)), f"{symbol}0"
     for form, kind in ((function, ""), (struct, "struct "), (constant, "const ")):
         for it in re.finditer(form, text, re.S) if form else ():
-            if kind + (it["name"].title() if form == struct else it["name"]) not in exported:
+            name = it["name"].title() if form == struct else renamed.get(it["name"], it["name"])
+            if kind + name not in exported:
                 continue
             for at in () if form == constant else NUMBERS.finditer(text, *it.span()):
                 yield at[0], at.span(), "u64" if WIDTHS[at[0]] == "u32" else "u32"

@@ -1,7 +1,7 @@
 //! The functions that C calls. Each borrows the handle of a machine, and calls the machine. Keys
 //! are bits: a call ignores the kind of the key that it gets, and the keys that it writes have the
 //! kind 0.
-ghost use Rattle.std.specs.Prelude.{◌≡◌, ◌≢◌, ◌⊎◌, ◌≤◌, ◌<◌, int_le, pos};
+ghost use Rattle.std.specs.Prelude.{◌≡◌, ◌≢◌, ◌⊎◌, ◌↔◌, ◌≤◌, ◌<◌, int_le, pos};
 ghost use Rattle.fx_direct.specs.Keys.{key_in_bits};
 ghost use Rattle.fx_direct.specs.Phases.{calls_in_flight, lives_of};
 ghost use Rattle.fx_direct.specs.declared.key.TheConstants.{MOST_SLOTS};
@@ -18,13 +18,14 @@ use crate::handle::{MachineHandle, MachinePlace};
 use fx_direct::{DirectSlots, LifeKey, MOST_SLOTS};
 use std::alloc::Global;
 
-/// Opens a machine of 1 to 1,048,576 slots. It returns `DONE`; or `BAD_ARGUMENT` or `NO_MEMORY`,
-/// and writes nothing.
+/// Opens a machine of 1 to 1,048,576 slots. It returns `DONE`; `BAD_ARGUMENT` at any other number
+/// of slots, or `NO_MEMORY`, and writes nothing. Its name has the major version, so that a program
+/// that was compiled with the header of another one doesn't link.
 #[unsafe(no_mangle)]
-pub extern "C" fn yacht_direct_open(alloc: Global, machine: &mut MachinePlace, slots: u32) -> i32
+pub extern "C" fn yacht_direct_open_6(alloc: Global, machine: &mut MachinePlace, slots: u32) -> i32
     ensures opened { result ≡ DONE → OpensMachine slots machine.new.slots }
     ensures nothing { result ≢ DONE → machine.new ≡ machine.old }
-    ensures out_of_range { result ≡ BAD_ARGUMENT → (slots ≡ 0) ⊎ (MOST_SLOTS < slots) }
+    ensures out_of_range { (result ≡ BAD_ARGUMENT) ↔ ((slots ≡ 0) ⊎ (MOST_SLOTS < slots)) }
     ensures numbers { (result ≡ DONE) ⊎ (result ≡ BAD_ARGUMENT) ⊎ (result ≡ NO_MEMORY) }
 {
     if slots == 0 || slots > MOST_SLOTS {

@@ -47,7 +47,7 @@ pub(super) use super::stand_in::*;
 
 #[cfg(not(yachtbanyan_stand_in))]
 unsafe extern "C" {
-    pub(super) fn yacht_direct_open(machine: *mut Machine, slots: u32) -> i32;
+    pub(super) fn yacht_direct_open_6(machine: *mut Machine, slots: u32) -> i32;
     pub(super) fn yacht_direct_free(machine: Machine);
     pub(super) fn yacht_direct_reserve(machine: *mut Machine, key: *mut u64, slot: *mut u32)
         -> i32;

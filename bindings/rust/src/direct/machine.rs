@@ -22,7 +22,7 @@ impl Machine {
     pub(super) fn open(slots: u32) -> Result<Machine, OpenError> {
         let mut raw = MaybeUninit::uninit();
         // SAFETY: it writes the machine if it returns DONE, and else nothing.
-        match unsafe { core::yacht_direct_open(raw.as_mut_ptr(), slots) } {
+        match unsafe { core::yacht_direct_open_6(raw.as_mut_ptr(), slots) } {
             DONE => Ok(Machine {
                 raw: UnsafeCell::new(unsafe { raw.assume_init() }),
             }),

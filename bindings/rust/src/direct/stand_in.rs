@@ -136,7 +136,7 @@ unsafe fn at_slot(answer: Result<i32, i32>, key: u64, slot: *mut u32) -> i32 {
     number(answer)
 }
 
-pub(super) unsafe extern "C" fn yacht_direct_open(machine: *mut Machine, slots: u32) -> i32 {
+pub(super) unsafe extern "C" fn yacht_direct_open_6(machine: *mut Machine, slots: u32) -> i32 {
     if !(1..=MOST_SLOTS).contains(&slots) {
         return BAD_ARGUMENT;
     }
