@@ -44,6 +44,7 @@
 #include <sys/resource.h>
 
 #include "files.h"
+#include "refused.h"
 #include "submission.h"
 #include "tags.h"
 
@@ -85,9 +86,13 @@ static void open_ring(struct play *play) {
 	/* room for the tags of a whole table */
 	if (entries < LEAST_ROOM)
 		entries = LEAST_ROOM;
-	errno = -io_uring_queue_init(entries, &play->ring, IORING_SETUP_SUBMIT_ALL);
-	if (errno || !open_files(&play->script)) {
-		fprintf(stderr, "play-on-kernel: no io_uring of Linux 5.18 or later, or no inotify: %s\n", strerror(errno));
+	int error = -io_uring_queue_init(entries, &play->ring, IORING_SETUP_SUBMIT_ALL);
+	if (error) {
+		print_refused("play-on-kernel", error);
+		exit(NO_IO_URING);
+	}
+	if (!open_files(&play->script)) {
+		fprintf(stderr, "play-on-kernel: inotify is refused: %s\n", strerror(errno));
 		exit(NO_IO_URING);
 	}
 }

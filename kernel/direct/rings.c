@@ -1,5 +1,7 @@
 #include "rings.h"
 
+#include "../refused.h"
+
 #include <arpa/inet.h>
 #include <errno.h>
 #include <poll.h>
@@ -21,8 +23,13 @@ void must(int holds, const char *what) {
 void open_rig(struct rig *rig, unsigned flags, unsigned slots) {
 	socklen_t size = sizeof rig->address;
 	memset(rig, 0, sizeof *rig);
-	if (io_uring_queue_init(ENTRIES, &rig->ring, flags) || io_uring_register_files_sparse(&rig->ring, slots))
+	int error = io_uring_queue_init(ENTRIES, &rig->ring, flags);
+	if (!error)
+		error = io_uring_register_files_sparse(&rig->ring, slots);
+	if (error) {
+		print_refused("traps", -error);
 		exit(NO_IO_URING);
+	}
 	rig->address.sin_family = AF_INET;
 	rig->address.sin_addr.s_addr = htonl(INADDR_LOOPBACK);
 	rig->listener = socket(AF_INET, SOCK_STREAM, 0);
@@ -81,6 +88,31 @@ void shut_down(struct rig *rig, int slot, unsigned long long data) {
 	submit(rig, sqe, data);
 }
 
+static struct io_uring_sqe *prepared_zero_copy(struct rig *rig, int slot, const char *text) {
+	struct io_uring_sqe *sqe = io_uring_get_sqe(&rig->ring);
+	io_uring_prep_send_zc(sqe, slot, text, strlen(text), MSG_WAITALL | MSG_NOSIGNAL, 0);
+	sqe->flags |= IOSQE_FIXED_FILE;
+	return sqe;
+}
+
+void send_zero_copy(struct rig *rig, int slot, const char *text, unsigned more_flags, unsigned long long data) {
+	struct io_uring_sqe *sqe = prepared_zero_copy(rig, slot, text);
+	sqe->flags |= more_flags;
+	submit(rig, sqe, data);
+}
+
+void cancel_zero_copy_by_link(struct rig *rig, int slot, const char *text, int empty_slot, unsigned long long data) {
+	char byte;
+	struct io_uring_sqe *sqe = io_uring_get_sqe(&rig->ring);
+	io_uring_prep_read(sqe, empty_slot, &byte, 1, 0);
+	sqe->flags |= IOSQE_FIXED_FILE | IOSQE_IO_LINK;
+	sqe->user_data = data + 1;
+	sqe = prepared_zero_copy(rig, slot, text);
+	sqe->user_data = data;
+	must(io_uring_submit(&rig->ring) == 2, "io_uring_submit");
+	must(result_of(rig, data + 1) == -EBADF, "a read at an empty slot");
+}
+
 void close_slot(struct rig *rig, int slot, unsigned long long data) {
 	struct io_uring_sqe *sqe = io_uring_get_sqe(&rig->ring);
 	io_uring_prep_close(sqe, 0);
@@ -107,7 +139,7 @@ struct answer next(struct rig *rig, int milliseconds) {
 	if (error == -ETIME)
 		return (struct answer){ 0 };
 	must(!error, "io_uring_wait_cqe_timeout");
-	struct answer it = { 1, cqe->res, !!(cqe->flags & IORING_CQE_F_MORE), cqe->user_data };
+	struct answer it = { 1, cqe->res, !!(cqe->flags & IORING_CQE_F_MORE), !!(cqe->flags & IORING_CQE_F_NOTIF), cqe->user_data };
 	io_uring_cqe_seen(&rig->ring, cqe);
 	return it;
 }

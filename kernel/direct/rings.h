@@ -19,7 +19,7 @@ struct rig {
 
 /* What a completion says. `is_there` is 0 if none came in time. */
 struct answer {
-	int is_there, res, has_more;
+	int is_there, res, has_more, is_notification;
 	unsigned long long data;
 };
 
@@ -39,9 +39,13 @@ void accept_at(struct rig *rig, int slot, unsigned long long data);
 void accept_many(struct rig *rig, unsigned long long data);
 void receive(struct rig *rig, int slot, char *buffer, unsigned long long data);
 void shut_down(struct rig *rig, int slot, unsigned long long data);
+void send_zero_copy(struct rig *rig, int slot, const char *text, unsigned more_flags, unsigned long long data);
 void close_slot(struct rig *rig, int slot, unsigned long long data);
 void cancel_at(struct rig *rig, int slot, unsigned long long data);
 void cancel_data(struct rig *rig, unsigned long long which, unsigned long long data);
+
+/* Submits a read at an empty slot, and a zero-copy send that is linked to it, which is canceled. */
+void cancel_zero_copy_by_link(struct rig *rig, int slot, const char *text, int empty_slot, unsigned long long data);
 
 /* Returns the next completion that comes within `milliseconds`. */
 struct answer next(struct rig *rig, int milliseconds);

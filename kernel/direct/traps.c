@@ -15,6 +15,7 @@
 #include <sys/socket.h>
 #include <unistd.h>
 
+#include "../refused.h"
 #include "rings.h"
 
 #ifndef IORING_SETUP_DEFER_TASKRUN
@@ -180,6 +181,48 @@ static void accept_at_a_full_slot(struct rig *rig) {
 	close(other);
 }
 
+static void close_of_an_emptied_slot(struct rig *rig) {
+	int none = -1, peer = connection(rig);
+	must(io_uring_register_files_update(&rig->ring, 0, &none, 1) == 1, "io_uring_register_files_update");
+	close_slot(rig, 0, CLOSES);
+	saw("it answers %d", result_of(rig, CLOSES));
+	close_slot(rig, 0, CLOSES);
+	saw("; another close %d", result_of(rig, CLOSES));
+	close(peer);
+}
+
+/* Prints the completions of a zero-copy send. */
+static void saw_completions(struct rig *rig, const char *of) {
+	struct answer it;
+	int count = 0;
+	saw("%s: ", of);
+	for (; (it = next(rig, SHORT)).is_there; count++)
+		if (it.is_notification)
+			saw("%sthe notification", count ? ", " : "");
+		else
+			saw("%s%d %s", count ? ", " : "", it.res, it.has_more ? "with more" : "without more");
+}
+
+static void zero_copy_send_completes_twice(struct rig *rig) {
+	int peer = connection(rig);
+	send_zero_copy(rig, 0, "line", 0, FIRST);
+	saw_completions(rig, "sent");
+	shut_down(rig, 0, SHUTS);
+	must(result_of(rig, SHUTS) == 0, "shutdown");
+	send_zero_copy(rig, 0, "line", 0, FIRST);
+	saw_completions(rig, "; after a shutdown");
+	close(peer);
+}
+
+static void canceled_zero_copy_send_says_no_more(struct rig *rig) {
+	int peer = connection(rig);
+	cancel_zero_copy_by_link(rig, 0, "line", 1, FIRST);
+	saw_completions(rig, "canceled by its link");
+	send_zero_copy(rig, 0, "line", IOSQE_CQE_SKIP_SUCCESS, FIRST);
+	saw_completions(rig, "; refused");
+	close(peer);
+}
+
 /* A trap, and what Linux 6.18 shows: on a ring without flags, and on one with a single issuer if
  * that is something else. */
 struct row {
@@ -203,6 +246,11 @@ static const struct row rows[] = {
 	{ "update_by_another_thread", update_by_another_thread, "it answers 1; the peer sees the end", "it answers -17; the peer sees no end" },
 	{ "accept_over_a_tag", accept_over_a_tag, "the old file's tag comes; after the close of the accepted one none comes", NULL },
 	{ "accept_at_a_full_slot", accept_at_a_full_slot, "it answers 0; the first peer sees the end", NULL },
+	{ "close_of_an_emptied_slot", close_of_an_emptied_slot, "it answers -9; another close -9", NULL },
+	{ "zero_copy_send_completes_twice", zero_copy_send_completes_twice,
+	  "sent: 4 with more, the notification; after a shutdown: -32 with more, the notification", NULL },
+	{ "canceled_zero_copy_send_says_no_more", canceled_zero_copy_send_says_no_more,
+	  "canceled by its link: -125 without more, the notification; refused: -22 without more", NULL },
 };
 
 /* Plays a trap, prints its line, and returns whether it differs. */
@@ -223,9 +271,12 @@ int main(void) {
 	int played = 0, different = 0;
 	for (int at = 0; at < 2; at++) {
 		struct io_uring ring;
-		if (io_uring_queue_init(2, &ring, flags[at])) {
-			if (!at)
-				return NO_IO_URING;
+		int error = -io_uring_queue_init(2, &ring, flags[at]);
+		if (error && !at) {
+			print_refused("traps", error);
+			return NO_IO_URING;
+		}
+		if (error) {
 			printf("left out: this kernel has no IORING_SETUP_DEFER_TASKRUN\n");
 			break;
 		}

@@ -23,6 +23,7 @@
 #include <unistd.h>
 
 #include "../events.h"
+#include "../refused.h"
 #include "../script.h"
 #include "chain.h"
 #include "links.h"
@@ -222,9 +223,13 @@ int main(int count, char **words) {
 	int seed = read_options(count, words);
 	seed_random(seed);
 	chains = memory_of((options.chains + UPDATES + 3) * sizeof *chains);
-	errno = -io_uring_queue_init(ENTRIES, &ring, IORING_SETUP_SUBMIT_ALL);
-	if (errno || !make_catalogue(options.pipes || options.waiting_read)) {
-		fprintf(stderr, "record: no io_uring of Linux 5.18 or later, or no inotify: %s\n", strerror(errno));
+	int error = -io_uring_queue_init(ENTRIES, &ring, IORING_SETUP_SUBMIT_ALL);
+	if (error) {
+		print_refused("record", error);
+		return NO_IO_URING;
+	}
+	if (!make_catalogue(options.pipes || options.waiting_read)) {
+		fprintf(stderr, "record: inotify is refused: %s\n", strerror(errno));
 		return NO_IO_URING;
 	}
 	append("call 1 sparse %d", SLOTS);

@@ -2,6 +2,7 @@
 #include <fcntl.h>
 #include <liburing.h>
 #include <stdio.h>
+#include <string.h>
 
 int main(void) {
     struct io_uring ring;
@@ -9,7 +10,12 @@ int main(void) {
     char byte;
     int files[2] = {open("/etc/passwd", O_RDONLY), open("/etc/passwd", O_RDONLY)};
     int update[2] = {files[0], 999}; /* no open file */
-    if (io_uring_queue_init(2, &ring, 0) || io_uring_register_files(&ring, files, 2)) return 1;
+    int error = io_uring_queue_init(2, &ring, 0);
+    if (!error) error = io_uring_register_files(&ring, files, 2);
+    if (error) {
+        fprintf(stderr, "io_uring is refused: %s\n", strerror(-error));
+        return 1;
+    }
     printf("update: %d\n", io_uring_register_files_update(&ring, 0, update, 2));
     struct io_uring_sqe *sqe = io_uring_get_sqe(&ring);
     io_uring_prep_read(sqe, 1, &byte, 1, 0);
