@@ -2,7 +2,8 @@
 print the text beside or after them, and the script of each row of the table of faults, which must be refused for that fault on
 its last line. The printed lines in docs/inside/LIBRARY.md must be those that are kept of it, and the history in docs/inside/PROOFS.md that of
 model/picture. The tutorial of docs/use/RECORDING.md is followed by its commands, over the library. The reproducer of
-docs/use/BAD_ENTRY.md, the judge of docs/use/C.md and the crate without the library, by docs/use/RUST.md, are run. With FIXCHECK it looks at
+docs/use/BAD_ENTRY.md, the judge of docs/use/C.md and the crate without the library, by docs/use/RUST.md, are run. The loop of docs/use/DIRECT.md
+is that of bindings/c/echo.c, which serves 200 clients and is stopped. With FIXCHECK it looks at
 man/fixfiles.1 and man/fixcheck.1 too: their options, which are those of the completions too, their numbers and statuses are those of the
 programs' help, their examples are played, and mandoc, where it is there, finds nothing to complain of."""
 import os
@@ -15,6 +16,7 @@ from scripts.checks import Counted, arguments
 from scripts.pages import blocks, rows, section
 from scripts.programs import run
 from scripts.repository import ROOT, read, write
+from tests.echo_clients import run_clients
 
 # the numbers of cases that need fixcheck, and mandoc
 OF_FIXCHECK, OF_MANDOC = 13, 3
@@ -217,6 +219,26 @@ def finding(checks):
         checks.want(found[1].split("\n")[:-1] == printed, f"the reproducer of docs/use/BAD_ENTRY.md prints {found!r}")
 
 
+def server_loop(checks):
+    """Checks that docs/use/DIRECT.md shows the loop of bindings/c/echo.c, which serves its clients and stops."""
+    (loop,) = (it for it in blocks(read("docs/use/DIRECT.md")) if it[0].startswith("enum { ACCEPT,"))
+    checks.want("\n".join(loop) in read("bindings/c/echo.c"), "docs/use/DIRECT.md shows another loop than bindings/c/echo.c")
+    library = f"{ROOT}/lib/libyachtdirect.a"
+    if not os.path.exists(library):
+        checks.skip(1, "library of direct descriptors")
+        return
+    with tempfile.TemporaryDirectory() as room:
+        program, flags = os.path.join(room, "echo"), ["-std=c11", "-g", "-Wall", "-Wextra", "-Werror", "-fsanitize=address,undefined"]
+        write(header := os.path.join(room, "liburing.c"), "#include <liburing.h>\n")
+        has_liburing = shutil.which("cc") and run(["cc", "-E", header])[0] == 0
+        built = run(["cc", *flags, f"-I{ROOT}/include", f"{ROOT}/bindings/c/echo.c", library, "-luring", "-o", program]) if has_liburing else ()
+        wrong = [built[2]] if built and built[0] else run_clients(program) if built else None
+    if wrong is None:
+        checks.skip(1, "io_uring for the loop of docs/use/DIRECT.md, or no liburing")
+    else:
+        checks.want(not wrong, f"the loop of docs/use/DIRECT.md: {wrong[:3]}")
+
+
 def recording(checks):
     """Checks that docs/use/RECORDING.md shows lines of the recorder's example, and follows it."""
     page, source = read("docs/use/RECORDING.md"), read("bindings/recorder/examples/cached.rs")
@@ -239,6 +261,7 @@ def command():
     without_library(checks)
     recording(checks)
     finding(checks)
+    server_loop(checks)
     judge_in_c(checks)
     for it, (script, text) in {"README.md": sample_of_readme(), "docs/use/SCRIPT.md": sample_of("docs/use/SCRIPT.md")}.items():
         checks.want(run([program], script) == (0, text, ""), f"the sample of {it} prints another text")

@@ -15,6 +15,7 @@ enum { MOST = 256, AHEAD = 4, PATIENCE = 20000 };
 struct client {
     int socket;
     unsigned number, sent, answered, left; /* lines; it leaves after `left` answers */
+    int is_over; /* the server has ended it */
     size_t used;
     char in[2 * LINE];
 };
@@ -111,12 +112,13 @@ static void end_server(struct clients *all, struct client *those, struct pollfd 
     unsigned count = 0, waiting;
     /* the server may have reasons to end a connection now, as its lines are sent or read */
     for (; count < LASTING && dial(all, &those[count]); count++)
-        those[count].answered += !send_lines(&those[count]);
+        those[count].is_over = !send_lines(&those[count]);
     do {
         waiting = 0;
         for (unsigned i = 0; i < count; i++) {
-            if (!those[i].answered && !read_answers(all, &those[i])) those[i].answered++;
-            waiting += !those[i].answered;
+            struct client *it = &those[i];
+            if (!it->answered && !it->is_over) it->is_over = !read_answers(all, it);
+            waiting += !it->answered && !it->is_over;
         }
     } while (waiting && wait_for(those, count, polled));
     all->stop();

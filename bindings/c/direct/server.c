@@ -35,6 +35,8 @@ enum { SLOTS = 64, KEPT_FOR_FILES = 8, ACCEPTS = 4, WORKERS = 2, BACKLOG = 512, 
 enum { ENDS = 50 }; /* the server ends the connection of each such line, as if it had reasons */
 enum { NO_IO_URING = 77 };
 
+#define NO_SUCH_FILE "no such file\n"
+
 /* the kinds of requests; those of WAKE and CANCEL have the key 0 */
 enum kind { ACCEPT, RECEIVE, SEND, SHUTDOWN, OPEN, READ, CLOSE, WAKE, CANCEL };
 
@@ -210,21 +212,28 @@ static void ask_worker(uint64_t key, struct connection *it, const char *line) {
     push_job(&asked, job);
 }
 
+/* a path of several names would lead out of the folder */
+static int is_number(const char *name) { return *name && !name[strspn(name, "0123456789")]; }
+
 /* takes the next line of a connection, unless one is being answered */
 static void next_line(uint64_t key, struct connection *it) {
     char line[LINE], *begin = it->in + it->begin, *newline = memchr(begin, '\n', it->used - it->begin);
-    if (it->is_answering || it->is_ended || !newline) return;
-    size_t length = (size_t)(newline + 1 - begin);
-    if (length >= LINE) {
+    size_t length = newline ? (size_t)(newline + 1 - begin) : it->used - it->begin;
+    if (it->is_answering || it->is_ended) return;
+    if (length >= LINE) { /* a line that doesn't fit: no more is received of it */
         end_connection(key);
         return;
     }
+    if (!newline) return;
     memcpy(line, begin, length), line[length] = 0;
     it->begin += length;
     it->is_answering = 1;
     if (!strncmp(line, "get ", 4)) {
         line[length - 1] = 0;
-        open_file(key, line + 4);
+        if (is_number(line + 4))
+            open_file(key, line + 4);
+        else
+            answer(key, NO_SUCH_FILE);
     } else
         ask_worker(key, it, line);
     if (++lines % ENDS == 0) ended++, end_connection(key);
@@ -234,7 +243,6 @@ static void accepted(uint64_t key, int result) {
     for (int i = 0; i < ACCEPTS; i++)
         if (accepting[i] == key) accepting[i] = 0;
     expect(yacht_direct_opened(&machine, key, result), YACHT_DIRECT_DONE);
-    if (result == -ENFILE) wrong++; /* a reserved slot is never missing */
     if (result < 0) {
         refused++;
         return;
@@ -271,7 +279,7 @@ static void opened_file(uint64_t key, struct file *it, int result) {
     uint32_t slot;
     expect(yacht_direct_opened(&machine, key, result), YACHT_DIRECT_DONE);
     if (result < 0) {
-        answer(it->reader, result == -ENOENT ? "no such file\n" : "busy\n");
+        answer(it->reader, result == -ENOENT ? NO_SUCH_FILE : "busy\n");
         return;
     }
     opened++;
@@ -292,7 +300,7 @@ static void read_file(uint64_t key, struct file *it, int result) {
 
 static void closed_slot(uint64_t key, int result) {
     uint32_t slot = yacht_direct_slot_of(key);
-    if (result < 0) {
+    if (result < 0 && result != -EBADF) { /* -EBADF: the slot is empty */
         settle(yacht_direct_close_failed(&machine, key, &slot), key, &slot);
         return;
     }

@@ -82,13 +82,17 @@ impl Connection {
         self.end += count;
     }
 
-    /// Takes the next line with its newline, or returns that one is too long.
+    /// Takes the next line with its newline, or returns that it is too long, also before its
+    /// newline has come.
     pub fn line(&mut self) -> Option<Result<Vec<u8>, ()>> {
         let bytes = self.input.bytes(self.begin, self.end);
-        let length = bytes.iter().position(|it| *it == b'\n')? + 1;
-        let line = bytes[..length].to_vec();
-        self.begin += length;
-        Some(if length <= LONGEST { Ok(line) } else { Err(()) })
+        let newline = bytes.iter().position(|it| *it == b'\n');
+        if newline.unwrap_or(bytes.len()) >= LONGEST {
+            return Some(Err(()));
+        }
+        let line = bytes[..=newline?].to_vec();
+        self.begin += line.len();
+        Some(Ok(line))
     }
 }
 

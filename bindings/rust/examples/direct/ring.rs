@@ -1,7 +1,7 @@
 //! A ring of the kernel with a sparse table, by its system calls alone: io_uring_setup(2),
 //! io_uring_register(2), io_uring_enter(2). A server would use a crate for this.
 use std::ffi::{c_int, c_long, c_void};
-use std::io::{Error, Result};
+use std::io::{Error, ErrorKind, Result};
 use std::net::TcpListener;
 use std::os::fd::AsRawFd;
 use std::ptr::null_mut;
@@ -288,7 +288,13 @@ impl Ring {
         // SAFETY: requests have addresses of memory that stays until their completions.
         let sent = unsafe { syscall(ENTER, self.fd, self.queued, wait, GETEVENTS, none, 0usize) };
         if sent < 0 {
-            return Err(Error::last_os_error());
+            let error = Error::last_os_error();
+            // a process that is stopped and continued: nothing was submitted, and nothing came
+            return if error.kind() == ErrorKind::Interrupted {
+                Ok(())
+            } else {
+                Err(error)
+            };
         }
         self.queued -= sent as u32;
         Ok(())

@@ -23,7 +23,8 @@ const ACCEPTS: usize = 4;
 /// The server ends the connection of each such line, as if it had reasons.
 const ENDS: u32 = 50;
 const NO_SUCH_FILE: i32 = -2;
-const NO_SLOT: i32 = -23;
+/// The answer of a close of an empty slot.
+const EMPTY_SLOT: i32 = -9;
 
 /// The kinds of requests, in the user data with the key.
 const ACCEPT: u8 = 0;
@@ -36,6 +37,13 @@ const CLOSE: u8 = 6;
 /// User data without a key: keys have larger bits.
 const WAKE: u64 = 7;
 const CANCEL: u64 = 8;
+
+const NO_FILE: &[u8] = b"no such file\n";
+
+// Checks the name of a file. A path of several names would lead out of the folder.
+fn is_number(name: &[u8]) -> bool {
+    !name.is_empty() && name.iter().all(u8::is_ascii_digit)
+}
 
 /// What the server counts.
 #[derive(Default)]
@@ -218,7 +226,6 @@ impl Server {
 
     fn accepted(&mut self, key: Key, result: i32) -> Done {
         self.accepting.retain(|it| *it != key);
-        assert_ne!(result, NO_SLOT, "a reserved slot is missing");
         if self.slots.opened(key, result)?.is_some() {
             return Ok(()); // canceled, or the client has gone
         }
@@ -297,7 +304,10 @@ impl Server {
         };
         it.is_answering = true;
         match line.strip_prefix(b"get ") {
-            Some(file) => self.open_file(key, file.trim_ascii_end())?,
+            Some(file) => match file.trim_ascii_end() {
+                name if is_number(name) => self.open_file(key, name)?,
+                _ => self.answer(key, NO_FILE)?,
+            },
             None => self.asked.send(Job { key, name, line })?,
         }
         self.counts.lines += 1;
@@ -330,8 +340,8 @@ impl Server {
 
     fn opened_file(&mut self, key: Key, result: i32) -> Done {
         if let Some(Life::File(refused)) = self.slots.opened(key, result)? {
-            let why: &[u8] = if result == NO_SUCH_FILE {
-                b"no such file\n"
+            let why = if result == NO_SUCH_FILE {
+                NO_FILE
             } else {
                 b"busy\n"
             };
@@ -356,7 +366,7 @@ impl Server {
 
     // Frees the memory of a life that is over.
     fn closed(&mut self, key: Key, result: i32) -> Done {
-        if result < 0 {
+        if result < 0 && result != EMPTY_SLOT {
             let slot = self.slots.close_failed(key)?;
             return self.settle(key, Next::Close(slot));
         }
