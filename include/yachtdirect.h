@@ -19,6 +19,12 @@
  * number of the life in 40, the slot in 20, and 4 that are the caller's own, the kind. So it is
  * the user_data of a request, with the kind in the lowest bits: `key | kind`. Each call takes a
  * completion's user_data as it is: the kind is ignored. A key that a call returns has the kind 0.
+ * Numbers below 2^24 belong to no key, and are free for requests without one.
+ *
+ * Last completion. Of a multishot request it is the one without IORING_CQE_F_MORE, which may have
+ * data. Of a zero-copy send it is the one with IORING_CQE_F_NOTIF, or one without
+ * IORING_CQE_F_MORE whose result is negative and not -ECANCELED: a send that its link cancels
+ * answers -ECANCELED without IORING_CQE_F_MORE, and its notification follows.
  *
  * Promise. In every run in which the premises below hold: a request that was started under a key
  * finds the file that the open under this key installed, and no other one. An open finds its slot
@@ -28,12 +34,18 @@
  * (docs/use/DIRECT.md).
  *
  * Premises. The caller must ensure the following, which nothing checks:
- * - Each call that this header names is made: `start` before the submission, and `finish` once,
- *   after the last completion of the request: of a multishot request the one without
- *   IORING_CQE_F_MORE, of a zero-copy send its notification.
+ * - When a machine is opened, its slots lie inside the table that is registered with the ring, they
+ *   are empty, and no request is in flight at them. So before another machine is opened for the
+ *   same ring, yacht_direct_len of the earlier one is 0.
+ * - Each call that this header names is made, and one submission for each: of an open after
+ *   `reserve`, of a request after `start`, of a close after YACHT_DIRECT_CLOSE. `finish` is called
+ *   once, after the last completion of the request.
+ * - Each key goes to the machine that returned it. A key doesn't name its machine, and the first
+ *   keys of two machines are equal: with a key of another machine, yacht_direct_release may ask for
+ *   the close of a file that is in use.
  * - Nobody else writes these slots: no io_uring_register_files_update at them, no request outside
  *   these calls, and no open at a slot that the kernel chooses, unless the ring's allocation range
- *   (io_uring_register_file_alloc_range) lies outside them.
+ *   (io_uring_register_file_alloc_range) lies outside them. By default it is the whole table.
  * - The kernel posts a completion once, with its request's user_data. An open succeeds (its result
  *   is 0 or more) if and only if it put its file at the slot, and a close if and only if it took
  *   one.
@@ -102,10 +114,10 @@ static inline uint32_t yacht_direct_slot_of(uint64_t key) { return (uint32_t)(ke
 static inline unsigned yacht_direct_kind_of(uint64_t data) { return (unsigned)(data & 15); }
 
 /* Opens a machine of 1 to YACHT_DIRECT_MOST_SLOTS free slots: those from 0 of the table that the
- * caller registers with the ring. No other call allocates, and each other call but
- * yacht_direct_keys takes constant time.
- * Returns YACHT_DIRECT_DONE and writes *machine; or YACHT_DIRECT_BAD_ARGUMENT or
- * YACHT_DIRECT_NO_MEMORY. */
+ * caller registers with the ring. (A sparse table has at most RLIMIT_NOFILE slots.) No other call
+ * allocates, and each other call but yacht_direct_keys takes constant time.
+ * Returns YACHT_DIRECT_DONE and writes *machine; or YACHT_DIRECT_BAD_ARGUMENT at any other number
+ * of slots; or YACHT_DIRECT_NO_MEMORY. */
 int yacht_direct_open(yacht_direct *machine, uint32_t slots);
 
 /* Frees a machine. It closes no file: the kernel does so when the ring ends. */
@@ -133,7 +145,8 @@ int yacht_direct_start(yacht_direct *machine, uint64_t key, uint32_t *slot);
  * or YACHT_DIRECT_STALE; or the phase in which the life is, if no request of it is in flight. */
 int yacht_direct_finish(yacht_direct *machine, uint64_t key, uint32_t *slot);
 
-/* Counts a user that is not a request: a worker, a timer, a value of a table that threads share.
+/* Counts a user that is not a request: a worker, a value of a table that threads share. A timer
+ * needs none: if it fires after the life is over, each call by its key returns YACHT_DIRECT_STALE.
  * Returns YACHT_DIRECT_DONE, YACHT_DIRECT_STALE, YACHT_DIRECT_TOO_MANY_USERS, or the phase in
  * which the life is instead of live. */
 int yacht_direct_hold(yacht_direct *machine, uint64_t key);
@@ -149,12 +162,16 @@ int yacht_direct_release(yacht_direct *machine, uint64_t key, uint32_t *slot);
  * slot; or YACHT_DIRECT_STALE; or the phase in which the life is instead of live. */
 int yacht_direct_end(yacht_direct *machine, uint64_t key, uint32_t *slot);
 
-/* Takes the completion of a close that succeeded. The life is over and the slot is free.
+/* Takes the completion of a close after which the slot is empty: it succeeded, or its result is
+ * -EBADF (the slot was empty) or -ENXIO (the ring has no table), since another emptied the slot in
+ * spite of the premises. The life is over and the slot is free.
  * Returns YACHT_DIRECT_DONE, YACHT_DIRECT_STALE, or the phase in which the life is instead of
  * closing. */
 int yacht_direct_closed(yacht_direct *machine, uint64_t key);
 
-/* Takes the completion of a close that failed, as a linked one that was canceled.
+/* Takes the completion of a close that left the file at the slot, as a linked one that was
+ * canceled. After -EBADF or -ENXIO call yacht_direct_closed: a close of an empty slot would be
+ * asked for without end.
  * Returns YACHT_DIRECT_CLOSE, and writes the slot, which the caller closes again; or
  * YACHT_DIRECT_STALE; or the phase in which the life is instead of closing. */
 int yacht_direct_close_failed(yacht_direct *machine, uint64_t key, uint32_t *slot);

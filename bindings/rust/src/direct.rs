@@ -28,6 +28,7 @@
 //! const RECEIVE: u8 = 1;
 //! const SHUTDOWN: u8 = 2;
 //! const CLOSE: u8 = 3;
+//! const EBADF: i32 = 9; // the answer of a close of an empty slot
 //!
 //! /// Takes a completion of the ring.
 //! fn completed(
@@ -46,9 +47,10 @@
 //!             ring.receive(slots.start(key)?, key.to_bits(RECEIVE));
 //!             return Ok(());
 //!         }
-//!         CLOSE if result < 0 => Next::Close(slots.close_failed(key)?),
-//!         CLOSE => return Ok(slots.closed(key)?),
-//!         RECEIVE if result == 0 => {
+//!         CLOSE if result >= 0 || result == -EBADF => return Ok(slots.closed(key)?),
+//!         CLOSE => Next::Close(slots.close_failed(key)?),
+//!         // the end of what the peer sends, or a reset
+//!         RECEIVE if result <= 0 => {
 //!             ring.shutdown(slots.start(key)?, key.to_bits(SHUTDOWN));
 //!             let _waits_for_the_shutdown = slots.end(key)?;
 //!             slots.finish(key)?
@@ -66,8 +68,8 @@
 //! ring.accept(key.slot(), key.to_bits(ACCEPT));
 //! // what the kernel would post
 //! completed(&mut slots, &mut ring, key.to_bits(ACCEPT), 0)?;
-//! completed(&mut slots, &mut ring, key.to_bits(RECEIVE), 0)?;
-//! completed(&mut slots, &mut ring, key.to_bits(SHUTDOWN), 0)?;
+//! completed(&mut slots, &mut ring, key.to_bits(RECEIVE), -104)?;
+//! completed(&mut slots, &mut ring, key.to_bits(SHUTDOWN), -107)?;
 //! completed(&mut slots, &mut ring, key.to_bits(CLOSE), 0)?;
 //! assert!(slots.is_empty() && slots.in_flight() == 0);
 //! # Ok::<(), Box<dyn std::error::Error>>(())
@@ -84,20 +86,37 @@
 //!
 //! # Premises
 //!
-//! - [`Slots::start`] is called before the submission, and [`Slots::finish`] once, after the last
-//!   completion of the request: of a multishot request the one without `IORING_CQE_F_MORE`, of a
-//!   zero-copy send its notification.
+//! - At [`Slots::new`] the slots lie inside the ring's table, they are empty, and no request is in
+//!   flight at them. So before other slots are opened for the same ring, [`Slots::len`] of the
+//!   earlier ones is 0.
+//! - There is one submission for each call: of an open after [`Slots::reserve`], of a request after
+//!   [`Slots::start`], of a close after [`Next::Close`].
+//! - [`Slots::finish`] is called once, after the last completion of the request. Of a multishot
+//!   request it is the one without `IORING_CQE_F_MORE`, which may have data. Of a zero-copy send it
+//!   is the one with `IORING_CQE_F_NOTIF`, or one without `IORING_CQE_F_MORE` whose result is
+//!   negative and not -125 (`ECANCELED`): a send that its link cancels answers -125 without
+//!   `IORING_CQE_F_MORE`, and its notification follows.
+//! - Each key goes to the `Slots` that returned it. A key doesn't name its ring, and the first keys
+//!   of two rings are equal: with a key of another ring, [`Slots::release`] may return the close of
+//!   a connection whose [`User`] lives.
 //! - Nobody else writes these slots: no update of the ring's table there, and no open at a slot
-//!   that the kernel chooses, unless the ring's allocation range lies outside them.
+//!   that the kernel chooses, unless the ring's allocation range lies outside them. By default it
+//!   is the whole table.
 //! - The kernel posts a completion once, with its request's `user_data`. An open succeeds if and
 //!   only if it put its file at the slot, and a close if and only if it took one.
 //!
 //! # Values, and other threads
 //!
-//! [`Slots<T>`](Slots) keeps a value for each life, which the life's end returns. Threads that
-//! work on a connection hold a value of a [`Table`](crate::Table): it has a [`User`], and the
-//! machine counts it as one user. Whichever thread drops the value, the key goes to a queue,
-//! [`Releases`], that the ring's thread collects.
+//! [`Slots<T>`](Slots) keeps a value for each life, which the life's end returns. A drop of the
+//! slots drops all values, also buffers that requests in flight use. So drop them once
+//! [`Slots::in_flight`] is 0.
+//!
+//! Threads that work on a connection hold a value of a [`Table`](crate::Table): it has a [`User`],
+//! and the machine counts it as one user. Whichever thread drops the value, the key goes to a
+//! queue, [`Releases`], that the ring's thread collects. A timer needs no user: if it fires after
+//! the life is over, each call by its key is refused as [`Refusal::Stale`].
+//!
+//! The numbers below 2^24 are the `user_data` of no key, and are free for requests without one.
 #[cfg(doctest)]
 mod bounds;
 #[allow(unsafe_code)]

@@ -69,7 +69,8 @@ pub struct Slots<T = ()> {
 
 impl<T> Slots<T> {
     /// Opens 1 to [`MOST_SLOTS`](super::MOST_SLOTS) free slots, which are those from 0 of the
-    /// table that the caller registers with the ring.
+    /// table that the caller registers with the ring. (A sparse table has at most `RLIMIT_NOFILE`
+    /// slots.)
     ///
     /// # Errors
     ///
@@ -179,8 +180,10 @@ impl<T> Slots<T> {
         self.machine.end(key)
     }
 
-    /// Takes the completion of a close that succeeded. The life is over and the slot is free, and
-    /// its value is returned.
+    /// Takes the completion of a close after which the slot is empty: it succeeded, or its result
+    /// is `-EBADF` (the slot was empty) or `-ENXIO` (the ring has no table), since another emptied
+    /// the slot in spite of the premises. The life is over and the slot is free, and its value is
+    /// returned.
     ///
     /// # Errors
     ///
@@ -190,8 +193,9 @@ impl<T> Slots<T> {
         self.take(key).ok_or(Refusal::Stale { key })
     }
 
-    /// Takes the completion of a close that failed, as a linked one that was canceled. Returns the
-    /// slot, whose close the caller submits again.
+    /// Takes the completion of a close that left the file at the slot, as a linked one that was
+    /// canceled. Returns the slot, whose close the caller submits again. After `-EBADF` or `-ENXIO`
+    /// call [`Slots::closed`]: a close of an empty slot would be asked for without end.
     ///
     /// # Errors
     ///
