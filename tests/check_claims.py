@@ -2,8 +2,8 @@
 clauses of its row; that each promise of README.md links to such a table; that each public call with a `requires` is among its
 preconditions; that its reading list has the files and lines that the headline's definition reaches; each quoted line of a law, and of
 the examples in README.md and docs/inside/LIBRARY.md; that each refusal in crates/WRONG_BODIES.md exists; the types and functions that any
-page names; the atomic steps of calls in docs/inside/PROOFS.md; the options of each command; and the tables and minutes that
-bench/write-tables writes. So it finds a page that is older than the code. Each kind of claims has some, and a wrong page of each is
+page names; the atomic steps of calls in docs/inside/PROOFS.md; the options of each command; the kept outputs of fixcheck that
+docs/use/CHECKING.md shows; and the tables and minutes that bench/write-tables writes. So it finds a page that is older than the code. Each kind of claims has some, and a wrong page of each is
 refused.
 
 A claim is written '`f`, `g`: `x`, `y`; `h`: `z`': f and g both have the clauses x and y, and h has z. Without clauses it refers to
@@ -28,7 +28,10 @@ PROOFS, BODIES = "docs/inside/PROOFS.md", "crates/WRONG_BODIES.md"
 CALLER = "Preconditions of the public calls"
 # the least number of claims of each kind
 LEAST = {"tables": 600, "conditions": 85, "reading list": 4, "promises": 6, "wrong bodies": 480, "quotes": 170,
-         "atomic steps": 14, "options": 20, "wrong claims": 3, "pages": 450, "measurements": 30}
+         "atomic steps": 14, "options": 20, "wrong claims": 3, "pages": 450, "measurements": 30, "kept outputs": 8}
+# the kept outputs of which docs/use/CHECKING.md shows lines, and how many
+QUOTED = {"examples/judged/explained.judged": 6, "examples/judged/submissions.judged": 5, "examples/questions/replaced_under_a_reader.texts": 7,
+          "examples/questions/open_any_beside_a_close.texts": 6}
 # where the reading list of docs/inside/PROOFS.md begins
 HEADLINE = "crates/fx_ring/specs/Submission.antt"
 
@@ -335,6 +338,20 @@ def quotes(claims):
     claims.want(all(found.values()), "README.md, docs/inside/LIBRARY.md and docs/inside/PROOFS.md quote no law, or no example")
 
 
+def quoted_lines(page, text):
+    """Returns how many lines of a page's indented blocks have a number and are in a text."""
+    words = " ".join(text.split())
+    return sum(bool(re.search(r"\d", it)) and " ".join(it.split()) in words for block in blocks(page) for it in block)
+
+
+def kept_outputs(claims):
+    """docs/use/CHECKING.md shows lines of kept outputs of fixcheck, and with another number fewer."""
+    page = read("docs/use/CHECKING.md")
+    for path, count in QUOTED.items():
+        claims.want(quoted_lines(page, read(path)) == count, f"docs/use/CHECKING.md has {quoted_lines(page, read(path))} lines of {path}, and not {count}")
+        claims.want(quoted_lines(page.replace("1 ", "3 "), read(path)) < count, f"docs/use/CHECKING.md with other numbers has as many lines of {path}")
+
+
 def wrong_pages(claims):
     """Claims that are wrong, each of which is refused."""
     for names, clauses in ((["no_such_function"], []), (["PlainTable::release"], ["no_such_clause"]), (["fx_order::no_such_law"], [])):
@@ -350,7 +367,7 @@ def command():
     headings, told = tables_of_proofs(claims)
     for claims.kind, what in (("conditions", lambda: claims.conditions(told)), ("reading list", lambda: reading_list(claims)),
                               ("promises", lambda: promises_of_readme(claims, headings)), ("wrong bodies", lambda: wrong_bodies(claims)),
-                              ("quotes", lambda: quotes(claims)), ("measurements", lambda: measurements(claims)), ("wrong claims", lambda: wrong_pages(claims))):
+                              ("quotes", lambda: quotes(claims)), ("kept outputs", lambda: kept_outputs(claims)), ("measurements", lambda: measurements(claims)), ("wrong claims", lambda: wrong_pages(claims))):
         what()
     numbers(claims)
     claims.kind = "pages"
