@@ -1,10 +1,10 @@
 """check-claims: compares the pages with the sources. Checked are: each function in the tables of docs/inside/PROOFS.md, and that it has the
 clauses of its row; that each promise of README.md links to such a table; that each public call with a `requires` is among its
-preconditions; that its reading list has the files and lines that the headline's definition reaches; each quoted line of a law, and of
-the examples in README.md and docs/inside/LIBRARY.md; that each refusal in crates/WRONG_BODIES.md exists; the types and functions that any
-page names; the atomic steps of calls in docs/inside/PROOFS.md; the options of each command; the kept outputs of fixcheck that
-docs/use/CHECKING.md shows; and the tables and minutes that bench/write-tables writes. So it finds a page that is older than the code. Each kind of claims has some, and a wrong page of each is
-refused.
+preconditions; that its reading list has the files and lines that the headline's definition reaches; each quoted line of a law, and of the
+examples in README.md and docs/inside/LIBRARY.md; that each refusal in crates/WRONG_BODIES.md exists; the types and functions that any page
+names; the atomic steps of calls in docs/inside/PROOFS.md; the options of each command, and the defaults of the scripts' manual pages; the
+kept outputs of fixcheck that docs/use/CHECKING.md shows; and the tables and minutes that bench/write-tables writes. So it finds a page that
+is older than the code. Each kind of claims has some, and a wrong page of each is refused.
 
 A claim is written '`f`, `g`: `x`, `y`; `h`: `z`': f and g both have the clauses x and y, and h has z. Without clauses it refers to
 the whole contract. A word with a capital letter is a definition that the contract cites."""
@@ -28,7 +28,7 @@ PROOFS, BODIES = "docs/inside/PROOFS.md", "crates/WRONG_BODIES.md"
 CALLER = "Preconditions of the public calls"
 # the least number of claims of each kind
 LEAST = {"tables": 600, "conditions": 85, "reading list": 4, "promises": 6, "wrong bodies": 480, "quotes": 170,
-         "atomic steps": 14, "options": 20, "wrong claims": 3, "pages": 450, "measurements": 30, "kept outputs": 8}
+         "atomic steps": 14, "defaults": 8, "options": 20, "wrong claims": 3, "pages": 450, "measurements": 30, "kept outputs": 8}
 # the kept outputs of which docs/use/CHECKING.md shows lines, and how many
 QUOTED = {"examples/judged/explained.judged": 6, "examples/judged/submissions.judged": 5, "examples/questions/replaced_under_a_reader.texts": 7,
           "examples/questions/open_any_beside_a_close.texts": 6}
@@ -198,9 +198,19 @@ def options(page):
             yield f"{name} --{option}", re.search(rf'(?<![\w-])["]?(?:--)?{option}(?![\w-])', commands[name]) is not None
 
 
-# what a page claims of steps and options: the pages, and a wrong page of each kind
+def defaults(page):
+    """Yields each default of a manual page of a script, and whether the script, or the search that it uses, has that number."""
+    name = re.search(r"^\.Nm (\S+)$", page, re.MULTILINE)[1].replace("-", "_")
+    scripts = [*glob.glob(f"{ROOT}/*/{name}.py"), "model/orders.py"]
+    numbers = {re.sub("[_,]", "", it) for path in scripts for it in re.findall(r"\b\d[\d_,]*\b", read(path))}
+    for number in re.findall(r"(?:by default|the first)\s+([\d,]+\d|\d)", page):
+        yield f"{name}, by default {number}", number.replace(",", "") in numbers
+
+
+# what a page claims of steps, options and defaults: the pages, and a wrong page of each kind
 NUMBERS = {
     "atomic steps": (atomic_steps, [PROOFS], "| at most 2 and block + 2 atomic steps | `LastingTable::release`, `put`: `steps` |"),
+    "defaults": (defaults, ["man/conform.1", "man/draw-history.1", "man/judge-linux.1", "man/litmus.1"], ".Nm conform\nby default\n501; by default 1,201"),
     "options": (options, ["README.md", "CHANGELOG.md", "examples/README.md", *sorted(glob.glob("docs/*/*.md", root_dir=ROOT))],
                 "    fixcheck --al\n`fixfiles --history`\n    conform --ruler NAME # any\n"),
 }
