@@ -1,8 +1,9 @@
 """declare-core: writes the declarations of the core's exports for C and Rust, from the sources of fx_server_c and fx_server:
 bindings/c/core.h and bindings/rust/src/access/exports.rs; the functions and the limits of yachtbanyan(3) and yachtdirect(3), from the
-headers; the numbers of the table of docs/use/LIMITS.md, from the constants that its rows name; and the version, from VERSION, in each file
-that has it. If a limit has changed, it prints the lines of other pages and headers that have the old number."""
+headers; the numbers of the table of docs/use/LIMITS.md, from the constants that its rows name; the version, from VERSION, in each file
+that has it; and the date of the manual pages, that of the newest version in CHANGELOG.md. If a limit has changed, it prints the lines of other pages and headers that have the old number."""
 import contextlib
+import datetime
 import functools
 import glob
 import re
@@ -173,6 +174,12 @@ def functions(header):
     return [(result.strip(), name, [" ".join(it.split()) for it in given.split(",")]) for result, name, given in found]
 
 
+def dated(page):
+    """Returns a manual page with the date of the newest version."""
+    day = datetime.date.fromisoformat(re.search(r"^## \[.*\] - (.*)$", read("CHANGELOG.md"), re.M)[1])
+    return re.sub(r"^\.Dd .*$", f".Dd {day:%B} {day.day}, {day.year}", page, count=1, flags=re.M)
+
+
 def for_manual(name):
     """Returns a function that returns the manual page of a library with the functions of its header, and with its constants, each of which the
     page must name."""
@@ -184,7 +191,7 @@ def for_manual(name):
         for result, function, given in functions(header):
             lines += [f'.Ft "{result}"' if " " in result else f".Ft {result}", " ".join([f".Fn {function}", *(f'"{it}"' for it in given)])]
         page = re.sub(r"(?:^\.Ft .*\n\.Fn .*\n)+", lambda _: "\n".join([*lines, ""]), page, count=1, flags=re.M)
-        return re.sub(r"(?<=^\.Dv )(YACHT_\w+)\n\([\d,]+\)", lambda it: f"{it[1]}\n({constant(name, it[1]):,})", page, flags=re.M)
+        return dated(re.sub(r"(?<=^\.Dv )(YACHT_\w+)\n\([\d,]+\)", lambda it: f"{it[1]}\n({constant(name, it[1]):,})", page, flags=re.M))
 
     return made
 
@@ -233,7 +240,9 @@ VERSIONED = {
     "include/yachtbanyan.h": 5, "include/yachtdirect.h": 5, "include/yachtjudge.h": 4,
     "crates/fx_direct_c/src/exports.rt": 1, "bench/life.rs": 2, **{f"bindings/rust/src/direct/{it}.rs": 1 for it in ("core", "machine", "stand_in")},
 }
+DATED = sorted(glob.glob("man/*.1", root_dir=ROOT))
 FILES = {
+    **{path: lambda path=path: dated(read(path)) for path in DATED},
     "man/yachtbanyan.3": for_manual("yachtbanyan"),
     "man/yachtdirect.3": for_manual("yachtdirect"),
     LIMITS: for_limits,
@@ -244,6 +253,7 @@ FILES = {
 # what is written by each source, and what it is written from
 WRITTEN = (
     (SOURCE, r"(?<=fn )yacht_core_\w+"), (CODES, r"(?<=: i64 = )[-\d]+"), (LIMITS, r"(?<=^    )[\d,]+(?= .*: [A-Z_]+$)"), *((path, VERSION.pattern) for path in VERSIONED),
+    *((path, r"^\.Dd .*$") for path in DATED),
     *((path, r'(?<=^\.Fn )\w+(?= "yacht_)|(?<=^\()[\d,]+(?=\))|(?<=Dv )YACHT_\w+') for path in ("man/yachtbanyan.3", "man/yachtdirect.3")),
 )
 

@@ -4,9 +4,10 @@ import re
 import sys
 import textwrap
 
+from scripts.declare_core import dated
 from scripts.repository import read
 
-HEAD = """.Dd November 26, 2026
+HEAD = """.Dd the date of the newest version
 .Dt FIXFILES-SCRIPT 5
 .Os
 .Sh NAME
@@ -71,7 +72,7 @@ def piece(text):
 
 
 def page(text):
-    yield HEAD
+    yield dated(HEAD)
     for section in text.split("\n## ")[1:]:
         title, *pieces = re.split(r"\n\n+", section.strip("\n"))
         if title == "Exit status":
