@@ -1,6 +1,6 @@
-"""measure-crates [CRATE..]: measures the CPU seconds of crates, each proved by one job from nothing, and of their tests, and writes them
-to scripts/seconds.txt. It works in a copy of the repository that reuses the proved crates below. Without CRATE it measures all: about
-two hours."""
+"""measure-crates [CRATE..]: measures the CPU seconds of crates, each proved by one job from nothing, and of their tests, and writes them to
+scripts/seconds.txt, and the minutes of the pages (bench/write-tables). It works in a copy of the repository that reuses the proved crates
+below. Without CRATE it measures all: about two hours."""
 import os
 import resource
 import shutil
@@ -8,6 +8,7 @@ import subprocess
 import sys
 import tempfile
 
+from bench import tables
 from scripts.crate_times import crates, measured
 from scripts.repository import ROOT, files_of, read, write
 
@@ -48,3 +49,4 @@ def command():
             head = [it for it in read(FILE).splitlines() if it.startswith("#")]
             rows = [f"{it} {known[it][0]} {known[it][1]}" for it in below if it in known]
             write(FILE, "".join(f"{it}\n" for it in [*head, *rows]))
+    tables.command()
