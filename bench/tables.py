@@ -271,22 +271,18 @@ def of_vm():
     ])
 
 
-def of_conform():
-    return "\n".join(f"    {it}" for it in found("bench/conform.txt", r"^# scripts: .*|^# Totals: .*"))
-
-
-def of_contending():
-    return "\n".join(f"    {it}" for it in found("bench/conform.txt", r"^(?:as it is|with IOSQE_ASYNC): .*"))
-
-
-def of_litmus():
-    return "\n".join(f"    {it}".rstrip() for it in read("bench/litmus.txt").splitlines() if not it.startswith("#"))
+def quoted(path, pattern):
+    """Returns lines of a kept run as an indented block."""
+    return "\n".join(f"    {it}".rstrip() for it in found(path, pattern))
 
 
 TABLES = {
-    "calls": of_calls, "conform": of_conform, "contending": of_contending, "counted": of_counted, "crate": of_crate, "fixcheck": of_fixcheck, "judge": of_judge,
-    "lasting": of_lasting, "litmus": of_litmus, "lives": of_lives, "machine": of_machine, "memory": of_memory, "others": of_others, "program": of_program,
+    "calls": of_calls, "counted": of_counted, "crate": of_crate, "fixcheck": of_fixcheck, "judge": of_judge, "lasting": of_lasting,
+    "lives": of_lives, "machine": of_machine, "memory": of_memory, "others": of_others, "program": of_program,
     "rare-calls": of_rare_calls, "searches": of_searches, "stale-looks": of_stale_looks, "summary": summary, "tails": of_tails, "vm": of_vm,
+    "conform": lambda: quoted("bench/conform.txt", r"^# scripts: .*|^# Totals: .*"),
+    "contending": lambda: quoted("bench/conform.txt", "^(?:as it is|with IOSQE_ASYNC): .*"),
+    "litmus": lambda: quoted("bench/litmus.txt", "^(?!#).*$").removesuffix("\n"),
 }
 # what is between other words of a page: the words before it, its form, and what writes it
 MINUTES, RATIOS = r"\d+ to \d+ minutes", r"[\d.]+ to [\d.]+"
