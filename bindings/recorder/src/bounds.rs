@@ -1,5 +1,5 @@
-//! What the compiler must refuse of the recorder's types, and what it must accept. Each program
-//! that must not compile is followed by one that must, which differs from it by one token.
+//! What the compiler must refuse of the recorder's types, and what it must accept. Each pair of
+//! programs below differs by one token ([`pair`]).
 //!
 //! | type | `Send` | `Sync` | it doesn't outlive |
 //! |---|---|---|---|
@@ -19,175 +19,33 @@
 //! shared::<(Value, Log, Plan, Cut, Slots, Keyed, CTable, CKeyed, Fault)>();
 //! send::<(SlotsHandle<'static>, KeyedHandle)>();
 //! ```
-//!
-//! One thread at a time uses a handle:
-//!
-//! ```compile_fail,E0277
-//! # use recorder::tables::SlotsHandle;
-//! # fn send<T: Send>() {}
-//! # fn sync<T: Sync>() {}
-//! sync::<SlotsHandle<'static>>();
-//! ```
-//!
-//! ```
-//! # use recorder::tables::SlotsHandle;
-//! # fn send<T: Send>() {}
-//! # fn sync<T: Sync>() {}
-//! send::<SlotsHandle<'static>>();
-//! ```
-//!
-//! ```compile_fail,E0277
-//! # use recorder::library::KeyedHandle;
-//! # fn send<T: Send>() {}
-//! # fn sync<T: Sync>() {}
-//! sync::<KeyedHandle>();
-//! ```
-//!
-//! ```
-//! # use recorder::library::KeyedHandle;
-//! # fn send<T: Send>() {}
-//! # fn sync<T: Sync>() {}
-//! send::<KeyedHandle>();
-//! ```
-//!
-//! Handles and guards of the C library's table stay on their threads:
-//!
-//! ```compile_fail,E0277
-//! # use recorder::c::CHandle;
-//! # fn send<T: Send>() {}
-//! # fn any<T>() {}
-//! send::<CHandle<'static>>();
-//! ```
-//!
-//! ```
-//! # use recorder::c::CHandle;
-//! # fn send<T: Send>() {}
-//! # fn any<T>() {}
-//! any::<CHandle<'static>>();
-//! ```
-//!
-//! ```compile_fail,E0277
-//! # use recorder::c::CHandle;
-//! # fn sync<T: Sync>() {}
-//! # fn any<T>() {}
-//! sync::<CHandle<'static>>();
-//! ```
-//!
-//! ```
-//! # use recorder::c::CHandle;
-//! # fn sync<T: Sync>() {}
-//! # fn any<T>() {}
-//! any::<CHandle<'static>>();
-//! ```
-//!
-//! ```compile_fail,E0277
-//! # use recorder::c::CKeyedHandle;
-//! # fn send<T: Send>() {}
-//! # fn any<T>() {}
-//! send::<CKeyedHandle<'static>>();
-//! ```
-//!
-//! ```
-//! # use recorder::c::CKeyedHandle;
-//! # fn send<T: Send>() {}
-//! # fn any<T>() {}
-//! any::<CKeyedHandle<'static>>();
-//! ```
-//!
-//! ```compile_fail,E0277
-//! # use recorder::c::CKeyedHandle;
-//! # fn sync<T: Sync>() {}
-//! # fn any<T>() {}
-//! sync::<CKeyedHandle<'static>>();
-//! ```
-//!
-//! ```
-//! # use recorder::c::CKeyedHandle;
-//! # fn sync<T: Sync>() {}
-//! # fn any<T>() {}
-//! any::<CKeyedHandle<'static>>();
-//! ```
-//!
-//! ```compile_fail,E0277
-//! # use recorder::c::CGuard;
-//! # fn send<T: Send>() {}
-//! # fn any<T>() {}
-//! send::<CGuard<'static>>();
-//! ```
-//!
-//! ```
-//! # use recorder::c::CGuard;
-//! # fn send<T: Send>() {}
-//! # fn any<T>() {}
-//! any::<CGuard<'static>>();
-//! ```
-//!
-//! ```compile_fail,E0277
-//! # use recorder::c::CGuard;
-//! # fn sync<T: Sync>() {}
-//! # fn any<T>() {}
-//! sync::<CGuard<'static>>();
-//! ```
-//!
-//! ```
-//! # use recorder::c::CGuard;
-//! # fn sync<T: Sync>() {}
-//! # fn any<T>() {}
-//! any::<CGuard<'static>>();
-//! ```
-//!
-//! A handle doesn't outlive its table, nor a guard its handle:
-//!
-//! ```compile_fail,E0505
-//! # use recorder::Table;
-//! let new = || recorder::c::CTable::new(1, 1);
-//! let (it, other) = (new(), new());
-//! let handle = it.handle();
-//! drop(it);
-//! drop(handle);
-//! ```
-//!
-//! ```
-//! # use recorder::Table;
-//! let new = || recorder::c::CTable::new(1, 1);
-//! let (it, other) = (new(), new());
-//! let handle = it.handle();
-//! drop(other);
-//! drop(handle);
-//! ```
-//!
-//! ```compile_fail,E0505
-//! # use recorder::Table;
-//! let new = || recorder::tables::Slots::new(1, recorder::tables::Fault::None);
-//! let (it, other) = (new(), new());
-//! let handle = it.handle();
-//! drop(it);
-//! drop(handle);
-//! ```
-//!
-//! ```
-//! # use recorder::Table;
-//! let new = || recorder::tables::Slots::new(1, recorder::tables::Fault::None);
-//! let (it, other) = (new(), new());
-//! let handle = it.handle();
-//! drop(other);
-//! drop(handle);
-//! ```
-//!
-//! ```compile_fail,E0505
-//! # use recorder::{Handle, Table};
-//! let table = recorder::c::CTable::new(1, 2);
-//! let (it, other) = (table.handle(), table.handle());
-//! let guard = it.get(0);
-//! drop(it);
-//! drop(guard);
-//! ```
-//!
-//! ```
-//! # use recorder::{Handle, Table};
-//! let table = recorder::c::CTable::new(1, 2);
-//! let (it, other) = (table.handle(), table.handle());
-//! let guard = it.get(0);
-//! drop(other);
-//! drop(guard);
-//! ```
+include!("../../rust/src/pairs.rs");
+
+bounds! {
+    "use recorder::{c::*, library::*, tables::*};"
+    // one thread at a time uses a handle
+    {Sync Send}: SlotsHandle<'static>;
+    {Sync Send}: KeyedHandle;
+    // handles and guards of the C library's table stay on their threads
+    {Send Sized}: CHandle<'static>;
+    {Sync Sized}: CHandle<'static>;
+    {Send Sized}: CKeyedHandle<'static>;
+    {Sync Sized}: CKeyedHandle<'static>;
+    {Send Sized}: CGuard<'static>;
+    {Sync Sized}: CGuard<'static>;
+}
+
+// a handle doesn't outlive its table, nor a guard its handle
+pair!("compile_fail,E0505" ("use recorder::{c::CTable, Table};
+let (it, other) = (CTable::new(1, 1), CTable::new(1, 1));
+let handle = it.handle();
+drop(") {it other} (");\ndrop(handle);"));
+pair!("compile_fail,E0505" ("use recorder::{tables::*, Table};
+let (it, other) = (Slots::new(1, Fault::None), Slots::new(1, Fault::None));
+let handle = it.handle();
+drop(") {it other} (");\ndrop(handle);"));
+pair!("compile_fail,E0505" ("use recorder::{c::CTable, Handle, Table};
+let table = CTable::new(1, 2);
+let (it, other) = (table.handle(), table.handle());
+let guard = it.get(0);
+drop(") {it other} (");\ndrop(guard);"));

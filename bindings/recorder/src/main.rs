@@ -8,8 +8,8 @@
 //! Each of THREADS (3) makes CALLS (50) calls in each of ROUNDS (20), after which all rest. The
 //! table has SLOTS: 3, or by keys as many as all calls, since each call may keep its value.
 //!
-//! The exit status is 1 if the table panics or a call never returns, with a log up to there, 2 if an
-//! argument is invalid, and 4 if the log can't be printed.
+//! The exit status is 1 if the table panics or a call never returns, with a log up to there. It is
+//! 2 if an argument is invalid, and 4 if the log can't be printed.
 use recorder::tables::{Fault, Slots, Wrong};
 use recorder::{record, Log, Plan};
 use std::process::ExitCode;

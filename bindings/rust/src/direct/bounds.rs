@@ -7,162 +7,53 @@
 //! | `User` | always | always | no | | always |
 //! | `Key`, `Next`, `Phase`, errors | always | always | yes | | always |
 //!
-//! Each program that must not compile is followed by one that must, which differs from it by one
-//! token (`tests/bindings/twins.py`).
-//!
-//! `Slots<T>` is `Send` only if `T` is, and never `Sync` or `Clone`:
-//!
-//! ```compile_fail,E0277
-//! # use yachtbanyan::direct::Slots;
-//! # fn send<T: Send>() {}
-//! # type Staying = std::rc::Rc<u8>;
-//! send::<Slots<Staying>>();
-//! ```
-//!
-//! ```
-//! # use yachtbanyan::direct::Slots;
-//! # fn send<T: Send>() {}
-//! # type Staying = std::rc::Rc<u8>;
-//! send::<Slots<u8>>();
-//! ```
-//!
-//! ```compile_fail,E0277
-//! # use yachtbanyan::direct::Slots;
-//! fn is<T: Sync>() {}
-//! is::<Slots<u8>>();
-//! ```
-//!
-//! ```
-//! # use yachtbanyan::direct::Slots;
-//! fn is<T: Send>() {}
-//! is::<Slots<u8>>();
-//! ```
-//!
-//! ```compile_fail,E0277
-//! # use yachtbanyan::direct::Slots;
-//! fn is<T: Clone>() {}
-//! is::<Slots<u8>>();
-//! ```
-//!
-//! ```
-//! # use yachtbanyan::direct::Slots;
-//! fn is<T: Send>() {}
-//! is::<Slots<u8>>();
-//! ```
-//!
-//! A value that threads may not share does no harm, since one thread has the slots:
-//!
-//! ```
-//! # use yachtbanyan::direct::Slots;
-//! # fn send<T: Send>() {}
-//! send::<Slots<std::cell::Cell<u8>>>();
-//! ```
-//!
-//! A user is counted once, so it is not `Clone`:
-//!
-//! ```compile_fail,E0277
-//! # use yachtbanyan::direct::{Releases, User};
-//! # fn clones<T: Clone>() {}
-//! clones::<User>();
-//! ```
-//!
-//! ```
-//! # use yachtbanyan::direct::{Releases, User};
-//! # fn clones<T: Clone>() {}
-//! clones::<Releases>();
-//! ```
+//! Each pair of programs below differs by one token ([`pair`]). These must compile: one thread has
+//! the slots, so a value that threads may not share does no harm; and values have a shorter
+//! lifetime.
 //!
 //! ```
 //! use std::panic::{RefUnwindSafe, UnwindSafe};
-//! use yachtbanyan::direct::{Full, Key, Next, OpenError, Phase, Refusal, Releases, User};
+//! use yachtbanyan::direct::{Full, Key, Next, OpenError, Phase, Refusal, Releases, Slots, User};
 //! fn plain<T: Send + Sync + UnwindSafe + RefUnwindSafe>() {}
 //! plain::<(Key, Next, Phase, Full, OpenError, Refusal)>();
 //! plain::<(Releases, User)>();
-//! ```
-//!
-//! Any thread wakes the ring's:
-//!
-//! ```compile_fail,E0277
-//! # use std::{rc::Rc, sync::Arc};
-//! # use yachtbanyan::direct::Releases;
-//! let woken = Rc::new(0);
-//! Releases::new(move || drop(woken.clone()));
-//! ```
-//!
-//! ```
-//! # use std::{rc::Rc, sync::Arc};
-//! # use yachtbanyan::direct::Releases;
-//! let woken = Arc::new(0);
-//! Releases::new(move || drop(woken.clone()));
-//! ```
-//!
-//! What wakes it may be called after every borrow has ended:
-//!
-//! ```compile_fail,E0597
-//! # use yachtbanyan::direct::Releases;
-//! let woken = String::new();
-//! let at = &woken;
-//! Releases::new(move || drop(at.len()));
-//! ```
-//!
-//! ```
-//! # use yachtbanyan::direct::Releases;
-//! let woken = String::new();
-//! let at = woken;
-//! Releases::new(move || drop(at.len()));
-//! ```
-//!
-//! Values have a shorter lifetime, and not a longer one:
-//!
-//! ```compile_fail
-//! # use yachtbanyan::direct::Slots;
-//! fn with<'a>(it: Slots<&'a str>) -> Slots<&'static str> { it }
-//! ```
-//!
-//! ```
-//! # use yachtbanyan::direct::Slots;
-//! fn with<'a>(it: Slots<&'a str>) -> Slots<&'a str> { it }
-//! ```
-//!
-//! ```
-//! # use yachtbanyan::direct::Slots;
+//! fn send<T: Send>() {}
+//! send::<Slots<std::cell::Cell<u8>>>();
 //! fn with<'a>(it: Slots<&'static str>) -> Slots<&'a str> { it }
 //! ```
-//!
-//! A value stays where it is while it is borrowed:
-//!
-//! ```compile_fail,E0502
-//! # let mut slots = yachtbanyan::direct::Slots::<u8>::new(1).unwrap();
-//! let key = slots.reserve().unwrap();
-//! let value = slots.get(key);
-//! slots.opened(key, 0).unwrap();
-//! println!("{value:?}");
-//! ```
-//!
-//! ```
-//! # let mut slots = yachtbanyan::direct::Slots::<u8>::new(1).unwrap();
-//! let key = slots.reserve().unwrap();
-//! let value = slots.phase(key);
-//! slots.opened(key, 0).unwrap();
-//! println!("{value:?}");
-//! ```
-//!
-//! A slot that is to be closed isn't forgotten:
-//!
-//! ```compile_fail
-//! #![deny(unused_must_use)]
-//! # use yachtbanyan::direct::{Key, Refusal, Slots};
-//! fn finish(slots: &mut Slots, key: Key) -> Result<(), Refusal> {
-//!     slots.finish(key)?;
-//!     Ok(())
-//! }
-//! ```
-//!
-//! ```
-//! #![deny(unused_must_use)]
-//! # use yachtbanyan::direct::{Key, Refusal, Slots};
-//! fn finish(slots: &mut Slots, key: Key) -> Result<(), Refusal> {
-//!     slots.hold(key)?;
-//!     Ok(())
-//! }
-//! ```
+include!("../pairs.rs");
+
+bounds! {
+    "use yachtbanyan::direct::*;
+type Staying = std::rc::Rc<u8>;"
+    Send: Slots<{Staying u8}>;
+    {Sync Send}: Slots<u8>;
+    {Clone Send}: Slots<u8>;
+    // a user is counted once
+    Clone: {User Releases};
+}
+
+// any thread wakes the ring's
+pair!("compile_fail,E0277" ("use std::{rc::Rc, sync::Arc};
+let woken = ") {Rc Arc} ("::new(0);
+yachtbanyan::direct::Releases::new(move || drop(woken.clone()));"));
+// what wakes it may be called after every borrow has ended
+pair!("compile_fail,E0597" ("let woken = String::new();
+let at = woken.") {as_str clone} ("();
+yachtbanyan::direct::Releases::new(move || drop(at.len()));"));
+// values have no longer lifetime
+pair!("compile_fail" ("use yachtbanyan::direct::Slots;
+fn with<'a>(it: Slots<&'a str>) -> Slots<&") {'static 'a} (" str> { it }"));
+// a value stays where it is while it is borrowed
+pair!("compile_fail,E0502" ("let mut slots = yachtbanyan::direct::Slots::<u8>::new(1).unwrap();
+let key = slots.reserve().unwrap();
+let value = slots.") {get phase} ("(key);
+slots.opened(key, 0).unwrap();
+println!(\"{value:?}\");"));
+// a slot that is to be closed isn't forgotten
+pair!("compile_fail" ("#![deny(unused_must_use)]
+use yachtbanyan::direct::{Key, Refusal, Slots};
+fn finish(slots: &mut Slots, key: Key) -> Result<(), Refusal> {
+    slots.") {finish hold} ("(key)?;
+    Ok(())
+}"));
