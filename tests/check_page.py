@@ -133,7 +133,7 @@ def first_commands(checks):
     checks.want(is_short, f"README.md has {len(text.encode())} bytes, or its first {HEAD} lines don't name both readers")
     serve, play = (re.split("  +#", it)[0].strip() for it in next(blocks(read("README.md"))))
     made, _, serve = serve.partition(" && ")
-    checks.want((made, play) == ("make libraries", "make kernel"), f"README.md begins with the commands {made} and {play}")
+    checks.want((made, play) == ("scripts/build-libraries yachtbanyan yachtdirect", "make kernel"), f"README.md begins with the commands {made} and {play}")
     if shutil.which("cargo") and os.path.exists(f"{ROOT}/lib/libyachtbanyan.a"):
         target = {**os.environ, "CARGO_TARGET_DIR": f"{ROOT}/build/page", "PWD": ROOT}
         found = subprocess.run(serve, shell=True, cwd=ROOT, env=target, capture_output=True, text=True).stdout
