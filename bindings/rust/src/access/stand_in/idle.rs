@@ -1,5 +1,5 @@
-//! The words of a table that no call uses, for tests: what the rule of `crates/fx_lasting` leaves of
-//! them.
+//! The words of a table that no call uses, for tests: what the rule of `crates/fx_lasting` leaves
+//! of them.
 use super::super::core::Core;
 use super::words::{file_word, is_hot, named_in, node_in, Table, BORN, FREE, HEAT, TAKES};
 use super::{Pass, Worker};
