@@ -64,7 +64,7 @@ def elsewhere(name):
     return [number for it in found("bench/elsewhere.txt", rf"^{name}: (.*)$")[0].split("; ") for number in it.split(" to ")]
 
 
-LOOKS, BY_KEY = "look and release, 256 slots: crate / arc-swap load", "insert, get and remove by key: crate / sharded-slab"
+LOOKS, BY_KEY = "look and release: crate / arc-swap load", "insert, get and remove by key: crate / sharded-slab"
 
 
 def on_machines():
