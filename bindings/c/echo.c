@@ -1,7 +1,7 @@
 /* An example: an echo server on io_uring whose connections are direct descriptors, by the loop of
  * docs/use/DIRECT.md. It prints the port of 127.0.0.1 at which it listens, and serves until its
  * standard input ends. Then it ends each connection, prints how many it opened and closed, and ends
- * with status 0; or with 77 if there is no io_uring. It is built with -lyachtdirect and -luring. */
+ * with status 0; or with 77 if io_uring is refused. It is built with -lyachtdirect and -luring. */
 #define _GNU_SOURCE
 #include <arpa/inet.h>
 #include <errno.h>
@@ -58,7 +58,8 @@ static void start(uint64_t key, int kind, size_t length) {
     if (yacht_direct_start(&machine, key, &slot) != YACHT_DIRECT_DONE) return; /* it was ended */
     struct io_uring_sqe *sqe = request();
     if (kind == RECEIVE) io_uring_prep_recv(sqe, slot, buffer[slot], length, 0);
-    if (kind == SEND) io_uring_prep_send(sqe, slot, buffer[slot], length, MSG_WAITALL | MSG_NOSIGNAL);
+    if (kind == SEND)
+        io_uring_prep_send(sqe, slot, buffer[slot], length, MSG_WAITALL | MSG_NOSIGNAL);
     if (kind == SHUTDOWN) io_uring_prep_shutdown(sqe, slot, SHUT_RDWR);
     name(sqe, key, kind);
 }
@@ -132,7 +133,7 @@ int main(void) {
     int error = io_uring_queue_init(ENTRIES, &ring, 0);
     if (!error) error = io_uring_register_files_sparse(&ring, SLOTS);
     if (error) {
-        fprintf(stderr, "echo: there is no io_uring: %s\n", strerror(-error));
+        fprintf(stderr, "echo: io_uring is refused: %s\n", strerror(-error));
         return NO_IO_URING;
     }
     listener = socket(AF_INET, SOCK_STREAM, 0);

@@ -429,8 +429,13 @@ static void remove_files(const char *name) {
 /* opens the ring, in the thread that uses it */
 static void open_ring(void) {
     unsigned flags = IORING_SETUP_SINGLE_ISSUER | IORING_SETUP_DEFER_TASKRUN;
-    if (io_uring_queue_init(ENTRIES, &ring, flags) && io_uring_queue_init(ENTRIES, &ring, 0)) exit(NO_IO_URING);
-    if (io_uring_register_files_sparse(&ring, SLOTS)) exit(NO_IO_URING);
+    int error = io_uring_queue_init(ENTRIES, &ring, flags);
+    if (error) error = io_uring_queue_init(ENTRIES, &ring, 0);
+    if (!error) error = io_uring_register_files_sparse(&ring, SLOTS);
+    if (error) {
+        fprintf(stderr, "server: io_uring is refused: %s\n", strerror(-error));
+        exit(NO_IO_URING);
+    }
     ring_thread = pthread_self();
 }
 

@@ -142,7 +142,7 @@ fn main() -> Result<ExitCode, Box<dyn Error>> {
     let ring = match Ring::new(ENTRIES, slots) {
         Ok(ring) => ring,
         Err(error) => {
-            eprintln!("there is no io_uring: {error}");
+            eprintln!("io_uring is refused: {error}");
             return Ok(ExitCode::from(NO_IO_URING));
         }
     };

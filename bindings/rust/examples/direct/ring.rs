@@ -289,7 +289,7 @@ impl Ring {
         let sent = unsafe { syscall(ENTER, self.fd, self.queued, wait, GETEVENTS, none, 0usize) };
         if sent < 0 {
             let error = Error::last_os_error();
-            // a process that is stopped and continued: nothing was submitted, and nothing came
+            // a signal, as when the process is continued: nothing was submitted
             return if error.kind() == ErrorKind::Interrupted {
                 Ok(())
             } else {
