@@ -141,8 +141,7 @@ impl DirectSlots {
 
     /// Reports that a request under a key was completed. If this returns a slot, submit a close of
     /// it (io_uring_prep_close_direct(3)): nobody uses the file any more. Of a request with several
-    /// completions report the last one alone: the one without IORING_CQE_F_MORE
-    /// (io_uring_enter(2)).
+    /// completions report the last one alone: include/yachtdirect.h says which one that is.
     ///
     /// # Errors
     /// `Stale`, or `Is` with the phase, if no request is in flight under the key.
@@ -164,8 +163,8 @@ impl DirectSlots {
         }
     }
 
-    /// Counts a user of the file that is not a request: a worker, a timer, a value of a table that
-    /// threads share. Until [`Self::release`] the file stays at the slot.
+    /// Counts a user of the file that is not a request: a worker, a value of a table that threads
+    /// share. Until [`Self::release`] the file stays at the slot.
     ///
     /// # Errors
     /// `Stale`, or `Is` with the phase, if the key's life isn't live. `TooManyUsers` if the file
@@ -228,7 +227,8 @@ impl DirectSlots {
         }
     }
 
-    /// Reports that the close under a key succeeded. The slot is free, and the key is stale.
+    /// Reports that the slot is empty after the close under a key. The slot is free, and the key is
+    /// stale. A close of an empty slot answers -EBADF.
     ///
     /// # Errors
     /// `Stale`, or `Is` with the phase, if the key's life isn't closing.
@@ -246,8 +246,8 @@ impl DirectSlots {
         }
     }
 
-    /// Reports that the close under a key failed, as a linked one that is canceled. Returns the
-    /// slot: submit a close of it again.
+    /// Reports that the close under a key left the file at the slot, as a linked close that is
+    /// canceled. Returns the slot: submit a close of it again.
     ///
     /// # Errors
     /// `Stale`, or `Is` with the phase, if the key's life isn't closing.

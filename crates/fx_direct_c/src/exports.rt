@@ -125,7 +125,8 @@ pub extern "C" fn yacht_direct_end(machine: &mut MachineHandle, key: u64, slot: 
     of_close(machine.as_mut().end(LifeKey::from_bits(key).0), slot)
 }
 
-/// Reports that the close of a key succeeded. It returns `DONE`, or why it is refused.
+/// Reports that the slot is empty after the close of a key. It returns `DONE`, or why it is
+/// refused.
 #[unsafe(no_mangle)]
 pub extern "C" fn yacht_direct_closed(machine: &mut MachineHandle, key: u64) -> i32
     ensures { MakesAs machine.old.slots (Closes (key_in_bits key)) result machine.new.slots }
@@ -133,8 +134,8 @@ pub extern "C" fn yacht_direct_closed(machine: &mut MachineHandle, key: u64) -> 
     of_done(machine.as_mut().closed(LifeKey::from_bits(key).0))
 }
 
-/// Reports that the close of a key failed. It returns `CLOSE`, and writes the slot; or why it is
-/// refused.
+/// Reports that the close of a key left the file at its slot. It returns `CLOSE`, and writes the
+/// slot; or why it is refused.
 #[unsafe(no_mangle)]
 pub extern "C" fn yacht_direct_close_failed(
     machine: &mut MachineHandle,
