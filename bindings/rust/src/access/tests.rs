@@ -1,5 +1,6 @@
 //! Tests of what only a race reaches: over the stand-in, whose steps they see, calls within calls,
 //! and the orders of threads.
+mod answers;
 mod balance;
 #[cfg(yachtbanyan_stand_in)]
 mod orders;

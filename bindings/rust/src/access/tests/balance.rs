@@ -1,21 +1,23 @@
-//! After each call, also one that is refused: each seat is free that no handle, reader or guard
-//! has, and each value that was made is at a slot or was dropped. Over the stand-in, another handle
+//! After each call, also one that is refused: its answer is one that it may have at a moment of the
+//! call; each seat is free that no handle, reader or guard has; and each value that was made is at a
+//! slot or was dropped. Over the stand-in, another handle
 //! also makes a call before each step in turn, at cold and at hot slots, so that each answer of the
 //! core comes.
+use super::answers::{answers, moments, Answer, Call, CALLS};
 use crate::{GetError, Handle, Key, NoSeat, Options, Reader, Table};
 #[cfg(yachtbanyan_stand_in)]
 use std::collections::BTreeSet;
 use std::sync::atomic::{AtomicUsize, Ordering::SeqCst};
 use std::sync::Arc;
 
-const HANDLES: u32 = 3;
+pub(super) const HANDLES: u32 = 3;
 const READERS: u32 = 1;
-const GUARDS: u32 = 3;
+pub(super) const GUARDS: u32 = 3;
 /// A slot that the table hasn't, which has two.
 const FAR: u32 = 2;
 
 /// Counts the values that are alive.
-struct Value(Arc<AtomicUsize>);
+pub(super) struct Value(Arc<AtomicUsize>);
 
 impl Drop for Value {
     fn drop(&mut self) {
@@ -32,7 +34,7 @@ impl Value {
 
 /// The value that slot 1 has before the call.
 #[derive(Clone, Copy, Debug, PartialEq)]
-enum Before {
+pub(super) enum Before {
     Empty,
     Full,
     /// It has one that an owned guard holds.
@@ -41,7 +43,7 @@ enum Before {
 
 /// What is taken while the call runs.
 #[derive(Clone, Copy, Debug, PartialEq)]
-enum Beside {
+pub(super) enum Beside {
     Nothing,
     /// The handle's and the reader's own seat.
     Own,
@@ -52,20 +54,25 @@ enum Beside {
 }
 
 /// What another handle does within the call: its name, how often, and a call.
-type Other = (&'static str, usize, fn(&Handle<Value>, Value));
+pub(super) type Other = (&'static str, usize, fn(&Handle<Value>, Value));
 
 #[cfg(yachtbanyan_stand_in)]
-const OTHERS: [Other; 4] = [
+const OTHERS: [Other; 5] = [
     ("replaces", 1, |it, value| drop(it.replace_at(1, value))),
     ("removes", 1, |it, _| drop(it.remove_at(1))),
     ("inserts", 1, |it, value| drop(it.try_insert(value))),
+    // never is each slot full meanwhile, if slot 1 is empty before
+    ("moves", 1, |it, value| {
+        drop(it.remove_at(0));
+        drop(it.replace_at(1, value));
+    }),
     ("looks", 8, |it, _| drop(it.get_at(1))),
 ];
 
-struct Scene {
-    table: Table<Value>,
-    handle: Handle<Value>,
-    reader: Reader<Value>,
+pub(super) struct Scene {
+    pub(super) table: Table<Value>,
+    pub(super) handle: Handle<Value>,
+    pub(super) reader: Reader<Value>,
     alive: Arc<AtomicUsize>,
 }
 
@@ -83,114 +90,38 @@ impl Scene {
         }
     }
 
-    fn value(&self) -> Value {
+    pub(super) fn value(&self) -> Value {
         Value::new(&self.alive)
     }
 }
 
-/// A call with a key.
-type Call = fn(&Scene, Key);
-
-const CALLS: &[(&str, Call)] = &[
-    ("Handle::get_at", |it, key| {
-        drop(it.handle.get_at(key.slot()))
-    }),
-    ("Handle::get", |it, key| drop(it.handle.get(key))),
-    ("Reader::get_at", |it, key| {
-        drop(it.reader.get_at(key.slot()))
-    }),
-    ("Reader::get", |it, key| drop(it.reader.get(key))),
-    ("Table::get_owned_at", |it, key| {
-        drop(it.table.get_owned_at(key.slot()))
-    }),
-    ("Table::get_owned", |it, key| drop(it.table.get_owned(key))),
-    ("Handle::insert", |it, _| drop(it.handle.insert(it.value()))),
-    ("Handle::try_insert", |it, _| {
-        drop(it.handle.try_insert(it.value()))
-    }),
-    ("Handle::insert_with", |it, _| {
-        let _ = it.handle.insert_with(|_| it.value());
-    }),
-    ("Table::insert", |it, _| drop(it.table.insert(it.value()))),
-    ("Handle::replace_at", |it, key| {
-        drop(it.handle.replace_at(key.slot(), it.value()))
-    }),
-    ("Table::replace_at", |it, key| {
-        drop(it.table.replace_at(key.slot(), it.value()))
-    }),
-    ("Handle::replace", |it, key| {
-        drop(it.handle.replace(key, it.value()))
-    }),
-    ("Table::replace", |it, key| {
-        drop(it.table.replace(key, it.value()))
-    }),
-    ("Handle::remove_at", |it, key| {
-        drop(it.handle.remove_at(key.slot()))
-    }),
-    ("Table::remove_at", |it, key| {
-        drop(it.table.remove_at(key.slot()))
-    }),
-    ("Handle::remove", |it, key| drop(it.handle.remove(key))),
-    ("Table::remove", |it, key| drop(it.table.remove(key))),
-    ("Guard::remove", |it, key| {
-        drop(it.handle.get(key).map(|it| it.remove()))
-    }),
-    ("Guard::remove of a reader", |it, key| {
-        drop(it.reader.get(key).map(|it| it.remove()))
-    }),
-    ("OwnedGuard::remove", |it, key| {
-        drop(it.table.get_owned(key).map(|it| it.remove()))
-    }),
-    ("Handle::contains", |it, key| {
-        assert!(it.handle.contains(0) || key.slot() != 0)
-    }),
-    ("Table::contains", |it, key| {
-        let _ = it.table.contains(key.slot());
-    }),
-    ("Handle::iter", |it, _| it.handle.iter().for_each(drop)),
-    ("Reader::iter", |it, _| {
-        drop(it.reader.iter().collect::<Vec<_>>())
-    }),
-    ("Handle::len", |it, _| {
-        assert!(it.handle.len() > 0 && !it.handle.is_empty())
-    }),
-    ("Table::handle", |it, _| {
-        drop((it.table.handle(), it.table.handle()))
-    }),
-    ("Table::reader", |it, _| {
-        drop((it.table.reader(), it.table.reader()))
-    }),
-];
-
 /// A call, and what is there before it, beside it and within it: what another handle does, after
 /// this number of steps.
 #[derive(Clone, Copy)]
-struct Case {
-    name: &'static str,
+pub(super) struct Case {
+    pub(super) name: &'static str,
     call: Call,
-    before: Before,
-    beside: Beside,
-    nth: usize,
-    other: Option<(Other, usize)>,
+    pub(super) before: Before,
+    pub(super) beside: Beside,
+    pub(super) nth: usize,
+    pub(super) other: Option<(Other, usize)>,
 }
 
-/// Makes a call within which another handle makes one. Returns whether the first one made as many
-/// steps.
+/// Makes a call within which another handle makes one. Returns its answer, and whether it made as
+/// many steps.
 #[cfg(yachtbanyan_stand_in)]
-fn make(scene: &Scene, key: Key, case: Case) -> bool {
+fn make(scene: &Scene, key: Key, case: Case) -> (Answer, bool) {
     let Some(((_, times, call), after)) = case.other else {
-        (case.call)(scene, key);
-        return true;
+        return ((case.call)(scene, key), true);
     };
     let (other, alive) = (scene.table.handle().unwrap(), scene.alive.clone());
     let run = move || call(&other, Value::new(&alive));
-    crate::access::turns::meet(after, times, run, || (case.call)(scene, key)).1
+    crate::access::turns::meet(after, times, run, || (case.call)(scene, key))
 }
 
 #[cfg(not(yachtbanyan_stand_in))]
-fn make(scene: &Scene, key: Key, case: Case) -> bool {
-    (case.call)(scene, key);
-    true
+fn make(scene: &Scene, key: Key, case: Case) -> (Answer, bool) {
+    ((case.call)(scene, key), true)
 }
 
 /// Makes a call, and checks what is left. Returns whether it made as many steps as the case has.
@@ -227,24 +158,43 @@ fn check(case: Case) -> bool {
     }
     let taken = std::iter::from_fn(|| scene.table.handle().ok());
     let handles: Vec<_> = taken.take_while(|_| beside == Beside::Handles).collect();
-    let is_made = make(&scene, key, case);
+    let (answer, is_made) = make(&scene, key, case);
     drop((held, owns, guards, handles));
+    check_answer(&scene, case, answer);
     check_scene(scene, case);
     is_made
 }
 
+impl Case {
+    fn what(&self) -> String {
+        let Case {
+            name,
+            before,
+            beside,
+            nth,
+            ..
+        } = self;
+        let other = self.other.map(|((other, ..), after)| (other, after));
+        format!("{name} by key {nth}, {before:?}, beside {beside:?}, within {other:?}")
+    }
+}
+
+/// Checks that a call may have this answer, and that a key which it returned finds its value.
+fn check_answer(scene: &Scene, case: Case, (answer, key): Answer) {
+    let moments = moments(&case);
+    let may_be: Vec<_> = moments.map(|it| answers(&case, it)).concat();
+    let what = case.what();
+    assert!(
+        may_be.contains(&answer),
+        "the answer of {what}: {answer}, and not {may_be:?}"
+    );
+    let is_there = key.is_none_or(|key| scene.table.get_owned(key).is_ok());
+    assert!(is_there || case.other.is_some(), "the key of {what}");
+}
+
 /// Checks what is left after a call.
 fn check_scene(scene: Scene, case: Case) {
-    let Case {
-        name,
-        before,
-        beside,
-        nth,
-        other,
-        ..
-    } = case;
-    let other = other.map(|((other, ..), after)| (other, after));
-    let what = format!("{name} by key {nth}, {before:?}, beside {beside:?}, within {other:?}");
+    let what = case.what();
     let alive = scene.alive.load(SeqCst);
     assert_eq!(alive as u32, scene.handle.len(), "values after {what}");
     // a value that each seat can hold
