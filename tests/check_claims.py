@@ -358,7 +358,7 @@ def kept_outputs(claims):
     """docs/use/CHECKING.md shows lines of kept outputs of fixcheck, and with another number fewer."""
     page = read("docs/use/CHECKING.md")
     for path, count in QUOTED.items():
-        claims.want(quoted_lines(page, read(path)) == count, f"docs/use/CHECKING.md has {quoted_lines(page, read(path))} lines of {path}, and not {count}")
+        claims.want(quoted_lines(page, read(path)) >= count, f"docs/use/CHECKING.md has {quoted_lines(page, read(path))} lines of {path}, and not {count}")
         claims.want(quoted_lines(page.replace("1 ", "3 "), read(path)) < count, f"docs/use/CHECKING.md with other numbers has as many lines of {path}")
 
 
