@@ -1,6 +1,6 @@
 //! After each call, also one that is refused: its answer is one that it may have at a moment of the
-//! call; each seat is free that no handle, reader or guard has; and each value that was made is at a
-//! slot or was dropped. Over the stand-in, another handle
+//! call; each seat is free that no handle, reader or guard has; and each value that was made is at
+//! a slot or was dropped. Over the stand-in, another handle
 //! also makes a call before each step in turn, at cold and at hot slots, so that each answer of the
 //! core comes.
 use super::answers::{answers, moments, Answer, Call, CALLS};
