@@ -1,7 +1,7 @@
 //! The steps of calls of the core's interface, over the stand-in: small programs of two or three
 //! threads, in every order of their steps. A file is used only while it is open, is closed once,
-//! and is the one that a key names; an answer that every slot is full is right at a moment of its call;
-//! and afterwards the words are those of an idle table.
+//! and is the one that a key names; an answer that every slot is full is right at a moment of its
+//! call; and afterwards the words are those of an idle table.
 use crate::access::core::{Core, Outcome, AGAIN, DONE, DROPPED, EMPTY, FULL, STALE};
 use crate::access::stand_in::*;
 use crate::access::turns::{changes, explore, marked, reads, watch, with_config, Job};
