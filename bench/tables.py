@@ -296,7 +296,7 @@ INLINE = (
     ("docs/use/LITMUS.md", r"`fixfiles` and `fixcheck` \(", MINUTES, lambda: minutes("fx_cli", "check_cli")),
     ("docs/inside/LIBRARY.md", r"crates below, in ", MINUTES, lambda: minutes("example_library")),
 )
-MARKED = re.compile(r"(<!-- bench/write-tables ([\w-]+) -->\n\n)(.*?)(\n\n<!-- end -->)", re.DOTALL)
+MARKED = re.compile(r"(<!-- bench/write-tables ([\w-]+) -->\n)(.*?)(\n<!-- end -->)", re.DOTALL)
 
 
 def pages():
