@@ -1,12 +1,20 @@
 /* The C table after each call, also one that is refused: its answer, by the rules of the header; an
  * error writes nothing and leaves the value with its caller, no call but a look-up takes a hold,
  * the slots have the values that they should have, a key that was written finds its value, and each
- * value is at a slot, held, or dropped once. */
+ * value is at a slot, held, or dropped once.
+ *
+ * Each call is made again over a core whose calls are wrapped (-Wl,--wrap=yacht_core_get_at,
+ * --wrap=yacht_core_get, --wrap=yacht_core_replace_at, --wrap=yacht_core_insert,
+ * --wrap=yacht_core_remove, --wrap=yacht_core_replace), so that what only a race reaches happens
+ * each time: a call is the last to use two other values, and drops both; another handle looks a
+ * slot up before the call that installed its value returns; the core has changed slots during a
+ * round, or look-ups were counted at the slot of a key. */
 #include "refusing.h"
 #include <stdint.h>
 #include <stdlib.h>
 #include <string.h>
 #include <yachtbanyan.h>
+#include "core.h"
 
 enum { FAR = 2 /* a slot that the table hasn't */, KEYS = 4, STATES = 3, USES = 3 };
 /* the value of slot 1 before the call: none, one, or one that another handle holds */
@@ -41,6 +49,70 @@ typedef struct call {
     void *value, *found;
 } call;
 
+static yacht_table *table;
+static yacht_handle *a, *b, *reader, *last;
+/* what is at each slot, the key of slot 0, and those of slot 1 now and before */
+static void *at[2];
+static yacht_key first, right, stale;
+/* the call over the wrapped core, or NULL; and the rounds and tries that this has to refuse */
+static call *raced;
+static int refusals;
+
+int64_t __real_yacht_core_get_at(yacht_core *, uint32_t, yacht_outcome *);
+int64_t __real_yacht_core_get(yacht_core *, uint32_t, uint64_t, yacht_outcome *);
+int64_t __real_yacht_core_replace_at(yacht_core *, uint32_t, uint64_t, yacht_outcome *);
+int64_t __real_yacht_core_insert(yacht_core *, uint64_t, uint64_t *);
+int64_t __real_yacht_core_remove(yacht_core *, uint32_t, uint64_t, yacht_outcome *);
+int64_t __real_yacht_core_replace(yacht_core *, uint32_t, uint64_t, uint64_t, yacht_outcome *);
+
+/* makes the call the last to use two other values; returns its answer */
+static int64_t hand_over(int64_t answer, yacht_outcome *out) {
+    if (raced && !out->freed) out->freed = (uint64_t)(uintptr_t)new_value();
+    if (raced && !out->released) out->released = (uint64_t)(uintptr_t)new_value();
+    return answer;
+}
+
+static int is_refused(void) { return raced && refusals && refusals--; }
+
+/* looks from another handle at the value that the call has installed; returns its answer */
+static int64_t looked_up(int64_t answer, uint32_t slot) {
+    call *it = raced;
+    void *found;
+    raced = NULL;
+    if (it && answer >= 0)
+        WANT(yacht_get_at(last, slot, &found) == YACHT_DONE && found == it->value && yacht_release(last) == YACHT_DONE);
+    raced = it;
+    return answer;
+}
+
+int64_t __wrap_yacht_core_get_at(yacht_core *worker, uint32_t slot, yacht_outcome *out) {
+    return hand_over(__real_yacht_core_get_at(worker, slot, out), out);
+}
+
+int64_t __wrap_yacht_core_get(yacht_core *worker, uint32_t slot, uint64_t number, yacht_outcome *out) {
+    return hand_over(__real_yacht_core_get(worker, slot, number, out), out);
+}
+
+int64_t __wrap_yacht_core_replace_at(yacht_core *worker, uint32_t slot, uint64_t tag, yacht_outcome *out) {
+    return looked_up(__real_yacht_core_replace_at(worker, slot, tag, out), slot);
+}
+
+int64_t __wrap_yacht_core_insert(yacht_core *worker, uint64_t tag, uint64_t *number) {
+    if (is_refused()) return YACHT_AGAIN;
+    int64_t answer = __real_yacht_core_insert(worker, tag, number);
+    return looked_up(answer, (uint32_t)answer);
+}
+
+int64_t __wrap_yacht_core_remove(yacht_core *worker, uint32_t slot, uint64_t number, yacht_outcome *out) {
+    if (is_refused()) return *out = (yacht_outcome){0}, hand_over(YACHT_AGAIN, out);
+    return hand_over(__real_yacht_core_remove(worker, slot, number, out), out);
+}
+
+int64_t __wrap_yacht_core_replace(yacht_core *worker, uint32_t slot, uint64_t number, uint64_t tag, yacht_outcome *out) {
+    if (is_refused()) return *out = (yacht_outcome){0}, hand_over(YACHT_AGAIN, out);
+    return hand_over(looked_up(__real_yacht_core_replace(worker, slot, number, tag, out), slot), out);
+}
+
 static void *make(yacht_key key, void *with) {
     call *it = with;
     it->made = key;
@@ -69,12 +141,13 @@ static int answer_of(call *it, int which) {
 }
 
 /* the answer by the header; key 0 is that of slot 1 */
-static int expected(int which, int nth, uint32_t slot, int state, int use) {
+static int expected(int which, int nth, uint32_t slot, int state, int use, int refused) {
     int is_keyed = which == GET || which == REMOVE || which == REPLACE, looks = which == GET_AT || which == GET;
     int is_empty = slot == 1 && state == EMPTY, inserts = RELEASE < which && which <= INSERT_WITH;
     if (which == KEY_OF || which == RELEASE) return use == BUSY ? YACHT_DONE : YACHT_IDLE;
     if (use == BUSY) return YACHT_BUSY;
     if (use == READER && (inserts || which == REMOVE || which == REPLACE)) return YACHT_READER;
+    if (refused && (which == TRY_INSERT || which == TRY_INSERT_KEY)) return YACHT_AGAIN;
     if (inserts) return state == EMPTY ? 1 : YACHT_FULL;
     if (slot == FAR) return YACHT_NO_SLOT;
     if (use == READER && !looks) return YACHT_READER;
@@ -84,12 +157,6 @@ static int expected(int which, int nth, uint32_t slot, int state, int use) {
 }
 
 static int same(yacht_key one, yacht_key two) { return one.number == two.number && one.slot == two.slot; }
-
-static yacht_table *table;
-static yacht_handle *a, *b, *reader, *last;
-/* what is at each slot, the key of slot 0, and those of slot 1 now and before */
-static void *at[2];
-static yacht_key first, right, stale;
 
 static void begin(int state) {
     void *value;
@@ -127,14 +194,17 @@ static void check_slots(const call *it, int which, int answer) {
     WANT(which == INSERT_WITH ? same(it->made, it->written) : which != KEY_OF || same(it->written, first));
 }
 
-static void balance(int which, int nth, int state, int use) {
+static void balance(int which, int nth, int state, int use, int is_raced) {
     void *value;
+    int before;
     begin(state);
     const yacht_key keys[KEYS] = {right, stale, {0, 0}, {1, FAR}};
     call it = {.handle = use == READER ? reader : a, .key = keys[nth], .written = untouched, .found = (void *)&other};
     if (use == BUSY) WANT(yacht_get_at(a, 0, &value) == YACHT_DONE);
+    raced = is_raced ? &it : NULL, before = refusals = is_raced && use == IDLE ? 2 : 0;
     int answer = answer_of(&it, which);
-    WANT(answer == expected(which, nth, it.key.slot, state, use));
+    raced = NULL;
+    WANT(answer == expected(which, nth, it.key.slot, state, use, before));
     check_call(&it, which, answer);
     /* the handle holds a value if it did before, or if this call found one */
     int holds = (answer >= 0 && which <= GET) || (use == BUSY && which != RELEASE);
@@ -150,6 +220,7 @@ int main(void) {
     for (int which = 0; which < CALLS; which++)
         for (int nth = 0; nth < KEYS; nth++)
             for (int state = 0; state < STATES; state++)
-                for (int use = 0; use < USES; use++) balance(which, nth, state, use);
+                for (int use = 0; use < USES; use++)
+                    for (int is_raced = 0; is_raced < 2; is_raced++) balance(which, nth, state, use, is_raced);
     return report("balance");
 }

@@ -135,6 +135,15 @@ static void *make_within(yacht_key key, void *with) {
     return &dropped[3];
 }
 
+/* leaves the handle that makes a value holding another one */
+static void *make_and_hold(yacht_key key, void *own) {
+    void *value;
+    uint32_t slot = 0;
+    while (slot < 4 && yacht_get_at(own, slot, &value) != YACHT_DONE) slot++;
+    WANT(slot < 4 && slot != key.slot);
+    return &dropped[5];
+}
+
 static void made_within(void) {
     yacht_table *table;
     yacht_key key;
@@ -145,9 +154,10 @@ static void made_within(void) {
     WANT(yacht_replace_at(own, 3, &dropped[2]) == YACHT_DONE);
     WANT(yacht_insert_with(own, make_within, own, &key) == (int)key.slot && dropped[2] == 1);
     WANT(yacht_get(own, key, &value) == YACHT_DONE && value == &dropped[3] && yacht_release(own) == YACHT_DONE);
+    WANT(yacht_insert_with(own, make_and_hold, own, &key) == YACHT_BUSY && dropped[5] == 1 && yacht_release(own) == YACHT_DONE);
     WANT(yacht_insert(own, &dropped[4]) >= 0);
     yacht_free(table);
-    WANT(!dropped[1] && dropped[3] == 1 && dropped[4] == 1);
+    WANT(!dropped[1] && dropped[3] == 1 && dropped[4] == 1 && dropped[5] == 1);
 }
 
 static void bits(void) {
