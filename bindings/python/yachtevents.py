@@ -32,6 +32,14 @@ class BadEvent(ValueError):
         self.fault = fault
 
 
+def numbered(log: Lines, events: Sequence[Event]) -> list[int]:
+    """Returns the calls of events, and then those of marks that none of these made, each at its number for the judge. The first one is none."""
+    calls = [it.call for it in events if it.word == "call"]
+    answers = [log.answers.get((it.call, it.member)) for it in events if it.word == "done"]
+    marks = [it.found for it in answers if it and not isinstance(it.found, str)]
+    return [0, *dict.fromkeys([*calls, *(by for by, _, _ in marks)])]
+
+
 class Events:
     """The events, the requests of their chains, the entries of their updates, and the bytes that their reads returned. Calls are numbered
     from 1 in the order of their events. Raises BadEvent if an event says what no call can."""
@@ -39,8 +47,7 @@ class Events:
     def __init__(self, log: Lines, events: Sequence[Event]) -> None:
         self._log = log
         self.events, self.requests, self.entries, self.bytes = bytearray(), bytearray(), bytearray(), bytearray()
-        calls = (it.call for it in events if it.word == "call")
-        self._numbers = {call: number for number, call in enumerate(calls, 1)}
+        self._numbers = {call: number for number, call in enumerate(numbered(log, events))}
         for event in events:
             try:
                 getattr(self, f"_{event.word}")(event)

@@ -415,7 +415,7 @@ def explain_events(log: yachtlog.Log, line: int, events: Sequence[yachtlog.Event
 
     Raises what `judge_events` raises but for limits, and ValueError if the line has no event."""
     passed = _Passed(log, events)
-    those = [Steps(passed.events, passed.reason(at)).all for at, it in enumerate(passed.events) if it.line == line]
+    those = [Steps(log, passed.events, passed.reason(at)).all for at, it in enumerate(passed.events) if it.line == line]
     if not those:
         raise ValueError(f"line {line} has no event")
     return next(filter(None, those), ())

@@ -7,10 +7,11 @@ from collections.abc import Sequence
 from ctypes import c_uint8, c_uint32, c_uint64
 from typing import TYPE_CHECKING, NamedTuple
 
+from yachtevents import numbered
 from yachtlines import NO_FILE, Mark
 
 if TYPE_CHECKING:
-    from yachtlines import Event
+    from yachtlines import Event, Lines
 
 # the rules and the kinds of points, in the order of their numbers from 1
 RULES = ["events", "begins", "ends", "calls", "installs", "places", "follows", "finds", "closes", "settles", "empties", "precedes", "displaces",
@@ -88,11 +89,11 @@ class _Reason(ctypes.Structure):
 
 
 class Steps:
-    """Steps, by the events of a log, and by the numbers of its calls in their order: `all` has what the structs say."""
+    """Steps, by the events of a log, and by the numbers of its calls: `all` has what the structs say."""
 
-    def __init__(self, events: Sequence[Event], steps: Sequence[_Step]) -> None:
+    def __init__(self, log: Lines, events: Sequence[Event], steps: Sequence[_Step]) -> None:
         self._events = events
-        self._calls = [0, *(it.call for it in events if it.word == "call")]
+        self._calls = numbered(log, events)
         self.all = tuple(map(self._step, steps))
 
     def _point(self, it: _Point) -> Point:

@@ -69,6 +69,14 @@ want(explain_events(stale, 8) == () and stale.reason(8) == [], "a beginning that
 raises(ValueError, "line 3 has no event", lambda: explain_events(stale, 3))
 early = log(*opened, "call 3 look 0", "call 4 close 0", "done 4.1 0", "done 3.1 0 2.1.0", "closed 2.1.0 a", "free 3")
 want(early.reason(11) == ["look 3 held 2.1.0 from line 10 on, and it was closed by line 11"], f"the reason of an early close is {early.reason(11)}")
+# a file whose call isn't in the log keeps its mark, and isn't told to be installed
+foreign = log("call 2 look 0", "done 2.1 0 7.1.0")
+want(foreign.reason(6) == ["look 2 found 7.1.0 at slot 0; but no call of the log installed 7.1.0"], f"the reason of a foreign file is {foreign.reason(6)}")
+want(reasons.complaint(foreign.source, reasons.facts_of(explain_events(foreign, 6))) == "", "the reason of a foreign file doesn't follow")
+both = log("call 2 look 0", "call 3 look 0", "done 2.1 0 7.1.0", "done 3.1 0 8.1.0")
+structs = yachtevents.Events(both, both.events).events
+marks = [yachtevents.EVENT.unpack_from(structs, at * yachtevents.EVENT.size)[7:10] for at in (2, 3)]
+want(marks == [(3, 1, 0), (4, 1, 0)], f"two foreign files have the marks {marks}")
 twice = log(*opened, "call 3 close 0", "done 3.1 0", "closed 2.1.0 a", "tag 2.1.0", "tag 2.1.0")
 want(twice.reason(11) == ["2.1.0 was closed by line 10, and again by line 11"], f"the reason of a second tag is {twice.reason(11)}")
 want(reasons.complaint(twice.source, reasons.facts_of(explain_events(twice, 11, list(twice.readings())[1])), True) == "", "the reason of a tag is wrong")

@@ -70,7 +70,7 @@ wrong_module() {
 in_python() {
     want 'the judge from Python is wrong' judges_rows judge_rows 166
     want 'the judge from Python is wrong over the stand-in' over_the_stand_in_of_rows
-    want 'the judge of logs from Python is wrong' judges_rows log_rows 49
+    want 'the judge of logs from Python is wrong' judges_rows log_rows 52
     want 'the verified judge of yachtlog is wrong' proved_logs
     want 'a missing library is not explained' without_library "$room" "$room/libyachtjudge.so.6 was not found."
     echo > "$room/libyachtjudge.so.6"
@@ -136,7 +136,10 @@ yachtreason s/if it.premises and it.rule/if it.rule/
 yachtlog s/        return \[\]$/        return ["none"]/
 yachtlog s/len(sentences) - SENTENCES, 0/len(sentences) - SENTENCES, 1/
 yachtlog s/left = 0 if is_full/left = 1 if is_full/
-yachtevents s/enumerate(calls, 1)/enumerate(sorted(calls), 1)/
+yachtevents s/calls = \[it.call for it in events if it.word == "call"\]/calls = sorted(it.call for it in events if it.word == "call")/
+yachtevents s/return \[0, .*$/return [0, *calls]/
+yachtreason s/ and not self._is_strange(it))$/)/
+yachtreason s/step.rule != "misses" and self/False and self/
 yachtevents s/"hardlink": 8/"hardlink": 4/
 yachtevents s/flags | FIXED_FILE/flags/
 yachtevents s/REQUEST_OPEN_MISSING if file < 0 else //
