@@ -148,6 +148,7 @@ class Verdicts(Counted):
             ["--memory", "0", SCRIPT, TEXT], ["--memory=1048577", SCRIPT, TEXT], ["--memory=1MiB", SCRIPT, TEXT],
             ["--history", SCRIPT, "--all"], ["--all"], ["--all=x", SCRIPT],
             ["--all=4294967296", SCRIPT], ["--all=-1", SCRIPT], ["--all", "--keep-going", SCRIPT], ["--keep-going", "--may", SCRIPT, "1.1.1"],
+            ["--history", "--may", SCRIPT, "1.1.1"],
         ]:
             status, written, message = self.run(words)
             self.want((status, written, message[:7]) == (2, b"", b"error: "), f"{words} ended with status {status} and said {message}")

@@ -87,9 +87,9 @@ fn memory<'a>(alloc: Global) -> Arg<'a> {
     number_option(alloc, "memory", "MIB", MOST_MEMORY, help).default_value("1024")
 }
 
-fn history<'a>(alloc: Global) -> Arg<'a> {
+fn history<'a>(alloc: Global) -> Result<Arg<'a>, AllocError> {
     let help = "Prints instead of the orders a whole legal history that gives the text";
-    flag(alloc, "history", help)
+    flag(alloc, "history", help).conflicts_with("may")
 }
 
 fn keep_going<'a>(alloc: Global) -> Result<Arg<'a>, AllocError> {
@@ -135,8 +135,8 @@ fn command<'a>(alloc: Global) -> Result<Command<'a>, AllocError> {
         .about(ABOUT)
         .after_help(STATUSES)
         .arg(states(alloc))?
-        .arg(memory(alloc))?
-        .arg(history(alloc))?;
+        .arg(memory(alloc))?;
+    let command = with(command, history(alloc))?;
     let command = with(command, keep_going(alloc))?.arg(may(alloc))?;
     let command = with(command, all(alloc))?.arg(script(alloc))?;
     with(command, text(alloc))
