@@ -132,6 +132,9 @@ class Examples(Counted):
         # who names a script is told how a script is given
         tip = f"tip: the script is read from standard input, as in 'fixfiles < {OPEN_READ_CLOSE}'\n\nUsage: fixfiles [OPTIONS] < SCRIPT"
         self.refuse(OPEN_READ_CLOSE, hint=tip)
+        # an option that there isn't is no script
+        said = self.run("< .", "--version")[2]
+        self.want("tip:" not in said, f"the argument --version is refused with {said}")
         wanted = 0, text_beside(OPEN_READ_CLOSE), ""
         for workers in range(1, 17):
             for table in TABLES:

@@ -82,15 +82,19 @@ fn table_option<'a>(alloc: Global) -> Arg<'a> {
         .default_value("words")
 }
 
-fn command<'a>(alloc: Global) -> Result<Command<'a>, AllocError> {
+// Returns the command line, whose only arguments are options.
+fn options<'a>(alloc: Global) -> Result<Command<'a>, AllocError> {
     Command::new(alloc, "fixfiles")
         .about(ABOUT)
         .after_help(SCRIPTS_AND_STATUSES)
         .override_usage("fixfiles [OPTIONS] < SCRIPT")
         .arg(workers_option(alloc))?
-        .arg(table_option(alloc))?
-        // no script is an argument; one that is given is refused with a tip
-        .arg(Arg::new(alloc, "script").hide(true))
+        .arg(table_option(alloc))
+}
+
+// Returns the command line with a script as an argument, which is refused with a tip.
+fn with_script<'a>(alloc: Global) -> Result<Command<'a>, AllocError> {
+    options(alloc)?.arg(Arg::new(alloc, "script").hide(true))
 }
 
 // Returns the error of a script that is given as an argument.
@@ -98,7 +102,25 @@ fn script_given(alloc: Global, path: &str) -> Result<Error, AllocError> {
     let message = format!(in alloc;
         "unexpected argument '{path}' found\n\n  tip: the script is read from standard input, as in 'fixfiles < {path}'"
     )?;
-    command(alloc)?.error(ErrorKind::UnknownArgument, message.as_str())
+    options(alloc)?.error(ErrorKind::UnknownArgument, message.as_str())
+}
+
+// Checks whether the words have an argument that there isn't.
+fn is_unknown(found: &Result<ArgMatches<'_>, Error>) -> bool {
+    match found {
+        Err(error) => error.kind() == ErrorKind::UnknownArgument,
+        Ok(_) => false,
+    }
+}
+
+// Returns the arguments of a command line. Where a script may follow, clap advises to pass an
+// unknown option as one: that is left out.
+fn matches_of<'a, S: AsStr>(alloc: Global, words: &'a [S]) -> Result<ArgMatches<'a>, Error> {
+    let found = with_script(alloc)?.try_get_matches_from(words);
+    if is_unknown(&found) {
+        return options(alloc)?.try_get_matches_from(words);
+    }
+    found
 }
 
 // Returns the number of workers, which has a default and was checked to be in its range.
@@ -119,7 +141,7 @@ fn workers_of(matches: &ArgMatches<'_>) -> u32
 pub fn settings_in<S: AsStr>(alloc: Global, words: &[S]) -> Result<Settings, Error>
     ensures { IfOk result (λ asked. (1 ≤ asked.workers) × (asked.workers ≤ MAX_PASSES)) }
 {
-    let matches = command(alloc)?.try_get_matches_from(words)?;
+    let matches = matches_of(alloc, words)?;
     if let Some(path) = matches.get_str("script") {
         return Err(script_given(alloc, path)?);
     }
