@@ -14,7 +14,7 @@ const PLAN: Plan = Plan {
     rounds: 4,
     calls: 50,
     slots: 3,
-    silence: Duration::from_millis(300),
+    silence: Duration::from_secs(600),
 };
 /// The call that is wrong.
 const WRONG: usize = 40;
@@ -126,10 +126,12 @@ fn a_table_that_panics_leaves_a_log() {
 
 #[test]
 fn a_call_that_never_returns_leaves_a_log() {
-    let log = record(wrong(PLAN.threads, never_returns), PLAN);
-    ends_at_the_wrong_call(&log, Cut::Silent(PLAN.silence));
+    // longer than a busy machine stops all threads
+    let silence = Duration::from_secs(5);
+    let log = record(wrong(PLAN.threads, never_returns), Plan { silence, ..PLAN });
+    ends_at_the_wrong_call(&log, Cut::Silent(silence));
     let why = log.cut().unwrap().to_string();
-    assert_eq!(why, "no call began or returned for 300ms");
+    assert_eq!(why, "no call began or returned for 5s");
 }
 
 #[test]
