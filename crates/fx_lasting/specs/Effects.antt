@@ -1,7 +1,7 @@
 -- Each kind of step: its effect on the pass that makes it.
 use Rattle.std.specs.Prelude.{◌≡◌, ◌≢◌, ℕ, ◌+◌, ◌-◌, ◌*◌, ◌/◌, ◌<◌, ◌==◌, ◌⊎◌, nat_lt}
 use Rattle.std.specs.Prelude.{if◌then◌else◌, min, ◌≤◌, Bool, true, false, List, [], slice_set, ◌∷◌}
-use Rattle.std.specs.Prelude.{◌++◌, map, Option, Some, None}
+use Rattle.std.specs.Prelude.{◌++◌, map, Option, Some, None, IsSome}
 use mathlib.Core.Option.{some}
 use lib.ListN.{get_elem?}
 use Rattle.atomic_table.specs.Table.{Step, rest}
@@ -157,6 +157,12 @@ pub record HasGap (k : Start) (h : List Event) : Type 0 where
   pub low : (range_at_start k).0 ≤ slot
   pub high : slot < (range_at_start k).0 + (range_at_start k).1
   pub empty : (state_after_all k h).at slot ≡ None
+
+-- each slot of the group has a file
+abbrev pub IsGroupFull : Start → ℕ → List Event → Type 0
+IsGroupFull k group h = let range = range_at_start k in (slot : ℕ) → range.0 ≤ slot
+    → slot < range.0 + range.1 → group_of range slot ≡ group
+    → IsSome ((state_after_all k h).at slot)
 
 -- Glance: an empty slot is looked up at once. Of a hot one a listed pass is to announce the node;
 -- what another one names is to be taken
@@ -478,9 +484,11 @@ pub record Decides (st : At) (m : Sat) (found : ℕ) (m' : Sat) : Type 0 where
   pub met : (HasQuestionOf found (pass_in m).number → ⊥) → (pass_in m).watch.asks ≡ true
       → MeetsOne m m'
 
--- Peek: the pass learns nothing
+-- Peek, of a group's word: where it counts all slots of the group, they are full
 pub record Peeks (st : At) (m : Sat) (found : ℕ) (m' : Sat) : Type 0 where
   pub goes : Goes m [] m.0.work m.0.glance m'
+  pub full : CountsAll (range_at_start m.0.start).1 (group_at st.word) found
+      → IsGroupFull m.0.start (group_at st.word) (pass_in m').front
 
 -- See, of a slot's word: the pass has seen what is at the slot, and watches it. If it watched the
 -- slot before, and the word has changed, another pass was there

@@ -338,9 +338,10 @@ DecidesKeep tells = (k : Start) (slots id i : ℕ) (m : Sat) (x : Log) → HasPa
     → i ≡ question_place
     → Allows (Agrees k) slots id m i (λ word. word) (tells (step slots i 0 0 none) m)
 
--- a pass loads a word, and learns nothing
+-- a pass that asks nothing loads the word of a group
 abbrev pub PeeksKeep : Kind → Type 0
-PeeksKeep tells = (k : Start) (slots id i : ℕ) (m : Sat) (x : Log) → HasPass k m x
+PeeksKeep tells = (k : Start) (slots id i group : ℕ) (m : Sat) (x : Log) → HasPass k m x
+    → IsGroup k group → i ≡ group_place group
     → Allows (Agrees k) slots id m i (λ word. word) (tells (step slots i 0 0 none) m)
 
 -- a pass swaps the word of the file that it places into a slot. The word begins with the takes that

@@ -1,4 +1,5 @@
 -- The allocation range: counts, questions and searches.
 pub mod Groups
 pub mod Questions
+pub mod Scans
 pub mod Tries

@@ -63,6 +63,27 @@ pub record HadGap (k : Start) (before after : List Event) : Type 0 where
 abbrev pub FellShort : Start → LastingPass → LastingPass → Type 0
 FellShort k p p' = HadGap k (view_of p).front (view_of p').front ⊎ HasMet k p p'
 
+-- the slot had a file at a moment of the call, and none at a later one: since the pass of the call
+-- did nothing, another one emptied the slot
+pub record WasEmptied (k : Start) (slot : ℕ) (before after : List Event) : Type 0 where
+  pub between : List Event
+  pub full : WasSo k slot (FitsSight true) before between
+  pub empty : WasSo k slot (FitsSight false) between after
+
+-- during the call another pass emptied a slot of the range, or was met in the middle of a call
+abbrev pub SawEmptying : Start → LastingPass → LastingPass → Type 0
+SawEmptying k p p' = ((slot : ℕ) × IsInRange k slot
+    × WasEmptied k slot (view_of p).front (view_of p').front) ⊎ HasMet k p p'
+
+-- a slot of the range was empty at a moment of the call, during which another pass was there
+abbrev pub LostSlot : Start → LastingPass → LastingPass → Type 0
+LostSlot k p p' = (slot : ℕ) × IsInRange k slot
+    × WasSo k slot (FitsSight false) (view_of p).front (view_of p').front × WasOvertaken k slot p p'
+
+-- why a try over the range ends without a slot, though the range isn't full
+abbrev pub GivesUp : Start → LastingPass → LastingPass → Type 0
+GivesUp k p p' = SawEmptying k p p' ⊎ LostSlot k p p'
+
 -- every slot of the range had a file at a step of the call, or nothing was done
 abbrev pub AnswersFull : Start → LastingPass → Bool → LastingPass → Type 0
 AnswersFull k p true p' =
@@ -75,15 +96,15 @@ abbrev pub FallsShort : Start → Sat → Sat → Type 0
 FallsShort k m m' = HadGap k (pass_in m).front (pass_in m').front ⊎ MeetsOne m m'
 
 -- why a slot that was seen to be empty doesn't get the file: it has one, or another pass was there
-abbrev pub FailsToFill : Start → ℕ → Sat → Sat → Type 0
-FailsToFill k slot m m' =
+abbrev pub FailsToFill : Start → Sat → Sat → ℕ → Type 0
+FailsToFill k m m' slot =
     WasSo k slot (FitsSight true) (pass_in m).front (pass_in m').front ⊎ WasOvertakenIn slot m m'
 
 -- a try over the range that found no slot, and not that all are full
 abbrev pub GivesUpFor : Start → LastingPass → TriedPut → LastingPass → Type 0
 GivesUpFor k p (At slot) p' = Unit {0}
 GivesUpFor k p (AllFull back) p' = Unit {0}
-GivesUpFor k p (Again back) p' = FellShort k p p'
+GivesUpFor k p (Again back) p' = GivesUp k p p'
 
 -- a pass that looked for a slot without a file
 abbrev pub LooksFor : Start → (most : ℕ) → Sat → Option ℕ → Sat → Type 0
@@ -92,9 +113,11 @@ LooksFor k most m (Some slot) m' = IsInRange k slot
     × Does m [] m.0.work most m'
 LooksFor k most m None m' = Does m [] m.0.work most m'
 
--- a slot of the range was empty at a moment of the call; or all had a file; or neither was found
+-- a slot of the range was empty at a moment of the call; or all had a file; or neither was found,
+-- and nothing was done
 abbrev pub HasSearched : Start → LastingPass → FoundSlot → LastingPass → Type 0
 HasSearched k p (found.At slot) p' =
     IsInRange k slot × PutsNothing k (view_of p) slot false (view_of p')
 HasSearched k p found.Full p' = AnswersFull k p true p'
-HasSearched k p found.Again p' = AnswersFull k p false p'
+HasSearched k p found.Again p' =
+    Adds (opening_of k) (view_of p) [] DoesNothing no_use (view_of p') × SawEmptying k p p'
