@@ -4,3 +4,5 @@ pub mod QuestionSteps
 pub mod Questions
 pub mod Trying
 pub mod GapSearches
+pub mod Scanning
+pub mod Walks

@@ -52,7 +52,7 @@ pub enum FoundSlot {
     At(u32),
     /// Every slot of the range had a file at one moment of the call.
     Full,
-    /// Neither was found: at a moment of the call a slot was empty, or another pass was in the
+    /// Neither was found: another pass emptied a slot of the range during the call, or was in the
     /// middle of a call that changes the range.
     Again,
 }

@@ -237,7 +237,7 @@ impl Play<Option<OpenFile>, View> for Exchanging {
     ghost then = { Exchanges };
 }
 
-/// Peek: a pass reads a word, and learns nothing.
+/// Peek: a pass reads the word of a group, and learns whether the group is full.
 pub struct Peeking;
 
 impl Play<Option<OpenFile>, View> for Peeking {

@@ -246,7 +246,7 @@ pub fn decide_keeps_rule()
     ensures { DecidesKeep ⟦<Deciding as Play<Option<OpenFile>, View>>⟧.then }
 {}
 
-/// A pass that loads a word and learns nothing keeps the rule.
+/// A pass that loads the word of a group keeps the rule. A group whose slots it counts all is full.
 pub fn peek_keeps_rule()
     ensures { PeeksKeep ⟦<Peeking as Play<Option<OpenFile>, View>>⟧.then }
 {}

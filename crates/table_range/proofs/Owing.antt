@@ -48,11 +48,15 @@ module _ {V L : Type 0} (logs : V → List L) (change : V → Change) (views : L
       settled = let a = (ok.groups g its).counts in let b = owing_few g in let c = few_slots range.1 g in
           let d = full_few at (group_start range g) (group_len range.1 g) in (omega (arith, a, b, c, d, few, all), omega (arith, a, b, c, d, few, all))
 
+      -- they are full
+      pub each_full : (s : ℕ) → range.0 ≤ s → s < range.0 + range.1 → group_of range s ≡ g → IsSome (at s)
+      each_full s low high same = let z = in_group range s g low high same in full_all at (group_start range g) (group_len range.1 g) settled.1 s z.0 z.1
+
       -- so one group more is full
       pub more_full : AreFull change at range views g → AreFull change at range views (g + 1)
       more_full o = record {
         full = λ s low high l. dite (ℕ_discrete (group_of range s) g)
-            (λ same. let z = in_group range s g low high same in full_all at (group_start range g) (group_len range.1 g) settled.1 s z.0 z.1)
+            (λ same. each_full s low high same)
             (λ other. o.full s low high (omega (arith, l, other)));
         calm = λ j u m there is. let a = o.calm j u m there is in dite (ℕ_discrete m g)
             (λ same. let b = sum_at (λ u. owing g (change u)) views j u there in let c = ap (owing g) is in

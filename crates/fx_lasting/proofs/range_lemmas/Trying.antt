@@ -3,7 +3,7 @@ use Rattle.fx_lasting.proofs.Words.{◌≡◌, ℕ, ◌+◌, ◌*◌, ◌<◌, �
 use Rattle.fx_lasting.proofs.Words.{Allocate, Sat, Work, Glance, Change, Placing, Idle, Outside, Inside, Runs, Goes, Exchanges, slot_of, Stepped}
 use Rattle.fx_lasting.proofs.Words.{LastingTable, IsInRange, List, Action, Start, group_of, range_at_start, node_of_number, ◌▷▷◌, ◌-◌, IsAtWork}
 use Rattle.fx_lasting.proofs.Words.{NamesANode, as_swapped, pass_in, name_in, nodes_of, get_elem?, some, label_of, as_written}
-use Rattle.fx_lasting.proofs.Words.{Option, None, IfSome, IsPlacing, HasAllocated, StillPlaces, group_steps, most_carried}
+use Rattle.fx_lasting.proofs.Words.{Option, None, IfSome, IsInStock, IsPlacing, HasAllocated, StillPlaces, group_steps, most_carried}
 use Rattle.table_range.proofs.GroupSlots.{by_size}
 use Rattle.fx_lasting.proofs.Running.{runs_one, runs_goes, runs_within, turns_then, does_then, swapped_then, at_swapped, still_at_work}
 
@@ -103,10 +103,19 @@ pub allocated_within : (m m' : Sat) (n slot named : ℕ) (file : Closed) {a b : 
     → HasAllocated n file slot named b m m'
 allocated_within m m' n slot named file few one = (one.0, one.1, λ e at. let z = one.2 e at in (z.0, z.1, runs_within few z.2))
 
-pub found_then : {m m' : Sat} (m'' : Sat) {n lost : ℕ} (b : ℕ) (file : Closed) (found : Option (ℕ × ℕ)) → StillPlaces n lost file 3 m m'
-    → IfSome found (λ (slot, named). HasAllocated n file slot named b m' m'') → IfSome found (λ (slot, named). HasAllocated n file slot named (b + 3) m m'')
-found_then {m} m'' {n} b file (Some (slot, named)) one two = allocated_within m m'' n slot named file (omega arith) (allocated_then named one two)
-found_then m'' b file None one two = tt
+pub found_then : {m m' : Sat} (m'' : Sat) {n lost a : ℕ} (b most : ℕ) (file : Closed) (found : Option (ℕ × ℕ)) → a + b ≤ most → StillPlaces n lost file a m m'
+    → IfSome found (λ (slot, named). HasAllocated n file slot named b m' m'') → IfSome found (λ (slot, named). HasAllocated n file slot named most m m'')
+found_then {m} m'' {n} b most file (Some (slot, named)) few one two = allocated_within m m'' n slot named file few (allocated_then named one two)
+found_then m'' b most file None few one two = tt
+
+-- the pass is still to install the file
+pub placing_still : {m m' : Sat} {n lost most : ℕ} {file : Closed} → IsPlacing n lost file m → StillPlaces n lost file most m m' → IsPlacing n lost file m'
+placing_still {n = n} p still = record {
+  work = still.0.work;
+  few_lost = p.few_lost;
+  place = still.1 ∙ p.place;
+  stocked = subst (λ (l : List ℕ). IsInStock l n) (sym still.0.stock) p.stocked;
+}
 
 -- a pass that goes on with another node in its stock
 pub swapped_does : {m m' m'' : Sat} {xs ys : List Action} {w w' : Work} {n n' : ℕ} (entry node : ℕ) → Runs m xs w m.0.glance m.0.change n m'

@@ -137,7 +137,7 @@ short_by k u p p' before few short = ⊎_elim
 pub was_lost : (k : Start) (slot : ℕ) (p p' : LastingPass) (m₁ m₂ m₃ : Sat) {xs : List Action} {w : Work} {g : Glance} {c : Change} {n : ℕ}
     → p.seat.me.0.start ≡ k → Runs p.seat.me xs w g c n m₂ → part_of_pass (view_of p).number (view_of p').front ≡ part_of_pass (view_of p).number (view_of p).front
     → IsSeenBy (pass_in m₁).front (pass_in m₂).front → IsSeenBy (pass_in m₃).front (view_of p').front → (pass_in m₃).watch.met ≤ meetings p'
-    → WasSo k slot (FitsSight false) (view_of p).front (pass_in m₁).front → FailsToFill k slot m₂ m₃ → WasOvertaken k slot p p'
+    → WasSo k slot (FitsSight false) (view_of p).front (pass_in m₁).front → FailsToFill k m₂ m₃ slot → WasOvertaken k slot p p'
 was_lost k slot p p' m₁ m₂ m₃ begun before same between later more was fails = ⊎_elim
     (λ full. inl (filled_by k slot (view_of p).number same was between full later))
     (λ other. overtaken_by k slot p p' m₂ m₃ before.number (before.start ∙ begun) before.seen before.met later more other) fails

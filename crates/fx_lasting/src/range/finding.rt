@@ -1,10 +1,12 @@
 //! The search for an empty slot of the allocation range, for a caller that installs a file there
 //! later (`put_empty`). It looks where an allocation looks, and changes no word.
-ghost use Rattle.std.specs.Prelude.{◌≡◌, ℕ, ◌+◌, ◌*◌, ◌<◌, ◌≤◌};
+ghost use Rattle.std.specs.Prelude.{◌≡◌, ℕ, ◌+◌, ◌-◌, ◌*◌, ◌<◌, ◌≤◌, None};
 ghost use Rattle.fx_table.specs.Pass.{IsIdle};
 ghost use Rattle.fx_lasting.specs.AtWork.{IsAtWork};
 ghost use Rattle.table_range.specs.Groups.{groups_in};
 ghost use Rattle.fx_lasting.specs.Tables.{view_of, steps_taken, IsPassOfTable};
+ghost use Rattle.fx_lasting.specs.Laws.{IsInRange};
+ghost use Rattle.fx_lasting.specs.range.Scans.{EachFrom, EachInGroup, EachInRange, WasFull};
 ghost use Rattle.fx_lasting.specs.range.Tries.{group_steps, scan_steps};
 ghost use Rattle.fx_lasting.specs.slots.AtEmpty.{HasSearched, LooksFor};
 ghost use Rattle.fx_lasting.specs.declared.life.layout.TheConstants.{MOST_PASSES};
@@ -12,7 +14,7 @@ ghost use Rattle.fx_lasting.specs.declared.life.layout.TheConstants.{MOST_PASSES
 use crate::answers::FoundSlot;
 use crate::kinds::Peeking;
 use crate::pass::LastingPass;
-use crate::range::put_any::step_of;
+use crate::range::put_any::{start_within, step_of};
 use crate::table::LastingTable;
 use crate::view::View;
 use atomic_table::Seat;
@@ -63,6 +65,8 @@ impl LastingTable {
         ensures places { seat.new.me.1 ≡ seat.old.me.1 }
         ensures looks { LooksFor self.now.table.shared.key (scan_steps self.now.range_len)
             seat.old.me result seat.new.me }
+        ensures full { let k = self.now.table.shared.key in result ≡ None
+            → EachInRange k (WasFull k seat.old.me seat.new.me) }
     {
         if self.range_len == 0 {
             return None;
@@ -71,10 +75,10 @@ impl LastingTable {
         if !self.sees_file(seat, first) {
             return Some(first);
         }
-        self.look_in_groups(seat, number, self.group_of(first))
+        self.look_in_groups(seat, number, first)
     }
 
-    // Looks for one in the groups, from this group on.
+    // Looks for one in the groups, from the slot `first` on, which was looked at.
     fn look_in_groups(
         &self,
         seat: &mut Seat<Option<OpenFile>, View>,
@@ -83,18 +87,20 @@ impl LastingTable {
     ) -> Option<u32>
         requires table { seat.old.table_id ≡ self.now.table.shared.table_id }
         requires at { IsAtWork self.now.table.shared.key number seat.old.me }
-        requires group { first < groups_in self.now.range_len }
+        requires first { IsInRange self.now.table.shared.key first }
         ensures table { seat.new.table_id ≡ seat.old.table_id }
         ensures places { seat.new.me.1 ≡ seat.old.me.1 }
         ensures looks { let len = self.now.range_len in
             LooksFor self.now.table.shared.key (groups_in len * group_steps len) seat.old.me result
             seat.new.me }
+        ensures full { let k = self.now.table.shared.key in result ≡ None
+            → EachInRange k (WasFull k seat.old.me seat.new.me) }
     {
         let groups = groups_in(self.range_len);
         let step = step_of(number, groups);
-        let mut group = first;
+        let mut group = self.group_of(first);
         for _ in 0..groups {
-            match self.look_in_group(seat, group) {
+            match self.look_in_group(seat, group, first) {
                 Some(found) => return Some(found),
                 None => group = (group + step) % groups,
             }
@@ -102,8 +108,14 @@ impl LastingTable {
         None
     }
 
-    // Looks for one in the group. A group that counts all its slots has none.
-    fn look_in_group(&self, seat: &mut Seat<Option<OpenFile>, View>, group: u32) -> Option<u32>
+    // Looks for one in the group, from `first` on, if it is one of its slots, and then before it. A
+    // group that counts all its slots has none.
+    fn look_in_group(
+        &self,
+        seat: &mut Seat<Option<OpenFile>, View>,
+        group: u32,
+        first: u32,
+    ) -> Option<u32>
         requires table { seat.old.table_id ≡ self.now.table.shared.table_id }
         requires at { (number : ℕ) × IsAtWork self.now.table.shared.key number seat.old.me }
         requires group { group < groups_in self.now.range_len }
@@ -111,14 +123,41 @@ impl LastingTable {
         ensures places { seat.new.me.1 ≡ seat.old.me.1 }
         ensures looks { LooksFor self.now.table.shared.key (group_steps self.now.range_len)
             seat.old.me result seat.new.me }
+        ensures full { let k = self.now.table.shared.key in result ≡ None
+            → EachInGroup k group (WasFull k seat.old.me seat.new.me) }
     {
         let word = self.table.shared.load::<Peeking>(seat, group_place(group));
         if counts_all(word, self.range_len, group) {
             return None;
         }
-        let first = self.range_start + group * group_size(self.range_len);
-        let len = group_len(self.range_len, group);
-        for slot in first..first + len {
+        let begin = self.range_start + group * group_size(self.range_len);
+        let end = begin + group_len(self.range_len, group);
+        let from = start_within(first, begin, end);
+        if let Some(found) = self.look_between(seat, from, end) {
+            return Some(found);
+        }
+        self.look_between(seat, begin, from)
+    }
+
+    // Looks for one from `from` to before `to`, in at most one step for each.
+    fn look_between(
+        &self,
+        seat: &mut Seat<Option<OpenFile>, View>,
+        from: u32,
+        to: u32,
+    ) -> Option<u32>
+        requires table { seat.old.table_id ≡ self.now.table.shared.table_id }
+        requires at { (number : ℕ) × IsAtWork self.now.table.shared.key number seat.old.me }
+        requires order { from ≤ to }
+        requires range { EachFrom from to (IsInRange self.now.table.shared.key) }
+        ensures table { seat.new.table_id ≡ seat.old.table_id }
+        ensures places { seat.new.me.1 ≡ seat.old.me.1 }
+        ensures looks { LooksFor self.now.table.shared.key (to - from) seat.old.me result
+            seat.new.me }
+        ensures full { let k = self.now.table.shared.key in result ≡ None
+            → EachFrom from to (WasFull k seat.old.me seat.new.me) }
+    {
+        for slot in from..to {
             if !self.sees_file(seat, slot) {
                 return Some(slot);
             }

@@ -1,16 +1,18 @@
 //! The search for an empty slot of the allocation range.
-ghost use Rattle.std.specs.Prelude.{◌≡◌, ℕ, ◌+◌, ◌*◌, ◌<◌, ◌≤◌, true, false, IfSome, None};
+ghost use Rattle.std.specs.Prelude.{◌≡◌, ℕ, ◌+◌, ◌-◌, ◌*◌, ◌<◌, ◌≤◌, true, false, IfSome, IfErr, None};
 ghost use Rattle.fx_table.specs.Calls.{Allocated};
 ghost use Rattle.fx_table.specs.Pass.{IsIdle};
 ghost use Rattle.fx_lasting.specs.AtWork.{IsAtWork};
 ghost use Rattle.fx_lasting.specs.Laws.{IsInRange};
 ghost use Rattle.table_range.specs.Groups.{groups_in};
+ghost use Rattle.table_range.specs.declared.groups.TheConstants.{MOST_GROUPS};
 ghost use Rattle.fx_lasting.specs.range.Questions.{HasAsked};
 ghost use Rattle.fx_lasting.specs.declared.life.layout.TheConstants.{MOST_PASSES};
 ghost use Rattle.fx_lasting.specs.Tables.{view_of, steps_taken, meetings, opening_of_table, IsPassOfTable};
 ghost use Rattle.fx_lasting.specs.slots.AtEmpty.{FailsToFill, FellShort, GivesUpFor};
 ghost use Rattle.fx_lasting.specs.range.Tries.{IsPlacing, Tries, HasAllocated, StillPlaces, TriedSo};
 ghost use Rattle.fx_lasting.specs.range.Tries.{without_asking, group_steps, scan_steps};
+ghost use Rattle.fx_lasting.specs.range.Scans.{LeadsToAll, EachFrom, EachInGroup, EachInRange};
 ghost use Rattle.table_range.specs.declared.views.Change.TheVariants.{Outside};
 
 use crate::fields::{file_word, is_full, node_named};
@@ -27,8 +29,8 @@ use std::thread;
 use table_range::{counts_all, group_len, group_place, group_size, groups_in};
 
 // The steps by which passes go from group to group. Each is a prime above MOST_GROUPS, so it leads
-// through all groups, whatever their number. Passes that find the same groups full have different
-// steps, and so they reach different groups that aren't full.
+// to all groups, whatever their number. Passes that find the same groups full have different steps,
+// and so they reach different groups that aren't full.
 const STEPS: [u32; 8] = [67, 71, 73, 79, 83, 89, 97, 101];
 
 impl LastingTable {
@@ -73,9 +75,9 @@ impl LastingTable {
     /// waits: it makes at most three atomic steps for each slot of a group, two for each group, and
     /// eleven more than the table has passes. It tries the slot that the pass emptied last, or
     /// else the one after the slot that it filled last, and then goes once over the groups that
-    /// aren't full. Returns the slot, or the file if every slot of the range had a file at one
-    /// moment (ENFILE), or if neither was found; then nothing has changed, and at a moment of the
-    /// call a slot was empty, or another pass was in the middle of a call that changes the range.
+    /// aren't full. It returns the slot; or the file, if every slot of the range had a file at one
+    /// moment (ENFILE), or if neither was found. Then nothing has changed, and another pass emptied
+    /// a slot of the range during the call, changed an empty one, or was in the middle of a call.
     #[inline(always)]
     pub fn try_put_any(&self, pass: &mut LastingPass, file: OpenFile) -> TriedPut
         requires fits { IsPassOfTable self.now pass.old }
@@ -116,6 +118,8 @@ impl LastingTable {
         ensures steps { let passes = self.now.passes in let len = self.now.range_len in
             steps_taken pass.new ≤ steps_taken pass.old + (passes + scan_steps len + 4) }
         ensures met { meetings pass.old ≤ meetings pass.new }
+        ensures fails { let k = self.now.table.shared.key in IfErr result (λ back.
+            EachInRange k (FailsToFill k pass.old.seat.me pass.new.seat.me)) }
     {
         let stock = pass.stock.as_slice();
         let start = pass.next_entry;
@@ -187,6 +191,8 @@ impl LastingTable {
             seat.new.me) }
         ensures none { result ≡ None
             → StillPlaces node lost file (scan_steps self.now.range_len) seat.old.me seat.new.me }
+        ensures fails { let k = self.now.table.shared.key in result ≡ None
+            → EachInRange k (FailsToFill k seat.old.me seat.new.me) }
     {
         if self.range_len == 0 {
             return None;
@@ -195,11 +201,10 @@ impl LastingTable {
         if let Some(named) = self.try_slot(seat, node, lost, file, first) {
             return Some((first, named));
         }
-        self.scan_groups(seat, number, node, lost, file, self.group_of(first))
+        self.scan_groups(seat, number, node, lost, file, first)
     }
 
-    // Tries the slots of the range group by group, from group `first` on, after the try at the slot
-    // where the scan begins.
+    // Tries the slots of the range group by group, from the slot `first` on, which was tried.
     #[inline(always)]
     fn scan_groups(
         &self,
@@ -214,7 +219,7 @@ impl LastingTable {
         requires at { IsAtWork self.now.table.shared.key number seat.old.me }
         requires placing { IsPlacing node lost file seat.old.me }
         requires change { seat.old.me.0.change ≡ Outside }
-        requires group { first < groups_in self.now.range_len }
+        requires first { IsInRange self.now.table.shared.key first }
         ensures table { seat.new.table_id ≡ seat.old.table_id }
         ensures slot { IfSome result (λ (slot, _). slot < self.now.size) }
         ensures found { let len = self.now.range_len in IfSome result (λ (slot, named).
@@ -223,12 +228,14 @@ impl LastingTable {
         ensures none { let len = self.now.range_len in result ≡ None
             → StillPlaces node lost file (groups_in len * group_steps len) seat.old.me
             seat.new.me }
+        ensures fails { let k = self.now.table.shared.key in result ≡ None
+            → EachInRange k (FailsToFill k seat.old.me seat.new.me) }
     {
         let groups = groups_in(self.range_len);
         let step = step_of(number, groups);
-        let mut group = first;
+        let mut group = self.group_of(first);
         for _ in 0..groups {
-            match self.try_group(seat, node, lost, file, group) {
+            match self.try_group(seat, node, lost, file, group, first) {
                 Some(found) => return Some(found),
                 None => group = (group + step) % groups,
             }
@@ -237,7 +244,8 @@ impl LastingTable {
     }
 
     // Installs the file at an empty slot of the group, and returns that slot and the node that it
-    // named. A group that counts all its slots has none.
+    // named. A group that counts all its slots has none. The slots are tried from `first` on, if it
+    // is one of them, and then those before it: passes that begin in one group meet less.
     fn try_group(
         &self,
         seat: &mut Seat<Option<OpenFile>, View>,
@@ -245,6 +253,7 @@ impl LastingTable {
         lost: u64,
         file: Closed,
         group: u32,
+        first: u32,
     ) -> Option<(u32, u32)>
         requires table { seat.old.table_id ≡ self.now.table.shared.table_id }
         requires at { (number : ℕ) × IsAtWork self.now.table.shared.key number seat.old.me }
@@ -258,14 +267,49 @@ impl LastingTable {
             seat.new.me) }
         ensures none { result ≡ None
             → StillPlaces node lost file (group_steps self.now.range_len) seat.old.me seat.new.me }
+        ensures fails { let k = self.now.table.shared.key in result ≡ None
+            → EachInGroup k group (FailsToFill k seat.old.me seat.new.me) }
     {
         let word = self.table.shared.load::<Peeking>(seat, group_place(group));
         if counts_all(word, self.range_len, group) {
             return None;
         }
-        let first = self.range_start + group * group_size(self.range_len);
-        let len = group_len(self.range_len, group);
-        for slot in first..first + len {
+        let begin = self.range_start + group * group_size(self.range_len);
+        let end = begin + group_len(self.range_len, group);
+        let from = start_within(first, begin, end);
+        if let Some(found) = self.try_between(seat, node, lost, file, from, end) {
+            return Some(found);
+        }
+        self.try_between(seat, node, lost, file, begin, from)
+    }
+
+    // Installs the file at an empty slot from `from` to before `to`, in at most three steps for
+    // each, and returns that slot and the node that it named.
+    fn try_between(
+        &self,
+        seat: &mut Seat<Option<OpenFile>, View>,
+        node: u32,
+        lost: u64,
+        file: Closed,
+        from: u32,
+        to: u32,
+    ) -> Option<(u32, u32)>
+        requires table { seat.old.table_id ≡ self.now.table.shared.table_id }
+        requires at { (number : ℕ) × IsAtWork self.now.table.shared.key number seat.old.me }
+        requires placing { IsPlacing node lost file seat.old.me }
+        requires change { seat.old.me.0.change ≡ Outside }
+        requires order { from ≤ to }
+        requires range { EachFrom from to (IsInRange self.now.table.shared.key) }
+        ensures table { seat.new.table_id ≡ seat.old.table_id }
+        ensures slot { IfSome result (λ (slot, _). slot < self.now.size) }
+        ensures found { IfSome result (λ (slot, named).
+            HasAllocated node file slot named (3 * (to - from)) seat.old.me seat.new.me) }
+        ensures none { result ≡ None
+            → StillPlaces node lost file (3 * (to - from)) seat.old.me seat.new.me }
+        ensures fails { let k = self.now.table.shared.key in result ≡ None
+            → EachFrom from to (FailsToFill k seat.old.me seat.new.me) }
+    {
+        for slot in from..to {
             if let Some(named) = self.try_slot(seat, node, lost, file, slot) {
                 return Some((slot, named));
             }
@@ -307,7 +351,7 @@ impl LastingTable {
         ensures table { seat.new.table_id ≡ seat.old.table_id }
         ensures tries { Tries node lost file slot seat.old.me result seat.new.me }
         ensures fails { result ≡ None
-            → FailsToFill self.now.table.shared.key slot seat.old.me seat.new.me }
+            → FailsToFill self.now.table.shared.key seat.old.me seat.new.me slot }
     {
         let shared = &self.table.shared;
         let place = slot_place(slot);
@@ -328,8 +372,24 @@ impl LastingTable {
 
 // Returns the step by which a pass goes from group to group, of `groups` groups.
 pub(crate) fn step_of(number: u32, groups: u32) -> u32
-    requires { 0 < groups }
-    ensures { result < groups }
+    requires some { 0 < groups }
+    requires few { groups ≤ MOST_GROUPS }
+    ensures inside { result < groups }
+    ensures all { LeadsToAll groups result }
 {
     STEPS[(number % 8) as usize] % groups
+}
+
+// Returns the first slot to try of those from `begin` to before `end`: it is `first`, if that is
+// one of them.
+pub(crate) fn start_within(first: u32, begin: u32, end: u32) -> u32
+    requires { begin ≤ end }
+    ensures low { begin ≤ result }
+    ensures high { result ≤ end }
+{
+    if begin <= first && first < end {
+        first
+    } else {
+        begin
+    }
 }

@@ -1,49 +1,57 @@
-use Rattle.fx_lasting.proofs.Words.{◌∙◌, arith, refl, subst, ◌+◌, ◌*◌, ◌<◌, ◌≤◌, ℕ, true, false, SeesFile, Some, group_start, group_len}
-use Rattle.fx_lasting.proofs.range_lemmas.GapSearches.{looks_then, looks_within, looks_at}
-use Rattle.table_range.proofs.GroupSlots.{group_short, of_group}
+use Rattle.fx_lasting.proofs.Words.{◌∙◌, arith, ◌+◌, ◌-◌, ◌*◌, Some, None, LooksFor}
 use Rattle.fx_lasting.proofs.Peeking.{may_peek}
+use Rattle.fx_lasting.proofs.Running.{still_at_work, runs_goes}
 use Rattle.fx_lasting.proofs.slot_lemmas.ByNode.{stands_then}
-use Rattle.fx_lasting.proofs.Running.{still_at_work, runs_goes, runs_none, runs_within}
-use Rattle.fx_lasting.proofs.range_lemmas.Trying.{in_range}
+use Rattle.fx_lasting.proofs.range_lemmas.GapSearches.{looks_then, looks_within}
+use Rattle.fx_lasting.proofs.range_lemmas.Scanning.{begins, ends, few_inside, slots_inside, peeked_full, full_lasts, follows, whole_group}
 use Rattle.fx_lasting.proofs.table.LastingTable.look_in_group.Goals as goal
 
 pub load-word-requires : goal.load-word-requires
 load-word-requires c = may_peek c.args.self.now c.args.seat.now c.requires.table c.requires.at.1 c.requires.group c.group_place.ensures
 
-pub loop-slot-init : goal.loop-slot-init
-loop-slot-init c = record {
-  table = refl;
-  places = refl;
-  still = (0, omega arith, runs_none (still_at_work c.requires.at.1 (runs_goes c.load-word.ensures.2.goes)) 0);
+pub returns-then-counts_all-clause-full : goal.returns-then-counts_all-clause-full
+returns-then-counts_all-clause-full c none =
+    peeked_full c.args.self.now c.args.group c.requires.at.1 c.group_place.ensures (c.counts_all.ensures.0 c.if-counts_all.true) c.load-word.ensures.2
+
+pub look_between-requires : goal.look_between-requires
+look_between-requires c = record {
+  table = c.load-word.ensures.0 ∙ c.requires.table;
+  at = (c.requires.at.0, still_at_work c.requires.at.1 (runs_goes c.load-word.ensures.2.goes));
+  order = c.start_within-from.ensures.high;
+  range = slots_inside c.args.self.now c.args.group c.group_size.ensures c.group_len.ensures _ _ c.start_within-from.ensures.low (omega arith);
 }
 
-pub loop-slot-preserved : goal.loop-slot-preserved
-loop-slot-preserved c =
-    let s = c.loop-slot.invariant.still in
-    let saw : SeesFile c.args.self.now.table.shared.key c.loop-slot.slot c.loop-slot.seat.me true c.sees_file.new.seat.me =
-    rw c.if-not-sees_file.false at c.sees_file.ensures.saw in record {
-      table = c.sees_file.ensures.table ∙ c.loop-slot.invariant.table;
-      places = c.sees_file.ensures.places ∙ c.loop-slot.invariant.places;
-      still = (s.0 + 1, omega (arith, s.1, c.loop-slot.auto.slot), stands_then s.2 saw.1);
-    }
+pub look_between-requires-2 : goal.look_between-requires-2
+look_between-requires-2 c = record {
+  table = c.look_between.ensures.table ∙ (c.load-word.ensures.0 ∙ c.requires.table);
+  at = (c.requires.at.0, still_at_work (still_at_work c.requires.at.1 (runs_goes c.load-word.ensures.2.goes)) c.in_default.ensures.looks);
+  order = c.start_within-from.ensures.low;
+  range = slots_inside c.args.self.now c.args.group c.group_size.ensures c.group_len.ensures _ _ (omega arith) c.start_within-from.ensures.high;
+}
 
-pub returns-then-not-sees_file-clause-looks : goal.returns-then-not-sees_file-clause-looks
-returns-then-not-sees_file-clause-looks c =
+pub returns-in-Some-clause-looks : goal.returns-in-Some-clause-looks
+returns-in-Some-clause-looks c =
     let t = c.args.self.now in
     let k = t.table.shared.key in
-    let s = c.loop-slot.invariant.still in
-    let saw : SeesFile k c.loop-slot.slot c.loop-slot.seat.me false c.sees_file.new.seat.me = rw c.if-not-sees_file.true at c.sees_file.ensures.saw in
-    let low : group_start (t.range_start, t.range_len) c.args.group ≤ c.loop-slot.slot =
-    subst (λ (z : ℕ). t.range_start + c.args.group * z ≤ c.loop-slot.slot) c.group_size.ensures c.loop-slot.auto.slot in
-    let high : c.loop-slot.slot < group_start (t.range_start, t.range_len) c.args.group + group_len t.range_len c.args.group =
-    subst (λ (z : ℕ × ℕ). c.loop-slot.slot < t.range_start + c.args.group * z.0 + z.1) (λ i. (c.group_size.ensures i, c.group_len-len.ensures i)) c.loop-slot-test.true in
-    let its = of_group (t.range_start, t.range_len) c.loop-slot.slot c.args.group low high in
-    looks_within k c.args.seat.now.me c.sees_file.new.seat.me (Some c.loop-slot.slot)
-    (omega (arith, s.1, c.loop-slot-test.true, c.group_len-len.ensures, group_short t.range_len c.args.group))
-    (looks_then k c.args.seat.now.me c.loop-slot.seat.me c.sees_file.new.seat.me 1 (Some c.loop-slot.slot) (stands_then (runs_goes c.load-word.ensures.2.goes) s.2)
-    (looks_at c.sees_file.new.seat.me (in_range t c.loop-slot.slot its.0 its.1) saw))
+    looks_within k c.args.seat.now.me c.look_between.new.seat.me (Some c.in-Some.found)
+    (omega (arith, few_inside t c.args.group c.group_size.ensures c.group_len.ensures, c.start_within-from.ensures.low))
+    (looks_then k c.args.seat.now.me c.load-word.new.seat.me c.look_between.new.seat.me _ (Some c.in-Some.found) (runs_goes c.load-word.ensures.2.goes) c.in-Some.ensures.looks)
 
 pub returns-clause-looks : goal.returns-clause-looks
-returns-clause-looks c = let s = c.loop-slot.invariant.still in
-    runs_within (omega (arith, s.1, c.loop-slot.auto.slot, c.loop-slot.auto.slot-end, c.group_len-len.ensures, group_short c.args.self.now.range_len c.args.group))
-    (stands_then (runs_goes c.load-word.ensures.2.goes) s.2)
+returns-clause-looks c =
+    let t = c.args.self.now in
+    let k = t.table.shared.key in
+    looks_within k c.args.seat.now.me c.look_between-2.new.seat.me c.look_between-2.result
+    (omega (arith, few_inside t c.args.group c.group_size.ensures c.group_len.ensures, c.start_within-from.ensures))
+    (looks_then k c.args.seat.now.me c.look_between.new.seat.me c.look_between-2.new.seat.me _ c.look_between-2.result
+    (stands_then (runs_goes c.load-word.ensures.2.goes) c.in_default.ensures.looks) c.look_between-2.ensures.looks)
+
+pub returns-clause-full : goal.returns-clause-full
+returns-clause-full c none =
+    let t = c.args.self.now in
+    let k = t.table.shared.key in
+    let last : LooksFor k (c.start_within-from.result - (t.range_start + c.args.group * c.group_size.result)) c.look_between.new.seat.me None c.look_between-2.new.seat.me =
+    rw none at c.look_between-2.ensures.looks in
+    whole_group (full_lasts k) k c.args.group _ c.start_within-from.result _ c.args.seat.now.me c.load-word.new.seat.me c.look_between.new.seat.me c.look_between-2.new.seat.me
+    (begins t c.args.group c.group_size.ensures c.group_len.ensures) (ends t c.args.group c.group_size.ensures c.group_len.ensures) (follows (runs_goes c.load-word.ensures.2.goes))
+    (follows c.in_default.ensures.looks) (follows last) (c.look_between.ensures.full c.in_default.is) (c.look_between-2.ensures.full none)

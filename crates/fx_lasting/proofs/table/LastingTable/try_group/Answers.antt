@@ -1,32 +1,73 @@
-use Rattle.fx_lasting.proofs.Words.{◌∙◌, arith, refl, ◌+◌, StillPlaces}
-use Rattle.table_range.proofs.GroupSlots.{group_short}
+use Rattle.fx_lasting.proofs.Words.{◌∙◌, arith, inl, StillPlaces, group_steps}
 use Rattle.fx_lasting.proofs.Peeking.{may_peek}
-use Rattle.fx_lasting.proofs.Running.{still_at_work, placed_none}
-use Rattle.fx_lasting.proofs.range_lemmas.Trying.{peeked, still_then, allocated_then, still_within, allocated_within}
+use Rattle.fx_lasting.proofs.Running.{still_at_work}
+use Rattle.fx_lasting.proofs.range_lemmas.Trying.{peeked, placing_still, still_then, still_within, allocated_then, allocated_within, found_then}
+use Rattle.fx_lasting.proofs.range_lemmas.Scanning.{begins, ends, few_inside, slots_inside, peeked_full, fails_last, follows, whole_group}
 use Rattle.fx_lasting.proofs.table.LastingTable.try_group.Goals as goal
 
 pub load-word-requires : goal.load-word-requires
 load-word-requires c = may_peek c.args.self.now c.args.seat.now c.requires.table c.requires.at.1 c.requires.group c.group_place.ensures
 
-pub loop-slot-init : goal.loop-slot-init
-loop-slot-init c = let run = peeked c.requires.placing c.load-word.ensures.2.goes in
-    record { table = refl; still = (0, omega arith, (placed_none (still_at_work c.requires.at.1 run) run.work, refl)) }
+pub returns-then-counts_all-clause-fails : goal.returns-then-counts_all-clause-fails
+returns-then-counts_all-clause-fails c none = λ slot its same.
+    inl (peeked_full c.args.self.now c.args.group c.requires.at.1 c.group_place.ensures (c.counts_all.ensures.0 c.if-counts_all.true) c.load-word.ensures.2 slot its same)
 
-pub returns-clause-none : goal.returns-clause-none
-returns-clause-none c none = let s = c.loop-slot.invariant.still in let goes = c.load-word.ensures.2.goes in
+pub try_between-requires : goal.try_between-requires
+try_between-requires c =
+    let goes = c.load-word.ensures.2.goes in
+    let still : StillPlaces c.args.node c.args.lost c.args.file 1 c.args.seat.now.me c.load-word.new.seat.me = (peeked c.requires.placing goes, goes.carried) in
+    record {
+      table = c.load-word.ensures.0 ∙ c.requires.table;
+      at = (c.requires.at.0, still_at_work c.requires.at.1 still.0);
+      placing = placing_still c.requires.placing still;
+      change = still.0.change ∙ c.requires.change;
+      order = c.start_within-from.ensures.high;
+      range = slots_inside c.args.self.now c.args.group c.group_size.ensures c.group_len.ensures _ _ c.start_within-from.ensures.low (omega arith);
+    }
+
+pub try_between-requires-2 : goal.try_between-requires-2
+try_between-requires-2 c =
+    let goes = c.load-word.ensures.2.goes in
     let before : StillPlaces c.args.node c.args.lost c.args.file 1 c.args.seat.now.me c.load-word.new.seat.me = (peeked c.requires.placing goes, goes.carried) in
-    still_within c.args.file (omega (arith, s.1, c.loop-slot.auto.slot, c.loop-slot.auto.slot-end, c.group_len-len.ensures, group_short c.args.self.now.range_len c.args.group))
-    (still_then c.args.file before s.2)
+    let still = still_then c.args.file before (c.try_between.ensures.none c.in_default.is) in
+    record {
+      table = c.try_between.ensures.table ∙ (c.load-word.ensures.0 ∙ c.requires.table);
+      at = (c.requires.at.0, still_at_work c.requires.at.1 still.0);
+      placing = placing_still c.requires.placing still;
+      change = still.0.change ∙ c.requires.change;
+      order = c.start_within-from.ensures.low;
+      range = slots_inside c.args.self.now c.args.group c.group_size.ensures c.group_len.ensures _ _ (omega arith) c.start_within-from.ensures.high;
+    }
 
 pub returns-in-Some-clause-found : goal.returns-in-Some-clause-found
-returns-in-Some-clause-found c = let s = c.loop-slot.invariant.still in let goes = c.load-word.ensures.2.goes in
+returns-in-Some-clause-found c =
+    let goes = c.load-word.ensures.2.goes in
     let before : StillPlaces c.args.node c.args.lost c.args.file 1 c.args.seat.now.me c.load-word.new.seat.me = (peeked c.requires.placing goes, goes.carried) in
-    allocated_within c.args.seat.now.me c.try_slot.new.seat.me c.args.node c.loop-slot.slot c.in-Some.named c.args.file
-    (omega (arith, s.1, c.loop-slot-test.true, c.group_len-len.ensures, group_short c.args.self.now.range_len c.args.group))
-    (allocated_then c.in-Some.named before (allocated_then c.in-Some.named s.2 c.in-Some.ensures.tries))
+    let found = c.in-Some.found in
+    allocated_within c.args.seat.now.me c.try_between.new.seat.me c.args.node found.0 found.1 c.args.file
+    (omega (arith, few_inside c.args.self.now c.args.group c.group_size.ensures c.group_len.ensures, c.start_within-from.ensures.low))
+    (allocated_then found.1 before c.in-Some.ensures.found)
 
-pub loop-slot-preserved : goal.loop-slot-preserved
-loop-slot-preserved c = let s = c.loop-slot.invariant.still in record {
-  table = c.try_slot.ensures.table ∙ c.loop-slot.invariant.table;
-  still = (s.0 + 3, omega (arith, s.1, c.loop-slot.auto.slot), still_then c.args.file s.2 c.in_default.ensures.tries);
-}
+pub returns-clause-found : goal.returns-clause-found
+returns-clause-found c =
+    let goes = c.load-word.ensures.2.goes in
+    let before : StillPlaces c.args.node c.args.lost c.args.file 1 c.args.seat.now.me c.load-word.new.seat.me = (peeked c.requires.placing goes, goes.carried) in
+    found_then _ _ (group_steps c.args.self.now.range_len) c.args.file c.try_between-2.result
+    (omega (arith, few_inside c.args.self.now c.args.group c.group_size.ensures c.group_len.ensures, c.start_within-from.ensures))
+    (still_then c.args.file before (c.try_between.ensures.none c.in_default.is)) c.try_between-2.ensures.found
+
+pub returns-clause-none : goal.returns-clause-none
+returns-clause-none c none =
+    let goes = c.load-word.ensures.2.goes in
+    let before : StillPlaces c.args.node c.args.lost c.args.file 1 c.args.seat.now.me c.load-word.new.seat.me = (peeked c.requires.placing goes, goes.carried) in
+    still_within c.args.file (omega (arith, few_inside c.args.self.now c.args.group c.group_size.ensures c.group_len.ensures, c.start_within-from.ensures))
+    (still_then c.args.file (still_then c.args.file before (c.try_between.ensures.none c.in_default.is)) (c.try_between-2.ensures.none none))
+
+pub returns-clause-fails : goal.returns-clause-fails
+returns-clause-fails c none =
+    let t = c.args.self.now in
+    let k = t.table.shared.key in
+    let goes = c.load-word.ensures.2.goes in
+    whole_group (fails_last k) k c.args.group _ c.start_within-from.result _ c.args.seat.now.me c.load-word.new.seat.me c.try_between.new.seat.me c.try_between-2.new.seat.me
+    (begins t c.args.group c.group_size.ensures c.group_len.ensures) (ends t c.args.group c.group_size.ensures c.group_len.ensures) (follows (peeked c.requires.placing goes))
+    (follows (c.try_between.ensures.none c.in_default.is).0) (follows (c.try_between-2.ensures.none none).0) (c.try_between.ensures.fails c.in_default.is) (c.try_between-2.ensures.fails none)

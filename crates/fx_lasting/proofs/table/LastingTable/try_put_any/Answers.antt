@@ -1,8 +1,8 @@
 use Rattle.fx_lasting.proofs.Words.{refl, arith, [], ◌▷◌, Allocate, Full, opening_of, view_of, true, false, HasAsked, adds_then, no_use, one_number}
-use Rattle.fx_lasting.proofs.Words.{DoesNothing}
+use Rattle.fx_lasting.proofs.Words.{DoesNothing, sym, ◌∙◌}
 use Rattle.fx_lasting.proofs.Passing.{new_file_so}
 use Rattle.fx_lasting.proofs.range_lemmas.Questions.{asked_so}
-use Rattle.fx_lasting.proofs.slot_lemmas.Overtaking.{short_by}
+use Rattle.fx_lasting.proofs.range_lemmas.Scanning.{Follows, gave_up}
 use Rattle.fx_lasting.proofs.table.LastingTable.try_put_any.Goals as goal
 
 pub returns-then-is_still_full : goal.returns-then-is_still_full
@@ -76,6 +76,8 @@ returns-else-is_all_full c =
     let before = adds_then (opening_of k) (view_of c.args.pass.now) (view_of c.is_still_full.new.pass) (view_of c.try_slots.new.pass) [] []
     DoesNothing DoesNothing no_use no_use (asked_so h c.requires.idle) t.1 in
     let sure = rw c.if-is_all_full.false at c.is_all_full.ensures.asked in
+    let since : Follows c.is_still_full.new.pass.seat.me c.try_slots.new.pass.seat.me =
+    record { number = t.1.number; start = c.in-Err.ensures.fits.seated.at.pass.0 ∙ sym h.fits.seated.at.pass.0; seen = t.1.seen; met = c.in-Err.ensures.met } in
     record {
       fits = sure.fits;
       tried = (
@@ -84,5 +86,6 @@ returns-else-is_all_full c =
             DoesNothing DoesNothing no_use no_use before (asked_so sure t.1.now),
       );
       steps = omega (arith, h.steps, c.in-Err.ensures.steps, sure.steps);
-      short = short_by k c.args.pass.now c.try_slots.new.pass c.is_all_full.new.pass before.seen (omega (arith, h.met, c.in-Err.ensures.met)) (c.is_all_full.ensures.short c.if-is_all_full.false);
+      short = gave_up k c.args.pass.now c.is_still_full.new.pass c.try_slots.new.pass c.is_all_full.new.pass (asked_so h c.requires.idle).seen h.met since
+          h.fits.seated.at.pass.0 (asked_so h c.requires.idle).number (asked_so sure t.1.now).seen sure.met c.in-Err.ensures.fails (c.is_all_full.ensures.short c.if-is_all_full.false);
     }

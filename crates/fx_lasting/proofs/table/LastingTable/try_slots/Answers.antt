@@ -3,6 +3,7 @@ use Rattle.fx_lasting.proofs.Words.{one_number, label_of, as_written, ◌<◌, S
 use Rattle.fx_lasting.proofs.Running.{still_at_work, does_then}
 use Rattle.fx_lasting.proofs.Passing.{adds_swapped, swapped_pass, swapped_rest, adds_so, at_rest, still_pass, its_place, its_flag, may_install}
 use Rattle.fx_lasting.proofs.range_lemmas.Trying.{placing_now, stocked_at, swapped_does}
+use Rattle.fx_lasting.proofs.range_lemmas.Scanning.{fails_last, follows}
 use Rattle.fx_lasting.proofs.Calling.{begins_at}
 use Rattle.fx_lasting.proofs.table.LastingTable.try_slots.Goals as goal
 
@@ -61,6 +62,7 @@ returns-in-Some c =
       );
       steps = let few = run.steps in omega arith;
       met = run.met;
+      fails = tt;
     }
 
 pub take_out-requires-clause-at : goal.take_out-requires-clause-at
@@ -76,6 +78,7 @@ take_out-requires-clause-place c = let still = c.scan.ensures.none c.in-None.is 
 pub returns-in-None : goal.returns-in-None
 returns-in-None c =
     let t = c.args.self.now in
+    let k : Start = t.table.shared.key in
     let fits = c.requires.fits in
     let s = fits.seated in
     let still = c.scan.ensures.none c.in-None.is in
@@ -92,4 +95,7 @@ returns-in-None c =
       tried = (c.take_out.ensures.file c.args.file place, adds_so s run no_use);
       steps = let few = run.steps in omega arith;
       met = run.met;
+      fails = λ slot its. (fails_last k).later c.args.pass.now.seat.me m c.take_out.new.seat.me slot
+          ((fails_last k).earlier c.args.pass.now.seat.me c.place-entry.new.seat.me m slot (follows c.place-entry.ensures.placed) (c.scan.ensures.fails c.in-None.is slot its))
+          (follows c.take_out.ensures.rests);
     }
