@@ -25,7 +25,7 @@ use Rattle.fx_lasting.specs.declared.answers.FoundSlot.TheVariants as found
 use Rattle.fx_lasting.specs.declared.answers.PutEmpty.{PutEmpty}
 use Rattle.fx_lasting.specs.declared.answers.PutEmpty.TheVariants as empty
 use Rattle.fx_lasting.specs.declared.table.LastingTable.{LastingTable}
-use Rattle.fx_lasting.specs.slots.AtEmpty.{FellShort, HasPutEmpty, HasSearched}
+use Rattle.fx_lasting.specs.slots.AtEmpty.{GivesUp, HasPutEmpty, HasSearched}
 use Rattle.fx_lasting.specs.declared.view.Start.{Start}
 use Rattle.fx_server.specs.Files.{file_with}
 use Rattle.fx_server.specs.declared.answers.FoundFile.{FoundFile}
@@ -164,7 +164,7 @@ Puts w slot tag number (Err Reader) w' = IsReader w w'
 Puts w slot tag number (Err _) w' = ⊥
 
 -- one round of an installation: the file is at the slot; or every slot had a file at one step, or
--- nothing was done, and the table's call says what it saw
+-- nothing was done, and the table's call says why
 abbrev pub PutsAny : TableWorker → (tag number : ℕ) → Result ℕ ServerRefusal → TableWorker → Type 0
 PutsAny w tag number (Ok slot) w' = (slot < size_of (its_opening w)) × ((new : File)
     × IsNewFile (its_opening w) (its_pass w) (file_with tag number) new
@@ -174,7 +174,7 @@ PutsAny w tag number (Err NoFree) w' =
     Adds (its_opening w) (its_pass w) ([] ▷ Full) DoesNothing no_use (its_pass w')
 PutsAny w tag number (Err Again) w' =
     Adds (its_opening w) (its_pass w) [] DoesNothing no_use (its_pass w')
-    × FellShort (its_start w) w.pass w'.pass
+    × GivesUp (its_start w) w.pass w'.pass
 PutsAny w tag number (Err Busy) w' = IsBusy w w'
 PutsAny w tag number (Err Reader) w' = IsReader w w'
 PutsAny w tag number (Err _) w' = ⊥
@@ -220,7 +220,7 @@ PutsEmpty w slot tag number (Err Busy) w' = IsBusy w w'
 PutsEmpty w slot tag number (Err _) w' = ⊥
 
 -- a slot of the range was empty at a moment of the call; or all had a file at one step; or neither
--- was found, and the table's call says what it saw. Nothing was done
+-- was found, and the table's call says why. Nothing was done
 abbrev pub FindsSlot : TableWorker → Result ℕ ServerRefusal → TableWorker → Type 0
 FindsSlot w (Ok slot) w' = HasSearched (its_start w) w.pass (found.At slot) w'.pass
 FindsSlot w (Err NoFree) w' = HasSearched (its_start w) w.pass found.Full w'.pass

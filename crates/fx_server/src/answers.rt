@@ -22,9 +22,10 @@ pub enum ServerRefusal {
     Reader,
     /// At one step every slot had a file.
     Full,
-    /// The round installed nothing, and found no step at which every slot had a file. Or the slot's
-    /// word changed at each try of a call by key, or at the try of one that fills only an empty
-    /// slot.
+    /// An insertion or a search found neither a slot nor a step at which every slot had a file:
+    /// another worker emptied a slot meanwhile, changed an empty one, or was in the middle of a
+    /// call. Or the slot's word changed at each try of a call by key, or at the try of one that
+    /// fills only an empty slot.
     Again,
     /// A number is out of its range.
     BadArgument,

@@ -27,8 +27,8 @@ pub const READER: i64 = -5;
 /// At one step every slot had a file.
 pub const FULL: i64 = -6;
 
-/// The round installed nothing, and found no step at which every slot had a file; or the slot's
-/// word changed at each try of the call.
+/// An insertion or a search found neither a slot nor a step at which every slot had a file, since
+/// others were emptying or filling slots; or the slot's word changed at each try of the call.
 pub const AGAIN: i64 = -7;
 
 /// An argument is out of range.

@@ -40,7 +40,8 @@ impl TableWorker {
     ///
     /// # Errors
     /// `Busy`, `Reader`, in this order; `Full` if at one step every slot had a file; `Again` if
-    /// the round installed nothing, and found no such step.
+    /// neither was found: another worker emptied a slot meanwhile, changed an empty one, or was in
+    /// the middle of a call.
     #[inline(always)]
     pub fn insert(&mut self, tag: u64) -> Result<PlacedAt, ServerRefusal>
         requires good { IsGood self.old }
@@ -58,8 +59,8 @@ impl TableWorker {
     /// worker may fill before that, and the number.
     ///
     /// # Errors
-    /// `Busy`, `Reader`, in this order; `Full` if at one step every slot had a file; `Again` if it
-    /// found no empty slot, and no such step.
+    /// `Busy`, `Reader`, in this order; `Full` if at one step every slot had a file; `Again` if
+    /// neither was found: another worker emptied a slot meanwhile, or was in the middle of a call.
     #[inline(always)]
     pub fn find(&mut self) -> Result<PlacedAt, ServerRefusal>
         requires good { IsGood self.old }

@@ -46,7 +46,8 @@ impl TableWorker {
     ///
     /// # Errors
     /// `Busy`, `Reader`, in this order; `Full` if at one step every slot had a file; `Again` if
-    /// the round installed nothing, and found no such step.
+    /// neither was found: another worker emptied a slot meanwhile, changed an empty one, or was in
+    /// the middle of a call.
     #[inline(always)]
     pub(crate) fn insert_as(&mut self, tag: u64, number: u64) -> Result<u32, ServerRefusal>
         requires good { IsGood self.old }
@@ -121,8 +122,8 @@ impl TableWorker {
     /// Finds a slot of the allocation range that is empty at a moment of the call.
     ///
     /// # Errors
-    /// `Busy`, `Reader`, in this order; `Full` if at one step every slot had a file; `Again` if it
-    /// found no empty slot, and no such step.
+    /// `Busy`, `Reader`, in this order; `Full` if at one step every slot had a file; `Again` if
+    /// neither was found: another worker emptied a slot meanwhile, or was in the middle of a call.
     #[inline(always)]
     pub(crate) fn find_slot(&mut self) -> Result<u32, ServerRefusal>
         requires good { IsGood self.old }
