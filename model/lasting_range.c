@@ -66,20 +66,32 @@ static void break_question(struct state *s, struct pass *it) {
 
 /* An allocation: a pass that found the range full first decides whether it still is. Else it tries
  * one slot, and then each slot of each group that isn't full, from that slot's group on, by a step
- * of its number. If none is empty, the pass returns its node and asks. */
+ * of its number. In the first group it begins at that slot, and goes on with those before it. If
+ * none is empty, the pass returns its node and asks. */
 
 /* The steps from group to group: primes above the greatest number of groups. */
 static const int steps[] = {67, 71, 73, 79, 83, 89, 97, 101};
+
+/* The slot at which a scan of the group begins: the one that was tried, if it is one of them. */
+static int first_in(const struct pass *it, int group) {
+    return group_of(it->from) == group ? it->from : group * family->group_len;
+}
+
+/* The slot after this one in its group, whose first slot follows the last one. */
+static int after_in_group(int slot) {
+    bool is_last = slot + 1 == family->slots || group_of(slot + 1) != group_of(slot);
+    return is_last ? group_of(slot) * family->group_len : slot + 1;
+}
 
 enum step next_of_scan(struct pass *it, int who) {
     int step = steps[(who + 1) % 8];
     bool is_begun = it->next > 0, is_over = it->next == groups();
     int group = (group_of(it->from) + it->next * step) % groups();
-    if (is_begun && it->step != PEEK_GROUP && it->slot + 1 < family->slots && group_of(it->slot + 1) == group_of(it->slot)) {
-        it->slot++;
+    if (is_begun && it->step != PEEK_GROUP && after_in_group(it->slot) != first_in(it, group_of(it->slot))) {
+        it->slot = after_in_group(it->slot);
         return PEEK;
     }
-    it->slot = is_over ? it->from : group * family->group_len;
+    it->slot = is_over ? it->from : first_in(it, group);
     it->next = is_over ? 0 : it->next + 1;
     return is_over ? after_scan() : PEEK_GROUP;
 }

@@ -114,9 +114,12 @@ impl Table {
         }
         let (step, mut group) = (STEPS[number % 8] % groups, first >> bits);
         for _ in 0..groups {
-            let first = group << bits;
+            let begin = group << bits;
             if !self.is_full(group) {
-                if let Some(found) = (first..first + self.group_len(group)).find_map(at) {
+                let end = begin + self.group_len(group);
+                let inside = begin <= first && first < end;
+                let from = if inside { first } else { begin };
+                if let Some(found) = (from..end).chain(begin..from).find_map(at) {
                     return Some(found);
                 }
             }
