@@ -72,7 +72,7 @@ enum {
     YACHT_IDLE = -4,         /* the handle holds no value */
     YACHT_READER = -5,       /* the handle is a reader, which only looks values up */
     YACHT_FULL = -6,         /* every slot had a value at one moment of the call */
-    YACHT_AGAIN = -7,        /* other threads were changing slots during the call */
+    YACHT_AGAIN = -7,        /* other threads were filling or emptying slots during the call */
     YACHT_BAD_ARGUMENT = -8, /* an argument is NULL or out of its range */
     YACHT_NO_MEMORY = -9,    /* an allocation failed */
     YACHT_STALE = -10        /* the slot has another value than that of the key */
@@ -145,7 +145,9 @@ int yacht_release(yacht_handle *handle);
 int yacht_insert(yacht_handle *handle, void *value);
 
 /* Tries once to install a value, not NULL, at a free slot. It never waits.
- * Returns what yacht_insert returns; or YACHT_AGAIN: then the caller still owns the value. */
+ * Returns what yacht_insert returns; or YACHT_AGAIN, if another thread emptied a slot during the
+ * call, changed a free one, or was in the middle of a call: then the caller still owns the
+ * value. */
 int yacht_try_insert(yacht_handle *handle, void *value);
 
 /* Install a value as yacht_insert and yacht_try_insert, and write its key to *key; key is not NULL.

@@ -160,7 +160,8 @@ pub enum Reason {
         /// The number of slots.
         slots: u32,
     },
-    /// No slot was free when it was looked at, and others were filling or emptying slots.
+    /// No slot was free when it was looked at, and others were filling or emptying slots: another
+    /// thread emptied a slot during the call, changed a free one, or was in the middle of a call.
     Again,
     /// The handle is calling the function that makes a value for
     /// [`insert_with`](crate::Handle::insert_with).
