@@ -197,6 +197,17 @@ def of_lives():
     return lines([("libyachtdirect", "slab in plain Rust", "ratio"), (f"{machine} instructions", slab, other)])
 
 
+def of_descriptors():
+    """Returns the CPU time by direct descriptors, divided by that by the process's: of each kept run the median, the least and the greatest."""
+    rings = [it.split("\n", 1)[1] for it in re.split("^a ring with", read("bench/descriptors.txt"), flags=re.MULTILINE)[1:]]
+    works = {"request": "64 bytes: a send and a receive", "life": "a connection: accept, receive, shutdown, close", "file": "a file: open, read, close"}
+    rows = [("direct / the process's", "a ring without flags", "a single issuer")]
+    for name, words in works.items():
+        ratios = [re.search(rf"^{name}: .* ratio ([\d.]+),", it, re.MULTILINE)[1] for it in rings]
+        rows.append((words, span(ratios[::2]), span(ratios[1::2])))
+    return lines(rows)
+
+
 def of_machine():
     """Returns the bytes that a machine of lives allocates."""
     (few, least), (many, most) = [map(int, it) for it in found("bench/direct.txt", r"^a machine of (\d+) slots: (\d+) bytes")]
@@ -277,7 +288,7 @@ def quoted(path, pattern):
 
 
 TABLES = {
-    "calls": of_calls, "counted": of_counted, "crate": of_crate, "fixcheck": of_fixcheck, "judge": of_judge, "lasting": of_lasting,
+    "calls": of_calls, "counted": of_counted, "crate": of_crate, "descriptors": of_descriptors, "fixcheck": of_fixcheck, "judge": of_judge, "lasting": of_lasting,
     "lives": of_lives, "machine": of_machine, "memory": of_memory, "others": of_others, "program": of_program,
     "rare-calls": of_rare_calls, "searches": of_searches, "stale-looks": of_stale_looks, "summary": summary, "tails": of_tails, "vm": of_vm,
     "conform": lambda: quoted("bench/conform.txt", r"^# scripts: .*|^# Totals: .*"),
