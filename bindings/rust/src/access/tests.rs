@@ -5,4 +5,6 @@ mod balance;
 #[cfg(yachtbanyan_stand_in)]
 mod orders;
 #[cfg(yachtbanyan_stand_in)]
+mod steps;
+#[cfg(yachtbanyan_stand_in)]
 mod within;

@@ -7,6 +7,7 @@
 //! The threads are contexts of one thread of the system (makecontext(3)), so that a turn is cheap.
 mod atomics;
 mod choices;
+mod marks;
 mod within;
 
 use super::seats;
@@ -19,6 +20,7 @@ use std::panic::{catch_unwind, AssertUnwindSafe};
 use within::within;
 
 pub(crate) use atomics::{AtomicU32, AtomicU64};
+pub(crate) use marks::{marked, watch};
 pub(crate) use within::meet;
 
 /// The most threads of an exploration. The one that begins it has the next number.
@@ -256,6 +258,7 @@ pub(crate) fn explore(
     loop {
         NEXT.set(1);
         NAMES.take();
+        marks::forget();
         ALONE.set(true);
         seats::exchange_first_word(0);
         let (jobs, check) = scene();

@@ -6,6 +6,8 @@
 //! A cold file is looked up by an addition to its slot's word, a hot one by its node in the pass's
 //! own hold word. A slot's word always names a node; an installation or a removal puts a node of
 //! its pass's stock there, and takes the one that was named (`crates/fx_lasting`).
+#[cfg(all(test, yachtbanyan_stand_in))]
+mod idle;
 mod pass;
 mod range;
 mod words;
@@ -18,6 +20,8 @@ use super::core::{MOST_INSTALLING, MOST_SLOTS, MOST_WORKERS};
 use super::sync::{self, Turn};
 use std::sync::Arc;
 
+#[cfg(all(test, yachtbanyan_stand_in))]
+pub(crate) use idle::{check_idle, is_every_slot_full};
 pub(crate) use pass::{Looked, Miss, Pass};
 pub(crate) use range::Found;
 pub(crate) use words::{node_in, Config, Table};

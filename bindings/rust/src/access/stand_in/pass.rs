@@ -16,9 +16,9 @@ pub(crate) struct Pass {
     pub(crate) number: usize,
     pub(crate) stock: Vec<usize>,
     pub(crate) entry: usize,
-    keeps: bool,
+    pub(crate) keeps: bool,
     pub(crate) guarded: bool,
-    listed: bool,
+    pub(crate) listed: bool,
     pub(crate) sure: bool,
     pub(crate) emptied: Emptied,
 }

@@ -1,195 +1,23 @@
-//! The steps of calls of the core's interface, over the stand-in: small programs of two or three
-//! threads, in every order of their steps. A file is used only while it is open, is closed once,
-//! and is the one that a key names; an answer that every slot is full is right at a moment of its
-//! call; and afterwards the words are those of an idle table.
-use crate::access::core::{Core, Outcome, AGAIN, DONE, DROPPED, EMPTY, FULL, STALE};
-use crate::access::stand_in::*;
-use crate::access::turns::{changes, explore, marked, reads, watch, with_config, Job};
+//! Calls of the core's interface, over the stand-in: small programs of up to three threads, in
+//! every order of their steps.
+mod calls;
+
+use crate::access::core::{Core, DONE};
+use crate::access::stand_in::{is_every_slot_full, yacht_core_open, Config};
+use crate::access::turns::{explore, watch, with_config, Job};
+use calls::*;
 use std::cell::{Cell, RefCell};
-use std::collections::HashMap;
 use std::rc::Rc;
 
-/// The thread that fills the table before the others begin.
-const FIRST: usize = 9;
-
-/// A table with a worker for each thread, and its files by their tags.
-struct Scene {
-    cores: RefCell<Vec<Core>>,
-    files: RefCell<HashMap<u64, Box<Cell<bool>>>>,
-    // the number of the file that slot 0 has at first, and the calls that removed or replaced it
-    // by its key
-    number: Cell<u64>,
-    ends: Cell<u32>,
-}
-
-/// A call of a thread.
-type Call = fn(&Scene, usize);
-
-impl Scene {
-    fn core(&self, who: usize) -> *mut Core {
-        let who = if who == FIRST { 0 } else { who };
-        &raw mut self.cores.borrow_mut()[who]
-    }
-
-    /// Makes a file. Returns its tag.
-    fn file(&self, who: usize) -> u64 {
-        let mut files = self.files.borrow_mut();
-        let made = files.keys().filter(|it| **it / 100 == who as u64 + 1);
-        let tag = 100 * (who as u64 + 1) + made.count() as u64;
-        let place = Box::new(Cell::new(true));
-        changes(&raw const *place);
-        files.insert(tag, place);
-        tag
-    }
-
-    fn check_open(&self, tag: u64) {
-        let place = &self.files.borrow()[&tag];
-        reads(&raw const **place);
-        assert!(place.get(), "a closed file is used");
-    }
-
-    /// Closes files that calls returned; 0 is none.
-    fn close(&self, tags: [u64; 3]) {
-        for tag in tags.into_iter().filter(|it| *it != 0) {
-            let place = &self.files.borrow()[&tag];
-            changes(&raw const **place);
-            assert!(place.replace(false), "a file is closed twice");
-        }
-    }
-
-    /// Uses the file that a look-up found, and releases it.
-    fn use_found(&self, who: usize, found: i64, out: &Outcome) {
-        let mut dropped = 0;
-        if found == DONE {
-            self.check_open(out.tag);
-            unsafe { yacht_core_release(self.core(who), &mut dropped) };
-        }
-        self.close([dropped, out.freed, out.released]);
-    }
-
-    /// Ends a call that removes or replaces a file. Returns whether it did.
-    fn end(&self, done: i64, out: &Outcome) -> bool {
-        self.close([if done == DROPPED { out.tag } else { 0 }, out.freed, out.released]);
-        done >= 0
-    }
-
-    /// Ends such a call by the key of the first file.
-    fn end_key(&self, done: i64, out: &Outcome) {
-        assert!(matches!(done, 0.. | EMPTY | STALE | AGAIN), "an answer");
-        if done == DROPPED {
-            let right = out.tag == 100 * (FIRST as u64 + 1);
-            assert!(right, "another file than the key's is removed");
-        }
-        self.ends.set(self.ends.get() + u32::from(self.end(done, out)));
-    }
-
-    /// Fills a slot. Returns the file's number.
-    fn put(&self, who: usize, slot: u32) -> u64 {
-        let mut out = Outcome::default();
-        let done = unsafe { yacht_core_replace_at(self.core(who), slot, self.file(who), &mut out) };
-        assert!(self.end(done, &out), "an answer");
-        out.number
-    }
-
-    fn remove(&self, who: usize, slot: u32) {
-        let mut out = Outcome::default();
-        let done = unsafe { yacht_core_remove_at(self.core(who), slot, &mut out) };
-        self.end(done, &out);
-    }
-
-    /// Inserts a file. Returns the answer.
-    fn insert(&self, who: usize) -> i64 {
-        let (tag, mut number) = (self.file(who), 0);
-        let done = unsafe { yacht_core_insert(self.core(who), tag, &mut number) };
-        if done < 0 {
-            self.close([tag, 0, 0]);
-        }
-        done
-    }
-
-    /// Checks what is left when all threads are done.
-    fn check(&self, family: &Family) {
-        assert!(self.ends.get() < 2, "a key is ended twice");
-        unsafe { check_idle(&self.cores.borrow()) };
-        let open = || self.files.borrow().values().filter(|it| it.get()).count() as u32;
-        for who in 0..family.threads.len() {
-            let free = if family.group_bits.is_some() { family.slots - open() } else { 0 };
-            let inserted = (0..free).find(|_| self.insert(who) < 0);
-            assert_eq!(inserted, None, "an insertion finds no free slot");
-            if family.group_bits.is_some() {
-                assert_eq!(self.insert(who), FULL, "a full range isn't full");
-            }
-            (0..family.slots).for_each(|slot| self.remove(who, slot));
-            assert_eq!(open(), 0, "a removed file is left");
-        }
-        unsafe { check_idle(&self.cores.borrow()) };
-    }
-}
-
-impl Drop for Scene {
-    fn drop(&mut self) {
-        for it in self.cores.take() {
-            // SAFETY: no thread uses the worker any more.
-            unsafe { yacht_core_close(it) };
-        }
-    }
-}
-
-const LOOK: Call = |it, who| {
-    let mut out = Outcome::default();
-    let found = unsafe { yacht_core_get_at(it.core(who), 0, &mut out) };
-    it.use_found(who, found, &out);
-};
-
-const LOOK_KEY: Call = |it, who| {
-    let (mut out, number) = (Outcome::default(), it.number.get());
-    let found = unsafe { yacht_core_get(it.core(who), 0, number, &mut out) };
-    assert!(found != DONE || out.tag / 100 == FIRST as u64 + 1, "another file than the key's is found");
-    it.use_found(who, found, &out);
-};
-
-const PUT: Call = |it, who| _ = it.put(who, 0);
-
-const REMOVE: Call = |it, who| it.remove(who, 0);
-
-const INSERT: Call = |it, who| {
-    marked(true);
-    let done = it.insert(who);
-    assert!(done != FULL || marked(false), "the answer is full, and a slot was free");
-};
-
-const REMOVE_KEY: Call = |it, who| {
-    let (mut out, number) = (Outcome::default(), it.number.get());
-    let done = unsafe { yacht_core_remove(it.core(who), 0, number, &mut out) };
-    it.end_key(done, &out);
-};
-
-const REPLACE_KEY: Call = |it, who| {
-    let (mut out, number, tag) = (Outcome::default(), it.number.get(), it.file(who));
-    let done = unsafe { yacht_core_replace(it.core(who), 0, number, tag, &mut out) };
-    it.end_key(done, &out);
-    if done < 0 {
-        it.close([tag, 0, 0]);
-    }
-};
-
-/// A removal by key beside one change of its slot.
-const REMOVE_KEY_SURELY: Call = |it, who| {
-    let before = it.ends.get();
-    REMOVE_KEY(it, who);
-    assert!(it.ends.get() > before, "a call tries no more after one change");
-};
-
 /// A table, the number of its full slots, the takes from which on a slot is hot, the exponent of a
-/// group's length if there is a range, the look-ups of each thread before, and the threads.
+/// group's length if there is a range, and the look-ups of each thread before.
 #[derive(Clone, Copy)]
-struct Family {
-    slots: u32,
+pub(super) struct Family {
+    pub(super) slots: u32,
     full: u32,
     cold_takes: u64,
-    group_bits: Option<u32>,
+    pub(super) group_bits: Option<u32>,
     looks: u32,
-    threads: &'static [&'static [Call]],
 }
 
 /// One full slot, which is hot for threads that are listed.
@@ -199,7 +27,6 @@ const HOT: Family = Family {
     cold_takes: 0,
     group_bits: None,
     looks: 2,
-    threads: &[],
 };
 /// One full slot that stays cold.
 const COLD: Family = Family {
@@ -207,21 +34,43 @@ const COLD: Family = Family {
     looks: 1,
     ..HOT
 };
+/// One full slot that gets hot by the second take, and threads that are listed.
+const WARM: Family = Family {
+    cold_takes: 2,
+    ..COLD
+};
 /// One full slot, and threads that aren't listed.
 const NEW: Family = Family { looks: 0, ..HOT };
-/// An allocation range of two slots, each a group of its own.
-const RANGE: Family = Family {
-    slots: 2,
-    full: 2,
+/// An allocation range of one slot.
+const ONE: Family = Family {
     group_bits: Some(0),
     ..COLD
 };
+/// A range of two slots, each a group of its own.
+const RANGE: Family = Family {
+    slots: 2,
+    full: 2,
+    ..ONE
+};
+/// Such a range with a free slot.
+const HALF: Family = Family { full: 1, ..RANGE };
+/// Such a range of one group.
+const GROUP: Family = Family {
+    group_bits: Some(1),
+    ..RANGE
+};
+/// A range of three slots, in groups of two and of one.
+const GROUPS: Family = Family {
+    slots: 3,
+    full: 3,
+    ..GROUP
+};
 
 impl Family {
-    fn open(&self) -> Scene {
-        let count = self.threads.len();
+    fn open(&self, count: usize) -> Scene {
         let mut cores: Vec<_> = (0..count).map(|_| Core::none()).collect();
-        let opened = unsafe { yacht_core_open(self.slots, count as u32, cores.as_mut_ptr(), count) };
+        let opened =
+            unsafe { yacht_core_open(self.slots, count as u32, cores.as_mut_ptr(), count) };
         assert_eq!(opened, DONE);
         let scene = Scene {
             cores: RefCell::new(cores),
@@ -230,31 +79,30 @@ impl Family {
             ends: Cell::new(0),
         };
         let numbers: Vec<_> = (0..self.full).map(|slot| scene.put(FIRST, slot)).collect();
-        scene.number.set(numbers.first().copied().unwrap_or(0));
+        scene.number.set(numbers[0]);
         for who in (0..count).flat_map(|who| (0..self.looks).map(move |_| who)) {
             LOOK(&scene, who);
         }
         scene
     }
 
-    fn scene(self) -> (Vec<Job>, Job) {
-        let scene = Rc::new(self.open());
+    fn scene(self, threads: &[Vec<Call>]) -> (Vec<Job>, Job) {
+        let scene = Rc::new(self.open(threads.len()));
         if self.group_bits.is_some() {
             let core = scene.core(0);
             // SAFETY: the workers are there while the threads run.
             watch(move || unsafe { is_every_slot_full(core) });
         }
-        let job = |(who, calls): (usize, &'static &'static [Call])| -> Job {
-            let scene = scene.clone();
+        let job = |(who, calls): (usize, &Vec<Call>)| -> Job {
+            let (scene, calls) = (scene.clone(), calls.clone());
             Box::new(move || calls.iter().for_each(|call| call(&scene, who)))
         };
-        let jobs = self.threads.iter().enumerate().map(job).collect();
+        let jobs = threads.iter().enumerate().map(job).collect();
         (jobs, Box::new(move || scene.check(&self)))
     }
 
-    /// Checks that no order of these threads is wrong, and that they have so many states.
-    fn has(self, states: usize, threads: &'static [&'static [Call]]) {
-        let family = Family { threads, ..self };
+    /// Returns the number of states of these threads. Panics if an order of their steps is wrong.
+    fn states(self, threads: &[Vec<Call>]) -> usize {
         let config = Config {
             allocates: self.group_bits.is_some(),
             group_bits: self.group_bits.unwrap_or(0),
@@ -262,22 +110,123 @@ impl Family {
             most_carried: 1,
             tries: 2,
         };
-        let found = with_config(config, || explore(false, || family.scene()));
-        let counts = found.unwrap_or_else(|fault| panic!("{fault}"));
-        println!("{} states", counts.0);
-        if states > 0 { assert_eq!(counts.0, states, "the number of states"); }
+        let found = with_config(config, || explore(false, || self.scene(threads)));
+        found.unwrap_or_else(|fault| panic!("{fault}")).0
+    }
+
+    /// Checks these threads, by their calls.
+    fn has(self, states: usize, threads: &[&[Call]]) {
+        let threads: Vec<_> = threads.iter().map(|it| it.to_vec()).collect();
+        want_states(self.states(&threads), states);
+    }
+
+    /// Checks threads each of whose calls is one of some, in all ways. The states of all ways are
+    /// counted together.
+    fn has_all(self, states: usize, threads: &[&[&[Call]]]) {
+        let mut ways: Vec<Vec<Vec<Call>>> = vec![Vec::new()];
+        for calls in threads {
+            let mut each = vec![Vec::new()];
+            for call in *calls {
+                each = product(&each, call);
+            }
+            ways = product(&ways, &each);
+        }
+        let found: usize = ways.iter().map(|it| self.states(it)).sum();
+        want_states(found, states);
     }
 }
 
+/// Checks a number of states. tests/check-steps leaves it out of wrong tables.
+fn want_states(found: usize, states: usize) {
+    if std::env::var_os("YACHTBANYAN_ANY_STATES").is_none() {
+        assert_eq!(found, states, "the number of states");
+    }
+}
+
+/// Returns each list with each item at its end.
+fn product<T: Clone>(lists: &[Vec<T>], items: &[T]) -> Vec<Vec<T>> {
+    let with = |list: &Vec<T>, it: &T| [list.as_slice(), std::slice::from_ref(it)].concat();
+    let all = lists
+        .iter()
+        .flat_map(|list| items.iter().map(move |it| with(list, it)));
+    all.collect()
+}
+
+const REQUESTS: &[Call] = &[LOOK, PUT, REMOVE];
+const CHANGES: &[Call] = &[INSERT, PUT, REMOVE];
+const BY_KEY: &[Call] = &[LOOK_KEY, REMOVE_KEY, REPLACE_KEY];
+
 #[test]
 fn steps_of_one_thread() {
-    COLD.has(1, &[&[LOOK, PUT, LOOK, REMOVE, REMOVE, PUT, PUT, REMOVE]]);
+    let calls: &[Call] = &[LOOK, PUT, REMOVE, LOOK_KEY, REMOVE_KEY, REPLACE_KEY];
+    for family in [HOT, WARM, COLD, NEW] {
+        family.has_all(0, &[&[calls; 4]]);
+    }
+    HOT.has(0, &[&[PUT, LOOK, LOOK, LOOK, LOOK]]);
+    ONE.has_all(0, &[&[CHANGES; 4]]);
+    RANGE.has_all(0, &[&[CHANGES; 4]]);
+    GROUPS.has_all(0, &[&[CHANGES; 4]]);
 }
 
 #[test]
-fn steps_at_a_hot_slot() {
-    HOT.has(0, &[&[LOOK], &[PUT]]);
-    HOT.has(0, &[&[LOOK], &[REMOVE]]);
-    HOT.has(0, &[&[LOOK], &[PUT, REMOVE]]);
-    HOT.has(0, &[&[LOOK, LOOK], &[PUT]]);
+fn steps_at_a_slot() {
+    HOT.has_all(6906, &[&[REQUESTS; 2], &[REQUESTS]]);
+    WARM.has_all(5160, &[&[REQUESTS; 2], &[REQUESTS]]);
+    COLD.has_all(2669, &[&[REQUESTS; 2], &[REQUESTS]]);
+    NEW.has_all(6772, &[&[REQUESTS; 2], &[REQUESTS]]);
+    HOT.has(661, &[&[LOOK], &[REMOVE, PUT, REMOVE]]);
+}
+
+#[test]
+fn steps_by_key() {
+    HOT.has_all(2546, &[&[BY_KEY], &[BY_KEY]]);
+    COLD.has_all(2213, &[&[BY_KEY], &[BY_KEY]]);
+    HOT.has_all(15_053, &[&[BY_KEY], &[REQUESTS; 2]]);
+    COLD.has_all(6456, &[&[BY_KEY], &[REQUESTS; 2]]);
+    WARM.has_all(2406, &[&[BY_KEY], &[REQUESTS]]);
+    COLD.has(123, &[&[REMOVE_KEY_SURELY], &[LOOK]]);
+}
+
+#[test]
+fn steps_of_the_range() {
+    ONE.has_all(7222, &[&[CHANGES; 2], &[CHANGES]]);
+    RANGE.has_all(7988, &[&[CHANGES; 2], &[CHANGES]]);
+    GROUP.has_all(7332, &[&[CHANGES; 2], &[CHANGES]]);
+    GROUPS.has_all(1099, &[&[CHANGES], &[CHANGES]]);
+    RANGE.has_all(985, &[&[CHANGES], &[BY_KEY]]);
+    RANGE.has(650, &[&[INSERT, INSERT], &[REMOVE_SECOND]]);
+    GROUPS.has(633, &[&[INSERT, INSERT], &[REMOVE_SECOND]]);
+    let moved = &[REMOVE, PUT_SECOND, REMOVE_SECOND, PUT, REMOVE, PUT_SECOND];
+    HALF.has(894, &[moved, &[FIND]]);
+    HALF.has_all(216, &[&[&[INSERT, FIND]], &[&[INSERT, FIND]]]);
+}
+
+#[test]
+#[ignore = "slow unless it is optimized"]
+fn steps_of_questions() {
+    RANGE.has(32_286, &[&[FIND, FIND], &[FIND], &[REMOVE]]);
+    GROUP.has(36_623, &[&[FIND, FIND], &[REMOVE], &[REMOVE_SECOND]]);
+}
+
+#[test]
+#[ignore = "slow unless it is optimized"]
+fn steps_of_three_threads() {
+    HOT.has_all(46_813, &[&[&[LOOK]], &[&[LOOK]], &[&[PUT, REMOVE]]]);
+    HOT.has_all(8142, &[&[&[LOOK, PUT]], &[&[REMOVE]], &[&[LOOK]]]);
+    WARM.has_all(4776, &[&[&[LOOK, PUT]], &[&[REMOVE]], &[&[LOOK]]]);
+    COLD.has_all(20_585, &[&[REQUESTS], &[&[REMOVE_KEY]], &[REQUESTS]]);
+    HOT.has_all(48_690, &[&[REQUESTS], &[&[REMOVE_KEY]], &[&[LOOK]]]);
+    ONE.has_all(18_382, &[&[&[INSERT]], &[&[INSERT]], &[CHANGES]]);
+    RANGE.has_all(24_576, &[&[&[INSERT]], &[&[INSERT]], &[CHANGES]]);
+    RANGE.has(1977, &[&[INSERT], &[LOOK_KEY], &[REMOVE]]);
+}
+
+#[test]
+#[ignore = "slow unless it is optimized"]
+fn steps_of_more_calls() {
+    HOT.has_all(83_167, &[&[REQUESTS; 2], &[REQUESTS; 2]]);
+    WARM.has_all(67_374, &[&[REQUESTS; 2], &[REQUESTS; 2]]);
+    RANGE.has_all(86_318, &[&[CHANGES; 2], &[CHANGES; 2]]);
+    GROUPS.has_all(8098, &[&[CHANGES; 2], &[CHANGES]]);
+    COLD.has_all(21_644, &[&[BY_KEY; 2], &[BY_KEY]]);
 }

@@ -23,6 +23,11 @@ macro_rules! atomic {
                 old
             }
 
+            /// Returns the value. It is no step.
+            pub(crate) fn peek(&self) -> $kind {
+                self.0.load(SeqCst)
+            }
+
             pub(crate) fn load(&self, order: Ordering) -> $kind {
                 self.make(Kind::Load, order, |it| it)
             }

@@ -31,7 +31,8 @@ impl Turns {
     // Returns the state in one number.
     fn state(&self) -> u64 {
         let all = self.threads.iter().enumerate();
-        all.fold(self.memory, |all, (at, it)| {
+        let begun = mixed(self.memory, super::marks::in_one());
+        all.fold(begun, |all, (at, it)| {
             let changed = self.is_changed(at, it.woke);
             let rest = [it.is_done, self.can_go_on(at), it.waits.is_some(), changed];
             rest.iter()
@@ -109,6 +110,7 @@ impl Turns {
         if stores || old != new {
             it.changed += 1;
             self.changed += 1;
+            super::marks::look();
         }
         self.steps += 1;
         if self.steps > LONGEST {

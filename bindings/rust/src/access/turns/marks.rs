@@ -1,5 +1,5 @@
 //! Moments of a run at which a condition holds, for threads that ask whether there was one.
-use super::{with, MOST};
+use super::{go_on, switch, with, MOST};
 use std::cell::{Cell, RefCell};
 
 /// A condition of the atomics' values.
@@ -20,8 +20,12 @@ pub(crate) fn watch(condition: impl Fn() -> bool + 'static) {
 }
 
 /// Returns whether the condition held at a moment since the thread began anew, and now begins anew
-/// if `again`.
+/// if `again`: other threads may go first.
 pub(crate) fn marked(again: bool) -> bool {
+    if again {
+        switch();
+        go_on();
+    }
     let now = with(|it| it.now).unwrap_or(0);
     let mut marks = MARKS.get();
     let was = marks[now];
@@ -43,5 +47,8 @@ pub(super) fn look() {
 
 /// Returns the marks in one number.
 pub(super) fn in_one() -> u64 {
-    MARKS.get().iter().fold(0, |all, it| 2 * all + u64::from(*it))
+    MARKS
+        .get()
+        .iter()
+        .fold(0, |all, it| 2 * all + u64::from(*it))
 }
