@@ -4,8 +4,8 @@ TABLES, the program of crates/bench_tables, measures the shared tables alternate
 instructions of playing a tenth of each script's submissions, by callgrind (valgrind).
 
 Each time is CPU time: the least of several runs, less that of the same script with a bad line at its end, which is read and not
-played. So it is the time of playing alone; reading is timed after it. Without rustc only the program's own times are printed. Two
-submissions are timed on 1, 2 and 4 workers by wall-clock time, which other work changes; the machine's load is printed with it."""
+played. So it is the time of playing alone; reading is timed after it. Without rustc only the program's own times are printed. A
+submission is timed on 1, 2 and 4 workers by wall-clock time, which other work changes; the machine's load is printed with it."""
 import os
 import re
 import resource
@@ -130,13 +130,6 @@ def measure_reading(program, plain):
     tell(f"{len(script):,} bytes of requests are read", least_time(program, script)[0], plain and least_time(plain, script)[0])
 
 
-def crew_scripts():
-    """Submissions that have work for several threads: many steps on the table, and a long text."""
-    yield "1,023 chains of 16 at one of 256 slots each, 10 times", own_slots(10)
-    reads = ["read 0 0 4096"] * 1023 + ["submit"]
-    yield "1,023 reads of 4,096 bytes, 5 times", lines(f"file a.txt {'61' * 4096}", "sparse 1", "open a.txt at 0", "submit", *reads * 5)
-
-
 def clock_of(program, workers, path):
     """The seconds on the clock of a run that reads this file and whose text nobody reads."""
     with open(path) as script:
@@ -160,12 +153,12 @@ def playing_clocks(program, script, crews):
 
 
 def measure_crews(program):
-    """Two submissions on 1, 2 and 4 workers over words by the clock, and the load of the machine meanwhile."""
-    for what, script in crew_scripts():
-        clocks = playing_clocks(program, script, ("1", "2", "4"))
-        told = " and ".join(f"{it / clocks[0]:.2f} times that on {workers}" for it, workers in zip(clocks[1:], (2, 4)))
-        print(f"bench: {what}: {1000 * clocks[0]:.1f} ms by the clock on one worker over words, {told}", flush=True)
-        print(f"bench:   meanwhile the load was {os.getloadavg()[0]:.1f}", flush=True)
+    """A submission of many steps on 1, 2 and 4 workers over words by the clock, and the load of the machine meanwhile."""
+    clocks = playing_clocks(program, own_slots(10), ("1", "2", "4"))
+    told = " and ".join(f"{it / clocks[0]:.2f} times that on {workers}" for it, workers in zip(clocks[1:], (2, 4)))
+    what = "1,023 chains of 16 at one of 256 slots each, 10 times"
+    print(f"bench: {what}: {1000 * clocks[0]:.1f} ms by the clock on one worker over words, {told}", flush=True)
+    print(f"bench:   meanwhile the load was {os.getloadavg()[0]:.1f}", flush=True)
 
 
 def table_time(program, table, work, threads):
@@ -181,7 +174,7 @@ def measure_tables(program):
     print(f"bench: the tables compared, each line the median of {RUNS} rounds", flush=True)
     for name, work in ratios.rows():
         for threads in 1, 2, 4:
-            rounds = [{it: table_time(program, it, work, threads) for it in ("counted", "baton", "mutex")} for _ in range(RUNS)]
+            rounds = [{it: table_time(program, it, work, threads) for it in ("counted", "baton")} for _ in range(RUNS)]
             ratios.tell("bench", ratios.title(name, threads), rounds, 1)
 
 

@@ -4,7 +4,7 @@ requested number of workers, but no more than it has chains, and one of them is 
 the memory requested for each file number: the lock-free table has a word and a place for each, and a list of them that is moved; the
 table guarded by one word has none of these. Workers without a chain take no memory, since the table has no pass for them. Submissions
 that are played together share one table, so each takes little memory. The size of each write shows that a command's text is written
-at once, also if several threads make it, from 262,144 bytes on."""
+at once."""
 
 from tests.allocation_failures import Outcomes
 from scripts.checks import Counted, arguments
@@ -15,8 +15,6 @@ from scripts.programs import built
 TABLES, MOST_WORKERS, CHAINS_OF_ONE = ("words", "baton"), 16, 400
 # what a file number takes at least and at most, where a chain has more of them
 BYTES_PER_NUMBER = {"words": (90, 100), "baton": (-2, 2)}
-# the least bytes of a text that several threads make
-LARGE_TEXT = 262_144
 # what a worker takes: for itself, for a request, and for a file that may be closed with its tag
 BYTES_OF_A_WORKER, BYTES_PER_REQUEST, BYTES_PER_CLOSE = 2048, 72, 40
 # what one of 100 more submissions of an open and a read takes, played by one worker on a table that
@@ -28,9 +26,8 @@ SMALL = "open a at 0", "read 0 0 1", "submit"
 IDLE, BYTES_OF_WORDS = ((0, 2), (1, 2), (3, 3)), 64
 FEW = (1, 3, 16)
 
-# reads whose lines are as many bytes as one thread makes, one more than these, and the most of a
-# submission
-READS = 31, 32, CHAINS
+# the reads of 4,096 bytes of two submissions: some, and the most
+READS = 32, CHAINS
 
 
 def is_within(least, found, most):
@@ -97,12 +94,9 @@ class Workers(Counted):
         small = lines("sparse 1", *["read 0 0 0"] * 64, "submit")
         for script, requests, closes in ((heaviest_submission()[0], CHAINS * MEMBERS, updates), (small, 64, 0)):
             alone, several = (self.counts(script, "--table", table, "--workers", str(it)) for it in (1, workers))
-            # the parts of a large text are joined into one more
-            text = several.ended[1]
-            joined = len(text) if len(text) >= LARGE_TEXT else 0
             # one worker fills the lists of the report; several fill lists each, which are joined in
             # those of the report
-            each = (several.bytes - joined - alone.bytes) / workers
+            each = (several.bytes - alone.bytes) / workers
             least = BYTES_PER_REQUEST * requests + BYTES_PER_CLOSE * closes
             holds = is_within(least, each, least + BYTES_OF_A_WORKER)
             self.want(holds, f"{workers} workers over {table} ask for {each:,.0f} bytes each, of {requests} requests and {closes} closes")

@@ -221,8 +221,8 @@ pub fn too_many_line(alloc: Global) -> Result<String, NoMemory>
     Ok(String::from_str(alloc, line)?)
 }
 
-/// Returns the room for a line for each completion.
-pub(crate) fn room_of(completions: &[Completion]) -> usize {
+// Returns the room for a line for each completion.
+fn room_of(completions: &[Completion]) -> usize {
     let mut room = 0usize;
     for completion in completions {
         room = room.saturating_add(
@@ -240,19 +240,6 @@ pub(crate) fn room_of(completions: &[Completion]) -> usize {
 fn room_of_closes(files: &[Closed], tags: &[TagCompletion]) -> usize {
     let lines = files.len().saturating_mul(CLOSED_ROOM);
     lines.saturating_add(tags.len().saturating_mul(TAG_ROOM))
-}
-
-/// Returns the lines of completions, in their order.
-pub(crate) fn completions_text(
-    alloc: Global,
-    completions: &[Completion],
-) -> Result<String, NoMemory>
-    ensures { IfOk result (λ text.
-        string_bytes text ≡ completion_lines (all_completed completions.now)) }
-{
-    let mut text = String::with_capacity(alloc, room_of(completions))?;
-    push_completions(&mut text, completions)?;
-    Ok(text)
 }
 
 /// Returns the text of a submission: a line for each completion, then one for each file that was

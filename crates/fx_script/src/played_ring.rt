@@ -149,8 +149,8 @@ fn text_on<T: FileTable, R: Threads + Wait + Sync, G: Gate>(
     let (rt, alloc) = (setting.rt, setting.alloc);
     match opened.submit::<G>(rt, alloc, requests.as_slice(), setting.gate) {
         Ok(None) => None,
-        Ok(Some(report)) => Some(answer_text(setting, opened.catalogue(), Ok(report))),
-        Err(fault) => Some(answer_text(setting, opened.catalogue(), Err(fault))),
+        Ok(Some(report)) => Some(answer_text(alloc, opened.catalogue(), Ok(report))),
+        Err(fault) => Some(answer_text(alloc, opened.catalogue(), Err(fault))),
     }
 }
 

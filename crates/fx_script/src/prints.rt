@@ -18,8 +18,7 @@ use fx_base::{Catalogue, Errno, NoMemory};
 use fx_chain::{Gate, Request};
 use fx_language::Command;
 use fx_print::{
-    printed_submission, refused_line, result_line, submission_text, teardown_text, too_many_line,
-    with_closes,
+    refused_line, result_line, submission_text, teardown_text, too_many_line, with_closes,
 };
 use fx_ring::{Report, Ring, SubmitFault};
 use fx_table::FileTable;
@@ -51,10 +50,9 @@ pub fn report_text(
 }
 
 // Returns the text of a submission's answer: the text of its report, as [`report_text`] does, or
-// the line of its refusal. If the text of a report is large, as many threads as the submission has
-// workers produce it. Fails if an allocation of the submission or of the text fails.
-pub fn answer_text<R: Threads + Sync, G>(
-    setting: &Setting<'_, R, G>,
+// the line of its refusal. Fails if an allocation of the submission or of the text fails.
+pub fn answer_text(
+    alloc: Global,
     catalogue: &Catalogue,
     answer: Result<Report, SubmitFault>,
 ) -> Result<String, NoMemory>
@@ -63,12 +61,8 @@ pub fn answer_text<R: Threads + Sync, G>(
     requires workers { answer ≢ Err Workers }
     ensures { IfOk result (λ text. IsAnswerText catalogue.now answer (string_bytes text)) }
 {
-    let (rt, alloc, workers) = (setting.rt, setting.alloc, setting.workers);
     match answer {
-        Ok(report) => {
-            let completions = report.completions.as_slice();
-            printed_submission(rt, alloc, catalogue, completions, &report.closes, workers)
-        }
+        Ok(report) => report_text(alloc, &report, catalogue),
         Err(SubmitFault::Cut(fault)) => refused_line(alloc, fault),
         Err(SubmitFault::TooMany) => too_many_line(alloc),
         Err(SubmitFault::NoMemory) => Err(NoMemory),
@@ -181,7 +175,7 @@ fn submit<T: FileTable, R: Threads + Wait + Sync, G: Gate>(
 {
     let (rt, alloc, workers) = (setting.rt, setting.alloc, setting.workers);
     let answer = ring.submit::<T, G>(rt, alloc, requests, workers, setting.gate);
-    answer_text(setting, ring.catalogue(), answer)
+    answer_text(alloc, ring.catalogue(), answer)
 }
 
 // Executes a command on the ring, and returns its text. An allocation failure of a call between
