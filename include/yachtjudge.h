@@ -32,6 +32,14 @@ extern "C" {
  * never freed. */
 const char *yacht_judge_version(void);
 
+/* The library's names of the functions that take a struct have the major version. So a program that
+ * was compiled with the header of another one doesn't link with the library. */
+#define yacht_judge yacht_judge_6
+#define yacht_outcomes yacht_outcomes_6
+#define yacht_judge_events yacht_judge_events_6
+#define yacht_judge_whole_updates yacht_judge_whole_updates_6
+#define yacht_explain_events yacht_explain_events_6
+
 /* What the functions return. */
 enum {
     YACHT_LEGAL = 0,       /* a judge: the script may print the text, or the log has a flight */

@@ -65,9 +65,9 @@ def sources():
 
 
 def contracts_in(text, file):
-    """Yields the contracts of a source, whose file has that name."""
+    """Yields the contracts of a source, whose file has that name. Pages name an export for C without its major version, as headers do."""
     for path, parts in functions_of(text):
-        owner, _, name = path.rpartition("::")
+        owner, _, name = re.sub(r"(\byacht_\w+)_\d+$", r"\1", path).rpartition("::")
         owners, heads = {file, *re.findall(r"\w+", owner)}, [re.match(r"(requires|ensures)\*?(?: (\w+))?", it) for it in parts[1:]]
         if "for" not in owners or {"SharedTable", "FileTable"} & owners:
             yield Contract(name, owners, {it[2] for it in heads}, words_of(" ".join(parts)), any(it[1] == "requires" for it in heads))

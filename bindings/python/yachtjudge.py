@@ -197,8 +197,8 @@ def _load() -> ctypes.CDLL:
 
 
 _library = _load()
-_library.yacht_judge.restype = c_uint32
-_library.yacht_judge.argtypes = [
+_library.yacht_judge_6.restype = c_uint32
+_library.yacht_judge_6.argtypes = [
     POINTER(c_uint8),
     c_size_t,
     POINTER(c_uint8),
@@ -209,8 +209,8 @@ _library.yacht_judge.argtypes = [
     c_size_t,
     POINTER(_Verdict),
 ]
-_library.yacht_outcomes.restype = c_uint32
-_library.yacht_outcomes.argtypes = [
+_library.yacht_outcomes_6.restype = c_uint32
+_library.yacht_outcomes_6.argtypes = [
     POINTER(c_uint8),
     c_size_t,
     c_uint32,
@@ -221,8 +221,8 @@ _library.yacht_outcomes.argtypes = [
     c_size_t,
     POINTER(_Texts),
 ]
-_library.yacht_judge_events.restype = c_uint32
-_library.yacht_judge_events.argtypes = [
+_library.yacht_judge_events_6.restype = c_uint32
+_library.yacht_judge_events_6.argtypes = [
     POINTER(c_uint8),
     c_size_t,
     c_uint32,
@@ -238,8 +238,8 @@ _library.yacht_judge_events.argtypes = [
     c_uint32,
     POINTER(_Judgement),
 ]
-_library.yacht_judge_whole_updates.restype = c_uint32
-_library.yacht_judge_whole_updates.argtypes = [
+_library.yacht_judge_whole_updates_6.restype = c_uint32
+_library.yacht_judge_whole_updates_6.argtypes = [
     POINTER(c_uint8),
     c_size_t,
     c_uint32,
@@ -255,8 +255,8 @@ _library.yacht_judge_whole_updates.argtypes = [
     c_uint32,
     POINTER(_Judgement),
 ]
-_library.yacht_explain_events.restype = c_uint32
-_library.yacht_explain_events.argtypes = [
+_library.yacht_explain_events_6.restype = c_uint32
+_library.yacht_explain_events_6.argtypes = [
     POINTER(c_uint8),
     c_size_t,
     c_uint32,
@@ -302,7 +302,7 @@ def judge(script: Words, text: Words, states: int = STATES, memory: int = MEMORY
     verdict, room = _Verdict(), 65_536
     while True:
         note = (c_uint8 * room)()
-        code = _library.yacht_judge(*given, *printed, *limits, note, room, byref(verdict))
+        code = _library.yacht_judge_6(*given, *printed, *limits, note, room, byref(verdict))
         if verdict.note <= room:
             break
         room = verdict.note
@@ -324,7 +324,7 @@ def outcomes(script: Words, states: int = STATES, memory: int = MEMORY) -> Outco
     found, room, count = _Texts(), 1 << 20, 4_096
     while True:
         texts, lengths = (c_uint8 * room)(), (c_uint64 * count)()
-        code = _library.yacht_outcomes(*given, *limits, texts, room, lengths, count, byref(found))
+        code = _library.yacht_outcomes_6(*given, *limits, texts, room, lengths, count, byref(found))
         if code != NO_ROOM:
             break
         room, count = max(found.bytes, 1), max(found.count, 1)
@@ -384,7 +384,7 @@ class _Passed:
         reason, room = _Reason(), 256
         while True:
             steps = (_Step * room)()
-            code = _library.yacht_explain_events(*self.arguments, at, steps, room, byref(reason))
+            code = _library.yacht_explain_events_6(*self.arguments, at, steps, room, byref(reason))
             if reason.steps <= room:
                 break
             room = reason.steps
@@ -401,7 +401,7 @@ def judge_events(log: yachtlog.Log, events: Sequence[yachtlog.Event] | None = No
     Raises BadEvent if an event has a fault, or says what no call can; BadScript if its files aren't a catalogue; NoMemory if an allocation
     fails; TypeError or ValueError if a limit is none; and ValueError if two files have one name, or the table has too many slots."""
     limits, passed, judgement = _limits(states, memory), _Passed(log, events), _Judgement()
-    judge_log = _library.yacht_judge_whole_updates if whole_updates else _library.yacht_judge_events
+    judge_log = _library.yacht_judge_whole_updates_6 if whole_updates else _library.yacht_judge_events_6
     code = judge_log(*passed.arguments, *limits, byref(judgement))
     passed.check(code, judgement.at, judgement.fault)
     if code == NOT_LEGAL:

@@ -88,8 +88,10 @@ uint32_t yacht_judge_events(LOG_PASSED, uint32_t states, uint32_t memory, yacht_
 }
 
 /* no row has these questions */
-uint32_t yacht_judge_whole_updates(LOG_PASSED, uint32_t states, uint32_t memory, yacht_judgement *judgement)
-    __attribute__((alias("yacht_judge_events")));
+uint32_t yacht_judge_whole_updates(LOG_PASSED, uint32_t states, uint32_t memory, yacht_judgement *judgement) {
+    return yacht_judge_events(script, script_length, slots, requests, requests_length, entries, entries_length, bytes, bytes_length, events,
+                              events_length, states, memory, judgement);
+}
 uint32_t yacht_explain_events(LOG_PASSED, uint64_t at, yacht_step *steps, size_t steps_length, yacht_reason *reason) {
     (void)script, (void)script_length, (void)slots, (void)requests, (void)requests_length, (void)entries, (void)entries_length, (void)bytes;
     (void)bytes_length, (void)events, (void)events_length, (void)at, (void)steps, (void)steps_length;

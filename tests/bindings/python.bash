@@ -35,8 +35,8 @@ $room/none: not a log: line 3: a read has at most 4096 bytes, not 4097" ] || ret
 # another_version WORDS C..: a library with these lines of C, which finds everything legal, is
 # refused
 another_version() {
-    printf '%s\n' 'unsigned yacht_judge(void) { return 0; }' 'unsigned yacht_outcomes(void) { return 0; }' \
-        'unsigned yacht_judge_events(void) { return 0; }' "${@:2}" > "$room/stub.c"
+    printf '%s\n' 'unsigned yacht_judge_6(void) { return 0; }' 'unsigned yacht_outcomes_6(void) { return 0; }' \
+        'unsigned yacht_judge_events_6(void) { return 0; }' "${@:2}" > "$room/stub.c"
     gcc -shared -fPIC -o "$room/libyachtjudge.so.6" "$room/stub.c" || return 1
     without_library "$room" "$room/libyachtjudge.so.6 has $1, and this module needs 6."
 }
@@ -151,7 +151,7 @@ yachtevents s/elif answer.result == EBADF:/elif True:/
 yachtlog s/"undecided": 6/"undecided": 0/
 yachtlog s/        return NO_MEMORY$/        return MISSING/
 yachtlog s/judge_events(self, before, states, memory, /judge_events(self, before, memory, states, /
-yachtjudge s/yacht_judge_whole_updates if whole_updates/yacht_judge_events if whole_updates/
-yachtjudge s/ if whole_updates else _library.yacht_judge_events$//
+yachtjudge s/yacht_judge_whole_updates_\([0-9]*\) if whole_updates/yacht_judge_events_\1 if whole_updates/
+yachtjudge s/ if whole_updates else _library.yacht_judge_events_[0-9]*$//
 END
 }

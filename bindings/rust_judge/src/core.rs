@@ -139,7 +139,7 @@ pub(crate) struct Reason {
 }
 
 unsafe extern "C" {
-    pub(crate) fn yacht_judge(
+    pub(crate) fn yacht_judge_6(
         script: *const u8,
         script_length: usize,
         text: *const u8,
@@ -150,7 +150,7 @@ unsafe extern "C" {
         note_length: usize,
         verdict: *mut Verdict,
     ) -> u32;
-    pub(crate) fn yacht_outcomes(
+    pub(crate) fn yacht_outcomes_6(
         script: *const u8,
         script_length: usize,
         states: u32,
@@ -161,7 +161,7 @@ unsafe extern "C" {
         lengths_length: usize,
         found: *mut Texts,
     ) -> u32;
-    pub(crate) fn yacht_judge_events(
+    pub(crate) fn yacht_judge_events_6(
         script: *const u8,
         script_length: usize,
         slots: u32,
@@ -177,7 +177,7 @@ unsafe extern "C" {
         memory: u32,
         judgement: *mut Judgement,
     ) -> u32;
-    pub(crate) fn yacht_judge_whole_updates(
+    pub(crate) fn yacht_judge_whole_updates_6(
         script: *const u8,
         script_length: usize,
         slots: u32,
@@ -193,7 +193,7 @@ unsafe extern "C" {
         memory: u32,
         judgement: *mut Judgement,
     ) -> u32;
-    pub(crate) fn yacht_explain_events(
+    pub(crate) fn yacht_explain_events_6(
         script: *const u8,
         script_length: usize,
         slots: u32,

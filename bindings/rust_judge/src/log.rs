@@ -341,9 +341,9 @@ impl Log {
     fn judge_by(&self, whole: bool, limits: Limits) -> Result<LogVerdict, JudgeError> {
         self.check_length()?;
         let judge = if whole {
-            core::yacht_judge_whole_updates
+            core::yacht_judge_whole_updates_6
         } else {
-            core::yacht_judge_events
+            core::yacht_judge_events_6
         };
         let mut judgement = core::Judgement::default();
         // SAFETY: the slices are valid for their lengths, and the written value overlaps none.
@@ -412,7 +412,7 @@ impl Log {
         let mut steps = vec![core::Step::default(); room];
         // SAFETY: the slices are valid for their lengths, and the written ones overlap no other.
         let number = unsafe {
-            core::yacht_explain_events(
+            core::yacht_explain_events_6(
                 self.catalogue.as_ptr(),
                 self.catalogue.len(),
                 self.slots,

@@ -47,7 +47,7 @@ fn judged(
     let mut note = vec![0; room];
     // SAFETY: the slices are valid for their lengths, and the written ones overlap no other.
     let number = unsafe {
-        core::yacht_judge(
+        core::yacht_judge_6(
             script.as_ptr(),
             script.len(),
             text.as_ptr(),
@@ -124,7 +124,7 @@ pub fn outcomes(script: &[u8], limits: Limits) -> Result<Outcomes, JudgeError> {
         let mut found = core::Texts::default();
         // SAFETY: the slices are valid for their lengths, and the written ones overlap no other.
         let number = unsafe {
-            core::yacht_outcomes(
+            core::yacht_outcomes_6(
                 script.as_ptr(),
                 script.len(),
                 limits.states,

@@ -1,4 +1,5 @@
-//! The functions that C calls. Each has the contract of the call of `fx_judge` that it makes.
+//! The functions that C calls. Each has the contract of the call of `fx_judge` that it makes, and
+//! the major version in its name, since C passes structs.
 ghost use Rattle.std.specs.Prelude.{true};
 ghost use Rattle.fx_judge.specs.Logs.{HasNotHappened, HasNotHappenedBy, IsLogReason, IsLogVerdict};
 ghost use Rattle.fx_judge.specs.Logs.{MayHaveHappened, MayHaveHappenedBy, passed};
@@ -14,7 +15,7 @@ use std::alloc::Global;
 /// Decides whether a script may print a text, by a search of at most `states` states and `memory`
 /// MiB for each part of a submission that has slots of its own: `fx_judge::judge_text`.
 #[unsafe(no_mangle)]
-pub extern "C" fn yacht_judge(
+pub extern "C" fn yacht_judge_6(
     alloc: Global,
     script: &[u8],
     text: &[u8],
@@ -32,7 +33,7 @@ pub extern "C" fn yacht_judge(
 /// Lists the texts that a script may print, by searches of at most `states` states and `memory` MiB
 /// in all: `fx_judge::list_texts`.
 #[unsafe(no_mangle)]
-pub extern "C" fn yacht_outcomes(
+pub extern "C" fn yacht_outcomes_6(
     alloc: Global,
     script: &[u8],
     states: u32,
@@ -50,7 +51,7 @@ pub extern "C" fn yacht_outcomes(
 /// Judges a log of calls in flight, by searches of at most `states` states and `memory` MiB:
 /// `fx_judge::judge_log`.
 #[unsafe(no_mangle)]
-pub extern "C" fn yacht_judge_events(
+pub extern "C" fn yacht_judge_events_6(
     alloc: Global,
     script: &[u8],
     slots: u32,
@@ -73,7 +74,7 @@ pub extern "C" fn yacht_judge_events(
 /// Judges a log of calls in flight by whole updates, as `yacht_judge_events` does:
 /// `fx_judge::judge_whole_updates`.
 #[unsafe(no_mangle)]
-pub extern "C" fn yacht_judge_whole_updates(
+pub extern "C" fn yacht_judge_whole_updates_6(
     alloc: Global,
     script: &[u8],
     slots: u32,
@@ -95,7 +96,7 @@ pub extern "C" fn yacht_judge_whole_updates(
 
 /// Looks for the reason why a log of calls in flight is not legal: `fx_judge::explain_log`.
 #[unsafe(no_mangle)]
-pub extern "C" fn yacht_explain_events(
+pub extern "C" fn yacht_explain_events_6(
     alloc: Global,
     script: &[u8],
     slots: u32,

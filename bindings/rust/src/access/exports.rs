@@ -36,8 +36,8 @@ pub(crate) const IDLE: i64 = -4;
 pub(crate) const READER: i64 = -5;
 /// At one step every slot had a file.
 pub(crate) const FULL: i64 = -6;
-/// The round installed nothing, and found no step at which every slot had a file; or the slot's
-/// word changed at each try of the call.
+/// An insertion or a search found neither a slot nor a step at which every slot had a file, since
+/// others were emptying or filling slots; or the slot's word changed at each try of the call.
 pub(crate) const AGAIN: i64 = -7;
 /// An argument is out of range.
 pub(crate) const BAD_ARGUMENT: i64 = -8;
