@@ -1,7 +1,7 @@
 -- Each kind of step: its effect on the pass that makes it.
 use Rattle.std.specs.Prelude.{◌≡◌, ◌≢◌, ℕ, ◌+◌, ◌-◌, ◌*◌, ◌/◌, ◌<◌, ◌==◌, ◌⊎◌, nat_lt}
 use Rattle.std.specs.Prelude.{if◌then◌else◌, min, ◌≤◌, Bool, true, false, List, [], slice_set, ◌∷◌}
-use Rattle.std.specs.Prelude.{◌++◌, map, Option, Some, None, IsSome}
+use Rattle.std.specs.Prelude.{◌++◌, map, count_by, Option, Some, None, IsSome}
 use mathlib.Core.Option.{some}
 use lib.ListN.{get_elem?}
 use Rattle.atomic_table.specs.Table.{Step, rest}
@@ -105,6 +105,10 @@ as_swapped entry node m = as_stocked (slice_set (pass_in m).stock entry node) m
 abbrev pub NamesANode : Start → ℕ → Type 0
 NamesANode k found = (name_in found ≢ 0) × (name_in found - 1 < nodes_of k)
 
+-- how many times a pass found the slot's word changed
+abbrev pub changes_in : ℕ → Log → ℕ
+changes_in slot x = count_by (λ s. s == slot) x.changed
+
 -- From `least` to `most` steps of a seat with one pass: it saw more of the history and took these
 -- actions, and now it does this work
 pub record MakesSteps (m : Sat) (actions : List Action) (w : Work) (g : Glance) (c : Change)
@@ -121,6 +125,7 @@ pub record MakesSteps (m : Sat) (actions : List Action) (w : Work) (g : Glance) 
   pub asked : (pass_in m').asked ≡ (pass_in m).asked
   pub stock : (pass_in m').stock ≡ (pass_in m).stock
   pub met : (pass_in m).watch.met ≤ (pass_in m').watch.met
+  pub changes : (slot : ℕ) → changes_in slot (pass_in m) ≤ changes_in slot (pass_in m')
   pub work : m'.0.work ≡ w
   pub inside : IsInside m.0.start w
   pub glance : m'.0.glance ≡ g
@@ -146,10 +151,15 @@ pub record IsWatching (slot found : ℕ) (m : Sat) : Type 0 where
 abbrev pub MeetsOne : Sat → Sat → Type 0
 MeetsOne m m' = ((pass_in m).watch.met < (pass_in m').watch.met) × (1 < m.0.start.passes)
 
--- another pass acted at the slot since the pass saw its word, or heated the slot
+-- the pass found the slot's word changed
+abbrev pub FindsChange : ℕ → Sat → Sat → Type 0
+FindsChange slot m m' = changes_in slot (pass_in m) < changes_in slot (pass_in m')
+
+-- the pass found the slot's word changed: another pass acted at the slot since the pass saw the
+-- word, or heated the slot
 abbrev pub IsOvertaken : ℕ → Sat → Sat → Type 0
-IsOvertaken slot m m' =
-    HasActed slot (pass_in m).number (pass_in m).watch.front (pass_in m').front ⊎ MeetsOne m m'
+IsOvertaken slot m m' = FindsChange slot m m'
+    × (HasActed slot (pass_in m).number (pass_in m).watch.front (pass_in m').front ⊎ MeetsOne m m')
 
 -- a slot of the range has no file
 pub record HasGap (k : Start) (h : List Event) : Type 0 where

@@ -109,6 +109,7 @@ log_with p stock = record {
   asked = NotAsked;
   stock = stock;
   watch = new_watch;
+  changed = [];
 }
 
 abbrev pub new_log : Start → ℕ → Log

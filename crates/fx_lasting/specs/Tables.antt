@@ -17,7 +17,7 @@ use Rattle.fx_table.specs.declared.values.Retired.{Retired}
 use Rattle.fx_lasting.specs.AtWork.{IsAtWork}
 use Rattle.table_range.specs.Groups.{groups_in}
 use Rattle.fx_lasting.specs.Passes.{contents_of, first_log, range_at_start}
-use Rattle.fx_lasting.specs.Effects.{pass_in, new_round}
+use Rattle.fx_lasting.specs.Effects.{changes_in, pass_in, new_round}
 use Rattle.table_range.specs.declared.views.Survey.TheVariants.{Covered}
 use Rattle.table_range.specs.declared.views.Change.TheVariants.{Outside}
 use Rattle.fx_lasting.specs.declared.view.Glance.TheVariants.{None as Nothing}
@@ -85,6 +85,14 @@ steps_taken p = (first_log p.seat.me.0.logs).steps
 -- the number of the pass's steps that met another pass in the middle of a call
 abbrev pub meetings : LastingPass → ℕ
 meetings p = (first_log p.seat.me.0.logs).watch.met
+
+-- how many times the pass found the slot's word changed
+abbrev pub changes_at : ℕ → LastingPass → ℕ
+changes_at slot p = changes_in slot (first_log p.seat.me.0.logs)
+
+-- after a call the pass has met others, and found words changed, at least as often as before
+abbrev pub MeetsMore : LastingPass → LastingPass → Type 0
+MeetsMore p p' = (meetings p ≤ meetings p') × ((slot : ℕ) → changes_at slot p ≤ changes_at slot p')
 
 -- between two calls a pass is idle, maybe with a free node that it found, or keeps the node at its
 -- next entry, holds a file by a take or by its hold word, or has one to retire and has visited no

@@ -1,5 +1,5 @@
 -- The history of all passes of a table, and who uses a removed file, between any two steps.
-use Rattle.std.specs.Prelude.{◌≡◌, ℕ, ◌≤◌, List, [], ◌∷◌, length, Some}
+use Rattle.std.specs.Prelude.{◌≡◌, ◌⊎◌, ℕ, ◌<◌, ◌≤◌, List, [], ◌∷◌, length, Some}
 use mathlib.Core.Option.{some}
 use lib.ListN.{get_elem?}
 use Rattle.fx_plain.specs.History.{IsLegal, IsSeenBy, part_of_pass}
@@ -39,6 +39,9 @@ pub record IsOfAllPasses (k : Start) (s : Shared) (r : Agrees k s) : Type 0 wher
   pub legal : IsLegal (start_of (opening_of k)) r.history (state_at (opening_of k) r.history)
   pub start : IsStart (start_of (opening_of k))
   pub parts : (seat : ℕ) (pass : PassView) → IsPassAt s seat pass → IsPartOf pass r.history
+  -- no event has another author than a pass of the table
+  pub authors : (pass : ℕ) → (pass ≡ 0) ⊎ ((opening_of k).passes < pass)
+      → part_of_pass pass r.history ≡ []
   -- no number is closed twice, by whichever passes
   pub once : (number : ℕ) → length (closes_of number r.history) ≤ 1
   -- no pass has closed a file that a pass holds

@@ -11,8 +11,7 @@ pub enum Miss {
     Empty,
     /// The file at the slot was on another node.
     Other,
-    /// The file at the slot was on the node, but another pass was at the slot during the call: four
-    /// tries found that the slot's word had changed.
+    /// The file at the slot was on the node, but the slot's word changed during the call.
     Again,
 }
 
@@ -41,7 +40,7 @@ pub enum PutEmpty {
     Installed,
     /// The slot had a file. The new one comes back.
     HasFile(OpenFile),
-    /// The slot was empty, but another pass was there during the call. The file comes back.
+    /// The slot was empty, but another pass changed its word during the call. The file comes back.
     Lost(OpenFile),
 }
 

@@ -10,7 +10,7 @@ ghost use Rattle.fx_table.specs.Opening.{size_of};
 ghost use Rattle.fx_table.specs.Pass.{IsIdle, IsHoldOf, IsRetiredOf};
 ghost use Rattle.fx_table.specs.declared.values.LookFault.TheVariants.{Spent};
 ghost use Rattle.fx_lasting.specs.Fields.{count_in, full_name_in};
-ghost use Rattle.fx_lasting.specs.Tables.{view_of, meetings, steps_taken, retired_at};
+ghost use Rattle.fx_lasting.specs.Tables.{view_of, MeetsMore, steps_taken, retired_at};
 ghost use Rattle.fx_lasting.specs.Tables.{opening_of_table, IsPassOfTable, IsSeatOfTable};
 ghost use Rattle.fx_lasting.specs.Effects.{Found, Removes, first_visit, IsOnList};
 ghost use Rattle.fx_lasting.specs.Laws.{SwapsOutKeep, TakesOutKeep};
@@ -49,7 +49,7 @@ impl LastingTable {
             result.freed (view_of pass.new) }
         ensures never_spent { result.found ≢ Err Spent }
         ensures steps { steps_taken pass.new ≤ steps_taken pass.old + 9 }
-        ensures met { meetings pass.old ≤ meetings pass.new }
+        ensures met { MeetsMore pass.old pass.new }
     {
         self.settle(pass);
         let shared = &self.table.shared;
@@ -88,7 +88,7 @@ impl LastingTable {
             result.freed (view_of pass.new) }
         ensures never_spent { result.found ≢ Err Spent }
         ensures steps { steps_taken pass.new ≤ steps_taken pass.old + 7 }
-        ensures met { meetings pass.old ≤ meetings pass.new }
+        ensures met { MeetsMore pass.old pass.new }
     {
         match self.guard(&mut pass.seat, pass.number, slot, node) {
             Some(entry) => {
@@ -122,7 +122,7 @@ impl LastingTable {
             (view_of pass.new) }
         ensures never_spent { result ≢ Err Spent }
         ensures steps { steps_taken pass.new ≤ steps_taken pass.old + 2 }
-        ensures met { meetings pass.old ≤ meetings pass.new }
+        ensures met { MeetsMore pass.old pass.new }
     {
         let shared = &self.table.shared;
         let word = shared.fetch_add::<Taking>(&mut pass.seat, slot_place(slot), 1);
@@ -148,7 +148,7 @@ impl LastingTable {
         ensures released { Released (opening_of_table self.now) (view_of pass.old) hold result
             (view_of pass.new) }
         ensures steps { steps_taken pass.new ≤ steps_taken pass.old + 3 }
-        ensures met { meetings pass.old ≤ meetings pass.new }
+        ensures met { MeetsMore pass.old pass.new }
     {
         let Hold { node, entry: _ } = hold;
         pass.idle = true;

@@ -11,7 +11,7 @@ pub enum KeyFault {
     Empty,
     /// The slot has another file than that of the key.
     Other,
-    /// The slot has the file, but the slot's word changed before each of four tries.
+    /// The slot has the file, but the slot's word changed during the call.
     Again,
 }
 

@@ -37,6 +37,9 @@ pub struct Log {
     pub stock: LinkedList<u32>,
     /// The words that it watches.
     pub watch: Watch,
+    /// The slots whose words it found changed since it had seen them, by other passes, the newest
+    /// first.
+    pub changed: LinkedList<u32>,
 }
 
 /// The words that a pass watches for changes by other passes, as contracts see it. No value of it

@@ -5,7 +5,7 @@ use Rattle.fx_plain.specs.declared.event.Action.TheVariants.{Full}
 use Rattle.fx_table.specs.Calls.{Adds, no_use}
 use Rattle.fx_lasting.specs.Passes.{Sat}
 use Rattle.fx_lasting.specs.Runs.{Runs}
-use Rattle.fx_lasting.specs.Tables.{IsPassOfTable, opening_of_table, view_of, steps_taken, meetings}
+use Rattle.fx_lasting.specs.Tables.{IsPassOfTable, opening_of_table, view_of, steps_taken, MeetsMore}
 use Rattle.fx_lasting.specs.Effects.{as_asked}
 use Rattle.fx_lasting.specs.declared.pass.LastingPass.{LastingPass}
 use Rattle.fx_lasting.specs.declared.table.LastingTable.{LastingTable}
@@ -35,4 +35,4 @@ pub record HasAsked (t : LastingTable) (most : ℕ) (p : LastingPass) (sure : Bo
   pub adds : Adds (opening_of_table t) (view_of p) (if sure then [] ▷ Full else [])
       (view_of p).doing no_use (view_of p')
   pub steps : steps_taken p' ≤ steps_taken p + most
-  pub met : meetings p ≤ meetings p'
+  pub met : MeetsMore p p'

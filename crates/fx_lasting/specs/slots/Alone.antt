@@ -65,7 +65,7 @@ pub record RemovesAlone (k : Start) (p : LastingPass) (key : Key) (x : Retired)
   pub released_none : released ≡ None
 
 -- the pass held the file of the key, and released it: after its look-up the slot was empty; or had
--- a file on another node; or, for `Again`, had the file, and another pass was at the slot
+-- a file on another node; or, for `Again`, had the file, and the slot's word changed
 pub record LeftAlone (k : Start) (p : LastingPass) (key : Key) (fault : KeyFault)
     (freed released : Option Identity) (p' : LastingPass) : Type 0 where
   pub hold : Hold

@@ -1,6 +1,6 @@
 -- The call that installs a file at a slot if it is empty, and the one that checks whether all are
 -- full.
-use Rattle.std.specs.Prelude.{◌≡◌, ℕ, ◌⊎◌, Bool, true, false, List, [], Option, Some, None}
+use Rattle.std.specs.Prelude.{◌≡◌, ℕ, ◌≤◌, ◌⊎◌, Bool, true, false, List, [], Option, Some, None}
 use Rattle.fx_base.specs.Identity.{Identity}
 use Rattle.fx_plain.specs.History.{◌▷◌, IsSeenBy}
 use Rattle.fx_plain.specs.declared.event.Event.{Event}
@@ -12,7 +12,8 @@ use Rattle.fx_table.specs.declared.values.Doing.TheVariants.{Idle as DoesNothing
 use Rattle.fx_lasting.specs.Ends.{Does}
 use Rattle.fx_lasting.specs.slots.ByNode.{WasSo, HasMet, WasOvertaken, WasOvertakenIn}
 use Rattle.fx_lasting.specs.Passes.{Sat}
-use Rattle.fx_lasting.specs.Tables.{opening_of, view_of}
+use Rattle.fx_lasting.specs.slots.Watches.{HasReplaced}
+use Rattle.fx_lasting.specs.Tables.{opening_of, view_of, changes_at}
 use Rattle.fx_lasting.specs.Effects.{pass_in, HasGap, MeetsOne}
 use Rattle.fx_lasting.specs.Laws.{IsInRange}
 use Rattle.fx_lasting.specs.declared.answers.FoundSlot.{FoundSlot}
@@ -40,8 +41,14 @@ pub record PutsNothing (k : Start) (v : PassView) (slot : ℕ) (full : Bool) (w 
   pub was : WasSo k slot (FitsSight full) v.front w.front
   pub adds : Adds (opening_of k) v [] DoesNothing no_use w
 
+-- during a call another pass filled the slot or emptied it, or the pass found its word changed
+pub record WasLost (k : Start) (slot : ℕ) (p p' : LastingPass) : Type 0 where
+  pub changes : changes_at slot p ≤ changes_at slot p'
+  pub overtaken : HasReplaced slot (view_of p).number (view_of p).front (view_of p').front
+      ⊎ WasOvertaken k slot p p'
+
 -- the file was installed at a slot of the range that was empty, or comes back. It comes back from a
--- slot that was empty only if another pass was at the slot during the call
+-- slot that was empty only if another pass changed the slot's word during the call
 abbrev pub HasPutEmpty : Start → LastingPass → ℕ → Identity → PutEmpty → LastingPass → Type 0
 HasPutEmpty k p slot file Installed p' = (new : File)
     × IsNewFile (opening_of k) (view_of p) file new
@@ -49,7 +56,7 @@ HasPutEmpty k p slot file Installed p' = (new : File)
 HasPutEmpty k p slot file (HasFile back) p' =
     (back ≡ file) × PutsNothing k (view_of p) slot true (view_of p')
 HasPutEmpty k p slot file (Lost back) p' =
-    (back ≡ file) × PutsNothing k (view_of p) slot false (view_of p') × WasOvertaken k slot p p'
+    (back ≡ file) × PutsNothing k (view_of p) slot false (view_of p') × WasLost k slot p p'
 
 -- a slot of the range was empty after what was seen before, and within what is seen after
 pub record HadGap (k : Start) (before after : List Event) : Type 0 where

@@ -13,7 +13,7 @@ use Rattle.fx_table.specs.declared.values.LookFault.TheVariants.{Empty as EmptyS
 use Rattle.fx_lasting.specs.slots.ByNode.{HasMet, IsOn}
 use Rattle.fx_lasting.specs.nodes.Labels.{number_of_mark}
 use Rattle.fx_lasting.specs.Passes.{slots_of}
-use Rattle.fx_lasting.specs.Tables.{opening_of, view_of}
+use Rattle.fx_lasting.specs.Tables.{opening_of, view_of, changes_at}
 use Rattle.fx_lasting.specs.slots.Watches.{HasActed}
 use Rattle.fx_lasting.specs.declared.answers.Miss.{Miss}
 use Rattle.fx_lasting.specs.declared.answers.Miss.TheVariants as miss
@@ -116,8 +116,8 @@ fault_for miss.Empty = Empty
 fault_for miss.Other = Other
 fault_for miss.Again = Again
 
--- the holder had found the file of the key, and afterwards another pass than that of the call acted
--- at the slot, or heated it
+-- the holder had found the file of the key, and during the call the pass of the call found the
+-- slot's word changed: after the look-up another pass acted at the slot, or heated it
 pub record OvertakenByKey (k : Start) (vh : PassView) (key : Key) (freed : Option Identity)
     (p p' : LastingPass) : Type 0 where
   pub file : File
@@ -125,10 +125,12 @@ pub record OvertakenByKey (k : Start) (vh : PassView) (key : Key) (freed : Optio
   pub between : PassView
   pub its_key : IsKeyOf key file
   pub held : HoldsAtKey k vh key file hold freed between
+  pub changed : changes_at key.slot p < changes_at key.slot p'
   pub overtaken : HasActed key.slot (view_of p).number between.front (view_of p').front
       ⊎ HasMet k p p'
 
--- a call by key leaves the file of the key only if another pass was at the slot after the look-up
+-- a call by key leaves the file of the key only if another pass changed the slot's word during the
+-- call
 abbrev pub TriesKey : Start → PassView → Key → KeyFault → Option Identity
     → LastingPass → LastingPass → Type 0
 TriesKey k vh key Again freed p p' = OvertakenByKey k vh key freed p p'

@@ -24,10 +24,10 @@ use Rattle.fx_lasting.specs.Laws.{Kind}
 use Rattle.fx_lasting.specs.life.Layout.{slot_place}
 use Rattle.fx_lasting.specs.Passes.{Sat, nodes_of, node_of_number, state_after_all}
 use Rattle.fx_lasting.specs.Runs.{Runs}
-use Rattle.fx_lasting.specs.Tables.{opening_of, view_of, meetings}
+use Rattle.fx_lasting.specs.Tables.{opening_of, view_of, changes_at, meetings}
 use Rattle.fx_lasting.specs.nodes.Stocks.{IsInStock, IsStockOf}
 use Rattle.fx_lasting.specs.Effects.{At, Sees, as_stocked, as_swapped, pass_in, retiring_work}
-use Rattle.fx_lasting.specs.Effects.{MeetsOne, slot_of}
+use Rattle.fx_lasting.specs.Effects.{FindsChange, MeetsOne, slot_of}
 use Rattle.fx_lasting.specs.slots.Watches.{HasActed}
 use Rattle.fx_lasting.specs.declared.pass.LastingPass.{LastingPass}
 use Rattle.fx_lasting.specs.declared.answers.Miss.{Miss}
@@ -84,12 +84,12 @@ HasPutIf k v slot node file (put.Missed miss back) w =
 abbrev pub HasMet : Start → LastingPass → LastingPass → Type 0
 HasMet k p p' = (meetings p < meetings p') × (1 < k.passes)
 
--- during a call another pass acted at the slot (a look-up is such an action), or was met
+-- during a call the pass found the slot's word changed: another pass acted at the slot, or was met
 abbrev pub WasOvertaken : Start → ℕ → LastingPass → LastingPass → Type 0
-WasOvertaken k slot p p' =
-    HasActed slot (view_of p).number (view_of p).front (view_of p').front ⊎ HasMet k p p'
+WasOvertaken k slot p p' = (changes_at slot p < changes_at slot p')
+    × (HasActed slot (view_of p).number (view_of p).front (view_of p').front ⊎ HasMet k p p')
 
--- a call leaves a file that is there only if another pass was at the slot during the call
+-- a call leaves a file that is there only if another pass changed the slot's word during the call
 abbrev pub HasTriedIf : Start → ℕ → Miss → LastingPass → LastingPass → Type 0
 HasTriedIf k slot Again p p' = WasOvertaken k slot p p'
 HasTriedIf k slot Empty p p' = Unit {0}
@@ -122,10 +122,10 @@ SawIf k slot node m (Ok word) m' =
 SawIf k slot node m (Err miss) m' =
     WasIn k slot node miss m m' × Does m [] m.0.work 1 m' × (miss ≢ Again)
 
--- in some steps another pass acted at the slot, or was met
+-- in some steps the pass found the slot's word changed: another pass acted there, or was met
 abbrev pub WasOvertakenIn : ℕ → Sat → Sat → Type 0
-WasOvertakenIn slot m m' =
-    HasActed slot (pass_in m).number (pass_in m).front (pass_in m').front ⊎ MeetsOne m m'
+WasOvertakenIn slot m m' = FindsChange slot m m'
+    × (HasActed slot (pass_in m).number (pass_in m).front (pass_in m').front ⊎ MeetsOne m m')
 
 -- why the last of some tries failed; the first word was seen before
 abbrev pub FailedIf : Start → ℕ → ℕ → Miss → Sat → Sat → Type 0

@@ -21,14 +21,31 @@ ActsAt slot (Take s found) = s ≡ slot
 ActsAt slot (Allocate s new) = s ≡ slot
 ActsAt slot _ = ⊥
 
--- after one history and within a later one, another pass than this one acted at the slot
-pub record HasActed (slot number : ℕ) (before after : List Event) : Type 0 where
+-- the action fills the slot or empties it
+abbrev pub ReplacesAt : ℕ → Action → Type 0
+ReplacesAt slot (Put s new found) = s ≡ slot
+ReplacesAt slot (Clear s found) = s ≡ slot
+ReplacesAt slot (Take s found) = s ≡ slot
+ReplacesAt slot (Allocate s new) = s ≡ slot
+ReplacesAt slot _ = ⊥
+
+-- after one history and within a later one, another pass than this one took such an action
+pub record AnotherDid (Does : Action → Type 0) (number : ℕ) (before after : List Event)
+    : Type 0 where
   pub history : List Event
   pub event : Event
   pub later : IsSeenBy before history
   pub seen : IsSeenBy (history ▷ event) after
   pub another : event.pass ≢ number
-  pub there : ActsAt slot event.action
+  pub there : Does event.action
+
+-- another pass acted at the slot
+abbrev pub HasActed : (slot number : ℕ) → (before after : List Event) → Type 0
+HasActed slot number before after = AnotherDid (ActsAt slot) number before after
+
+-- another pass filled the slot or emptied it
+abbrev pub HasReplaced : (slot number : ℕ) → (before after : List Event) → Type 0
+HasReplaced slot number before after = AnotherDid (ReplacesAt slot) number before after
 
 -- another pass heated the slot: its look-up is under way, or held a file there
 abbrev pub HasHeated : Start → ℕ → ℕ → Type 0

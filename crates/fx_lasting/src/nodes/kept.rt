@@ -16,7 +16,7 @@ ghost use Rattle.fx_lasting.specs.nodes.Labels.{label_of, as_written};
 ghost use Rattle.fx_lasting.specs.life.Layout.{node_place};
 ghost use Rattle.fx_lasting.specs.Fields.{most_carried};
 ghost use Rattle.fx_lasting.specs.Passes.{nodes_of};
-ghost use Rattle.fx_lasting.specs.Tables.{view_of, steps_taken, meetings, IsPassOfTable};
+ghost use Rattle.fx_lasting.specs.Tables.{view_of, steps_taken, MeetsMore, IsPassOfTable};
 ghost use Rattle.fx_lasting.specs.Effects.{pass_in};
 ghost use Rattle.fx_lasting.specs.declared.view.Work.TheVariants.{Emptying, Placing};
 
@@ -147,7 +147,7 @@ impl LastingTable {
         ensures unkept { pass.new.keeps ≡ false }
         ensures steps { steps_taken pass.new ≤ steps_taken pass.old + 1 }
         ensures begun { steps_taken pass.old ≤ steps_taken pass.new }
-        ensures met { meetings pass.old ≤ meetings pass.new }
+        ensures met { MeetsMore pass.old pass.new }
     {
         if pass.keeps {
             let node = pass.stock[pass.next_entry as usize];

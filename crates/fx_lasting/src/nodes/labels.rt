@@ -6,7 +6,7 @@ ghost use Rattle.fx_table.specs.Pass.{IsHoldOf};
 ghost use Rattle.fx_table.specs.declared.values.Doing.TheVariants.{Holding};
 ghost use Rattle.fx_lasting.specs.nodes.Labels.{number_of_mark};
 ghost use Rattle.fx_lasting.specs.Passes.{node_of_number};
-ghost use Rattle.fx_lasting.specs.Tables.{view_of, meetings, steps_taken, IsPassOfTable};
+ghost use Rattle.fx_lasting.specs.Tables.{view_of, MeetsMore, steps_taken, IsPassOfTable};
 
 use crate::kinds::{ReadingNumber, ReadingTag};
 use crate::pass::LastingPass;
@@ -45,7 +45,7 @@ impl LastingTable {
         ensures node { (f : File) → (view_of pass.old).doing ≡ Holding f hold.now
             → node_of_number self.now.table.shared.key f.number ≡ hold.now.node }
         ensures steps { steps_taken pass.new ≤ steps_taken pass.old + 1 }
-        ensures met { meetings pass.old ≤ meetings pass.new }
+        ensures met { MeetsMore pass.old pass.new }
     {
         let place = self.number_place(hold.node);
         self.table

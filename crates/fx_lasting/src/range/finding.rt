@@ -4,7 +4,7 @@ ghost use Rattle.std.specs.Prelude.{◌≡◌, ℕ, ◌+◌, ◌-◌, ◌*◌, �
 ghost use Rattle.fx_table.specs.Pass.{IsIdle};
 ghost use Rattle.fx_lasting.specs.AtWork.{IsAtWork};
 ghost use Rattle.table_range.specs.Groups.{groups_in};
-ghost use Rattle.fx_lasting.specs.Tables.{view_of, steps_taken, IsPassOfTable};
+ghost use Rattle.fx_lasting.specs.Tables.{MeetsMore, view_of, steps_taken, IsPassOfTable};
 ghost use Rattle.fx_lasting.specs.Laws.{IsInRange};
 ghost use Rattle.fx_lasting.specs.range.Scans.{EachFrom, EachInGroup, EachInRange, WasFull};
 ghost use Rattle.fx_lasting.specs.range.Tries.{group_steps, scan_steps};
@@ -32,6 +32,7 @@ impl LastingTable {
         requires numbers { 0 < (view_of pass.old).numbers_left }
         ensures fits { IsPassOfTable self.now pass.new }
         ensures found { HasSearched self.now.table.shared.key pass.old result pass.new }
+        ensures met { MeetsMore pass.old pass.new }
         ensures steps { let len = self.now.range_len in
             steps_taken pass.new ≤ steps_taken pass.old + (scan_steps len + groups_in len + 4) }
     {

@@ -8,7 +8,7 @@ ghost use Rattle.table_range.specs.Groups.{groups_in};
 ghost use Rattle.table_range.specs.declared.groups.TheConstants.{MOST_GROUPS};
 ghost use Rattle.fx_lasting.specs.range.Questions.{HasAsked};
 ghost use Rattle.fx_lasting.specs.declared.life.layout.TheConstants.{MOST_PASSES};
-ghost use Rattle.fx_lasting.specs.Tables.{view_of, steps_taken, meetings, opening_of_table, IsPassOfTable};
+ghost use Rattle.fx_lasting.specs.Tables.{view_of, steps_taken, MeetsMore, opening_of_table, IsPassOfTable};
 ghost use Rattle.fx_lasting.specs.slots.AtEmpty.{FailsToFill, FellShort, GivesUpFor};
 ghost use Rattle.fx_lasting.specs.range.Tries.{IsPlacing, Tries, HasAllocated, StillPlaces, TriedSo};
 ghost use Rattle.fx_lasting.specs.range.Tries.{without_asking, group_steps, scan_steps};
@@ -90,6 +90,7 @@ impl LastingTable {
             steps_taken pass.new ≤ steps_taken pass.old + (passes + scan_steps len
             + groups_in len + 8) }
         ensures short { GivesUpFor self.now.table.shared.key pass.old result pass.new }
+        ensures met { MeetsMore pass.old pass.new }
     {
         if self.is_still_full(pass) {
             return TriedPut::Full(file);
@@ -117,7 +118,7 @@ impl LastingTable {
             (without_asking result) (view_of pass.new) }
         ensures steps { let passes = self.now.passes in let len = self.now.range_len in
             steps_taken pass.new ≤ steps_taken pass.old + (passes + scan_steps len + 4) }
-        ensures met { meetings pass.old ≤ meetings pass.new }
+        ensures met { MeetsMore pass.old pass.new }
         ensures fails { let k = self.now.table.shared.key in IfErr result (λ back.
             EachInRange k (FailsToFill k pass.old.seat.me pass.new.seat.me)) }
     {

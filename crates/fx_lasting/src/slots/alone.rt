@@ -34,8 +34,8 @@ impl LastingTable {
     /// Empties the slot of the file of a key for a close (io_uring_prep_close(3),
     /// `io_uring_prep_close_direct`), for an idle pass (`is_idle`), in at most 25 atomic steps. The
     /// removed file is the one that the pass found by the key, and is to be retired. Otherwise the
-    /// slot is left as it is, and the pass is idle again. The answer is `Again` only if another
-    /// pass was at the slot after the look-up.
+    /// slot is left as it is, and the pass is idle again. The answer is `Again` only if the slot's
+    /// word changed during the call.
     #[inline(always)]
     pub fn take_key(&self, pass: &mut LastingPass, key: Key) -> KeyTaken
         requires fits { IsPassOfTable self.now pass.old }

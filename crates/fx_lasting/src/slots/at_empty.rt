@@ -31,7 +31,7 @@ impl LastingTable {
     /// number that no file has had, for an idle pass (`is_idle`) that installs files
     /// (`numbers_left`). It makes at most eight atomic steps more than the table has passes.
     /// Otherwise nothing changes, and the file comes back: the slot has a file, or another pass
-    /// was at the slot during the call. A table with one pass never answers `Lost`.
+    /// changed its word during the call. A table with one pass never answers `Lost`.
     pub fn put_empty(&self, pass: &mut LastingPass, slot: u32, file: OpenFile) -> PutEmpty
         requires fits { IsPassOfTable self.now pass.old }
         requires idle { IsIdle (view_of pass.old) }

@@ -5,7 +5,7 @@ ghost use Rattle.fx_table.specs.Calls.{Allocated, Placed};
 ghost use Rattle.fx_table.specs.Opening.{size_of};
 ghost use Rattle.fx_table.specs.Pass.{IsIdle};
 ghost use Rattle.fx_lasting.specs.slots.ByKey.{IsKeyOfMark, LookedByKey, fault_for, key_at, slot_found};
-ghost use Rattle.fx_lasting.specs.Tables.{view_of, meetings, steps_taken, opening_of_table, IsPassOfTable};
+ghost use Rattle.fx_lasting.specs.Tables.{view_of, MeetsMore, steps_taken, opening_of_table, IsPassOfTable};
 
 use crate::answers::Miss;
 use crate::key::Key;
@@ -31,7 +31,7 @@ impl LastingTable {
         ensures looked { LookedByKey self.now.table.shared.key (view_of pass.old) key
             result.found result.freed result.released (view_of pass.new) }
         ensures steps { steps_taken pass.new ≤ steps_taken pass.old + 13 }
-        ensures met { meetings pass.old ≤ meetings pass.new }
+        ensures met { MeetsMore pass.old pass.new }
     {
         if self.size <= key.slot {
             return KeyLook {

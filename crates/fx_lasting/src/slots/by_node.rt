@@ -4,7 +4,7 @@
 //!
 //! A call loads the slot's word. If the word names the node, the call exchanges it for another one.
 //! A look-up in between changes the word: the call tries again with the word that it found, four
-//! times in all. It returns `Again` only if another pass was at the slot during the call.
+//! times in all. It returns `Again` only if the slot's word changed during the call.
 //! While a file stays at its slot, look-ups change the word at most 16 times, and twice for each
 //! pass (`words_are_bounded`).
 ghost use Rattle.std.specs.Prelude.{◌≡◌, ℕ, ◌+◌, ◌<◌, ◌≤◌};

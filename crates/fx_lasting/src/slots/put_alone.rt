@@ -14,7 +14,7 @@ ghost use Rattle.fx_lasting.specs.Ends.{LetsFileGo};
 ghost use Rattle.fx_lasting.specs.Passes.{held_in, HoldsOn, is_guarding};
 ghost use Rattle.fx_lasting.specs.slots.PutAlone.{AimedAt, Compared, HoldsBeside, IsBeside, PutsAlone, aim_at};
 ghost use Rattle.fx_lasting.specs.slots.PutAlone.{Renews, TriedRenewal};
-ghost use Rattle.fx_lasting.specs.Tables.{view_of, meetings, steps_taken, opening_of_table, IsPassOfTable, IsSeatOfTable};
+ghost use Rattle.fx_lasting.specs.Tables.{view_of, MeetsMore, steps_taken, opening_of_table, IsPassOfTable, IsSeatOfTable};
 ghost use Rattle.table_range.specs.declared.views.Change.TheVariants.{Outside};
 ghost use Rattle.fx_lasting.specs.declared.view.Glance.TheVariants.{None as Nothing, Cold};
 ghost use Rattle.fx_lasting.specs.declared.view.Placement.{Placement};
@@ -42,7 +42,7 @@ impl LastingTable {
     /// installs files (`numbers_left`). It makes at most 26 atomic steps more than twice as many as
     /// the table has passes. The replaced file is the one that the pass found by the key, and is to
     /// be retired. Otherwise the slot is left as it is, the new file comes back, and the pass is
-    /// idle again. The answer is `Again` only if another pass was at the slot after the look-up.
+    /// idle again. The answer is `Again` only if the slot's word changed during the call.
     #[inline(always)]
     pub fn put_over_key(&self, pass: &mut LastingPass, key: Key, file: OpenFile) -> KeyPut
         requires fits { IsPassOfTable self.now pass.old }
@@ -90,7 +90,7 @@ impl LastingTable {
         ensures listed { pass.new.listed ≡ true }
         ensures number { pass.new.number ≡ pass.old.number }
         ensures steps { steps_taken pass.new ≤ steps_taken pass.old + 1 }
-        ensures met { meetings pass.old ≤ meetings pass.new }
+        ensures met { MeetsMore pass.old pass.new }
     {
         if pass.listed {
             return;
@@ -142,7 +142,7 @@ impl LastingTable {
             key hot file result pass.new }
         ensures steps { let passes = self.now.passes in
             steps_taken pass.new ≤ steps_taken pass.old + (passes + 15) }
-        ensures met { meetings pass.old ≤ meetings pass.new }
+        ensures met { MeetsMore pass.old pass.new }
     {
         let stock = pass.stock.as_slice();
         let start = pass.next_entry;
@@ -207,7 +207,7 @@ impl LastingTable {
             result.released pass.new }
         ensures steps { let passes = self.now.passes in
             steps_taken pass.new ≤ steps_taken pass.old + (passes + 15) }
-        ensures met { meetings pass.old ≤ meetings pass.new }
+        ensures met { MeetsMore pass.old pass.new }
     {
         let renewed = self.renew(pass, key, None, file);
         let Renewal::Ends(put, released) = renewed else {
