@@ -4,20 +4,21 @@ use Rattle.fx_lasting.proofs.Words.{alone_in, ◌≡◌, ◌≢◌, ℕ, ◌+◌
 use Rattle.fx_lasting.proofs.Words.{Event, range_at_start, IsAllowed, Agrees, RangeCounts, Survey, slots_of, state_after_all}
 use Rattle.fx_lasting.proofs.Words.{held_in, held_of, taken_of, taking, Work, Glance, Change, ◌⊎◌, inr, word_of, hold_word_of, count_in}
 use Rattle.fx_lasting.proofs.Words.{name_in, full_name_in, HoldAgrees, GuardAgrees, WorkAgrees, sum_set, length-set, set-get_or}
-use Rattle.fx_lasting.proofs.Words.{[], IsSeenBy, part_of_pass, ◌≤◌, inl, true, list_place, IsListedIn, Watch, WatchAgrees}
+use Rattle.fx_lasting.proofs.Words.{[], IsSeenBy, part_of_pass, ◌≤◌, inl, true, list_place, IsListedIn, Watch, WatchAgrees, changes_in}
 use Rattle.fx_lasting.proofs.Frames.{busy, nodes_untouched, slot_same, node_same, Leaves, keeps_other, guards_same, covers_same, sees_same}
 use Rattle.fx_lasting.proofs.Keeping.{Turn, After, as_it_was, Keeps, word_at, slot_word, step_kept, w, end, its_log, in_range, stocks_untouched}
-use Rattle.fx_lasting.proofs.Keeping.{LabelSame, end_read, node_in, met_same, range_left, LeavesFiles}
+use Rattle.fx_lasting.proofs.Keeping.{LabelSame, end_read, node_in, met_same, found_same, range_left, LeavesFiles}
 use Rattle.fx_lasting.proofs.slot_lemmas.Watching.{watch_same}
 use Rattle.fx_lasting.proofs.hold_lemmas.Lists.{ListGoesOn}
 use Rattle.fx_lasting.proofs.Places.{hold_words, hold_here, hold_node, hold_slot, hold_else, hold_alike, hold_list, hold_label}
 
-module _ (turn : Turn) (h' front : List Event) (words' : List ℕ) (d : Work) (g : Glance) (c : Change) (q : Survey) (l : Bool)
+module _ (turn : Turn) (found : List ℕ) (more_found : (s : ℕ) → changes_in s turn.x ≤ changes_in s (record turn.x { changed = found }))
+    (h' front : List Event) (words' : List ℕ) (d : Work) (g : Glance) (c : Change) (q : Survey) (l : Bool)
     (still : turn.x.listed ≡ true → l ≡ true) (o : Watch) (more : turn.x.watch.met ≤ o.met) where
   open turn use {st, v, r, id, x, here, one}
 
-  abbrev pub calm_after : After turn
-  calm_after = record (as_it_was turn) {
+  abbrev pub finding_after : After turn
+  finding_after = record (as_it_was turn) {
     h = h';
     front = front;
     words = words';
@@ -29,6 +30,8 @@ module _ (turn : Turn) (h' front : List Event) (words' : List ℕ) (d : Work) (g
     still_listed = still;
     watch = o;
     more_met = more;
+    changed = found;
+    more_changed = more_found;
   }
 
   pub record Calm : Type 0 where
@@ -40,7 +43,7 @@ module _ (turn : Turn) (h' front : List Event) (words' : List ℕ) (d : Work) (g
     pub node_words : (n : ℕ) → word_at words' (word_of v.start n) ≡ word_at st.words (word_of v.start n)
     pub label_words : (n : ℕ) → LabelSame v.start words' st.words n
     pub hold_words : (p : ℕ) → p ≢ x.number → 0 < p → word_at words' (hold_word_of v.start p) ≡ word_at st.words (hold_word_of v.start p)
-    pub counts : RangeCounts (state_after_all v.start h').at (range_at_start v.start) (set st.views id (w turn calm_after)) words'
+    pub counts : RangeCounts (state_after_all v.start h').at (range_at_start v.start) (set st.views id (w turn finding_after)) words'
     pub taken : (n : ℕ) → taking n d ≡ taking n v.work
     pub owners : (alone_in d ≡ alone_in v.work) ⊎ (busy v.work ≡ 0)
     pub held : held_by h' x.number ≡ held_in d
@@ -48,18 +51,18 @@ module _ (turn : Turn) (h' front : List Event) (words' : List ℕ) (d : Work) (g
     pub lists : (p : ℕ) → p ≤ 1024 → ListGoesOn x.number l p (word_at st.words (list_place p)) (word_at words' (list_place p))
     pub its_bit : l ≡ true → (x.listed ≡ true) ⊎ IsListedIn (word_at words' (list_place x.number)) x.number
     pub watches : WatchAgrees v.start h' words' x.number o
-    pub its : Keeps turn calm_after id x.number d g
-    pub holds : (n : ℕ) → (state_after_all v.start h').holds n + held_of n v ≡ (state_after_all v.start r.history).holds n + held_of n (w turn calm_after)
+    pub its : Keeps turn finding_after id x.number d g
+    pub holds : (n : ℕ) → (state_after_all v.start h').holds n + held_of n v ≡ (state_after_all v.start r.history).holds n + held_of n (w turn finding_after)
 
-  pub calm_kept : Calm → Agrees v.start (end turn calm_after)
-  calm_kept s = let at_is : (i : ℕ) → (state_after_all v.start h').at i ≡ (state_after_all v.start r.history).at i =
-      λ i. ap (λ (f : ℕ → Option File). f i) s.files.at in step_kept turn calm_after record {
+  pub finding_kept : Calm → Agrees v.start (end turn finding_after)
+  finding_kept s = let at_is : (i : ℕ) → (state_after_all v.start h').at i ≡ (state_after_all v.start r.history).at i =
+      λ i. ap (λ (f : ℕ → Option File). f i) s.files.at in step_kept turn finding_after record {
         words = s.words;
         homes = refl;
         life = record { grows = s.files.grows; legal = s.files.legal; seen = s.seen; own = s.own };
-        nodes = nodes_untouched turn (w turn calm_after) s.files s.label_words s.owners
+        nodes = nodes_untouched turn (w turn finding_after) s.files s.label_words s.owners
             (λ n l. node_same (slots_of v.start) r.node_of n (omega arith) (s.node_words n)
-            (let t = sum_set (taken_of n) st.views id v (w turn calm_after) here in let e = s.taken n in omega arith)
+            (let t = sum_set (taken_of n) st.views id v (w turn finding_after) here in let e = s.taken n in omega arith)
             refl refl (r.phase n) (λ i f is there. (at_is i, ap count_in (s.slot_words i (node_in r l is).inside))) (r.nodes.each n l));
         stocks = stocks_untouched turn words' (λ i l. ap name_in (s.slot_words i l));
         slots = record {
@@ -67,7 +70,7 @@ module _ (turn : Turn) (h' front : List Event) (words' : List ℕ) (d : Work) (g
           moves = λ i l. inl (s.slot_words i l);
         };
         holds = record {
-          others = λ j u z other there at n range o work. keeps_other turn calm_after leaves j u z other there at n range o work;
+          others = λ j u z other there at n range o work. keeps_other turn finding_after leaves j u z other there at n range o work;
           its = s.its;
           held = s.held;
           allowed = s.allowed;
@@ -78,14 +81,24 @@ module _ (turn : Turn) (h' front : List Event) (words' : List ℕ) (d : Work) (g
         watch = s.watches;
       }
     where
-      leaves : Leaves turn calm_after
+      leaves : Leaves turn finding_after
       leaves = record {
-        guards = λ p e other range. guards_same turn calm_after p e (s.hold_words p other range.0) refl (covers_same turn words' s.slot_words p);
+        guards = λ p e other range. guards_same turn finding_after p e (s.hold_words p other range.0) refl (covers_same turn words' s.slot_words p);
         owned = λ n some not_mine. refl;
         spare = λ n p e is at other. is;
         open_file = λ j u f n other there holds at. at;
         slots = λ i p l other. inr (refl, ap full_name_in (s.slot_words i l), λ hot. rw (s.slot_words i l) hot);
       }
+
+-- A step after which the pass has found no other word changed
+abbrev pub calm_after : (turn : Turn) (h' front : List Event) (words' : List ℕ) (d : Work) (g : Glance) (c : Change) (q : Survey) (l : Bool)
+    → (turn.x.listed ≡ true → l ≡ true) → (o : Watch) → turn.x.watch.met ≤ o.met → After turn
+calm_after turn = finding_after turn turn.x.changed (found_same turn.x)
+
+pub calm_kept : (turn : Turn) (h' front : List Event) (words' : List ℕ) (d : Work) (g : Glance) (c : Change) (q : Survey) (l : Bool)
+    (still : turn.x.listed ≡ true → l ≡ true) (o : Watch) (more : turn.x.watch.met ≤ o.met)
+    → Calm turn turn.x.changed (found_same turn.x) h' front words' d g c q l still o more → Agrees turn.v.start (end turn (calm_after turn h' front words' d g c q l still o more))
+calm_kept turn h' front words' d g c q l still o more s = finding_kept turn turn.x.changed (found_same turn.x) h' front words' d g c q l still o more s
 
 -- A step on the pass's own hold word
 module _ (turn : Turn) (new : ℕ) (d : Work) where
@@ -142,12 +155,13 @@ module _ (turn : Turn) (new : ℕ) (d : Work) where
 module _ (turn : Turn) (d : Work) (g : Glance) where
   open turn use {st, v, r, id, x, here, one}
 
-  -- after which it watches this
-  abbrev pub read_watching : (o : Watch) → x.watch.met ≤ o.met → (h' front : List Event) → After turn
-  read_watching o more h' front = calm_after turn h' front st.words d g v.change x.asked x.listed (λ l. l) o more
+  -- after which it has found these words changed, and watches this
+  abbrev pub read_finding : (found : List ℕ) → ((s : ℕ) → changes_in s x ≤ changes_in s (record x { changed = found })) → (o : Watch) → x.watch.met ≤ o.met
+      → (h' front : List Event) → After turn
+  read_finding found more_found o more h' front = finding_after turn found more_found h' front st.words d g v.change x.asked x.listed (λ l. l) o more
 
   abbrev pub read_before : (h' front : List Event) → After turn
-  read_before h' front = read_watching x.watch (met_same x.watch.met) h' front
+  read_before h' front = read_finding x.changed (found_same x) x.watch (met_same x.watch.met) h' front
 
   abbrev pub read_after : (h' : List Event) → After turn
   read_after h' = read_before h' h'
@@ -162,11 +176,12 @@ module _ (turn : Turn) (d : Work) (g : Glance) where
     pub holds : (n : ℕ) → (state_after_all v.start h').holds n + held_of n v
         ≡ (state_after_all v.start r.history).holds n + held_of n (w turn (read_after h'))
 
-  pub read_watching_kept : {h' : List Event} (o : Watch) (more : x.watch.met ≤ o.met) (front : List Event) (i : ℕ) → IsSeenBy front h'
+  pub read_finding_kept : {h' : List Event} (found : List ℕ) (more_found : (s : ℕ) → changes_in s x ≤ changes_in s (record x { changed = found }))
+      (o : Watch) (more : x.watch.met ≤ o.met) (front : List Event) (i : ℕ) → IsSeenBy front h'
       → part_of_pass x.number h' ≡ part_of_pass x.number front → WatchAgrees v.start h' st.words x.number o → Reads h'
-      → Agrees v.start (end_read turn (read_watching o more h' front) i)
-  read_watching_kept {h'} o more front i seen own watches s =
-      rw (set-get_or st.words i 0) (calm_kept turn h' front st.words d g v.change x.asked x.listed (λ l. l) o more record {
+      → Agrees v.start (end_read turn (read_finding found more_found o more h' front) i)
+  read_finding_kept {h'} found more_found o more front i seen own watches s =
+      rw (set-get_or st.words i 0) (finding_kept turn found more_found h' front st.words d g v.change x.asked x.listed (λ l. l) o more record {
         words = refl;
         files = s.files;
         seen = seen;
@@ -175,7 +190,7 @@ module _ (turn : Turn) (d : Work) (g : Glance) where
         node_words = λ n. refl;
         label_words = λ n. (refl, refl);
         hold_words = λ p other more. refl;
-        counts = range_left turn (read_watching o more h' front) s.files.at (refl, λ g l. refl) refl refl;
+        counts = range_left turn (read_finding found more_found o more h' front) s.files.at (refl, λ g l. refl) refl refl;
         taken = s.taken;
         owners = s.owners;
         held = s.held;
@@ -190,7 +205,7 @@ module _ (turn : Turn) (d : Work) (g : Glance) where
   -- the pass may see no more than before
   pub read_before_kept : {h' : List Event} (front : List Event) (i : ℕ) → IsSeenBy front h' → part_of_pass x.number h' ≡ part_of_pass x.number front
       → Reads h' → Agrees v.start (end_read turn (read_before h' front) i)
-  read_before_kept {h'} front i seen own s = read_watching_kept x.watch (met_same x.watch.met) front i seen own
+  read_before_kept {h'} front i seen own s = read_finding_kept x.changed (found_same x) x.watch (met_same x.watch.met) front i seen own
       (watch_same v.start x.number (s.files.grows.seen r.history ([], refl)) (λ s l. refl) refl x.watch (its_log turn).watch) s
 
   pub read_kept : {h' : List Event} (i : ℕ) → Reads h' → Agrees v.start (end_read turn (read_after h') i)

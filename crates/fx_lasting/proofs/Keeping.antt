@@ -7,13 +7,17 @@ use Rattle.fx_lasting.proofs.Words.{Bool, true, ⊎_elim, held_by, IsSeenBy, at_
 use Rattle.fx_lasting.proofs.Words.{ViewAgrees, Agrees, RangeCounts, HoldAgrees, GuardAgrees, GlanceAgrees, Heats, IsAllowed, count_in, word_of}
 use Rattle.fx_lasting.proofs.Words.{hold_word_of, Shared, slots_of, nodes_of, range_at_start, state_after_all, IsHistory, held_in, held_of, taken_of}
 use Rattle.fx_lasting.proofs.Words.{owed, Stepped, IsInside, pass_event, Phase, free, removed_in, Change, Glance, Log, View, Work, IsInStock, name_in}
-use Rattle.fx_lasting.proofs.Words.{first_log, Whereabouts, in_stock, NamesItsNode, StockAgrees, ◌⊎◌, list_place, IsListedIn, Deed, untouched, Watch}
+use Rattle.fx_lasting.proofs.Words.{first_log, Whereabouts, in_stock, NamesItsNode, StockAgrees, ◌⊎◌, list_place, IsListedIn, Deed, untouched, Watch, changes_in}
 use Rattle.fx_lasting.proofs.Words.{WatchAgrees, Survey, as_asked, Labels, written_in, MOST_SLOTS, HasSeen, its_pass, its_range, not_there, seats}
 use Rattle.table_range.proofs.Counting.{AskAlike, CountAlike, counts_same, moved_one}
 use Rattle.fx_lasting.proofs.Histories.{Grows, grows_none, legal_before}
 use Rattle.fx_lasting.proofs.hold_lemmas.Lists.{ListGoesOn, stays_listed, was_listed}
 use Rattle.fx_lasting.proofs.slot_lemmas.Watching.{MovesOn, watch_on}
 use Rattle.table_seats.proofs.Together.{stepped as seats_step}
+
+-- as many changes as before
+pub found_same : (x : Log) (s : ℕ) → changes_in s x ≤ changes_in s x
+found_same x s = met_same (changes_in s x)
 
 module _ (turn : Turn) where
   open turn use {st, v, r, id, x, here, one}
@@ -66,6 +70,8 @@ module _ (turn : Turn) where
     pub stock : List ℕ
     pub watch : Watch
     pub more_met : x.watch.met ≤ watch.met
+    pub changed : List ℕ
+    pub more_changed : (s : ℕ) → changes_in s x ≤ changes_in s (record x { changed = changed })
 
   -- as they are before the step, of which the pass sees all
   abbrev pub as_it_was : After
@@ -88,6 +94,8 @@ module _ (turn : Turn) where
     stock = x.stock;
     watch = x.watch;
     more_met = met_same x.watch.met;
+    changed = x.changed;
+    more_changed = found_same x;
   }
 
   -- the history goes on, and the pass has seen this part of it
@@ -119,8 +127,11 @@ module _ (turn : Turn) where
     pub others : (n q entry : ℕ) → q ≢ x.number → r.nodes.where_is n ≡ in_stock q entry → where_is' n ≡ in_stock q entry
 
   module _ (a : After) where
+    abbrev pub its_after : Log
+    its_after = record (logged x a.listed a.asked a.stock a.watch a.front) { changed = a.changed }
+
     abbrev pub w : View
-    w = now v (logged x a.listed a.asked a.stock a.watch a.front) a.work a.glance a.change
+    w = now v its_after a.work a.glance a.change
 
     abbrev pub views' : List View
     views' = set st.views id w
@@ -213,7 +224,7 @@ module _ (turn : Turn) where
               (s.holds.others j u z other there at (not_there r.life here one other there z at) (its_range r.life j there at)
               ((r.holds.views j u there).logs z at) (r.holds.views j u there).work).work
 
-      its_own : LogAgrees v.start a.h a.words a.phase a.debt a.deed a.work a.glance (logged x a.listed a.asked a.stock a.watch a.front)
+      its_own : LogAgrees v.start a.h a.words a.phase a.debt a.deed a.work a.glance its_after
       its_own = let few : x.number ≤ 1024 = omega (arith, in_range.1, r.shape.passes) in record {
         held = s.holds.held;
         allowed = s.holds.allowed;
@@ -249,9 +260,9 @@ module _ (turn : Turn) where
           where_is = a.where_is;
           named = s.stocks.named;
           stocks = λ j u z e has. ⊎_elim
-              (λ (t : (j ≡ id) × (w ≡ u)). let has' : Contains (logged x a.listed a.asked a.stock a.watch a.front ∷ []) z =
+              (λ (t : (j ≡ id) × (w ≡ u)). let has' : Contains (its_after ∷ []) z =
               subst (λ (y : View). Contains y.logs z) (sym t.1) has in
-              subst (λ (y : Log). StockAgrees v.start a.where_is y.number y.stock) (sym (contains_only (logged x a.listed a.asked a.stock a.watch a.front) z has')) s.stocks.stock)
+              subst (λ (y : Log). StockAgrees v.start a.where_is y.number y.stock) (sym (contains_only its_after z has')) s.stocks.stock)
               (λ (t : (j ≢ id) × (get_elem? st.views j ≡ some u)). let o = r.nodes.stocks j u z t.1 has in record {
                 its = o.its;
                 here = λ entry n is. s.stocks.others n z.number entry (not_there r.life here one t.0 t.1 z has) (o.here entry n is);
@@ -262,7 +273,7 @@ module _ (turn : Turn) where
           views = λ j u e. ⊎_elim (λ (t : (j ≡ id) × (w ≡ u)).
               subst (λ (z : ℕ × View). ViewAgrees v.start a.h a.words a.phase a.debt a.deed z.0 z.1) (λ i. (sym t.0 i, t.1 i)) record {
                 logs = λ z h. subst (LogAgrees v.start a.h a.words a.phase a.debt a.deed a.work a.glance)
-                    (sym (contains_only (logged x a.listed a.asked a.stock a.watch a.front) z h)) its_own;
+                    (sym (contains_only its_after z h)) its_own;
                 work = s.holds.its.work;
               }) (λ (t : (j ≢ id) × (get_elem? st.views j ≡ some u)). record {
                 logs = λ z h. other_log j u z t.0 t.1 h;
@@ -300,7 +311,7 @@ module _ (turn : Turn) where
       → Stepped (record v { logs = record (first_log v.logs) { listed = l; asked = q; stock = s } ∷ [] }, carried) actions a.work a.glance a.change
       (w a, homes)
   moved_on a l q s same carried homes actions seen legal own inside = rw one record {
-    one = (logged x a.listed a.asked a.stock a.watch a.front, refl);
+    one = (its_after a, refl);
     number = refl;
     seen = seen;
     legal = legal;
@@ -311,6 +322,7 @@ module _ (turn : Turn) where
     asked = ap (λ (z : Bool × Survey × List ℕ). z.1) same;
     stock = ap (λ (z : Bool × Survey × List ℕ). z.2) same;
     met = a.more_met;
+    changes = a.more_changed;
     work = refl;
     inside = inside;
     glance = refl;
@@ -354,7 +366,7 @@ module _ (turn : Turn) where
   -- the pass has asked what it had asked
   pub asks_alike : (a : After) → a.asked ≡ x.asked → AskAlike (λ (u : View). u.logs) (λ (y : Log). y.number) (λ (y : Log). y.asked) (w a) v
   asks_alike a same y has = subst (λ (y : Log). (z : Log) × Contains v.logs z × (z.number ≡ y.number) × (z.asked ≡ y.asked))
-      (sym (contains_only (logged x a.listed a.asked a.stock a.watch a.front) y has)) (x, has_x, refl, sym same)
+      (sym (contains_only (its_after a) y has)) (x, has_x, refl, sym same)
 
   pub few_slots : (range_at_start v.start).1 ≤ MOST_SLOTS
   few_slots = few_in_range r

@@ -1,5 +1,5 @@
 -- A pass between two calls, and what a call adds to it.
-use Rattle.fx_lasting.proofs.Words.{Renewing, Relieving, HoldsAlone}
+use Rattle.fx_lasting.proofs.Words.{Renewing, Relieving, HoldsAlone, MeetsMore}
 use Rattle.fx_lasting.proofs.Words.{as_listed, get_elem?, some, ◌≡◌, ℕ, ◌+◌, ◌-◌, ◌≤◌, ◌<◌, ◌^◌, ◌⊎◌, List, [], sym, refl, ap, ◌∙◌, subst, arith}
 use Rattle.fx_lasting.proofs.Words.{Bool, true, false, Option, Some, None, Start, Sat, Work, Glance, Change, Nothing, Outside, Runs, IsAtWork}
 use Rattle.fx_lasting.proofs.Words.{as_swapped, nodes_of, set, part_of_pass, TableId, Idle, Counted, Guarded, Retiring, Keeping, LastingPass}
@@ -18,6 +18,10 @@ use Rattle.fx_table.specs.declared.values.LookFault.TheVariants.{Spent, Empty as
 use Rattle.fx_lasting.specs.slots.PutAlone.{FreesFirst}
 use Rattle.fx_lasting.specs.slots.SwapSteps.{HasRemoved}
 use Rattle.fx_lasting.proofs.Running.{does_then, still_at_work, number_is, at_listed, at_swapped}
+
+-- the meetings and the changes that a pass found, over two calls
+pub meets_then : (p q r : LastingPass) → MeetsMore p q → MeetsMore q r → MeetsMore p r
+meets_then p q r a b = (omega (arith, a.0, b.0), λ s. let x = a.1 s in let y = b.1 s in omega arith)
 
 -- the changes that a seat's steps make to its view
 pub adds_run : (m : Sat) {k : Start} → m.0.start ≡ k → {m' : Sat} {xs : List Action} {w : Work} {g : Glance} {c : Change} {n : ℕ} → Runs m xs w g c n m'

@@ -31,6 +31,7 @@ runs_then {m} {m'} {m''} {xs} {ys} {w' = w'} {n = n} {n' = n'} a b = record {
   asked = b.asked ∙ a.asked;
   stock = b.stock ∙ a.stock;
   met = let p = a.met in let q = b.met in omega arith;
+  changes = λ s. let p = a.changes s in let q = b.changes s in omega arith;
   work = b.work;
   inside = subst (λ (k : Start). IsInside k w') a.start b.inside;
   glance = b.glance;
@@ -74,6 +75,7 @@ module _ {k : Start} {p : ℕ} {m : Sat} (at : IsAtWork k p m) where
     asked = refl;
     stock = refl;
     met = omega arith;
+    changes = λ s. omega arith;
     work = refl;
     inside = subst (λ (z : Start). IsInside z m.0.work) (sym at.pass.0) at.inside;
     glance = refl;

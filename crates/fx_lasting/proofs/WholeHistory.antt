@@ -7,6 +7,8 @@ use Rattle.fx_lasting.proofs.Words.{seated, leaving, retired, file_in, removed_i
 use Rattle.fx_lasting.proofs.Words.{owed, sum_by, bit_else, slots_of, nodes_of, state_after_all, state_at_start, node_of_number}
 use Rattle.fx_lasting.proofs.Words.{state_of, lt-ltb, ℕ_discrete, not, eqb-true, named_same, opening_is_start, numbered_anew, PassView, find_pass}
 use Rattle.fx_lasting.proofs.Frames.{alone_cases}
+use Rattle.fx_lasting.proofs.Words.{zero, ◌⊎◌, le-ltb, opening_of}
+use Rattle.fx_table.specs.Numbers.{once as once_in}
 use Rattle.fx_plain.proofs.Cells.{named}
 use Rattle.fx_plain.proofs.LawHolds.{tally, tally_start, tally_all, placed_one, present, closed_at_most_once}
 use Rattle.fx_plain.specs.Laws.{IsStart, closes_of}
@@ -31,6 +33,11 @@ found_file number g f is = go (eqb g.number number) refl is
     go : (b : Bool) → eqb g.number number ≡ b → cond b (Some g) None ≡ Some f → (g ≡ f) × (f.number ≡ number)
     go true e is = let same : g ≡ f = cc is in (same, sym (ap (λ (x : File). x.number) same) ∙ eqb-true g.number number e)
     go false e is = absurd (cc is)
+
+-- no pass has a number that is 0 or too high
+once_not : (n p : ℕ) → (p ≡ 0) ⊎ (n < p) → once_in n p ≡ 0
+once_not n zero far = refl
+once_not n (suc p) far = rw (le-ltb p n (⊎_elim (λ bad. absurd (omega (arith, bad))) (λ more. omega (arith, more)) far)) refl
 
 module _ (k : Start) (s : Shared) (r : Agrees k s) where
   parts : (seat : ℕ) (pass : PassView) → IsPassAt s seat pass → IsPartOf pass r.history
@@ -77,6 +84,7 @@ module _ (k : Start) (s : Shared) (r : Agrees k s) where
     legal = r.life.legal;
     start = start_is k;
     parts = parts;
+    authors = λ pass far. r.life.authors pass (once_not (opening_of k).passes pass far);
     once = once;
     held = λ seat pass f hold at holds. unclosed hold.node f
         (holds_at k s r (seat, at.view, at.there, ap (λ (w : PassView). w.doing) at.shown ∙ holds));

@@ -54,14 +54,14 @@ pub use Rattle.fx_lasting.specs.nodes.Phases.{Phase, owner, file_in, file_if_num
 pub use Rattle.fx_lasting.specs.nodes.Phases.{emptied, kept}
 pub use Rattle.fx_lasting.specs.Runs.{Runs}
 pub use Rattle.fx_lasting.specs.Tables.{hold_at, retired_at, doing_in, numbers_of_pass, pass_of, opening_of, view_of, IsBetweenCalls, Knows, IsSeatOf}
-pub use Rattle.fx_lasting.specs.Tables.{meetings, IsPassOf, opening_of_table, IsPassOfTable, first_passes, as_first}
+pub use Rattle.fx_lasting.specs.Tables.{meetings, changes_at, MeetsMore, IsPassOf, opening_of_table, IsPassOfTable, first_passes, as_first}
 pub use Rattle.fx_lasting.specs.declared.pass.LastingPass.{LastingPass}
 pub use Rattle.fx_lasting.specs.declared.table.LastingTable.{LastingTable}
 pub use Rattle.fx_lasting.specs.Effects.{TakesAs, At, rested, Lists, Skims, IsOnList, as_listed, round_at, round_from, new_round, Announces, Shows, Confirms}
 pub use Rattle.fx_lasting.specs.Effects.{Withdraws, glance_after, Takes, HeatsSlot, StepsDown, TakesOut, slot_of, pass_at, pass_event, pass_in}
 pub use Rattle.fx_lasting.specs.Effects.{IsInside, Stepped, Goes, Glances, Exchanges, LettingGo, Seeks, Births, Rests, Visits, Charges, Retires}
 pub use Rattle.fx_lasting.specs.Effects.{first_visit, retiring_work, Found, Installs, Removes, Turns, Asks, Peeks, as_asked, as_stocked}
-pub use Rattle.fx_lasting.specs.Effects.{IsWatching, MeetsOne, IsOvertaken, HasGap, as_swapped, NamesANode, Lowers, Checks, Breaks, Raises, Begins, Counts, Decides, Sees, TakesIf, Replaces}
+pub use Rattle.fx_lasting.specs.Effects.{IsWatching, MeetsOne, FindsChange, changes_in, IsOvertaken, HasGap, as_swapped, NamesANode, Lowers, Checks, Breaks, Raises, Begins, Counts, Decides, Sees, TakesIf, Replaces}
 pub use Rattle.fx_lasting.specs.Effects.{HasAnnounced, HasItsHold, EndsItsHold, announcing, guarded_round, guarding, leaving_work, removal_work}
 pub use Rattle.fx_lasting.specs.holds.Visits.{HasVisited, round_to}
 pub use Rattle.fx_lasting.specs.nodes.Searches.{next_of}
@@ -76,7 +76,7 @@ pub use Rattle.fx_lasting.specs.declared.view.Round.{Round}
 pub use Rattle.fx_lasting.specs.declared.view.Start.{Start}
 pub use Rattle.fx_lasting.specs.declared.view.View.{View}
 pub use Rattle.fx_lasting.specs.declared.view.Watch.{Watch}
-pub use Rattle.fx_lasting.specs.slots.Watches.{ActsAt, HasActed, HasHeated, IsAsSeen, WatchAgrees, without_slot}
+pub use Rattle.fx_lasting.specs.slots.Watches.{ActsAt, ReplacesAt, AnotherDid, HasActed, HasReplaced, HasHeated, IsAsSeen, WatchAgrees, without_slot}
 pub use Rattle.fx_lasting.specs.declared.view.Work.{Work}
 pub use Rattle.fx_lasting.specs.declared.view.Work.TheVariants.{Idle, Announced, Counted, Guarded, Owing, Yielding, Searching, Placing, Renewing, Retiring}
 pub use Rattle.fx_lasting.specs.declared.view.Work.TheVariants.{Nearing, Relieving, Emptying, Keeping}
@@ -140,7 +140,7 @@ pub use Rattle.fx_table.specs.declared.values.Retired.{Retired}
 pub use Rattle.fx_lasting.specs.declared.life.layout.TheConstants.{MOST_NODES, MOST_SLOTS, MOST_PASSES, MOST_INSTALLING}
 pub use Rattle.std.proofs.lemmas.Bool.{eqb-true, not-false, not-true}
 pub use Rattle.fx_lasting.specs.range.Questions.{HasAsked, AsksSo, DecidesIf}
-pub use Rattle.fx_lasting.specs.slots.AtEmpty.{FitsSight, SeesFile, AnswersFull, HasPutEmpty, HadGap, FellShort, FallsShort, FailsToFill, GivesUpFor, LooksFor, HasSearched}
+pub use Rattle.fx_lasting.specs.slots.AtEmpty.{FitsSight, SeesFile, AnswersFull, HasPutEmpty, WasLost, HadGap, FellShort, FallsShort, FailsToFill, GivesUpFor, LooksFor, HasSearched}
 pub use Rattle.fx_plain.proofs.Prepared.{inside_behind, opens_inside, numbered_anew, opening_is_start}
 pub use Rattle.fx_lasting.specs.holds.FinishSteps.{Finishes}
 pub use mathlib.Core.List.{map-append}

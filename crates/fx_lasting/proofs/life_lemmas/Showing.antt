@@ -3,7 +3,7 @@
 use Rattle.fx_lasting.proofs.Words.{◌≡◌, ℕ, ◌+◌, ◌≤◌, [], ◌∷◌, set, sym, refl, ap, ◌∙◌, subst, arith, some, get_elem?, ⊎_elim, at_set, sum_set}
 use Rattle.fx_lasting.proofs.Words.{contains_only, Contains, IsSeenBy, part_of_pass, LogAgrees, ViewAgrees, Agrees, Shared, Log, Start, View}
 use Rattle.fx_lasting.proofs.Words.{IsInside, Runs, IsHistory, taken_of, held_of, first_log, view_of, StockAgrees, TableId, LastingPass, IsPassOf}
-use Rattle.fx_lasting.proofs.Words.{opening_of, contains_alone, learned_so, Splits, Seat, Closed, Option, no_use, Learns, its_pass, seats, shown_view}
+use Rattle.fx_lasting.proofs.Words.{opening_of, contains_alone, learned_so, changes_in, Splits, Seat, Closed, Option, no_use, Learns, its_pass, seats, shown_view}
 use Rattle.fx_lasting.specs.life.Showing.{HasLearned}
 use Rattle.fx_lasting.proofs.Frames.{owner_same}
 use Rattle.table_range.proofs.Counting.{counts_same, moved_one}
@@ -78,6 +78,7 @@ module _ (k : Start) (id : ℕ) (v w : View) (x : Log) (one : v.logs ≡ x ∷ [
       asked = ap (λ (z : Log). z.asked) (sym first);
       stock = ap (λ (z : Log). z.stock) (sym first);
       met = subst (λ (z : Log). z.watch.met ≤ x.watch.met) (sym first) (omega arith);
+      changes = λ s. subst (λ (z : Log). changes_in s z ≤ changes_in s x) (sym first) (omega arith);
       work = refl;
       inside = within;
       glance = refl;

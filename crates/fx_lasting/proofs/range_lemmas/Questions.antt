@@ -58,13 +58,13 @@ module _ (t : LastingTable) {p : LastingPass} (fits : IsPassOfTable t p) (seat :
     fits = still_fits (Covered (groups_in t.range_len)) tells true (λ _. ap Covered same);
     adds = adds (Covered (groups_in t.range_len)) tells true (λ _. ap Covered same);
     steps = tells.steps;
-    met = tells.met;
+    met = (tells.met, tells.changes);
   }
   has_asked false tells = record {
     fits = still_fits tells.0 tells.1 false (λ is. absurd (cc is));
     adds = adds tells.0 tells.1 false (λ is. absurd (cc is));
     steps = tells.1.steps;
-    met = tells.1.met;
+    met = (tells.1.met, tells.1.changes);
   }
 
 -- a pass that isn't sure has asked nothing
@@ -73,7 +73,7 @@ has_not_asked t {p} fits = record {
   fits = fits;
   adds = adds_nothing (opening_of t.table.shared.key) (view_of p) fits.front;
   steps = omega arith;
-  met = omega arith;
+  met = (omega arith, λ s. omega arith);
 }
 
 -- what an idle pass has added

@@ -1,6 +1,6 @@
 -- A scan that finds no empty slot: each was full at a moment of it, or another pass was there.
 use Rattle.fx_lasting.proofs.Words.{◌≡◌, ℕ, ◌+◌, ◌*◌, ◌%◌, ◌<◌, ◌≤◌, List, [], sym, refl, ap, ◌∙◌, subst, arith, Some, None, ⊎_elim, inl, inr, dite, ℕ_discrete, dec_le}
-use Rattle.fx_lasting.proofs.Words.{Action, IsSeenBy, seen_further, Start, pass_in, Sat, Runs, Work, Glance, Change, view_of, LastingPass, meetings, IsInRange}
+use Rattle.fx_lasting.proofs.Words.{Action, IsSeenBy, seen_further, Start, pass_in, Sat, Runs, Work, Glance, Change, view_of, LastingPass, MeetsMore, changes_in, IsInRange}
 use Rattle.fx_lasting.proofs.Words.{LastingTable, IsAtWork, Peeks, step, none, group_at, group_place, group_size}
 use Rattle.table_range.specs.Counts.{CountsAll}
 use Rattle.fx_lasting.proofs.Words.{FailsToFill, FitsSight, FellShort, HadGap, range_at_start, group_of, group_start, group_len, groups_in, true, IsSome, Option, File}
@@ -18,9 +18,10 @@ pub record Follows (m m' : Sat) : Type 0 where
   pub start : m'.0.start ≡ m.0.start
   pub seen : IsSeenBy (pass_in m).front (pass_in m').front
   pub met : (pass_in m).watch.met ≤ (pass_in m').watch.met
+  pub changes : (slot : ℕ) → changes_in slot (pass_in m) ≤ changes_in slot (pass_in m')
 
 pub follows : {m m' : Sat} {xs : List Action} {w : Work} {g : Glance} {c : Change} {n : ℕ} → Runs m xs w g c n m' → Follows m m'
-follows run = record { number = run.number; start = run.start; seen = run.seen; met = run.met }
+follows run = record { number = run.number; start = run.start; seen = run.seen; met = run.met; changes = run.changes }
 
 pub follows_then : {m m' m'' : Sat} → Follows m m' → Follows m' m'' → Follows m m''
 follows_then {m} {m'} {m''} a b = record {
@@ -28,6 +29,7 @@ follows_then {m} {m'} {m''} a b = record {
   start = b.start ∙ a.start;
   seen = seen_further (pass_in m).front (pass_in m').front (pass_in m'').front a.seen b.seen;
   met = omega (arith, a.met, b.met);
+  changes = λ s. let x = a.changes s in let y = b.changes s in omega arith;
 }
 
 -- what holds of a slot in some steps holds in some more
@@ -44,9 +46,9 @@ full_lasts k = record {
 pub fails_last : (k : Start) → Lasts (FailsToFill k)
 fails_last k = record {
   earlier = λ m m₁ m₂ slot before fails. ⊎_elim (λ full. inl ((full_lasts k).earlier m m₁ m₂ slot before full))
-      (λ other. inr (overtaken_in slot m m₁ m₂ m₂ before.number before.start before.seen before.met ([], refl) (omega arith) other)) fails;
+      (λ other. inr (overtaken_in slot m m₁ m₂ m₂ before.number before.start before.seen before.met (before.changes slot) ([], refl) (omega arith) (omega arith) other)) fails;
   later = λ m m₁ m₂ slot fails since. ⊎_elim (λ full. inl ((full_lasts k).later m m₁ m₂ slot full since))
-      (λ other. inr (overtaken_in slot m m m₁ m₂ refl refl ([], refl) (omega arith) since.seen since.met other)) fails;
+      (λ other. inr (overtaken_in slot m m m₁ m₂ refl refl ([], refl) (omega arith) (omega arith) since.seen since.met (since.changes slot) other)) fails;
 }
 
 module _ {is : Sat → Sat → ℕ → Type 0} (lasts : Lasts is) where
@@ -130,7 +132,7 @@ module _ (t : LastingTable) (group : ℕ) {size len : ℕ} (each : size ≡ grou
   few_inside = omega (arith, long, group_short t.range_len group)
 
 -- a slot that was full has none now: another pass emptied it
-module _ (k : Start) (u p p₁ p' : LastingPass) (before : IsSeenBy (view_of u).front (view_of p).front) (few : meetings u ≤ meetings p)
+module _ (k : Start) (u p p₁ p' : LastingPass) (before : IsSeenBy (view_of u).front (view_of p).front) (few : MeetsMore u p)
     (since : Follows p.seat.me p₁.seat.me) where
   saw_emptied : (had : HadGap k (view_of p₁).front (view_of p').front) → WasFull k p.seat.me p₁.seat.me had.gap.slot → SawEmptying k u p'
   saw_emptied had full = inl (
@@ -146,10 +148,10 @@ module _ (k : Start) (u p p₁ p' : LastingPass) (before : IsSeenBy (view_of u).
   -- the call that looks for an empty slot
   pub saw_emptying : EachInRange k (WasFull k p.seat.me p₁.seat.me) → FellShort k p₁ p' → SawEmptying k u p'
   saw_emptying full short = ⊎_elim (λ had. saw_emptied had (full had.gap.slot (had.gap.low, had.gap.high)))
-      (λ met. inr (omega (arith, met.0, few, since.met), met.1)) short
+      (λ met. inr (omega (arith, met.0, few.0, since.met), met.1)) short
 
   -- the call that installs a file
-  pub gave_up : p.seat.me.0.start ≡ k → (view_of p).number ≡ (view_of u).number → IsSeenBy (view_of p₁).front (view_of p').front → meetings p₁ ≤ meetings p'
+  pub gave_up : p.seat.me.0.start ≡ k → (view_of p).number ≡ (view_of u).number → IsSeenBy (view_of p₁).front (view_of p').front → MeetsMore p₁ p'
       → EachInRange k (FailsToFill k p.seat.me p₁.seat.me) → FellShort k p₁ p' → GivesUp k u p'
   gave_up begun number later more fails short = ⊎_elim
       (λ had. ⊎_elim (λ full. inl (saw_emptied had full))
@@ -162,7 +164,7 @@ module _ (k : Start) (u p p₁ p' : LastingPass) (before : IsSeenBy (view_of u).
           seen = had.seen;
           there = had.gap.empty;
         },
-        overtaken_by k had.gap.slot u p' p.seat.me p₁.seat.me number begun before few later more other,
+        overtaken_by k had.gap.slot u p' p.seat.me p₁.seat.me number begun before few.0 (few.1 had.gap.slot) later more.0 (more.1 had.gap.slot) other,
       ))
       (fails had.gap.slot (had.gap.low, had.gap.high)))
-      (λ met. inl (inr (omega (arith, met.0, few, since.met), met.1))) short
+      (λ met. inl (inr (omega (arith, met.0, few.0, since.met), met.1))) short

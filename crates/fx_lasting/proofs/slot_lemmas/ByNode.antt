@@ -6,7 +6,7 @@ use Rattle.fx_lasting.proofs.Words.{entry_in, count_in, Names, Start, Sat, At, W
 use Rattle.fx_lasting.proofs.Words.{retired_at, slot_of, pass_in, state_after_all, node_of_number, account, uncounted, range_at_start, is_in}
 use Rattle.fx_lasting.proofs.Words.{group_of, TableId, LastingPass, IsPassOf, opening_of, view_of, pass_of, Result, Ok, Err, seen_further, Adds}
 use Rattle.fx_lasting.proofs.Words.{no_use, IsIdle, IsFileRemoval, Doing, DoesNothing, Retired, IsOneOnItsNode, IsOn, FitsMiss, WasSo, WasIn, SaysIf}
-use Rattle.fx_lasting.proofs.Words.{SawIf, FailedIf, HasTriedIf, TriedReplace, TriedOut, Miss, meetings, TakesIf, Replaces, empty_word_of}
+use Rattle.fx_lasting.proofs.Words.{SawIf, FailedIf, HasTriedIf, TriedReplace, TriedOut, Miss, meetings, changes_at, changes_in, TakesIf, Replaces, empty_word_of}
 use Rattle.fx_lasting.proofs.slot_lemmas.Overtaking.{overtaken_by}
 use Rattle.fx_lasting.proofs.Running.{swapped_then, at_swapped, number_is, own_stock, stock_is, still_at_work, runs_one, runs_then, runs_goes}
 use Rattle.fx_lasting.proofs.Running.{runs_within, does_then}
@@ -120,10 +120,12 @@ tried_none k slot Again p p' not = absurd (not refl)
 tried_none k slot _ p p' not = tt
 
 pub tried_so : (k : Start) (slot node : ℕ) (p p' : LastingPass) (m₁ m₂ : Sat) → (pass_in m₁).number ≡ (view_of p).number → m₁.0.start ≡ k
-    → IsSeenBy (view_of p).front (pass_in m₁).front → meetings p ≤ (pass_in m₁).watch.met → IsSeenBy (pass_in m₂).front (view_of p').front
-    → (pass_in m₂).watch.met ≤ meetings p' → (miss : Miss) → FailedIf k slot node miss m₁ m₂ → HasTriedIf k slot miss p p'
-tried_so k slot node p p' m₁ m₂ number start before few after more Again failed = overtaken_by k slot p p' m₁ m₂ number start before few after more failed
-tried_so k slot node p p' m₁ m₂ number start before few after more _ failed = tt
+    → IsSeenBy (view_of p).front (pass_in m₁).front → meetings p ≤ (pass_in m₁).watch.met → changes_at slot p ≤ changes_in slot (pass_in m₁)
+    → IsSeenBy (pass_in m₂).front (view_of p').front → (pass_in m₂).watch.met ≤ meetings p' → changes_in slot (pass_in m₂) ≤ changes_at slot p'
+    → (miss : Miss) → FailedIf k slot node miss m₁ m₂ → HasTriedIf k slot miss p p'
+tried_so k slot node p p' m₁ m₂ number start before few fewer after more found Again failed =
+    overtaken_by k slot p p' m₁ m₂ number start before few fewer after more found failed
+tried_so k slot node p p' m₁ m₂ number start before few fewer after more found _ failed = tt
 
 -- what a pass did that put its file there, from this entry of its stock
 abbrev Replaced : (m₁ m₂ : Sat) (at found own : ℕ) → Closed → ℕ → Type 0

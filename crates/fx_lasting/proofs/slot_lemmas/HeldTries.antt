@@ -4,7 +4,7 @@ use Rattle.fx_lasting.proofs.Words.{File, Release, Take, Close, ◌▷◌, Start
 use Rattle.fx_lasting.proofs.Words.{as_swapped, pass_in, node_of_number, range_at_start, IsAtWork, Ok, Closed, Adds, adds_then, no_use, DoesNothing}
 use Rattle.fx_lasting.proofs.Words.{ReleasesFile, Released, LookedUp, Opening, PassView, Holding, Hold, TableId, LastingPass, IsPassOf}
 use Rattle.fx_lasting.proofs.Words.{IsBetweenCalls, opening_of, view_of, pass_of, Change, Doing, HasActed, HasTriedIf, Miss, KeyFault, TriesKey}
-use Rattle.fx_lasting.proofs.Words.{fault_for, meetings, LookedByKey, HeldByKey, WasSo, FitsMiss, IsSeenBy, ⊎_elim, inl, IsOffCount, slots_of, refl}
+use Rattle.fx_lasting.proofs.Words.{fault_for, MeetsMore, LookedByKey, HeldByKey, WasSo, FitsMiss, IsSeenBy, ⊎_elim, inl, IsOffCount, slots_of, refl}
 use Rattle.fx_lasting.proofs.Words.{Err, Result, empty_word_of, slot_of, Bool, Guarded, HasItsHold, HoldsAlone, is_guarding, leaving_work}
 use Rattle.fx_lasting.proofs.slot_lemmas.ByNode.{acts_then, at_once, begun_at, its_own, names_inside, with_stock, stock_moved, was_further}
 use Rattle.fx_lasting.proofs.Passing.{adds_so}
@@ -128,7 +128,7 @@ module _ (k : Start) (p b c p' : LastingPass) (key : Key) (hold : Hold) (freed o
     (looked : LookedByKey k (view_of p) key (Ok hold) freed other (view_of b)) (f : File) (holds : (view_of b).doing ≡ Holding f hold) (miss : Miss)
     (was : WasSo k key.slot (FitsMiss k hold.node miss) (view_of b).front (view_of c).front)
     (adds : Adds (opening_of k) (view_of b) [] (Holding f hold) no_use (view_of c)) (tried : HasTriedIf k key.slot miss b c)
-    (releases : Released (opening_of k) (view_of c) hold released (view_of p')) (few : meetings p ≤ meetings b) (more : meetings c ≤ meetings p') where
+    (releases : Released (opening_of k) (view_of c) hold released (view_of p')) (few : MeetsMore p b) (more : MeetsMore c p') where
   same_held : f ≡ looked.0
   same_held = cc (sym holds ∙ looked.2.holds)
 
@@ -155,10 +155,11 @@ module _ (k : Start) (p b c p' : LastingPass) (key : Key) (hold : Hold) (freed o
     between = view_of b;
     its_key = looked.1;
     held = looked.2;
+    changed = let a = few.1 key.slot in let b = more.1 key.slot in omega (arith, it.0);
     overtaken = ⊎_elim
         (λ did. inl (acted_further (subst (λ (q : ℕ). HasActed key.slot q (view_of b).front (view_of c).front)
         (looked_number (opening_of k) (view_of p) (view_of b) key.slot hold freed looked.2.looked) did) later))
-        (λ met. inr (omega (arith, met.0, few, more), met.1)) it;
+        (λ met. inr (omega (arith, met.0, few.0, more.0), met.1)) it.1;
   }
   why _ it = tt
 

@@ -1,64 +1,162 @@
--- Tries that were overtaken, each by another event or by a meeting.
-use Rattle.std.proofs.Common.{◌≡◌, ℕ, ◌+◌, ◌<◌, ◌≤◌, List, [], ◌∷◌, refl, ap, ◌∙◌, subst, arith, cond, true, Bool, ⊎_elim}
-use Rattle.std.specs.Prelude.{◌≢◌, ◌==◌, ◌&&◌, not, sum_by}
-use Rattle.std.proofs.lemmas.Bool.{eq-eqb, ne_eqb, lt-ltb}
+-- Calls that were overtaken: each has a change of another pass for itself.
+use Rattle.std.proofs.Common.{◌≡◌, ℕ, zero, suc, ◌+◌, ◌<◌, ◌≤◌, List, [], ◌∷◌, refl, ap, ◌∙◌, subst, arith, cond, true, Bool, ⊎_elim, inl, inr, Option, Some, None}
+use Rattle.std.specs.Prelude.{◌≢◌, ◌==◌, ◌&&◌, ◌⊎◌, not, sum_by, Ok}
+use Rattle.std.proofs.lemmas.Bool.{eq-eqb, ne_eqb}
 use Rattle.std.proofs.lemmas.List.Sums.{sum_by-append, sum_by-cons}
-use Rattle.fx_plain.specs.History.{IsSeenBy, ◌▷◌}
+use Rattle.fx_base.specs.Identity.{Identity}
+use Rattle.fx_plain.specs.History.{IsSeenBy, ◌▷◌, part_of_pass}
 use Rattle.fx_plain.specs.declared.event.Action.{Action}
-use Rattle.fx_plain.specs.declared.event.Action.TheVariants.{Look}
 use Rattle.fx_plain.specs.declared.event.Event.{Event}
-use Rattle.fx_lasting.specs.slots.ByNode.{HasMet}
-use Rattle.fx_lasting.specs.Tables.{view_of, meetings}
-use Rattle.fx_lasting.specs.slots.Watches.{ActsAt, HasActed}
-use Rattle.fx_lasting.specs.Retries.{is_at, others_at, Try, met_in, EachIsOvertakenByAnother, LostCallsAreOvertaken, RemovalsAreOvertaken, ReplacementsAreOvertaken}
+use Rattle.fx_plain.specs.declared.event.File.{File}
+use Rattle.fx_table.proofs.Calls.{seen_further}
+use Rattle.fx_table.specs.Calls.{Adds, LookedUp, ReleasesFile, no_use}
+use Rattle.fx_table.specs.Opening.{Opening}
+use Rattle.fx_table.specs.Pass.{PassView}
+use Rattle.fx_table.specs.declared.values.Hold.{Hold}
+use Rattle.fx_lasting.specs.Laws.{IsInRange}
+use Rattle.fx_lasting.specs.Passes.{range_at_start}
+use Rattle.fx_lasting.specs.Tables.{opening_of, view_of, changes_at, meetings, MeetsMore}
+use Rattle.fx_lasting.specs.slots.AtEmpty.{SawEmptying}
+use Rattle.fx_lasting.proofs.slot_lemmas.Overtaking.{emptied_by}
+use Rattle.fx_table.specs.declared.values.Doing.TheVariants.{Idle as DoesNothing}
+use mathlib.Core.Logic.{dite}
+use native.Mathlib.Decide.{ℕ_discrete}
+use Rattle.fx_lasting.specs.slots.Alone.{LeftAlone}
+use Rattle.fx_lasting.specs.slots.Watches.{ReplacesAt, HasReplaced}
+use Rattle.fx_lasting.specs.declared.key.Key.{Key}
+use Rattle.fx_lasting.specs.declared.key_answers.KeyFault.TheVariants.{Again}
+use Rattle.fx_lasting.specs.declared.pass.LastingPass.{LastingPass}
+use Rattle.fx_lasting.specs.declared.view.Start.{Start}
+use Rattle.fx_lasting.specs.Retries.{changes_among, changes_in_range, GoesOnInRange, IsOvertakenSearch, EachSearchHasItsChange, InstallationsAreOvertaken, SearchesAreOvertaken, replaces_at, replaced_at, changes_known, Try, IsOvertakenTry, EachHasItsChange, LostCallsAreOvertaken, RemovalsAreOvertaken, ReplacementsAreOvertaken}
 
-acts_is_at : (slot : ℕ) (a : Action) → ActsAt slot a → is_at slot a ≡ true
-acts_is_at slot (Look s found) at = eq-eqb s slot at
-acts_is_at slot _ at = first_of (grind arith, search eq-eqb)
+does_replace : (slot : ℕ) (a : Action) → ReplacesAt slot a → replaces_at slot a ≡ true
+does_replace slot _ at = first_of (grind arith, search eq-eqb)
 
 module _ (slot number : ℕ) where
   abbrev counts : Event → ℕ
-  counts e = cond (not (e.pass == number) && is_at slot e.action) 1 0
+  counts e = cond (not (e.pass == number) && replaces_at slot e.action) 1 0
 
-  counts_another : (e : Event) → e.pass ≢ number → ActsAt slot e.action → counts e ≡ 1
-  counts_another e another at = ap (λ (b : Bool). cond (not b && is_at slot e.action) 1 0) (ne_eqb e.pass number another)
-      ∙ ap (λ (b : Bool). cond b 1 0) (acts_is_at slot e.action at)
+  counts_another : (e : Event) → e.pass ≢ number → ReplacesAt slot e.action → counts e ≡ 1
+  counts_another e another at = ap (λ (b : Bool). cond (not b && replaces_at slot e.action) 1 0) (ne_eqb e.pass number another)
+      ∙ ap (λ (b : Bool). cond b 1 0) (does_replace slot e.action at)
 
   -- a longer history has no fewer such events
-  seen_has_more : (h more : List Event) → IsSeenBy h more → others_at slot number h ≤ others_at slot number more
+  seen_has_more : (h more : List Event) → IsSeenBy h more → replaced_at slot number h ≤ replaced_at slot number more
   seen_has_more h more seen = let sum = ap (sum_by counts) seen.1 ∙ sum_by-append counts seen.0 h in omega (arith, sum)
 
-  -- and one more once another pass acted there
-  acted_has_more : (h more : List Event) → HasActed slot number h more → others_at slot number h + 1 ≤ others_at slot number more
-  acted_has_more h more acted =
-      let first = seen_has_more h acted.history acted.later in
-      let one = sum_by-cons counts acted.event acted.history ∙ ap (λ (n : ℕ). n + others_at slot number acted.history) (counts_another acted.event acted.another acted.there) in
-      let last = seen_has_more (acted.history ▷ acted.event) more acted.seen in
+  -- and one more once another pass filled the slot or emptied it
+  replaced_has_more : (h more : List Event) → HasReplaced slot number h more → replaced_at slot number h + 1 ≤ replaced_at slot number more
+  replaced_has_more h more did =
+      let first = seen_has_more h did.history did.later in
+      let one = sum_by-cons counts did.event did.history ∙ ap (λ (n : ℕ). n + replaced_at slot number did.history) (counts_another did.event did.another did.there) in
+      let last = seen_has_more (did.history ▷ did.event) more did.seen in
       omega (arith, first, one, last)
 
-met_is_one : (try : Try) → meetings try.before < meetings try.after → met_in try ≡ 1
-met_is_one try less = ap (λ (b : Bool). cond b 1 0) (lt-ltb (meetings try.before) (meetings try.after) less)
+  -- a call that was overtaken knows of one change more
+  knows_more : (try : Try) → IsOvertakenTry slot number try → changes_known slot number try.before + 1 ≤ changes_known slot number try.after
+  knows_more try is = let more = seen_has_more (view_of try.before).front (view_of try.after).front is.goes_on.0 in ⊎_elim
+      (λ (did : HasReplaced slot number (view_of try.before).front (view_of try.after).front).
+      let one = replaced_has_more (view_of try.before).front (view_of try.after).front did in omega (arith, one, is.goes_on.1))
+      (λ (found : changes_at slot try.before < changes_at slot try.after). omega (arith, more, found)) is.overtaken
 
-pub each_by_another : EachIsOvertakenByAnother
-each_by_another k slot number from [] to seen = let more = seen_has_more slot number from to seen in omega (arith, more)
-each_by_another k slot number from (try ∷ tries) to all =
-    let first = seen_has_more slot number from (view_of try.before).front all.0 in
-    let then = each_by_another k slot number (view_of try.after).front tries to all.2 in
-    let own = seen_has_more slot number (view_of try.before).front (view_of try.after).front all.1.seen in
-    let sum = sum_by-cons met_in try tries in
-    ⊎_elim
-    (λ (acted : HasActed slot (view_of try.before).number (view_of try.before).front (view_of try.after).front).
-    let more = acted_has_more slot number (view_of try.before).front (view_of try.after).front
-    (subst (λ (n : ℕ). HasActed slot n (view_of try.before).front (view_of try.after).front) all.1.its_number acted) in
-    omega (arith, first, then, sum, more))
-    (λ (met : HasMet k try.before try.after). let one = met_is_one try met.0 in omega (arith, first, then, own, sum, one))
-    all.1.overtaken
+pub each_has_its_change : EachHasItsChange
+each_has_its_change slot number first [] last goes = let more = seen_has_more slot number (view_of first).front (view_of last).front goes.0 in omega (arith, more, goes.1)
+each_has_its_change slot number first (try ∷ tries) last all =
+    let before = seen_has_more slot number (view_of first).front (view_of try.before).front all.0.0 in
+    let then = each_has_its_change slot number try.after tries last all.2 in
+    let one = knows_more slot number try all.1 in
+    omega (arith, before, all.0.1, then, one)
 
 pub lost_is_overtaken : LostCallsAreOvertaken
-lost_is_overtaken k p p' slot file back put = record { its_number = refl; seen = put.1.adds.seen; overtaken = put.2 }
+lost_is_overtaken k p p' slot file back put = let lost = put.2 in record {
+  its_number = refl;
+  goes_on = (put.1.adds.seen, lost.changes);
+  overtaken = ⊎_elim (λ did. inl did) (λ over. inr over.0) lost.overtaken;
+}
+
+looked_seen : (o : Opening) (v w : PassView) (slot : ℕ) (hold : Hold) (freed : Option Identity) → LookedUp o v slot (Ok hold) freed w → IsSeenBy v.front w.front
+looked_seen o v w slot hold None looked = looked.2.seen
+looked_seen o v w slot hold (Some file) looked = looked.2.2.seen
+
+released_seen : (o : Opening) (v w : PassView) (f : File) (file : Option Identity) → ReleasesFile o v f file w → IsSeenBy v.front w.front
+released_seen o v w f None r = r.seen
+released_seen o v w f (Some file) r = r.1.seen
+
+-- a call by key that left the file of the key at its slot
+left_is_overtaken : (k : Start) (p p' : LastingPass) (key : Key) (freed released : Option Identity) → LeftAlone k p key Again freed released p'
+    → IsOvertakenTry key.slot (view_of p).number (record { before = p; after = p' })
+left_is_overtaken k p p' key freed released left =
+    let h = left.holder in
+    let changed = left.tries.changed in record {
+      its_number = refl;
+      goes_on = (
+        seen_further (view_of p).front h.between.front (view_of p').front (looked_seen _ (view_of p) h.between key.slot left.hold freed h.held.looked)
+            (released_seen _ h.between (view_of p') h.file released h.releases),
+        omega (arith, changed),
+      );
+      overtaken = inr changed;
+    }
 
 pub removal_is_overtaken : RemovalsAreOvertaken
-removal_is_overtaken k p p' slot node missed tries = record { its_number = refl; seen = missed.adds.seen; overtaken = tries }
+removal_is_overtaken k p p' key freed released taken = ⊎_elim (λ bad. absurd bad) (left_is_overtaken k p p' key freed released) taken
 
 pub replacement_is_overtaken : ReplacementsAreOvertaken
-replacement_is_overtaken k p p' slot node file back missed tries = record { its_number = refl; seen = missed.1.adds.seen; overtaken = tries }
+replacement_is_overtaken k p p' key file back freed released put = ⊎_elim (λ bad. absurd bad) (left_is_overtaken k p p' key freed released) put.1
+
+-- Searches of the range
+module _ (k : Start) (number : ℕ) where
+  among_more : (n : ℕ) (p p' : LastingPass) → GoesOnInRange p p' → changes_among k number n p ≤ changes_among k number n p'
+  among_more zero p p' goes = omega arith
+  among_more (suc n) p p' goes = let slot = (range_at_start k).0 + n in let rest = among_more n p p' goes in
+      let seen = seen_has_more slot number (view_of p).front (view_of p').front goes.0 in let found = goes.1.1 slot in omega (arith, rest, seen, found)
+
+  range_more : (p p' : LastingPass) → GoesOnInRange p p' → changes_in_range k number p ≤ changes_in_range k number p'
+  range_more p p' goes = let some = among_more (range_at_start k).1 p p' goes in omega (arith, some, goes.1.0)
+
+  -- one more at one of the slots
+  among_one : (n : ℕ) (try : Try) (slot : ℕ) → (range_at_start k).0 ≤ slot → slot < (range_at_start k).0 + n → GoesOnInRange try.before try.after → IsOvertakenTry slot number try
+      → changes_among k number n try.before + 1 ≤ changes_among k number n try.after
+  among_one zero try slot low high goes is = absurd (omega (arith, low, high))
+  among_one (suc n) try slot low high goes is = let last = (range_at_start k).0 + n in dite (ℕ_discrete slot last)
+      (λ same. let rest = among_more n try.before try.after goes in let one = knows_more last number try (subst (λ (s : ℕ). IsOvertakenTry s number try) same is) in omega (arith, rest, one))
+      (λ other. let rest = among_one n try slot low (omega (arith, high, other)) goes is in
+      let seen = seen_has_more last number (view_of try.before).front (view_of try.after).front goes.0 in let found = goes.1.1 last in omega (arith, rest, seen, found))
+
+  search_knows_more : (try : Try) → IsOvertakenSearch k number try → changes_in_range k number try.before + 1 ≤ changes_in_range k number try.after
+  search_knows_more try is = ⊎_elim
+      (λ (at : (slot : ℕ) × IsInRange k slot × IsOvertakenTry slot number try). let one = among_one (range_at_start k).1 try at.0 at.1.0 at.1.1 is.goes_on at.2 in omega (arith, one, is.goes_on.1.0))
+      (λ (met : meetings try.before < meetings try.after). let some = among_more (range_at_start k).1 try.before try.after is.goes_on in omega (arith, some, met)) is.overtaken
+
+pub each_search_has_its_change : EachSearchHasItsChange
+each_search_has_its_change k number first [] last goes = let more = range_more k number first last goes in omega (arith, more)
+each_search_has_its_change k number first (try ∷ tries) last all =
+    let before = range_more k number first try.before all.0 in
+    let then = each_search_has_its_change k number try.after tries last all.2 in
+    let one = search_knows_more k number try all.1 in
+    omega (arith, before, then, one)
+
+-- a pass that did nothing, and saw a slot emptied or met another pass
+emptying_overtakes : (k : Start) (p p' : LastingPass) → Adds (opening_of k) (view_of p) [] DoesNothing no_use (view_of p') → MeetsMore p p' → SawEmptying k p p'
+    → IsOvertakenSearch k (view_of p).number (record { before = p; after = p' })
+emptying_overtakes k p p' adds more saw = record {
+  its_number = refl;
+  goes_on = (adds.seen, more);
+  overtaken = ⊎_elim
+      (λ at. inl (at.0, at.1, record { its_number = refl; goes_on = (adds.seen, more.1 at.0); overtaken = inl (emptied_by k at.0 (view_of p).number (own_same k p p' adds) at.2.full at.2.empty) }))
+      (λ met. inr met.0) saw;
+}
+  where
+    own_same : (k : Start) (p p' : LastingPass) → Adds (opening_of k) (view_of p) [] DoesNothing no_use (view_of p')
+        → part_of_pass (view_of p).number (view_of p').front ≡ part_of_pass (view_of p).number (view_of p).front
+    own_same k p p' adds = subst (λ (n : ℕ). part_of_pass n (view_of p').front ≡ (view_of p').own) adds.number adds.front.mine ∙ adds.own
+
+pub searches_are_overtaken : SearchesAreOvertaken
+searches_are_overtaken k p p' searched more = emptying_overtakes k p p' searched.0 more searched.1
+
+pub installations_are_overtaken : InstallationsAreOvertaken
+installations_are_overtaken k p p' file back tried gives more = ⊎_elim (λ saw. emptying_overtakes k p p' tried.1 more saw)
+    (λ lost. record {
+      its_number = refl;
+      goes_on = (tried.1.seen, more);
+      overtaken = inl (lost.0, lost.1, record { its_number = refl; goes_on = (tried.1.seen, more.1 lost.0); overtaken = inr lost.3.0 });
+    }) gives

@@ -1,14 +1,14 @@
 -- The reason of a call that failed: another pass was at the slot.
 use Rattle.fx_lasting.proofs.Words.{◌≡◌, ◌≢◌, ℕ, ◌+◌, ◌<◌, ◌≤◌, ◌⊎◌, List, [], ◌∷◌, ◌++◌, length, sym, refl, ap, ◌∙◌, subst, arith, Some, None}
 use Rattle.fx_lasting.proofs.Words.{⊎_elim, inl, inr, dite, ℕ_discrete, eq-eqb, ne_eqb, Event, Action, Look, Put, Clear, Take, Allocate}
-use Rattle.fx_lasting.proofs.Words.{IsSeenBy, seen_further, part_of_pass, State, state_after_all, changed_else, Start, ActsAt, HasActed, ◌▷◌, pass_in, Sat}
-use Rattle.fx_lasting.proofs.Words.{Sees, At, slot_of, IsWatching, WasOvertakenIn, MeetsOne, Runs, view_of, LastingPass, WasOvertaken, meetings}
+use Rattle.fx_lasting.proofs.Words.{IsSeenBy, seen_further, part_of_pass, State, state_after_all, changed_else, Start, ReplacesAt, HasActed, HasReplaced, ◌▷◌, pass_in, Sat}
+use Rattle.fx_lasting.proofs.Words.{Sees, At, slot_of, IsWatching, WasOvertakenIn, MeetsOne, Runs, view_of, LastingPass, WasOvertaken, WasLost, FindsChange, changes_in, changes_at, meetings}
 use Rattle.fx_lasting.proofs.Words.{FailsToFill, Work, Glance, Change, WasSo, FitsSight, true, false, FallsShort, FellShort, after}
 use Rattle.fx_lasting.specs.Ends.{Does}
 use Rattle.fx_lasting.proofs.slot_lemmas.Watching.{acted_before, acted_further}
 
--- an action at another slot leaves the slot as it was
-acts_or_same : (st : State) (slot : ℕ) (a : Action) → ((after st a).at slot ≡ st.at slot) ⊎ ActsAt slot a
+-- an action that doesn't fill or empty the slot leaves it as it was
+acts_or_same : (st : State) (slot : ℕ) (a : Action) → ((after st a).at slot ≡ st.at slot) ⊎ ReplacesAt slot a
 acts_or_same st slot (Look s None) = inl refl
 acts_or_same st slot (Put s f old) = dite (ℕ_discrete s slot) (λ same. inr same) (λ other. inl (changed_else st.at s (Some f) slot (λ e. other (sym e))))
 acts_or_same st slot (Clear s old) = dite (ℕ_discrete s slot) (λ same. inr same) (λ other. inl (changed_else st.at s None slot (λ e. other (sym e))))
@@ -16,9 +16,9 @@ acts_or_same st slot (Take s old) = dite (ℕ_discrete s slot) (λ same. inr sam
 acts_or_same st slot (Allocate s f) = dite (ℕ_discrete s slot) (λ same. inr same) (λ other. inl (changed_else st.at s (Some f) slot (λ e. other (sym e))))
 acts_or_same st slot _ = inl refl
 
--- an event at the slot within the history `since` after `h`
+-- an event that fills or empties the slot within the history `since` after `h`
 abbrev Acted : ℕ → List Event → List Event → Type 0
-Acted slot h h' = (mid : List Event) × (e : Event) × IsSeenBy h mid × IsSeenBy (mid ▷ e) h' × ActsAt slot e.action
+Acted slot h h' = (mid : List Event) × (e : Event) × IsSeenBy h mid × IsSeenBy (mid ▷ e) h' × ReplacesAt slot e.action
 
 changed_by : (k : Start) (slot : ℕ) (h since : List Event) → (state_after_all k (since ++ h)).at slot ≢ (state_after_all k h).at slot → Acted slot h (since ++ h)
 changed_by k slot h [] other = absurd (other refl)
@@ -49,12 +49,29 @@ not_mine q {v} {w} {mid} {e} same before seen mine = let a = ap (length {A = Eve
 
 -- a slot that was empty and is full: another pass filled it
 pub filled_by : (k : Start) (slot q : ℕ) {v a b c w : List Event} → part_of_pass q w ≡ part_of_pass q v → WasSo k slot (FitsSight false) v a → IsSeenBy a b
-    → WasSo k slot (FitsSight true) b c → IsSeenBy c w → HasActed slot q v w
+    → WasSo k slot (FitsSight true) b c → IsSeenBy c w → HasReplaced slot q v w
 filled_by k slot q {v} {a} {b} {c} {w} same was more is last =
     let between = seen_further was.history b is.history (seen_further was.history a b was.seen more) is.later in
     let z : Acted slot was.history is.history = subst (λ (l : List Event). Acted slot was.history l) (sym between.1) (changed_by k slot was.history between.0
     (λ stays. let bad : None ≡ Some is.there.0 = sym was.there ∙ (sym stays ∙ (ap (λ (l : List Event). (state_after_all k l).at slot) (sym between.1) ∙ is.there.1)) in absurd (cc bad))) in
     let seen = seen_further (z.0 ▷ z.1) is.history w z.3 (seen_further is.history c w is.seen last) in
+    let later = seen_further v was.history z.0 was.later z.2 in record {
+      history = z.0;
+      event = z.1;
+      later = later;
+      seen = seen;
+      another = not_mine q same later seen;
+      there = z.4;
+    }
+
+-- a slot that was full and is empty: another pass emptied it
+pub emptied_by : (k : Start) (slot q : ℕ) {v a w : List Event} → part_of_pass q w ≡ part_of_pass q v → WasSo k slot (FitsSight true) v a
+    → WasSo k slot (FitsSight false) a w → HasReplaced slot q v w
+emptied_by k slot q {v} {a} {w} same was is =
+    let between = seen_further was.history a is.history was.seen is.later in
+    let z : Acted slot was.history is.history = subst (λ (l : List Event). Acted slot was.history l) (sym between.1) (changed_by k slot was.history between.0
+    (λ stays. let bad : Some was.there.0 ≡ None = sym was.there.1 ∙ (sym stays ∙ (ap (λ (l : List Event). (state_after_all k l).at slot) (sym between.1) ∙ is.there)) in absurd (cc bad))) in
+    let seen = seen_further (z.0 ▷ z.1) is.history w z.3 is.seen in
     let later = seen_further v was.history z.0 was.later z.2 in record {
       history = z.0;
       event = z.1;
@@ -75,17 +92,21 @@ tried_nothing slot expected m = record { watches = λ l. absurd (omega arith); o
 
 -- what happened between two steps of some
 pub overtaken_in : (slot : ℕ) (m m₁ m₂ m₃ : Sat) → (pass_in m₁).number ≡ (pass_in m).number → m₁.0.start ≡ m.0.start → IsSeenBy (pass_in m).front (pass_in m₁).front
-    → (pass_in m).watch.met ≤ (pass_in m₁).watch.met → IsSeenBy (pass_in m₂).front (pass_in m₃).front → (pass_in m₂).watch.met ≤ (pass_in m₃).watch.met
+    → (pass_in m).watch.met ≤ (pass_in m₁).watch.met → changes_in slot (pass_in m) ≤ changes_in slot (pass_in m₁) → IsSeenBy (pass_in m₂).front (pass_in m₃).front
+    → (pass_in m₂).watch.met ≤ (pass_in m₃).watch.met → changes_in slot (pass_in m₂) ≤ changes_in slot (pass_in m₃)
     → WasOvertakenIn slot m₁ m₂ → WasOvertakenIn slot m m₃
-overtaken_in slot m m₁ m₂ m₃ number start before few later more was = ⊎_elim
-    (λ did. inl (acted_before (pass_in m).front before (acted_further (subst (λ (q : ℕ). HasActed slot q (pass_in m₁).front (pass_in m₂).front) number did) later)))
-    (λ met. inr (omega (arith, met.0, few, more), subst (λ (k : Start). 1 < k.passes) start met.1)) was
+overtaken_in slot m m₁ m₂ m₃ number start before few fewer later more found was = (
+  omega (arith, was.0, fewer, found),
+  ⊎_elim
+      (λ did. inl (acted_before (pass_in m).front before (acted_further (subst (λ (q : ℕ). HasActed slot q (pass_in m₁).front (pass_in m₂).front) number did) later)))
+      (λ met. inr (omega (arith, met.0, few, more), subst (λ (k : Start). 1 < k.passes) start met.1)) was.1,
+)
 
 -- another look at the slot, after which the pass has seen that its word has changed
 pub overtaken_now : {st : At} {slot expected found : ℕ} {m₁ m₂ : Sat} → Sees st m₁ found m₂ → slot_of st.word ≡ slot → found ≢ expected
     → IsWatching slot expected m₁ → WasOvertakenIn slot m₁ m₂
 overtaken_now {slot = slot} {found = found} {m₁ = m₁} {m₂ = m₂} saw here lost watching = subst
-    (λ (z : ℕ × List Event). HasActed z.0 (pass_in m₁).number z.1 (pass_in m₂).front ⊎ MeetsOne m₁ m₂) (λ i. (here i, watching.front i))
+    (λ (z : ℕ × List Event). FindsChange z.0 m₁ m₂ × (HasActed z.0 (pass_in m₁).number z.1 (pass_in m₂).front ⊎ MeetsOne m₁ m₂)) (λ i. (here i, watching.front i))
     (saw.overtaken (watching.its_slot ∙ sym here) (λ same. lost (same ∙ watching.word)))
 
 -- one try more, that found another word
@@ -93,17 +114,21 @@ pub tried_more : {st : At} {slot expected found n : ℕ} {m m₁ m₂ : Sat} →
     → Tried slot expected n m m₁ → Tried slot found (n + 1) m m₂
 tried_more {slot = slot} {found = found} {m = m} {m₁ = m₁} {m₂ = m₂} still saw here lost tried = record {
   watches = λ _. subst (λ (s : ℕ). IsWatching s found m₂) here saw.watches;
-  overtaken = λ l. overtaken_in slot m m₁ m₂ m₂ still.number still.start still.seen still.met ([], refl) (omega arith)
+  overtaken = λ l. overtaken_in slot m m₁ m₂ m₂ still.number still.start still.seen still.met (still.changes slot) ([], refl) (omega arith) (omega arith)
       (overtaken_now saw here lost (tried.watches (omega (arith, l))));
 }
 
 -- what happened between two calls of some
 pub overtaken_by : (k : Start) (slot : ℕ) (p p' : LastingPass) (m₁ m₂ : Sat) → (pass_in m₁).number ≡ (view_of p).number → m₁.0.start ≡ k
-    → IsSeenBy (view_of p).front (pass_in m₁).front → meetings p ≤ (pass_in m₁).watch.met → IsSeenBy (pass_in m₂).front (view_of p').front
-    → (pass_in m₂).watch.met ≤ meetings p' → WasOvertakenIn slot m₁ m₂ → WasOvertaken k slot p p'
-overtaken_by k slot p p' m₁ m₂ number start before few later more was = ⊎_elim
-    (λ did. inl (acted_before (view_of p).front before (acted_further (subst (λ (q : ℕ). HasActed slot q (pass_in m₁).front (pass_in m₂).front) number did) later)))
-    (λ met. inr (omega (arith, met.0, few, more), subst (λ (k : Start). 1 < k.passes) start met.1)) was
+    → IsSeenBy (view_of p).front (pass_in m₁).front → meetings p ≤ (pass_in m₁).watch.met → changes_at slot p ≤ changes_in slot (pass_in m₁)
+    → IsSeenBy (pass_in m₂).front (view_of p').front → (pass_in m₂).watch.met ≤ meetings p' → changes_in slot (pass_in m₂) ≤ changes_at slot p'
+    → WasOvertakenIn slot m₁ m₂ → WasOvertaken k slot p p'
+overtaken_by k slot p p' m₁ m₂ number start before few fewer later more found was = (
+  omega (arith, was.0, fewer, found),
+  ⊎_elim
+      (λ did. inl (acted_before (view_of p).front before (acted_further (subst (λ (q : ℕ). HasActed slot q (pass_in m₁).front (pass_in m₂).front) number did) later)))
+      (λ met. inr (omega (arith, met.0, few, more), subst (λ (k : Start). 1 < k.passes) start met.1)) was.1,
+)
 
 -- a range that fell short in some steps of others
 pub short_in : (k : Start) (m m₁ m₂ m₃ : Sat) → m₁.0.start ≡ m.0.start → IsSeenBy (pass_in m).front (pass_in m₁).front
@@ -136,8 +161,11 @@ short_by k u p p' before few short = ⊎_elim
 -- a file that didn't get an empty slot: the slot has another one, or was changed
 pub was_lost : (k : Start) (slot : ℕ) (p p' : LastingPass) (m₁ m₂ m₃ : Sat) {xs : List Action} {w : Work} {g : Glance} {c : Change} {n : ℕ}
     → p.seat.me.0.start ≡ k → Runs p.seat.me xs w g c n m₂ → part_of_pass (view_of p).number (view_of p').front ≡ part_of_pass (view_of p).number (view_of p).front
-    → IsSeenBy (pass_in m₁).front (pass_in m₂).front → IsSeenBy (pass_in m₃).front (view_of p').front → (pass_in m₃).watch.met ≤ meetings p'
-    → WasSo k slot (FitsSight false) (view_of p).front (pass_in m₁).front → FailsToFill k m₂ m₃ slot → WasOvertaken k slot p p'
-was_lost k slot p p' m₁ m₂ m₃ begun before same between later more was fails = ⊎_elim
-    (λ full. inl (filled_by k slot (view_of p).number same was between full later))
-    (λ other. overtaken_by k slot p p' m₂ m₃ before.number (before.start ∙ begun) before.seen before.met later more other) fails
+    → changes_at slot p ≤ changes_at slot p' → IsSeenBy (pass_in m₁).front (pass_in m₂).front → IsSeenBy (pass_in m₃).front (view_of p').front
+    → (pass_in m₃).watch.met ≤ meetings p' → changes_in slot (pass_in m₃) ≤ changes_at slot p'
+    → WasSo k slot (FitsSight false) (view_of p).front (pass_in m₁).front → FailsToFill k m₂ m₃ slot → WasLost k slot p p'
+was_lost k slot p p' m₁ m₂ m₃ begun before same all between later more found was fails = record {
+  changes = all;
+  overtaken = ⊎_elim (λ full. inl (filled_by k slot (view_of p).number same was between full later))
+      (λ other. inr (overtaken_by k slot p p' m₂ m₃ before.number (before.start ∙ begun) before.seen before.met (before.changes slot) later more found other)) fails;
+}

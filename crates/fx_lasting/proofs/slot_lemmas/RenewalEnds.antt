@@ -3,7 +3,7 @@ use Rattle.fx_lasting.proofs.Words.{◌≡◌, ◌≢◌, ℕ, ◌+◌, ◌<◌,
 use Rattle.fx_lasting.proofs.Words.{Idle, HasActed, File, Look, Release, Put, Action, numbered, ◌▷◌, Start, Sat, Glance, Nothing, Outside, Runs, Placing, Placement, Closed}
 use Rattle.fx_lasting.proofs.Words.{Names, as_swapped, entry_in, count_in, pass_in, node_of_number, retiring_work, held_in, doing_in, hold_at, slots_of}
 use Rattle.fx_lasting.proofs.Words.{TableId, LastingPass, IsSeatOf, opening_of, view_of, pass_of, PassView, Hold, Adds, no_use, one_look, one_number, ReleasesFile, LetsFileGo}
-use Rattle.fx_lasting.proofs.Words.{Retired, LookedByKey, HeldByKey, TriesKey, fault_for, KeyFault, Miss, meetings, adds_then, DoesNothing}
+use Rattle.fx_lasting.proofs.Words.{Retired, LookedByKey, HeldByKey, TriesKey, fault_for, KeyFault, Miss, MeetsMore, adds_then, DoesNothing}
 use Rattle.fx_table.specs.declared.values.Doing.TheVariants.{Retiring as Retires}
 use Rattle.fx_lasting.proofs.slot_lemmas.ByNode.{was_further, removal_so, value_so}
 use Rattle.fx_lasting.proofs.slot_lemmas.Watching.{acted_further}
@@ -86,9 +86,10 @@ module _ {id : TableId} {k : Start} {p : LastingPass} (seated : IsSeatOf id k p)
         between = pass_of m₂.0;
         its_key = its_key;
         held = at_key;
+        changed = let a = holds_run.changes key.slot in let b = ends.1.changes key.slot in omega (arith, again.1.0);
         overtaken = ⊎_elim
             (λ did. inl (acted_further (subst (λ (q : ℕ). HasActed key.slot q (pass_in m₂).front (pass_in m₃).front) holds_run.number did) ends.1.seen))
-            (λ met. inr (omega (arith, met.0, holds_run.met, ends.1.met), subst (λ (z : Start). 1 < z.passes) start met.1)) again.1;
+            (λ met. inr (omega (arith, met.0, holds_run.met, ends.1.met), subst (λ (z : Start). 1 < z.passes) start met.1)) again.1.1;
       }
       tries _ is = tt
 
@@ -140,7 +141,7 @@ module _ {id : TableId} {k : Start} {p : LastingPass} (seated : IsSeatOf id k p)
 
 -- A pass that saw more before, and perhaps freed a file
 module _ (k : Start) (u p p' : LastingPass) (key : Key) (freed : Option Closed) (before : FreesFirst (opening_of k) (view_of u) freed (view_of p))
-    (few : meetings u ≤ meetings p) where
+    (few : MeetsMore u p) where
   held_before : (f : File) (hold : Hold) (b : PassView) → HoldsAtKey k (view_of p) key f hold None b → HoldsAtKey k (view_of u) key f hold freed b
   held_before f hold b o = record {
     looked = frees_then k (view_of u) (view_of p) b key.slot (Ok hold) freed (λ bad. cc bad) before o.looked;
@@ -170,8 +171,9 @@ module _ (k : Start) (u p p' : LastingPass) (key : Key) (freed : Option Closed) 
     between = o.between;
     its_key = o.its_key;
     held = held_before o.file o.hold o.between o.held;
+    changed = let a = few.1 key.slot in omega (arith, o.changed);
     overtaken = ⊎_elim (λ did. inl (subst (λ (q : ℕ). HasActed key.slot q o.between.front (view_of p').front)
-        (frees_number (opening_of k) (view_of u) (view_of p) freed before) did)) (λ met. inr (omega (arith, met.0, few), met.1)) o.overtaken;
+        (frees_number (opening_of k) (view_of u) (view_of p) freed before) did)) (λ met. inr (omega (arith, met.0, few.0), met.1)) o.overtaken;
   }
   tries_before _ o = tt
 

@@ -61,7 +61,7 @@ renewed_it at slot node own lost new file b (Err miss) m' it = it
 -- the tries after a load of the slot's word
 module _ (k : Start) (slot node own : ℕ) (file : Closed) (m m₁ m₂ : Sat) (saw : WasIn k slot node Again m m₁) (one : Does m [] m.0.work 1 m₁) (home : m₁.1 ≡ m.1) where
   failed_then : (miss : Miss) → FailedIf k slot node miss m₁ m₂ → FailedIf k slot node miss m m₂
-  failed_then Again failed = overtaken_in slot m m₁ m₂ m₂ one.number one.start one.seen one.met ([], refl) (omega arith) failed
+  failed_then Again failed = overtaken_in slot m m₁ m₂ m₂ one.number one.start one.seen one.met (one.changes slot) ([], refl) (omega arith) (omega arith) failed
   failed_then _ failed = was_before (pass_in m).front one.seen failed
 
   pub renewal_failed : (miss : Miss) → TriedReplaceHeld k slot node own file m₁ (Err miss) m₂ → TriedRenewal k slot node own file m (Err miss) m₂

@@ -1,12 +1,16 @@
 -- A load of a slot's word: the pass sees what is at the slot, and watches the slot.
 use Rattle.fx_lasting.proofs.Words.{◌≡◌, ◌≢◌, ℕ, ◌+◌, ◌<◌, ◌≤◌, ◌⊎◌, List, [], sym, refl, ap, ◌∙◌, subst, arith, Option, Some, None, none, step}
 use Rattle.fx_lasting.proofs.Words.{⊎_elim, inl, inr, dite, ℕ_discrete, Closed, File, Names, slots_of, slot_place, state_after_all}
-use Rattle.fx_lasting.proofs.Words.{node_of_number, Sees, Agrees, Watch, HasActed, IsOvertaken, first_log, Log, keeps}
+use Rattle.fx_lasting.proofs.Words.{node_of_number, Sees, Agrees, Watch, HasActed, IsOvertaken, changes_in, first_log, Log, keeps}
 use Rattle.fx_lasting.proofs.Words.{Start, Sat, Shared, HasPass, Allows, get_elem?, some, either, eqb, exchanged}
 use Rattle.fx_lasting.specs.Laws.{Kind}
 use Rattle.fx_lasting.proofs.Histories.{grows_none}
-use Rattle.fx_lasting.proofs.Keeping.{end_read, Turn, turn_of, Made, by_turn, word_at, slot_word, w, After, its_log, tells}
-use Rattle.fx_lasting.proofs.Calm.{read_watching, read_watching_kept}
+use Rattle.fx_lasting.proofs.Keeping.{end_read, Turn, turn_of, Made, by_turn, word_at, slot_word, w, After, its_log, tells, found_same}
+use Rattle.fx_lasting.proofs.Calm.{read_finding, read_finding_kept}
+use Rattle.std.proofs.lemmas.Bool.{eq-eqb}
+use Rattle.std.proofs.lemmas.List.Sums.{sum_by-cons}
+use Rattle.std.proofs.Common.{cond, ◌∷◌, Bool}
+use Rattle.std.specs.Prelude.{◌==◌}
 use Rattle.fx_lasting.proofs.range_lemmas.GroupSteps.{its_inside}
 use Rattle.fx_lasting.proofs.Peeking.{still}
 use Rattle.fx_lasting.proofs.Places.{slot_back}
@@ -18,38 +22,68 @@ module _ (turn : Turn) (s : ℕ) where
   abbrev pub found : ℕ
   found = slot_word st.words s
 
-  -- another pass acted since the pass saw the slot's word, or was met in the middle of its look-up
-  abbrev pub Changed : ℕ → Type 0
-  Changed met = x.watch.slot ≡ s → found ≢ x.watch.word
-      → HasActed s x.number x.watch.front r.history ⊎ ((x.watch.met < met) × (1 < v.start.passes))
+  -- the pass found the word changed: another pass acted since the pass saw it, or was met in the
+  -- middle of its look-up
+  abbrev pub Changed : ℕ → List ℕ → Type 0
+  Changed met changed = x.watch.slot ≡ s → found ≢ x.watch.word → (changes_in s x < changes_in s (record x { changed = changed }))
+      × (HasActed s x.number x.watch.front r.history ⊎ ((x.watch.met < met) × (1 < v.start.passes)))
 
   pub record Sight : Type 0 where
     pub met : ℕ
     pub more : x.watch.met ≤ met
-    pub changed : Changed met
+    pub list : List ℕ
+    pub more_found : (t : ℕ) → changes_in t x ≤ changes_in t (record x { changed = list })
+    pub changed : Changed met list
+
+  -- the pass has found nothing changed
+  as_before : (x.watch.slot ≡ s → found ≢ x.watch.word → ⊥) → Sight
+  as_before not = record {
+    met = x.watch.met;
+    more = omega arith;
+    list = x.changed;
+    more_found = found_same x;
+    changed = λ same other. absurd (not same other);
+  }
+
+  -- one change more
+  found_more : (t : ℕ) → changes_in t x ≤ changes_in t (record x { changed = s ∷ x.changed })
+  found_more t = let e = sum_by-cons (λ (z : ℕ). cond (z == t) 1 0) s x.changed in omega (arith, e)
+
+  found_one : changes_in s x < changes_in s (record x { changed = s ∷ x.changed })
+  found_one = let e = sum_by-cons (λ (z : ℕ). cond (z == s) 1 0) s x.changed
+      ∙ ap (λ (b : Bool). cond b 1 0 + changes_in s x) (eq-eqb s s refl) in omega (arith, e)
 
   pub sight : s < slots_of v.start → Sight
-  sight inside = dite (ℕ_discrete x.watch.slot s)
-      (λ same. ⊎_elim (λ still. record { met = x.watch.met; more = omega arith; changed = λ _ other. absurd (other (sym (ap (slot_word st.words) same) ∙ still)) })
+  sight inside = dite (ℕ_discrete found x.watch.word) (λ still. as_before (λ _ other. other still))
+      (λ lost. dite (ℕ_discrete x.watch.slot s)
+      (λ same. ⊎_elim (λ still. as_before (λ _ other. other (sym (ap (slot_word st.words) same) ∙ still)))
       (λ changed. ⊎_elim
       (λ did. record {
         met = x.watch.met;
         more = omega arith;
-        changed = λ _ _. inl (subst (λ (i : ℕ). HasActed i x.number x.watch.front r.history) same did);
+        list = s ∷ x.changed;
+        more_found = found_more;
+        changed = λ _ _. (found_one, inl (subst (λ (i : ℕ). HasActed i x.number x.watch.front r.history) same did));
       })
-      (λ hot. record { met = x.watch.met + 1; more = omega arith; changed = λ _ _. inr (omega arith, hot.1) }) changed)
+      (λ hot. record {
+        met = x.watch.met + 1;
+        more = omega arith;
+        list = s ∷ x.changed;
+        more_found = found_more;
+        changed = λ _ _. (found_one, inr (omega arith, hot.1));
+      }) changed)
       ((its_log turn).watch.saw (subst (λ (i : ℕ). i < slots_of v.start) (sym same) inside)))
-      (λ other. record { met = x.watch.met; more = omega arith; changed = λ same _. absurd (other same) })
+      (λ other. as_before (λ same _. other same)))
 
   module _ (inside : s < slots_of v.start) where
     abbrev pub seen_now : Watch
     seen_now = record { slot = s; word = found; front = r.history; asks = x.watch.asks; met = (sight inside).met }
 
     abbrev pub sees_after : After turn
-    sees_after = read_watching turn v.work v.glance seen_now (sight inside).more r.history r.history
+    sees_after = read_finding turn v.work v.glance (sight inside).list (sight inside).more_found seen_now (sight inside).more r.history r.history
 
     pub sees_kept : Agrees v.start (end_read turn sees_after (slot_place s))
-    sees_kept = read_watching_kept turn v.work v.glance seen_now (sight inside).more r.history (slot_place s) ([], refl) refl
+    sees_kept = read_finding_kept turn v.work v.glance (sight inside).list (sight inside).more_found seen_now (sight inside).more r.history (slot_place s) ([], refl) refl
         record { seen = ([], refl); saw = λ l. inl refl; asks = (its_log turn).watch.asks } (still turn)
 
     module _ (carried : List (ℕ × Option Closed)) where
@@ -66,7 +100,8 @@ module _ (turn : Turn) (s : ℕ) where
 
       changed_now : (first_log v.logs).watch.slot ≡ s → found ≢ (first_log v.logs).watch.word → IsOvertaken s (v, carried) (w turn sees_after, carried)
       changed_now = subst (λ (l : List Log). (first_log l).watch.slot ≡ s → found ≢ (first_log l).watch.word
-          → HasActed s (first_log l).number (first_log l).watch.front r.history ⊎ (((first_log l).watch.met < (sight inside).met) × (1 < v.start.passes)))
+          → (changes_in s (first_log l) < changes_in s (record x { changed = (sight inside).list }))
+          × (HasActed s (first_log l).number (first_log l).watch.front r.history ⊎ (((first_log l).watch.met < (sight inside).met) × (1 < v.start.passes))))
           (sym one) (sight inside).changed
 
       pub sees_slot : (slots first second : ℕ) → Sees (step slots (slot_place s) first second none) (v, carried) found (w turn sees_after, carried)

@@ -1,7 +1,7 @@
 -- The words that a pass watches, after a step of its own or of another pass.
 use Rattle.fx_lasting.proofs.Words.{◌≡◌, ◌≢◌, ℕ, ◌<◌, ◌≤◌, ◌⊎◌, List, [], sym, refl, ◌∙◌, subst, arith, get_or, Event, IsSeenBy}
 use Rattle.fx_lasting.proofs.Words.{⊎_elim, inl, inr, true, heat_in, slot_place, question_place, slots_of, Start, Watch, HasActed}
-use Rattle.fx_lasting.proofs.Words.{ActsAt, IsAsSeen, WatchAgrees, HasQuestionOf, seen_further, MOST_SLOTS, without_slot, ◌▷◌, Bool}
+use Rattle.fx_lasting.proofs.Words.{ActsAt, IsAsSeen, WatchAgrees, HasQuestionOf, seen_further, MOST_SLOTS, without_slot, ◌▷◌, Bool, Action, AnotherDid}
 
 -- the pass of this number acted at the slot between two histories
 abbrev pub ActsThere : (number slot : ℕ) → List Event → List Event → Type 0
@@ -13,7 +13,7 @@ MovesOn number slot h h' old new = (new ≡ old)
     ⊎ (ActsThere number slot h h' ⊎ (heat_in old < heat_in new))
 
 -- who has acted, has acted
-pub acted_further : {slot number : ℕ} {a b c : List Event} → HasActed slot number a b → IsSeenBy b c → HasActed slot number a c
+pub acted_further : {Does : Action → Type 0} {number : ℕ} {a b c : List Event} → AnotherDid Does number a b → IsSeenBy b c → AnotherDid Does number a c
 acted_further {b = b} {c = c} did more = record {
   history = did.history;
   event = did.event;
@@ -23,7 +23,7 @@ acted_further {b = b} {c = c} did more = record {
   there = did.there;
 }
 
-pub acted_before : {slot number : ℕ} (a : List Event) {b c : List Event} → IsSeenBy a b → HasActed slot number b c → HasActed slot number a c
+pub acted_before : {Does : Action → Type 0} {number : ℕ} (a : List Event) {b c : List Event} → IsSeenBy a b → AnotherDid Does number b c → AnotherDid Does number a c
 acted_before a {b} more did = record {
   history = did.history;
   event = did.event;

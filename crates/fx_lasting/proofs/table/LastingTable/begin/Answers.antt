@@ -1,7 +1,7 @@
-use Rattle.fx_lasting.proofs.Words.{◌≡◌, ℕ, ◌^◌, refl, ap, ◌∙◌, sym, arith, Log, List, first_log, bit_of, NotAsked}
+use Rattle.fx_lasting.proofs.Words.{◌≡◌, ℕ, ◌^◌, refl, ap, ◌∙◌, sym, arith, Log, List, first_log, bit_of, NotAsked, subst, HasQuestionOf}
 use Rattle.fx_lasting.proofs.range_lemmas.QuestionSteps.{begins_keep, asks_keep}
 use Rattle.fx_lasting.proofs.range_lemmas.Questions.{is_gone, learns_at_work, learns_then}
-use Rattle.fx_lasting.proofs.Running.{runs_goes}
+use Rattle.fx_lasting.proofs.Running.{number_is, runs_goes, runs_within}
 use Rattle.fx_lasting.proofs.table.LastingTable.begin.Goals as goal
 
 pub load-question-requires : goal.load-question-requires
@@ -26,3 +26,8 @@ pub returns-then-not-asks-clause-asked : goal.returns-then-not-asks-clause-asked
 returns-then-not-asks-clause-asked c = learns_then c.args.seat.now.me
     (runs_goes (c.load-question.ensures.2.gone (is_gone c.load-question.result c.requires.at c.asks.ensures.1 c.if-not-asks.true)))
     (runs_goes c.fetch_add.ensures.2.goes)
+
+pub returns-else-not-asks-clause-asked : goal.returns-else-not-asks-clause-asked
+returns-else-not-asks-clause-asked c =
+    let there = subst (HasQuestionOf c.load-question.result) (sym (number_is c.requires.at)) (c.asks.ensures.0 c.if-not-asks.false) in
+    runs_within (omega arith) (runs_goes (c.load-question.ensures.2.there there))

@@ -1,10 +1,10 @@
-use Rattle.fx_lasting.proofs.Words.{refl, arith, [], ◌∙◌, true, false, HasAsked, opening_of, view_of, adds_then, no_use, DoesNothing, LastingPass}
+use Rattle.fx_lasting.proofs.Words.{refl, arith, [], ◌∙◌, true, false, HasAsked, opening_of, view_of, adds_then, no_use, DoesNothing, LastingPass, MeetsMore}
 use Rattle.fx_lasting.proofs.Words.{ℕ, ◌+◌, LastingTable, IsIdle, Adds, groups_in}
 use Rattle.fx_lasting.proofs.range_lemmas.Scanning.{follows, saw_emptying}
 use Rattle.fx_lasting.specs.Ends.{Does}
 use Rattle.fx_lasting.proofs.slot_lemmas.ByNode.{adds_none, was_before}
 use Rattle.fx_lasting.proofs.slot_lemmas.EmptySlots.{tells_so}
-use Rattle.fx_lasting.proofs.Passing.{at_rest, still_pass}
+use Rattle.fx_lasting.proofs.Passing.{at_rest, meets_then, still_pass}
 use Rattle.fx_lasting.proofs.range_lemmas.Questions.{asked_so}
 use Rattle.fx_lasting.proofs.table.LastingTable.find.Goals as goal
 
@@ -47,7 +47,7 @@ returns-then-is_all_full-clause-found c =
     let h : HasAsked c.args.self.now 1 c.args.pass.now false c.is_still_full.new.pass = rw c.if-is_still_full.false at c.is_still_full.ensures in
     let looks = c.in_default.ensures.looks in
     let p : LastingPass = record c.is_still_full.new.pass { seat = c.look_for.new.seat; emptied = c.take_last-from.new.self } in
-    tells_so c.args.self.now c.args.pass.now p c.is_all_full.new.pass true (looks_on c.args.self.now p h c.requires.idle looks) (omega (arith, h.met, looks.met))
+    tells_so c.args.self.now c.args.pass.now p c.is_all_full.new.pass true (looks_on c.args.self.now p h c.requires.idle looks) (omega (arith, h.met.0, looks.met))
     (rw c.if-is_all_full.true at c.is_all_full.ensures.asked) (λ bad. absurd (cc bad))
 
 pub returns-else-is_all_full-clause-found : goal.returns-else-is_all_full-clause-found
@@ -63,3 +63,25 @@ returns-else-is_all_full-clause-found c =
           (asked_so asked before.now),
       saw_emptying k c.args.pass.now c.is_still_full.new.pass p c.is_all_full.new.pass (asked_so h c.requires.idle).seen h.met (follows looks) (c.in_default.ensures.full refl) short,
     )
+
+-- what a pass found that asked, and then looked on
+met_on : (t : LastingTable) (u v p : LastingPass) {n : ℕ} → HasAsked t 1 u false v → Does v.seat.me [] v.seat.me.0.work n p.seat.me → MeetsMore u p
+met_on t u v p h looks = meets_then u v p h.met (looks.met, looks.changes)
+
+pub returns-in-Some-clause-met : goal.returns-in-Some-clause-met
+returns-in-Some-clause-met c =
+    let h : HasAsked c.args.self.now 1 c.args.pass.now false c.is_still_full.new.pass = rw c.if-is_still_full.false at c.is_still_full.ensures in
+    met_on c.args.self.now c.args.pass.now c.is_still_full.new.pass (record c.is_still_full.new.pass { seat = c.look_for.new.seat; emptied = c.take_last-from.new.self }) h
+    c.in-Some.ensures.looks.2
+
+pub returns-then-is_all_full-clause-met : goal.returns-then-is_all_full-clause-met
+returns-then-is_all_full-clause-met c =
+    let h : HasAsked c.args.self.now 1 c.args.pass.now false c.is_still_full.new.pass = rw c.if-is_still_full.false at c.is_still_full.ensures in
+    let p : LastingPass = record c.is_still_full.new.pass { seat = c.look_for.new.seat; emptied = c.take_last-from.new.self } in
+    meets_then c.args.pass.now p c.is_all_full.new.pass (met_on c.args.self.now c.args.pass.now c.is_still_full.new.pass p h c.in_default.ensures.looks) c.is_all_full.ensures.asked.met
+
+pub returns-else-is_all_full-clause-met : goal.returns-else-is_all_full-clause-met
+returns-else-is_all_full-clause-met c =
+    let h : HasAsked c.args.self.now 1 c.args.pass.now false c.is_still_full.new.pass = rw c.if-is_still_full.false at c.is_still_full.ensures in
+    let p : LastingPass = record c.is_still_full.new.pass { seat = c.look_for.new.seat; emptied = c.take_last-from.new.self } in
+    meets_then c.args.pass.now p c.is_all_full.new.pass (met_on c.args.self.now c.args.pass.now c.is_still_full.new.pass p h c.in_default.ensures.looks) c.is_all_full.ensures.asked.met

@@ -23,6 +23,6 @@ returns c =
     record {
       fits = asked.fits;
       told = tells_so c.args.self.now c.args.pass.now c.is_still_full.new.pass c.is_all_full.new.pass c.is_all_full.result
-          (asked_so h c.requires.idle) h.met asked c.is_all_full.ensures.short;
+          (asked_so h c.requires.idle) h.met.0 asked c.is_all_full.ensures.short;
       steps = omega (arith, h.steps, asked.steps);
     }

@@ -1,7 +1,7 @@
-use Rattle.fx_lasting.proofs.Words.{arith, ◌≡◌}
+use Rattle.fx_lasting.proofs.Words.{arith, ◌≡◌, ◌≢◌, ⊎_elim}
 use Rattle.fx_lasting.proofs.Calling.{node_inside, node_word}
 use Rattle.fx_lasting.proofs.hold_lemmas.LetGoLaws.{letting_go_keeps}
-use Rattle.fx_lasting.proofs.Running.{let_go_inside, still_at_work, runs_one, out_place, out_and_home, goes_out, releases_out}
+use Rattle.fx_lasting.proofs.Running.{let_go_inside, still_at_work, runs_goes, runs_one, runs_within, out_place, out_and_home, goes_out, releases_out}
 use Rattle.fx_lasting.proofs.table.LastingTable.let_go.Goals as goal
 
 pub fetch_sub-found-requires : goal.fetch_sub-found-requires
@@ -31,3 +31,12 @@ pub returns-clause-held : goal.returns-clause-held
 returns-clause-held c f has = let is : c.fetch_sub-found.result ≡ 2 = omega (arith, c.if-found-ne2.false) in
     let out = releases_out c.fetch_sub-found.ensures.2 has is in
     (c.take_out.ensures.file f.identity (out_place c.requires.places out), out_and_home out c.take_out.ensures.rests)
+
+pub returns-then-found-ne2-clause-owed : goal.returns-then-found-ne2-clause-owed
+returns-then-found-ne2-clause-owed c works = let more : c.fetch_sub-found.result ≢ 2 = c.if-found-ne2.true in
+    runs_within (omega arith) (runs_goes ((c.fetch_sub-found.ensures.2.owed c.args.node works).0 more))
+
+pub returns-then-found-ne2-clause-held : goal.returns-then-found-ne2-clause-held
+returns-then-found-ne2-clause-held c f has = let more : c.fetch_sub-found.result ≢ 2 = c.if-found-ne2.true in ⊎_elim
+    (λ yields. runs_within (omega arith) (runs_goes ((c.fetch_sub-found.ensures.2.yielded f c.args.node yields).0 more)))
+    (λ counts. runs_within (omega arith) (runs_goes ((c.fetch_sub-found.ensures.2.counted f c.args.node counts).0 more))) has

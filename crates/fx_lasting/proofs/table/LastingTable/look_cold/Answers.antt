@@ -37,7 +37,7 @@ returns-in_default c =
       looked = adds_so s run one_look;
       never_spent = λ e. cc e;
       steps = let few = run.steps in omega arith;
-      met = run.met;
+      met = (run.met, run.changes);
     }
 
 pub returns : goal.returns
@@ -57,5 +57,5 @@ returns c =
       );
       never_spent = λ e. cc e;
       steps = let few = run.steps in omega arith;
-      met = run.met;
+      met = (run.met, run.changes);
     }

@@ -31,7 +31,7 @@ returns-in-Some c =
       );
       never_spent = λ e. cc e;
       steps = let few = run.steps in omega arith;
-      met = run.met;
+      met = (run.met, run.changes);
     }
 
 pub withdraw-freed-requires-clause-at : goal.withdraw-freed-requires-clause-at
@@ -69,5 +69,6 @@ returns-in-None c =
           (vain c.requires.idle c.in-None.ensures.guards) c.withdraw-freed.new.seat.me c.withdraw-freed.ensures.withdraws cold.looked;
       never_spent = cold.never_spent;
       steps = let a = cold.steps in let b = lets.1.steps in let d = (vain c.requires.idle c.in-None.ensures.guards).steps in omega arith;
-      met = let a = cold.met in let b = lets.1.met in let d = (vain c.requires.idle c.in-None.ensures.guards).met in omega arith;
+      met = let run = does_then (vain c.requires.idle c.in-None.ensures.guards) lets.1 in
+          (omega (arith, run.met, cold.met.0), λ s. let a = run.changes s in let b = cold.met.1 s in omega arith);
     }

@@ -37,7 +37,7 @@ returns-in_default c =
           (λ i. (here i, c.settle.ensures.same i)) (adds_so s run one_look);
       never_spent = λ e. cc e;
       steps = let few = run.steps in let one = c.settle.ensures.steps in omega arith;
-      met = let few = run.met in let one = c.settle.ensures.met in omega arith;
+      met = (omega (arith, c.settle.ensures.met.0, run.met), λ s. let a = c.settle.ensures.met.1 s in let b = run.changes s in omega arith);
     }
 
 -- a pass whose field says so is listed
@@ -98,7 +98,10 @@ returns-then-not-pass c =
           (after_then k v (pass_of c.fetch_add.new.seat.me.0) w [] c.args.slot r took.never_spent (adds_listed (seated a) (goes a).stepped.work lists) took.looked));
       never_spent = took.never_spent;
       steps = let a = run.steps in let b = lists.steps in let d = took.steps in let one = c.settle.ensures.steps in omega arith;
-      met = let a = run.met in let b = lists.met in let d = took.met in let one = c.settle.ensures.met in omega arith;
+      met = (
+        omega (arith, c.settle.ensures.met.0, run.met, lists.met, took.met.0),
+        λ s. let a = c.settle.ensures.met.1 s in let b = run.changes s in let d = lists.changes s in let e = took.met.1 s in omega arith,
+      );
     }
 
 pub look_hot-requires : goal.look_hot-requires
@@ -130,7 +133,7 @@ returns-then-is_hot c =
           c.look_hot.result.freed hot.never_spent (adds_so s run no_use) hot.looked);
       never_spent = hot.never_spent;
       steps = let a = run.steps in let b = hot.steps in let one = c.settle.ensures.steps in omega arith;
-      met = let a = run.met in let b = hot.met in let one = c.settle.ensures.met in omega arith;
+      met = (omega (arith, c.settle.ensures.met.0, run.met, hot.met.0), λ s. let a = c.settle.ensures.met.1 s in let b = run.changes s in let d = hot.met.1 s in omega arith);
     }
 
 pub look_cold-found-requires-2 : goal.look_cold-found-requires-2
@@ -162,5 +165,5 @@ returns c =
           c.look_cold-found-2.result took.never_spent (adds_so s run no_use) took.looked);
       never_spent = took.never_spent;
       steps = let a = run.steps in let b = took.steps in let one = c.settle.ensures.steps in omega arith;
-      met = let a = run.met in let b = took.met in let one = c.settle.ensures.met in omega arith;
+      met = (omega (arith, c.settle.ensures.met.0, run.met, took.met.0), λ s. let a = c.settle.ensures.met.1 s in let b = run.changes s in let d = took.met.1 s in omega arith);
     }

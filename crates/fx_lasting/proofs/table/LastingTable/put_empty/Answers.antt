@@ -119,7 +119,7 @@ returns c =
       placed = (
         end.file c.args.file place,
         record { was = was_further (pass_in m₄).front saw.0 (does_then since rests).seen; adds = adds_so s run no_use },
-        was_lost k c.args.slot c.args.pass.now (record c.args.pass.now { seat = c.take_out.new.seat }) c.sees_file.new.seat.me c.place-entry.new.seat.me m₃ s.at.pass.0 (does_then saw.1 sought.placed) run.own sought.placed.seen rests.seen rests.met saw.0
+        was_lost k c.args.slot c.args.pass.now (record c.args.pass.now { seat = c.take_out.new.seat; next_entry = c.place-entry.result.0; keeps = false }) c.sees_file.new.seat.me c.place-entry.new.seat.me m₃ s.at.pass.0 (does_then saw.1 sought.placed) run.own (run.changes c.args.slot) sought.placed.seen rests.seen rests.met (rests.changes c.args.slot) saw.0
             (c.in_default.ensures.fails refl),
       );
       steps = let few = run.steps in omega arith;

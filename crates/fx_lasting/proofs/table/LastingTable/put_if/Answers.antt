@@ -162,6 +162,6 @@ returns-in-Err-try_exchange c =
       );
       tries = tried_so k c.args.slot c.args.node c.args.pass.now (record c.args.pass.now { seat = c.take_out.new.seat; next_entry = c.place-entry.result.0; keeps = false })
           m₂ m₃ placed.number
-          (placed.start ∙ s.at.pass.0) placed.seen placed.met rests.seen rests.met c.in-Err-try_exchange.miss failed.0;
+          (placed.start ∙ s.at.pass.0) placed.seen placed.met (placed.changes c.args.slot) rests.seen rests.met (rests.changes c.args.slot) c.in-Err-try_exchange.miss failed.0;
       steps = let few = run.steps in omega arith;
     }

@@ -1,5 +1,5 @@
 use Rattle.fx_lasting.proofs.Words.{◌≤◌, [], ◌▷◌, refl, ◌∙◌, subst, arith, inl, Start, Doing, DoesNothing, Adds, no_use, one_look, opening_of, view_of, pass_of, Look, None, adds_then}
-use Rattle.fx_lasting.proofs.Words.{◌<◌, Closed, Glance, LastingPass, Option, Runs, Sat, TableId, meetings, sym}
+use Rattle.fx_lasting.proofs.Words.{◌<◌, Closed, Glance, LastingPass, Option, Runs, Sat, TableId, MeetsMore, sym}
 use Rattle.fx_lasting.proofs.Calling.{slot_low}
 use Rattle.fx_lasting.proofs.Passing.{adds_so, at_ease, still_pass}
 use Rattle.fx_lasting.proofs.slot_lemmas.RenewalEnds.{frees_later, puts_before}
@@ -37,7 +37,7 @@ returns-in-Ends-clause-placed c =
     let p : LastingPass = record c.enlist.new.pass { seat = c.aim.new.seat } in
     let aimed = c.in-Some.ensures.aimed in
     puts_before t.table.shared.key c.args.pass.now p c.renew.new.pass c.args.key None (aims c.args.pass.now c.enlist.ensures.fits.seated c.enlist.ensures.adds _ c.aim.new.seat.me aimed)
-    (let few = aimed.met in omega (arith, c.enlist.ensures.met)) (slot_low t low) c.args.file c.in-Ends.put c.in-Ends.released c.in-Ends.ensures.renews.1
+    (omega (arith, c.enlist.ensures.met.0, aimed.met), λ s. let a = c.enlist.ensures.met.1 s in let b = aimed.changes s in omega arith) (slot_low t low) c.args.file c.in-Ends.put c.in-Ends.released c.in-Ends.ensures.renews.1
 
 pub returns-in-Moved-clause-placed : goal.returns-in-Moved-clause-placed
 returns-in-Moved-clause-placed c =
@@ -51,7 +51,10 @@ returns-in-Moved-clause-placed c =
     let aimed = c.in-Some.ensures.aimed in
     let before = frees_later k (view_of c.args.pass.now) (pass_of m.0) (view_of p₁) c.in-Moved.freed
     (aims c.args.pass.now c.enlist.ensures.fits.seated c.enlist.ensures.adds _ m aimed) moved.2.frees in
-    let few : meetings c.args.pass.now ≤ meetings p₁ = let seen = aimed.met in omega (arith, c.enlist.ensures.met, c.renew.ensures.met, seen) in
+    let few : MeetsMore c.args.pass.now p₁ = (
+      omega (arith, c.enlist.ensures.met.0, aimed.met, c.renew.ensures.met.0),
+      λ s. let a = c.enlist.ensures.met.1 s in let b = aimed.changes s in let d = c.renew.ensures.met.1 s in omega arith,
+    ) in
     let done : PutsAlone k p₁ c.args.key c.args.file c.renew_cold.result.put None c.renew_cold.result.released p' =
     subst (λ (z : Closed). PutsAlone k p₁ c.args.key z c.renew_cold.result.put None c.renew_cold.result.released p') moved.0 c.renew_cold.ensures.placed in
     subst (λ (z : Option Closed). PutsAlone k c.args.pass.now c.args.key c.args.file c.renew_cold.result.put z c.renew_cold.result.released p') (sym c.renew_cold.ensures.freed)

@@ -1,7 +1,8 @@
-use Rattle.fx_lasting.proofs.Words.{◌≡◌, ℕ, ap, ◌∙◌, ◌+◌, arith, Tag, tag_place}
+use Rattle.fx_lasting.proofs.Words.{◌≡◌, ℕ, ap, ◌∙◌, ◌+◌, arith, Tag, tag_place, subst, [], Placing, as_written}
+use Rattle.fx_lasting.specs.Ends.{Does}
 use Rattle.fx_lasting.proofs.Calling.{tag_inside, tag_word, few_nodes}
 use Rattle.fx_lasting.proofs.node_lemmas.Labelling.{tags_keep, recalls_tag_keep}
-use Rattle.fx_lasting.proofs.Running.{its_inside, still_at_work, runs_goes, does_then}
+use Rattle.fx_lasting.proofs.Running.{its_inside, still_at_work, runs_goes, runs_within, does_then}
 use Rattle.fx_lasting.proofs.table.LastingTable.put_tag.Goals as goal
 
 pub overflow_add-place : goal.overflow_add-place
@@ -34,3 +35,9 @@ pub returns-then-found-tag-clause-stored : goal.returns-then-found-tag-clause-st
 returns-then-found-tag-clause-stored c lost works =
     let first = c.load-found.ensures.2.goes c.args.node lost works in
     does_then (runs_goes first) (runs_goes (c.store.ensures.2.goes c.args.node lost (Tag c.load-found.result) first.stepped.work))
+
+pub returns-else-found-tag-clause-stored : goal.returns-else-found-tag-clause-stored
+returns-else-found-tag-clause-stored c lost works =
+    let same : c.load-found.result ≡ c.args.tag = omega (arith, c.if-found-tag.false) in
+    subst (λ (tag : ℕ). Does c.args.seat.now.me [] (Placing c.args.node (as_written lost (Tag tag))) 2 c.load-found.new.seat.me) same
+    (runs_within (omega arith) (runs_goes (c.load-found.ensures.2.goes c.args.node lost works)))

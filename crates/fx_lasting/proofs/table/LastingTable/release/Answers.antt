@@ -18,7 +18,7 @@ returns-then-pass c =
       fits = still_pass s _ run (refl, refl) down.table down.places (refl, s.next) (refl, its_unkept fits (λ is. cc (sym h.1 ∙ is)));
       released = (h.0, h.1, released_so fits m h.0 3 c.step_down.result lets);
       steps = let few = run.steps in omega arith;
-      met = run.met;
+      met = (run.met, run.changes);
     }
 
 pub let_go-requires-clause-has : goal.let_go-requires-clause-has
@@ -37,5 +37,5 @@ returns c =
       fits = still_pass s _ run (refl, refl) gone.table gone.places (refl, s.next) (refl, its_unkept fits (λ is. cc (sym h.1 ∙ is)));
       released = (h.0, h.1, released_so fits m h.0 2 c.let_go.result lets);
       steps = let few = run.steps in omega arith;
-      met = run.met;
+      met = (run.met, run.changes);
     }

@@ -61,7 +61,7 @@ returns-in-Nothing c =
         (end.file c.args.file place, inl (adds_so s run one_look, refl)),
       );
       steps = let few = run.steps in omega arith;
-      met = run.met;
+      met = (run.met, run.changes);
     }
 
 pub unplace-file-requires-clause-at : goal.unplace-file-requires-clause-at
@@ -106,7 +106,7 @@ returns-in-Other c =
         ),
       );
       steps = let few = run.steps in omega arith;
-      met = run.met;
+      met = (run.met, run.changes);
     }
 
 pub returns-in-Ok : goal.returns-in-Ok
@@ -145,7 +145,7 @@ returns-in-Ok c =
             (renews s c.args.key inside placed c.args.hot f h.2 h.1 p' c.identity-identity.result found won e stocked c.removed_by.result its.node its.entry its.takes None refl),
       );
       steps = let few = run.steps in omega arith;
-      met = run.met;
+      met = (run.met, run.changes);
     }
 
 pub returns-in-Err : goal.returns-in-Err
@@ -179,7 +179,7 @@ returns-in-Err c =
         ),
       );
       steps = let few = run.steps in omega arith;
-      met = run.met;
+      met = (run.met, run.changes);
     }
 
 pub take_out-file-requires-in-Moved-clause-place : goal.take_out-file-requires-in-Moved-clause-place
@@ -223,5 +223,5 @@ returns-in-Moved c =
         },
       );
       steps = let few = run.steps in omega arith;
-      met = run.met;
+      met = (run.met, run.changes);
     }

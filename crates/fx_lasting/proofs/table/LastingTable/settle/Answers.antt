@@ -51,7 +51,7 @@ returns-then-pass c =
       unkept = refl;
       steps = let few = run.steps in omega arith;
       begun = let any = run.begun in omega arith;
-      met = run.met;
+      met = (run.met, run.changes);
     }
 
 pub returns-else-pass : goal.returns-else-pass
@@ -61,5 +61,5 @@ returns-else-pass c = record {
   unkept = c.if-pass.false;
   steps = omega arith;
   begun = omega arith;
-  met = omega arith;
+  met = (omega arith, λ s. omega arith);
 }

@@ -1,7 +1,7 @@
-use Rattle.fx_lasting.proofs.Words.{◌≢◌, rules, inl, announced}
+use Rattle.fx_lasting.proofs.Words.{◌≡◌, ◌≢◌, arith, rules, inl, announced}
 use Rattle.fx_lasting.proofs.Calling.{hold_inside, hold_word}
 use Rattle.fx_lasting.proofs.hold_lemmas.HoldWords.{steps_down_keep}
-use Rattle.fx_lasting.proofs.Running.{still_at_work, runs_goes, file_then}
+use Rattle.fx_lasting.proofs.Running.{still_at_work, runs_goes, runs_within, file_then}
 use Rattle.fx_lasting.proofs.table.LastingTable.step_down.Goals as goal
 
 pub swap-found-requires : goal.swap-found-requires
@@ -24,3 +24,8 @@ returns-clause-releases c f works =
     let charged : c.swap-found.result ≢ announced c.args.node = search rules in
     let goes = c.swap-found.ensures.2.charged f c.args.node works charged in
     file_then _ f _ _ (runs_goes goes) (c.let_go.ensures.held f (inl goes.stepped.work))
+
+pub returns-then-found-announced-clause-releases : goal.returns-then-found-announced-clause-releases
+returns-then-found-announced-clause-releases c f works =
+    let clean : c.swap-found.result ≡ announced c.args.node = search rules in
+    runs_within (omega arith) (runs_goes (c.swap-found.ensures.2.clean f c.args.node works clean))

@@ -188,6 +188,6 @@ returns-in-Err-try_out c =
         adds_held fits h.1 run,
       );
       tries = tried_so k c.args.slot c.args.hold.now.node p (record p { seat = c.raise.new.seat; stock = c.try_out.new.stock }) m₂ m₃
-          first.number (first.start ∙ s.at.pass.0) first.seen first.met end.runs.seen end.runs.met c.in-Err-try_out.miss failed.0;
+          first.number (first.start ∙ s.at.pass.0) first.seen first.met (first.changes c.args.slot) end.runs.seen end.runs.met (end.runs.changes c.args.slot) c.in-Err-try_out.miss failed.0;
       steps = let few = run.steps in omega arith;
     }

@@ -143,7 +143,8 @@ returns-in-Err-try_out c =
           });
       tries = tried_so k c.args.slot c.args.node c.args.pass.now (record c.settle.new.pass { seat = c.raise.new.seat; stock = c.try_out.new.stock }) m₂ m₃
           (first.number ∙ ap (λ (z : PassView). z.number) c.settle.ensures.same) (first.start ∙ s.at.pass.0)
-          (subst (λ (z : PassView). IsSeenBy z.front (pass_in m₂).front) c.settle.ensures.same first.seen) (omega (arith, c.settle.ensures.met, first.met))
-          end.runs.seen end.runs.met c.in-Err-try_out.miss failed.0;
+          (subst (λ (z : PassView). IsSeenBy z.front (pass_in m₂).front) c.settle.ensures.same first.seen) (omega (arith, c.settle.ensures.met.0, first.met))
+          (let a = c.settle.ensures.met.1 c.args.slot in let b = first.changes c.args.slot in omega arith)
+          end.runs.seen end.runs.met (end.runs.changes c.args.slot) c.in-Err-try_out.miss failed.0;
       steps = let few = run.steps in let one = c.settle.ensures.steps in omega arith;
     }

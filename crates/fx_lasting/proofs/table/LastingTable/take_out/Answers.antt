@@ -1,4 +1,5 @@
-use Rattle.fx_lasting.proofs.Words.{sym, ap, ◌∙◌, ◌∷◌, Some, None, rest, Sat}
+use Rattle.fx_lasting.proofs.Words.{sym, ap, ◌∙◌, ◌∷◌, Some, None, rest, Sat, subst, [], Runs, rested}
+use Rattle.fx_lasting.proofs.Running.{runs_one}
 use Rattle.fx_lasting.proofs.node_lemmas.Births.{rests_keep}
 use Rattle.fx_lasting.proofs.Calling.{node_inside, node_word, place_inside}
 use Rattle.fx_lasting.proofs.table.LastingTable.take_out.Goals as goal
@@ -20,3 +21,8 @@ store-requires c =
       rests_keep t.table.shared.key _ _ _ n c.exchange.new.seat.me at.log (rw view at.pass) (rw view h.work)
           (ap (λ (z : Sat). z.1) me ∙ λ i. (n, None) ∷ ap rest h.place i) (node_word t c.args.node c.node_place.ensures),
     )
+
+pub returns-clause-rests : goal.returns-clause-rests
+returns-clause-rests c =
+    let run = subst (λ (z : Sat). Runs z [] (rested z.0.work) z.0.glance z.0.change 1 c.store.new.seat.me) c.exchange.ensures.3 (runs_one c.store.ensures.2.stepped) in
+    assumption run

@@ -1,7 +1,7 @@
-use Rattle.fx_lasting.proofs.Words.{◌≡◌, ◌∙◌, ◌∷◌, ap, sym, subst, false, inl, Some, None, rest, Sat, Work, Runs, rested, Idle, Parked, IsAtWork, []}
+use Rattle.fx_lasting.proofs.Words.{◌≡◌, ◌∙◌, ◌∷◌, ap, sym, subst, false, inl, Some, None, rest, Sat, Work, Runs, rested, Idle, Parked, Keeping, IsAtWork, [], true, arith}
 use Rattle.fx_lasting.proofs.node_lemmas.Births.{rests_keep}
 use Rattle.fx_lasting.proofs.Calling.{node_inside, node_word}
-use Rattle.fx_lasting.proofs.Running.{its_inside, still_at_work, does_then, runs_one}
+use Rattle.fx_lasting.proofs.Running.{its_inside, still_at_work, does_then, runs_one, runs_within}
 use Rattle.fx_lasting.proofs.table.LastingTable.take_out_or_keep.Goals.{After-park}
 use Rattle.fx_lasting.proofs.table.LastingTable.take_out_or_keep.Goals as goal
 
@@ -50,3 +50,9 @@ returns-clause-out c =
     let run = does_then still.0 (subst (λ (w : Work). Runs m [] (rested w) m.0.glance m.0.change 1 c.store.new.seat.me) still.0.work (runs_one rests.stepped)) in
     let same = subst (λ (z : Sat). Runs z [] Idle z.0.glance z.0.change 2 c.store.new.seat.me) c.exchange.ensures.3 run in
     (assumption same, rests.carried ∙ ap rest (still.1 ∙ place a c.if-park.false))
+
+pub returns-then-park-clause-out : goal.returns-then-park-clause-out
+returns-then-park-clause-out c =
+    let kept : Parked c.args.node c.args.stock.now c.args.entry c.exchange.new.seat.me true c.park.new.seat.me = rw c.if-park.true at c.park.ensures.parked in
+    let run = subst (λ (z : Sat). Runs z [] (Keeping c.args.node kept.0) z.0.glance z.0.change 2 c.park.new.seat.me) c.exchange.ensures.3 (runs_within (omega arith) kept.1) in
+    (kept.0, assumption run, kept.2, kept.3)

@@ -1,6 +1,6 @@
 use Rattle.fx_lasting.proofs.Words.{refl, arith, [], ◌▷◌, Allocate, Full, opening_of, view_of, true, false, HasAsked, adds_then, no_use, one_number}
 use Rattle.fx_lasting.proofs.Words.{DoesNothing, sym, ◌∙◌}
-use Rattle.fx_lasting.proofs.Passing.{new_file_so}
+use Rattle.fx_lasting.proofs.Passing.{meets_then, new_file_so}
 use Rattle.fx_lasting.proofs.range_lemmas.Questions.{asked_so}
 use Rattle.fx_lasting.proofs.range_lemmas.Scanning.{Follows, gave_up}
 use Rattle.fx_lasting.proofs.table.LastingTable.try_put_any.Goals as goal
@@ -12,6 +12,7 @@ returns-then-is_still_full c =
       tried = (refl, asked_so h c.requires.idle);
       steps = let few = h.steps in omega arith;
       short = tt;
+      met = h.met;
     }
 
 pub try_slots-requires-clause-idle : goal.try_slots-requires-clause-idle
@@ -42,6 +43,7 @@ returns-in-Ok c =
       );
       steps = omega (arith, h.steps, c.in-Ok.ensures.steps);
       short = tt;
+      met = meets_then c.args.pass.now c.is_still_full.new.pass c.try_slots.new.pass h.met c.in-Ok.ensures.met;
     }
 
 pub is_all_full-requires-clause-numbers : goal.is_all_full-requires-clause-numbers
@@ -66,6 +68,8 @@ returns-then-is_all_full c =
       );
       steps = omega (arith, h.steps, c.in-Err.ensures.steps, sure.steps);
       short = tt;
+      met = meets_then c.args.pass.now c.try_slots.new.pass c.is_all_full.new.pass
+          (meets_then c.args.pass.now c.is_still_full.new.pass c.try_slots.new.pass h.met c.in-Err.ensures.met) sure.met;
     }
 
 pub returns-else-is_all_full : goal.returns-else-is_all_full
@@ -77,7 +81,7 @@ returns-else-is_all_full c =
     DoesNothing DoesNothing no_use no_use (asked_so h c.requires.idle) t.1 in
     let sure = rw c.if-is_all_full.false at c.is_all_full.ensures.asked in
     let since : Follows c.is_still_full.new.pass.seat.me c.try_slots.new.pass.seat.me =
-    record { number = t.1.number; start = c.in-Err.ensures.fits.seated.at.pass.0 ∙ sym h.fits.seated.at.pass.0; seen = t.1.seen; met = c.in-Err.ensures.met } in
+    record { number = t.1.number; start = c.in-Err.ensures.fits.seated.at.pass.0 ∙ sym h.fits.seated.at.pass.0; seen = t.1.seen; met = c.in-Err.ensures.met.0; changes = c.in-Err.ensures.met.1 } in
     record {
       fits = sure.fits;
       tried = (
@@ -88,4 +92,6 @@ returns-else-is_all_full c =
       steps = omega (arith, h.steps, c.in-Err.ensures.steps, sure.steps);
       short = gave_up k c.args.pass.now c.is_still_full.new.pass c.try_slots.new.pass c.is_all_full.new.pass (asked_so h c.requires.idle).seen h.met since
           h.fits.seated.at.pass.0 (asked_so h c.requires.idle).number (asked_so sure t.1.now).seen sure.met c.in-Err.ensures.fails (c.is_all_full.ensures.short c.if-is_all_full.false);
+      met = meets_then c.args.pass.now c.try_slots.new.pass c.is_all_full.new.pass
+          (meets_then c.args.pass.now c.is_still_full.new.pass c.try_slots.new.pass h.met c.in-Err.ensures.met) sure.met;
     }

@@ -47,7 +47,7 @@ returns-then-found-old-clause-fails c = λ _.
     let here = ap slot_of c.slot_place-place.ensures ∙ slot_back c.args.slot in
     let saw = c.load-old.ensures.2 in
     let first = saw.goes.stepped in
-    inr (overtaken_in c.args.slot c.args.seat.now.me c.load-old.new.seat.me c.compare_exchange-found.new.seat.me c.compare_exchange-found.new.seat.me first.number first.start first.seen first.met ([], refl) (omega arith)
+    inr (overtaken_in c.args.slot c.args.seat.now.me c.load-old.new.seat.me c.compare_exchange-found.new.seat.me c.compare_exchange-found.new.seat.me first.number first.start first.seen first.met (first.changes c.args.slot) ([], refl) (omega arith) (omega arith)
     (overtaken_now (c.compare_exchange-found.ensures.2.loses lost) here lost (subst (λ (s : ℕ). IsWatching s c.load-old.result c.load-old.new.seat.me) here saw.watches)))
 
 pub node_named-named-requires : goal.node_named-named-requires

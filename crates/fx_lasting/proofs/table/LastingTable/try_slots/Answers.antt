@@ -61,7 +61,7 @@ returns-in-Some c =
         ),
       );
       steps = let few = run.steps in omega arith;
-      met = run.met;
+      met = (run.met, run.changes);
       fails = tt;
     }
 
@@ -94,7 +94,7 @@ returns-in-None c =
           c.take_out.ensures.empty (refl, λ _. omega (arith, c.place-entry.ensures.entry, t.key.0)) (its_flag fits c.requires.idle, refl);
       tried = (c.take_out.ensures.file c.args.file place, adds_so s run no_use);
       steps = let few = run.steps in omega arith;
-      met = run.met;
+      met = (run.met, run.changes);
       fails = λ slot its. (fails_last k).later c.args.pass.now.seat.me m c.take_out.new.seat.me slot
           ((fails_last k).earlier c.args.pass.now.seat.me c.place-entry.new.seat.me m slot (follows c.place-entry.ensures.placed) (c.scan.ensures.fails c.in-None.is slot its))
           (follows c.take_out.ensures.rests);

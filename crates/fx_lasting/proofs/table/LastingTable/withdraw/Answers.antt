@@ -1,7 +1,7 @@
-use Rattle.fx_lasting.proofs.Words.{◌≢◌, rules, announced}
+use Rattle.fx_lasting.proofs.Words.{◌≡◌, ◌≢◌, arith, rules, announced}
 use Rattle.fx_lasting.proofs.Calling.{hold_inside, hold_word}
 use Rattle.fx_lasting.proofs.hold_lemmas.HoldWords.{withdraws_keep}
-use Rattle.fx_lasting.proofs.Running.{still_at_work, runs_goes, charge_then}
+use Rattle.fx_lasting.proofs.Running.{still_at_work, runs_goes, runs_within, charge_then}
 use Rattle.fx_lasting.proofs.table.LastingTable.withdraw.Goals as goal
 
 pub swap-found-requires : goal.swap-found-requires
@@ -23,3 +23,8 @@ returns-clause-withdraws c =
     let charged : c.swap-found.result ≢ announced c.args.node = search rules in
     let goes = c.swap-found.ensures.2.charged c.args.node c.requires.announced charged in
     charge_then _ _ _ (runs_goes goes) (c.let_go.ensures.owed goes.stepped.work)
+
+pub returns-then-found-announced-clause-withdraws : goal.returns-then-found-announced-clause-withdraws
+returns-then-found-announced-clause-withdraws c =
+    let clean : c.swap-found.result ≡ announced c.args.node = search rules in
+    runs_within (omega arith) (runs_goes (c.swap-found.ensures.2.clean c.args.node c.requires.announced clean))
