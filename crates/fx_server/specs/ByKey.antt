@@ -85,8 +85,8 @@ pub record RemovesByOne (w : TableWorker) (key : Key) (removal : Removal)
   pub takes : TakesKeyAlone w key (Ok retired) freed released between
   pub retires : RetiresAs (its_opening w) (view_of between) retired removal (its_pass w')
 
--- the slot was left as it was, for this reason: `Again` only if another pass was at the slot after
--- the look-up
+-- the slot was left as it was, for this reason: `Again` only if the slot's word changed during the
+-- call
 pub record LeavesAlone (w : TableWorker) (key : Key) (why : KeyFault) (freed released : Option ℕ)
     (w' : TableWorker) : Type 0 where
   pub takes : TakesKeyAlone w key (Err why) freed released w'.pass
@@ -122,8 +122,8 @@ pub record ReplacesByOne (w : TableWorker) (key : Key) (tag number : ℕ) (remov
   pub puts : PutsKeyAlone w key (file_with tag number) (Replaced retired) freed released between
   pub retires : RetiresAs (its_opening w) (view_of between) retired removal (its_pass w')
 
--- the slot was left as it was, for this reason: `Again` only if another pass was at the slot after
--- the look-up
+-- the slot was left as it was, for this reason: `Again` only if the slot's word changed during the
+-- call
 pub record KeepsAlone (w : TableWorker) (key : Key) (tag number : ℕ) (why : KeyFault)
     (freed released : Option ℕ) (w' : TableWorker) : Type 0 where
   pub puts : PutsKeyAlone w key (file_with tag number) (Missed why (file_with tag number)) freed

@@ -6,6 +6,7 @@ pub mod Files
 pub mod FilesNumbers
 pub mod Handle
 pub mod Installing
+pub mod KeysFindFiles
 pub mod Lending
 pub mod Opened
 pub mod Outcomes

@@ -3,6 +3,7 @@ ghost use Rattle.fx_server.specs.EndsOfKeys.{DoneRemovalsEndKeys, DoneReplacemen
 ghost use Rattle.fx_server.specs.FileNumbers.{NumbersAreDrawnOnce, NumbersLast};
 ghost use Rattle.fx_server.specs.FilesNumbers.{ExportsKeepNumbers, FilesHaveTheirOwnNumbers};
 ghost use Rattle.fx_server.specs.FilesNumbers.{OpenedWorkersDrawTheirNumbers};
+ghost use Rattle.fx_server.specs.KeysFindFiles.{AKeyFindsItsFile, FilesInUseHaveTheirNumbers};
 ghost use Rattle.fx_server.specs.StaleKeys.{StaleKeysHadAnother};
 
 /// States that no number but 0 is drawn twice by the workers of a table, so that no key names two
@@ -37,4 +38,12 @@ pub fn files_have_their_own_numbers()
     ensures numbers { FilesHaveTheirOwnNumbers }
     ensures opened { OpenedWorkersDrawTheirNumbers }
     ensures exports { ExportsKeepNumbers }
+{}
+
+/// States that a look-up by a key that finds a file finds the one whose installation returned the
+/// key, with its tag, whichever workers made the two calls. And that no two files of a table have
+/// one number but 0, whatever calls of exports its workers made since it was opened.
+pub fn a_key_finds_its_file()
+    ensures numbers { FilesInUseHaveTheirNumbers }
+    ensures finds { AKeyFindsItsFile }
 {}
