@@ -1,5 +1,5 @@
 -- Each call installs files with the worker's own numbers, each for one file.
-use Rattle.std.proofs.Common.{◌≡◌, ◌≢◌, ◌⊎◌, inl, inr, ℕ, suc, ◌≤◌, List, [], ◌∷◌, map, Option, Some, None, Result, Ok, Err, refl, sym, ap, subst, ◌∙◌, arith}
+use Rattle.std.proofs.Common.{◌≡◌, ◌≢◌, ◌⊎◌, inl, inr, ℕ, suc, ◌≤◌, List, [], ◌∷◌, map, Option, Some, None, Result, Ok, Err, refl, sym, ap, subst, ◌∙◌, arith, ◌++◌, append_assoc}
 use Rattle.fx_base.specs.Identity.{Identity}
 use Rattle.fx_plain.specs.History.{◌▷◌, ◌▷▷◌}
 use Rattle.fx_plain.specs.Laws.{IsInstalled, installed_by}
@@ -33,47 +33,137 @@ use Rattle.fx_server.specs.declared.file_numbers.FileNumbers.{FileNumbers}
 use Rattle.fx_server.specs.declared.worker.TableWorker.{TableWorker}
 use Rattle.fx_server.proofs.FilesNumbers.{one_draw}
 
--- no file more was installed, or only this one
-abbrev pub AddsNone : List Event → List Event → Type 0
-AddsNone own own' = (f : File) → IsInstalled own' f → IsInstalled own f
+-- the events of a pass go on
+pub record Grows (v w : PassView) : Type 0 where
+  pub since : List Event
+  pub own : w.own ≡ v.own ▷▷ since
+  pub number : w.number ≡ v.number
 
-abbrev pub AddsOne : List Event → List Event → File → Type 0
-AddsOne own own' new = (f : File) → IsInstalled own' f → IsInstalled own f ⊎ (f ≡ new)
+-- no file more was installed, or only this one
+pub record AddsNone (v w : PassView) : Type 0 where
+  pub grows : Grows v w
+  pub none : (f : File) → IsInstalled grows.since f → ⊥
+
+pub record AddsOne (v w : PassView) (new : File) : Type 0 where
+  pub grows : Grows v w
+  pub there : IsInstalled grows.since new
+  pub only : (f : File) → IsInstalled grows.since f → f ≡ new
+
+-- what both parts of a history install, and what one of them does
+pub installed_earlier : (h more : List Event) (f : File) → IsInstalled h f → IsInstalled (more ++ h) f
+installed_earlier h [] f it = it
+installed_earlier h (e ∷ more) f it = inl (installed_earlier h more f it)
+
+pub installed_later : (h more : List Event) (f : File) → IsInstalled more f → IsInstalled (more ++ h) f
+installed_later h [] f it = absurd it
+installed_later h (e ∷ more) f (inl was) = inl (installed_later h more f was)
+installed_later h (e ∷ more) f (inr is) = inr is
+
+installed_in : (h more : List Event) (f : File) → IsInstalled (more ++ h) f → IsInstalled h f ⊎ IsInstalled more f
+installed_in h [] f it = inl it
+installed_in h (e ∷ more) f (inl was) = elim (installed_in h more f was) [
+  | inl before ↦ inl before
+  | inr after ↦ inr (inl after)
+]
+installed_in h (e ∷ more) f (inr is) = inr (inr is)
+
+pub was_there : {v w : PassView} → AddsNone v w → (f : File) → IsInstalled w.own f → IsInstalled v.own f
+was_there {v} none f it = elim (installed_in v.own none.grows.since f (subst (λ (own : List Event). IsInstalled own f) none.grows.own it)) [
+  | inl was ↦ was
+  | inr bad ↦ absurd (none.none f bad)
+]
+
+was_or_new : {v w : PassView} {new : File} → AddsOne v w new → (f : File) → IsInstalled w.own f → IsInstalled v.own f ⊎ (f ≡ new)
+was_or_new {v} one f it = elim (installed_in v.own one.grows.since f (subst (λ (own : List Event). IsInstalled own f) one.grows.own it)) [
+  | inl was ↦ inl was
+  | inr is ↦ inr (one.only f is)
+]
+
+abbrev pub grows_then : {a b c : PassView} → Grows a b → Grows b c → Grows a c
+grows_then {a} one two = record {
+  since = two.since ++ one.since;
+  own = two.own ∙ (ap (λ (own : List Event). own ▷▷ two.since) one.own ∙ sym (append_assoc two.since one.since a.own));
+  number = two.number ∙ one.number;
+}
 
 abbrev AllNone : List Action → Type 0
 AllNone [] = Unit {0}
 AllNone (a ∷ actions) = (installed_by a ≡ None) × AllNone actions
 
-nones : (v : PassView) (own : List Event) (actions : List Action) → AllNone actions → AddsNone own (own ▷▷ map (event_of v) actions)
-nones v own [] none f it = it
-nones v own (a ∷ actions) none f (inl was) = nones v own actions none.1 f was
-nones v own (a ∷ actions) none f (inr is) = let bad : None ≡ Some f = sym none.0 ∙ is in cc
+nones : (v : PassView) (actions : List Action) → AllNone actions → (f : File) → IsInstalled (map (event_of v) actions) f → ⊥
+nones v [] none f it = it
+nones v (a ∷ actions) none f (inl was) = nones v actions none.1 f was
+nones v (a ∷ actions) none f (inr is) = let bad : None ≡ Some f = sym none.0 ∙ is in cc
 
-pub added_none : (o : Opening) (v : PassView) (actions : List Action) (doing : Doing) (use' : Use) (w : PassView) → Adds o v actions doing use' w → AllNone actions → AddsNone v.own w.own
-added_none o v actions doing use' w adds none f it = nones v v.own actions none f (subst (λ (own : List Event). IsInstalled own f) adds.own it)
+pub added_none : (o : Opening) (v : PassView) (actions : List Action) (doing : Doing) (use' : Use) (w : PassView) → Adds o v actions doing use' w → AllNone actions → AddsNone v w
+added_none o v actions doing use' w adds none = record {
+  grows = record { since = map (event_of v) actions; own = adds.own; number = adds.number };
+  none = nones v actions none;
+}
+
+-- a file that the action installs
+its_file : (a : Action) (new f : File) → installed_by a ≡ Some new → installed_by a ≡ Some f → f ≡ new
+its_file a new f is it = let same : Some new ≡ Some f = sym is ∙ it in cc
 
 pub added_one : (o : Opening) (v : PassView) (a : Action) (doing : Doing) (use' : Use) (w : PassView) (new : File) → Adds o v ([] ▷ a) doing use' w → installed_by a ≡ Some new
-    → AddsOne v.own w.own new
-added_one o v a doing use' w new adds is f it = let its = rw adds.own at it in grind arith
+    → AddsOne v w new
+added_one o v a doing use' w new adds is = record {
+  grows = record { since = event_of v a ∷ []; own = adds.own; number = adds.number };
+  there = inr is;
+  only = λ f it. elim it [
+    | inl bad ↦ absurd bad
+    | inr its ↦ its_file a new f is its
+  ];
+}
 
-pub same_none : (v w : PassView) → w ≡ v → AddsNone v.own w.own
-same_none v w same f it = subst (λ (p : PassView). IsInstalled p.own f) same it
+pub same_none : (v w : PassView) → w ≡ v → AddsNone v w
+same_none v w same = record {
+  grows = record { since = []; own = ap (λ (p : PassView). p.own) same; number = ap (λ (p : PassView). p.number) same };
+  none = λ f it. it;
+}
 
-pub both_none : (a b c : List Event) → AddsNone a b → AddsNone b c → AddsNone a c
-both_none a b c one two f it = one f (two f it)
+pub both_none : (a b c : PassView) → AddsNone a b → AddsNone b c → AddsNone a c
+both_none a b c one two = record {
+  grows = grows_then one.grows two.grows;
+  none = λ f it. elim (installed_in one.grows.since two.grows.since f it) [
+    | inl was ↦ one.none f was
+    | inr is ↦ two.none f is
+  ];
+}
 
-pub none_then : (a b c : List Event) (new : File) → AddsNone a b → AddsOne b c new → AddsOne a c new
-none_then a b c new one two f it = let its = two f it in grind (arith, one)
+pub none_then : (a b c : PassView) (new : File) → AddsNone a b → AddsOne b c new → AddsOne a c new
+none_then a b c new one two = record {
+  grows = grows_then one.grows two.grows;
+  there = installed_later one.grows.since two.grows.since new two.there;
+  only = λ f it. elim (installed_in one.grows.since two.grows.since f it) [
+    | inl was ↦ absurd (one.none f was)
+    | inr is ↦ two.only f is
+  ];
+}
 
 -- a release, and an installation after it
 pub added_after : (o : Opening) (v : PassView) (g : File) (a : Action) (doing : Doing) (use' : Use) (w : PassView) (new : File) → Adds o v ([] ▷ Release g ▷ a) doing use' w
-    → installed_by a ≡ Some new → AddsOne v.own w.own new
-added_after o v g a doing use' w new adds is f it = let its = rw adds.own at it in grind arith
+    → installed_by a ≡ Some new → AddsOne v w new
+added_after o v g a doing use' w new adds is = record {
+  grows = record { since = event_of v a ∷ event_of v (Release g) ∷ []; own = adds.own; number = adds.number };
+  there = inr is;
+  only = λ f it. elim it [
+    | inl was ↦ absurd (nones v ([] ▷ Release g) (refl, tt) f was)
+    | inr its ↦ its_file a new f is its
+  ];
+}
 
-pub one_then : (a b c : List Event) (new : File) → AddsOne a b new → AddsNone b c → AddsOne a c new
-one_then a b c new one two f it = one f (two f it)
+pub one_then : (a b c : PassView) (new : File) → AddsOne a b new → AddsNone b c → AddsOne a c new
+one_then a b c new one two = record {
+  grows = grows_then one.grows two.grows;
+  there = installed_earlier one.grows.since two.grows.since new one.there;
+  only = λ f it. elim (installed_in one.grows.since two.grows.since f it) [
+    | inl was ↦ one.only f was
+    | inr is ↦ absurd (two.none f is)
+  ];
+}
 
-pub looked_none : (o : Opening) (v : PassView) (slot : ℕ) (found : Result Hold LookFault) (out : Option Identity) (w : PassView) → LookedUp o v slot found out w → AddsNone v.own w.own
+pub looked_none : (o : Opening) (v : PassView) (slot : ℕ) (found : Result Hold LookFault) (out : Option Identity) (w : PassView) → LookedUp o v slot found out w → AddsNone v w
 looked_none o v slot (Ok hold) None w it = added_none o v _ _ _ w it.2 (refl, tt)
 looked_none o v slot (Ok hold) (Some file) w it = added_none o v _ _ _ w it.2.2 (refl, (refl, tt))
 looked_none o v slot (Err EmptySlot) None w it = added_none o v _ _ _ w it (refl, tt)
@@ -81,25 +171,25 @@ looked_none o v slot (Err EmptySlot) (Some file) w it = added_none o v _ _ _ w i
 looked_none o v slot (Err Spent) None w it = same_none v w it.1
 looked_none o v slot (Err Spent) (Some file) w it = same_none v w it.2.1
 
-pub released_none : (o : Opening) (v : PassView) (g : File) (out : Option Identity) (w : PassView) → ReleasesFile o v g out w → AddsNone v.own w.own
+pub released_none : (o : Opening) (v : PassView) (g : File) (out : Option Identity) (w : PassView) → ReleasesFile o v g out w → AddsNone v w
 released_none o v g None w it = added_none o v _ _ _ w it (refl, tt)
 released_none o v g (Some file) w it = added_none o v _ _ _ w it.1 (refl, (refl, tt))
 
-pub retired_none : (o : Opening) (v : PassView) (retired : Retired) (removal : Removal) (w : PassView) → RetiresAs o v retired removal w → AddsNone v.own w.own
+pub retired_none : (o : Opening) (v : PassView) (retired : Retired) (removal : Removal) (w : PassView) → RetiresAs o v retired removal w → AddsNone v w
 retired_none o v retired Nothing w it = absurd it
 retired_none o v retired InUse w it = added_none o v _ _ _ w it.2.1 tt
 retired_none o v retired (Closed tag) w it = added_none o v _ _ _ w it.2.2.1 (refl, tt)
 
-pub held_none : (k : Start) (v : PassView) (key : Key) (hold : Hold) (freed released : Option Identity) (w : PassView) → HeldByKey k v key hold freed released w → AddsNone v.own w.own
-held_none k v key hold freed released w it = both_none v.own it.between.own w.own (looked_none (opening_of k) v key.slot (Ok hold) freed it.between it.held.looked)
+pub held_none : (k : Start) (v : PassView) (key : Key) (hold : Hold) (freed released : Option Identity) (w : PassView) → HeldByKey k v key hold freed released w → AddsNone v w
+held_none k v key hold freed released w it = both_none v it.between w (looked_none (opening_of k) v key.slot (Ok hold) freed it.between it.held.looked)
     (released_none (opening_of k) it.between it.file released w it.releases)
 
 pub key_none : (k : Start) (v : PassView) (key : Key) (found : Result Hold KeyFault) (freed released : Option Identity) (w : PassView) → LookedByKey k v key found freed released w
-    → AddsNone v.own w.own
+    → AddsNone v w
 key_none k v key (Ok hold) freed released w it = looked_none (opening_of k) v key.slot (Ok hold) freed w it.2.looked
 key_none k v key (Err fault.NoSlot) freed released w it = same_none v w it.1
 key_none k v key (Err fault.Empty) freed released w it = looked_none (opening_of k) v key.slot (Err EmptySlot) freed w it.0
-key_none k v key (Err fault.Other) freed released w it = both_none v.own it.between.own w.own
+key_none k v key (Err fault.Other) freed released w it = both_none v it.between w
     (looked_none (opening_of k) v key.slot (Ok it.hold) freed it.between it.held.looked) (released_none (opening_of k) it.between it.file released w it.releases)
 key_none k v key (Err fault.Again) freed released w it = absurd it
 
@@ -121,34 +211,34 @@ module _ (installing place : ℕ) (some : installing ≤ MOST_INSTALLING) (low :
   not_next number (inl none) is same = is none
   not_next number (inr (low', (draw, earlier, one))) is same = one_draw installing place draw d.draws number some low earlier is one (same ∙ next_is)
 
-  pub stays : AddsNone (its_pass w).own (its_pass w').own → w'.numbers ≡ w.numbers → DrawsItsNumbers installing place w'
+  pub stays : AddsNone (its_pass w) (its_pass w') → w'.numbers ≡ w.numbers → DrawsItsNumbers installing place w'
   stays none same = let kept : w'.numbers.kept ≡ w.numbers.kept = ap (λ (n : FileNumbers). n.kept) same in record {
     draws = d.draws;
     numbers = ap without_kept same ∙ d.numbers;
-    files = record { drawn = λ f it. d.files.drawn f (none f it); apart = λ f g f_in g_in. d.files.apart f g (none f f_in) (none g g_in) };
+    files = record { drawn = λ f it. d.files.drawn f (was_there none f it); apart = λ f g f_in g_in. d.files.apart f g (was_there none f f_in) (was_there none g g_in) };
     kept = subst (λ (n : ℕ). WasDrawn installing place d.draws n) (sym kept) d.kept;
-    unused = λ f it is its. d.unused f (none f it) (λ zero'. is (kept ∙ zero')) (its ∙ kept);
+    unused = λ f it is its. d.unused f (was_there none f it) (λ zero'. is (kept ∙ zero')) (its ∙ kept);
   }
 
-  pub spends : AddsNone (its_pass w).own (its_pass w').own → w'.numbers ≡ without_kept w.numbers → DrawsItsNumbers installing place w'
+  pub spends : AddsNone (its_pass w) (its_pass w') → w'.numbers ≡ without_kept w.numbers → DrawsItsNumbers installing place w'
   spends none same = let kept : w'.numbers.kept ≡ 0 = ap (λ (n : FileNumbers). n.kept) same in record {
     draws = d.draws;
     numbers = ap without_kept same ∙ d.numbers;
-    files = record { drawn = λ f it. d.files.drawn f (none f it); apart = λ f g f_in g_in. d.files.apart f g (none f f_in) (none g g_in) };
+    files = record { drawn = λ f it. d.files.drawn f (was_there none f it); apart = λ f g f_in g_in. d.files.apart f g (was_there none f f_in) (was_there none g g_in) };
     kept = inl kept;
     unused = λ f it is its. is kept;
   }
 
-  pub keeps : AddsNone (its_pass w).own (its_pass w').own → w'.numbers ≡ after_keep w.numbers → DrawsItsNumbers installing place w'
+  pub keeps : AddsNone (its_pass w) (its_pass w') → w'.numbers ≡ after_keep w.numbers → DrawsItsNumbers installing place w'
   keeps none same = let kept : w'.numbers.kept ≡ w.numbers.next = ap (λ (n : FileNumbers). n.kept) same in record {
     draws = suc d.draws;
     numbers = ap without_kept same ∙ ap after_draw d.numbers;
     files = record {
-      drawn = λ f it. later installing place d.draws (number_of_file f) (d.files.drawn f (none f it));
-      apart = λ f g f_in g_in. d.files.apart f g (none f f_in) (none g g_in);
+      drawn = λ f it. later installing place d.draws (number_of_file f) (d.files.drawn f (was_there none f it));
+      apart = λ f g f_in g_in. d.files.apart f g (was_there none f f_in) (was_there none g g_in);
     };
     kept = inr (low, (d.draws, omega arith, kept ∙ next_is));
-    unused = λ f it is its. not_next (number_of_file f) (d.files.drawn f (none f it)) (λ zero'. is (sym its ∙ zero')) (its ∙ kept);
+    unused = λ f it is its. not_next (number_of_file f) (d.files.drawn f (was_there none f it)) (λ zero'. is (sym its ∙ zero')) (its ∙ kept);
   }
 
   -- a new file with a number that no earlier one has
@@ -161,36 +251,36 @@ module _ (installing place : ℕ) (some : installing ≤ MOST_INSTALLING) (low :
       let its : number_of_file g ≡ number_of_file new = sym same ∙ ap number_of_file f_is in absurd (fresh g g_in (λ zero'. is (same ∙ (its ∙ zero'))) its)
   with_one new fresh f g (inr f_is) (inr g_is) is same = f_is ∙ sym g_is
 
-  pub installs : (new : File) → AddsOne (its_pass w).own (its_pass w').own new → number_of_file new ≡ w.numbers.next → w'.numbers ≡ after_draw w.numbers
+  pub installs : (new : File) → AddsOne (its_pass w) (its_pass w') new → number_of_file new ≡ w.numbers.next → w'.numbers ≡ after_draw w.numbers
       → DrawsItsNumbers installing place w'
   installs new one its same = let kept : w'.numbers.kept ≡ w.numbers.kept = ap (λ (n : FileNumbers). n.kept) same in record {
     draws = suc d.draws;
     numbers = ap without_kept same ∙ ap after_draw d.numbers;
     files = record {
-      drawn = λ f it. elim (one f it) [
+      drawn = λ f it. elim (was_or_new one f it) [
         | inl was ↦ later installing place d.draws (number_of_file f) (d.files.drawn f was)
         | inr is ↦ inr (low, (d.draws, omega arith, ap number_of_file is ∙ (its ∙ next_is)))
       ];
-      apart = λ f g f_in g_in. with_one new (λ h was is same'. not_next (number_of_file h) (d.files.drawn h was) (λ zero'. is (sym same' ∙ zero')) (same' ∙ its)) f g (one f f_in) (one g g_in);
+      apart = λ f g f_in g_in. with_one new (λ h was is same'. not_next (number_of_file h) (d.files.drawn h was) (λ zero'. is (sym same' ∙ zero')) (same' ∙ its)) f g (was_or_new one f f_in) (was_or_new one g g_in);
     };
     kept = later installing place d.draws w'.numbers.kept (subst (λ (n : ℕ). WasDrawn installing place d.draws n) (sym kept) d.kept);
-    unused = λ f it is number. elim (one f it) [
+    unused = λ f it is number. elim (was_or_new one f it) [
       | inl was ↦ d.unused f was (λ zero'. is (kept ∙ zero')) (number ∙ kept)
       | inr new' ↦ not_next w.numbers.kept d.kept (λ zero'. is (kept ∙ zero')) (sym (number ∙ kept) ∙ (ap number_of_file new' ∙ its))
     ];
   }
 
-  pub installs_kept : (new : File) → AddsOne (its_pass w).own (its_pass w').own new → number_of_file new ≡ w.numbers.kept → w'.numbers ≡ without_kept w.numbers
+  pub installs_kept : (new : File) → AddsOne (its_pass w) (its_pass w') new → number_of_file new ≡ w.numbers.kept → w'.numbers ≡ without_kept w.numbers
       → DrawsItsNumbers installing place w'
   installs_kept new one its same = let kept : w'.numbers.kept ≡ 0 = ap (λ (n : FileNumbers). n.kept) same in record {
     draws = d.draws;
     numbers = ap without_kept same ∙ d.numbers;
     files = record {
-      drawn = λ f it. elim (one f it) [
+      drawn = λ f it. elim (was_or_new one f it) [
         | inl was ↦ d.files.drawn f was
         | inr is ↦ subst (λ (n : ℕ). WasDrawn installing place d.draws n) (sym (ap number_of_file is ∙ its)) d.kept
       ];
-      apart = λ f g f_in g_in. with_one new (λ h was is same'. d.unused h was (λ zero'. is (its ∙ zero')) (same' ∙ its)) f g (one f f_in) (one g g_in);
+      apart = λ f g f_in g_in. with_one new (λ h was is same'. d.unused h was (λ zero'. is (its ∙ zero')) (same' ∙ its)) f g (was_or_new one f f_in) (was_or_new one g g_in);
     };
     kept = inl kept;
     unused = λ f it is number. is kept;

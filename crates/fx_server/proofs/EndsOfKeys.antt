@@ -73,7 +73,7 @@ installed_step st (Look s None) slot f is = inl is
 installed_step st _ slot f is = grind arith
 
 -- if the table was opened empty, it was installed
-installed_at : (start : State) (h : List Event) (slot : ℕ) (f : File) → ((s : ℕ) → start.at s ≡ None) → AllowsAll start (map action_of h)
+pub installed_at : (start : State) (h : List Event) (slot : ℕ) (f : File) → ((s : ℕ) → start.at s ≡ None) → AllowsAll start (map action_of h)
     → (state_after start (map action_of h)).at slot ≡ Some f → IsInstalled h f
 installed_at start [] slot f empty may is = let none : None ≡ Some f = sym (empty slot) ∙ is in cc
 installed_at start (e ∷ h) slot f empty may is = elim (installed_step (state_after start (map action_of h)) e.action slot f is) [

@@ -1,9 +1,7 @@
 -- Each export keeps the numbers of its worker's files.
-use Rattle.std.proofs.Common.{◌≡◌, inl, inr, ℕ, List, Option, Some, None, Result, Ok, Err, refl, subst, ◌∙◌}
+use Rattle.std.proofs.Common.{◌≡◌, inl, inr, ℕ, Option, Some, None, Result, Ok, Err, refl, ap, ◌∙◌}
 use Rattle.fx_base.specs.Identity.{Identity}
-use Rattle.fx_plain.specs.Laws.{IsInstalled}
 use Rattle.fx_plain.specs.declared.event.Action.TheVariants.{Allocate, Put}
-use Rattle.fx_plain.specs.declared.event.Event.{Event}
 use Rattle.fx_plain.specs.declared.event.File.{File}
 use Rattle.fx_table.specs.Calls.{PlacedFile}
 use Rattle.fx_table.specs.Opening.{Opening}
@@ -20,7 +18,7 @@ use Rattle.fx_lasting.specs.declared.pass.LastingPass.{LastingPass}
 use Rattle.fx_lasting.specs.declared.view.Start.{Start}
 use Rattle.fx_server.specs.ByKey.{FindsByKey, KeepsAlone, LeavesAlone, LooksKey, RemovesByKey, RemovesByOne, ReplacesByKey, ReplacesByKeyNext}
 use Rattle.fx_server.specs.FilesNumbers.{ExportsKeepNumbers, KeepsItsNumbers, number_of_file}
-use Rattle.fx_server.specs.Installing.{FindsNext, PutsAnyNext, PutsEmptyKept, PutsNext, having_spent}
+use Rattle.fx_server.specs.Installing.{UsesNumber, FindsNext, PutsAnyNext, PutsEmptyKept, PutsNext, having_spent}
 use Rattle.fx_server.specs.Workers.{Finds, FindsSlot, PutsAny, PutsEmpty, Puts, ReleasesHeld, RemovesFrom, RetiresAny, hold_in, its_opening, its_pass, its_start}
 use Rattle.fx_server.specs.declared.answers.FoundFile.{FoundFile}
 use Rattle.fx_server.specs.declared.answers.Placed.{Placed}
@@ -29,139 +27,157 @@ use Rattle.fx_server.specs.declared.answers.Removal.{Removal}
 use Rattle.fx_server.specs.declared.answers.ServerRefusal.{ServerRefusal}
 use Rattle.fx_server.specs.declared.answers.ServerRefusal.TheVariants.{Again, Busy, Empty, Full as NoFree, Idle, NoSlot, Stale}
 use Rattle.fx_server.specs.declared.worker.TableWorker.{TableWorker}
-use Rattle.fx_server.proofs.DrawnByCalls.{AddsNone, AddsOne, added_after, added_none, added_one, none_then, both_none, held_none, installs, installs_kept, keeps, key_none, looked_none, number_of_new, one_then, released_none, retired_none, same_none, spends, stays}
+use Rattle.fx_server.specs.Files.{file_with}
+use Rattle.fx_server.specs.KeysFindFiles.{IsExportCall, get_at, get, release, insert, replace_at, replace, remove_at, remove, find, put_empty}
+use Rattle.fx_server.proofs.DrawnByCalls.{AddsNone, AddsOne, Grows, added_after, added_none, added_one, none_then, both_none, held_none, installs, installs_kept, keeps, key_none, looked_none, number_of_new, one_then, released_none, retired_none, same_none, spends, stays}
 
--- the events of a worker's own pass
-abbrev its : TableWorker → List Event
-its w = (its_pass w).own
+same : (w w' : TableWorker) → w' ≡ w → AddsNone (its_pass w) (its_pass w')
+same w w' is = same_none (its_pass w) (its_pass w') (ap its_pass is)
 
-same : (w w' : TableWorker) → w' ≡ w → AddsNone (its w) (its w')
-same w w' is f it = subst (λ (u : TableWorker). IsInstalled (its u) f) is it
-
-finds_none : (w w' : TableWorker) (slot : ℕ) (found : Result FoundFile ServerRefusal) (freed : Option ℕ) → Finds w slot found freed w' → AddsNone (its w) (its w')
+finds_none : (w w' : TableWorker) (slot : ℕ) (found : Result FoundFile ServerRefusal) (freed : Option ℕ) → Finds w slot found freed w' → AddsNone (its_pass w) (its_pass w')
 finds_none w w' slot (Ok found) freed it = looked_none (its_opening w) (its_pass w) slot (Ok (hold_in it.0)) it.2.out (its_pass w') it.2.looked
 finds_none w w' slot (Err Empty) freed it = looked_none (its_opening w) (its_pass w) slot (Err EmptySlot) it.1.out (its_pass w') it.1.looked
 finds_none w w' slot (Err _) freed it = search same
 
-by_key_none : (w w' : TableWorker) (key : Key) (found : Result Hold KeyFault) (freed released : Option ℕ) → LooksKey w key found freed released w' → AddsNone (its w) (its w')
+by_key_none : (w w' : TableWorker) (key : Key) (found : Result Hold KeyFault) (freed released : Option ℕ) → LooksKey w key found freed released w' → AddsNone (its_pass w) (its_pass w')
 by_key_none w w' key found freed released it = key_none (its_start w) (its_pass w) key found it.out it.back (its_pass w') it.looked
 
-finds_key_none : (w w' : TableWorker) (key : Key) (found : Result FoundFile ServerRefusal) (freed released : Option ℕ) → FindsByKey w key found freed released w' → AddsNone (its w) (its w')
+finds_key_none : (w w' : TableWorker) (key : Key) (found : Result FoundFile ServerRefusal) (freed released : Option ℕ) → FindsByKey w key found freed released w' → AddsNone (its_pass w) (its_pass w')
 finds_key_none w w' key (Ok found) freed released it = by_key_none w w' key (Ok (hold_in it.0)) freed released it.2
 finds_key_none w w' key (Err NoSlot) freed released it = by_key_none w w' key (Err fault.NoSlot) freed released it.1
 finds_key_none w w' key (Err _) freed released it = search (by_key_none, same)
 
-release_none : (w w' : TableWorker) (result : Result (Option ℕ) ServerRefusal) → ReleasesHeld w result w' → AddsNone (its w) (its w')
+release_none : (w w' : TableWorker) (result : Result (Option ℕ) ServerRefusal) → ReleasesHeld w result w' → AddsNone (its_pass w) (its_pass w')
 release_none w w' (Ok tag) it = released_none (its_opening w) (its_pass w) it.5.0 it.1 (its_pass w') it.5.2
 release_none w w' (Err Idle) it = same w w' it.1
 release_none w w' (Err _) it = absurd it
 
 -- installations
 
-placed_one : (o : Opening) (v : PassView) (slot : ℕ) (new : File) (result : Option Retired) (u : PassView) → PlacedFile o v slot new result u → AddsOne v.own u.own new
+placed_one : (o : Opening) (v : PassView) (slot : ℕ) (new : File) (result : Option Retired) (u : PassView) → PlacedFile o v slot new result u → AddsOne v u new
 placed_one o v slot new None u it = added_one o v (Put slot new None) _ _ u new it refl
 placed_one o v slot new (Some retired) u it = added_one o v (Put slot new (Some it.0)) _ _ u new it.2 refl
 
-any_none : (o : Opening) (v : PassView) (retired : Option Retired) (removal : Removal) (u : PassView) → RetiresAny o v retired removal u → AddsNone v.own u.own
+any_none : (o : Opening) (v : PassView) (retired : Option Retired) (removal : Removal) (u : PassView) → RetiresAny o v retired removal u → AddsNone v u
 any_none o v None removal u it = same_none v u it.1
 any_none o v (Some retired) removal u it = retired_none o v retired removal u it
 
-insert_none : (w w' : TableWorker) (tag number : ℕ) (reason : ServerRefusal) → PutsAny w tag number (Err reason) w' → AddsNone (its w) (its w')
+insert_none : (w w' : TableWorker) (tag number : ℕ) (reason : ServerRefusal) → PutsAny w tag number (Err reason) w' → AddsNone (its_pass w) (its_pass w')
 insert_none w w' tag number NoFree it = added_none (its_opening w) (its_pass w) _ _ _ (its_pass w') it (refl, tt)
 insert_none w w' tag number Again it = added_none (its_opening w) (its_pass w) _ _ _ (its_pass w') it.0 tt
 insert_none w w' tag number _ it = search same
 
-replace_at_none : (w w' : TableWorker) (slot tag number : ℕ) (reason : ServerRefusal) → Puts w slot tag number (Err reason) w' → AddsNone (its w) (its w')
+replace_at_none : (w w' : TableWorker) (slot tag number : ℕ) (reason : ServerRefusal) → Puts w slot tag number (Err reason) w' → AddsNone (its_pass w) (its_pass w')
 replace_at_none w w' slot tag number Busy it = same w w' it.1
 replace_at_none w w' slot tag number _ it = search same
 
 -- a pass alone that left the slot as it was
 alone_none : (k : Start) (p : LastingPass) (key : Key) (why : KeyFault) (out back : Option Identity) (p' : LastingPass) → TakesAlone k p key (Err why) out back p'
-    → AddsNone (view_of p).own (view_of p').own
+    → AddsNone (view_of p) (view_of p')
 alone_none k p key why out back p' (inl looked) = key_none k (view_of p) key (Err why) out back (view_of p') looked
 alone_none k p key why out back p' (inr left) = held_none k (view_of p) key left.hold out back (view_of p') left.holder
 
-one_removes : (w w' : TableWorker) (key : Key) (removal : Removal) (freed released : Option ℕ) → RemovesByOne w key removal freed released w' → AddsNone (its w) (its w')
+one_removes : (w w' : TableWorker) (key : Key) (removal : Removal) (freed released : Option ℕ) → RemovesByOne w key removal freed released w' → AddsNone (its_pass w) (its_pass w')
 one_removes w w' key removal freed released it =
     let r = it.takes.takes in
-    both_none (its w) r.between.own (its w') (looked_none (opening_of (its_start w)) (its_pass w) key.slot (Ok r.hold) it.takes.out r.between r.held.looked)
-    (both_none r.between.own (view_of it.between).own (its w') (added_none (opening_of (its_start w)) r.between _ _ _ (view_of it.between) r.adds (refl, (refl, tt)))
+    both_none (its_pass w) r.between (its_pass w') (looked_none (opening_of (its_start w)) (its_pass w) key.slot (Ok r.hold) it.takes.out r.between r.held.looked)
+    (both_none r.between (view_of it.between) (its_pass w') (added_none (opening_of (its_start w)) r.between _ _ _ (view_of it.between) r.adds (refl, (refl, tt)))
     (retired_none (its_opening w) (view_of it.between) it.retired removal (its_pass w') it.retires))
 
-none_removed : (w w' : TableWorker) (key : Key) (why : KeyFault) (freed released : Option ℕ) → LeavesAlone w key why freed released w' → AddsNone (its w) (its w')
+none_removed : (w w' : TableWorker) (key : Key) (why : KeyFault) (freed released : Option ℕ) → LeavesAlone w key why freed released w' → AddsNone (its_pass w) (its_pass w')
 none_removed w w' key why freed released it =
     alone_none (its_start w) w.pass key why it.takes.out it.takes.back w'.pass it.takes.takes
 
-remove_none : (w w' : TableWorker) (key : Key) (result : Result Removal ServerRefusal) (freed released : Option ℕ) → RemovesByKey w key result freed released w' → AddsNone (its w) (its w')
+remove_none : (w w' : TableWorker) (key : Key) (result : Result Removal ServerRefusal) (freed released : Option ℕ) → RemovesByKey w key result freed released w' → AddsNone (its_pass w) (its_pass w')
 remove_none w w' key (Ok removal) freed released it = one_removes w w' key removal freed released it
 remove_none w w' key (Err NoSlot) freed released it = none_removed w w' key fault.NoSlot freed released it
 remove_none w w' key (Err _) freed released it = search (none_removed, same)
 
-none_replaced : (w w' : TableWorker) (key : Key) (tag number : ℕ) (why : KeyFault) (freed released : Option ℕ) → KeepsAlone w key tag number why freed released w' → AddsNone (its w) (its w')
+none_replaced : (w w' : TableWorker) (key : Key) (tag number : ℕ) (why : KeyFault) (freed released : Option ℕ) → KeepsAlone w key tag number why freed released w' → AddsNone (its_pass w) (its_pass w')
 none_replaced w w' key tag number why freed released it =
     alone_none (its_start w) w.pass key why it.puts.out it.puts.back w'.pass it.puts.puts.1
 
 replace_none : (w w' : TableWorker) (key : Key) (tag number : ℕ) (reason : ServerRefusal) (freed released : Option ℕ) → ReplacesByKey w key tag number (Err reason) freed released w'
-    → AddsNone (its w) (its w')
+    → AddsNone (its_pass w) (its_pass w')
 replace_none w w' key tag number NoSlot freed released it = none_replaced w w' key tag number fault.NoSlot freed released it
 replace_none w w' key tag number _ freed released it = search (none_replaced, same)
 
--- a replacement makes one file
-record Renewed (w w' : TableWorker) (tag number : ℕ) : Type 0 where
-  new : File
-  one : AddsOne (its w) (its w') new
-  its_number : number_of_file new ≡ number
+-- a call installed one file, with this tag and number
+pub record Makes (w w' : TableWorker) (tag number : ℕ) : Type 0 where
+  pub new : File
+  pub one : AddsOne (its_pass w) (its_pass w') new
+  pub identity : new.identity ≡ file_with tag number
 
-renewed : (w w' : TableWorker) (key : Key) (tag number : ℕ) (removal : Removal) (freed released : Option ℕ) → ReplacesByKey w key tag number (Ok removal) freed released w'
-    → Renewed w w' tag number
+pub renewed : (w w' : TableWorker) (key : Key) (tag number : ℕ) (removal : Removal) (freed released : Option ℕ) → ReplacesByKey w key tag number (Ok removal) freed released w'
+    → Makes w w' tag number
 renewed w w' key tag number removal freed released it = let r = it.puts.puts in record {
   new = r.new;
-  one = none_then (its w) r.between.own (its w') r.new (looked_none (opening_of (its_start w)) (its_pass w) key.slot (Ok r.hold) it.puts.out r.between r.held.looked)
-      (one_then r.between.own (view_of it.between).own (its w') r.new
+  one = none_then (its_pass w) r.between (its_pass w') r.new (looked_none (opening_of (its_start w)) (its_pass w) key.slot (Ok r.hold) it.puts.out r.between r.held.looked)
+      (one_then r.between (view_of it.between) (its_pass w') r.new
       (added_after (opening_of (its_start w)) r.between r.old (Put key.slot r.new (Some r.old)) _ _ (view_of it.between) r.new r.adds refl)
       (retired_none (its_opening w) (view_of it.between) it.retired removal (its_pass w') it.retires));
-  its_number = number_of_new r.new tag number r.is_new;
+  identity = r.is_new;
 }
 
-remove_at_none : (w w' : TableWorker) (slot : ℕ) (result : Result Removal ServerRefusal) → RemovesFrom w slot result w' → AddsNone (its w) (its w')
-remove_at_none w w' slot (Ok removal) it = both_none (its w) it.between.own (its w') (added_none (its_opening w) (its_pass w) _ _ _ it.between it.taken.2 (refl, tt))
+remove_at_none : (w w' : TableWorker) (slot : ℕ) (result : Result Removal ServerRefusal) → RemovesFrom w slot result w' → AddsNone (its_pass w) (its_pass w')
+remove_at_none w w' slot (Ok removal) it = both_none (its_pass w) it.between (its_pass w') (added_none (its_opening w) (its_pass w) _ _ _ it.between it.taken.2 (refl, tt))
     (retired_none (its_opening w) it.between it.retired removal (its_pass w') it.retires)
 remove_at_none w w' slot (Err Empty) it = added_none (its_opening w) (its_pass w) _ _ _ (its_pass w') it.1 (refl, tt)
 remove_at_none w w' slot (Err _) it = search same
 
-put_empty_none : (w w' : TableWorker) (slot tag number : ℕ) (reason : ServerRefusal) → PutsEmpty w slot tag number (Err reason) w' → AddsNone (its w) (its w')
+put_empty_none : (w w' : TableWorker) (slot tag number : ℕ) (reason : ServerRefusal) → PutsEmpty w slot tag number (Err reason) w' → AddsNone (its_pass w) (its_pass w')
 put_empty_none w w' slot tag number Stale it = added_none (opening_of (its_start w)) (its_pass w) _ _ _ (its_pass w') it.1.adds tt
 put_empty_none w w' slot tag number Again it = added_none (opening_of (its_start w)) (its_pass w) _ _ _ (its_pass w') it.1.adds tt
 put_empty_none w w' slot tag number _ it = search same
 
-find_none : (w w' : TableWorker) (result : Result ℕ ServerRefusal) → FindsSlot w result w' → AddsNone (its w) (its w')
+find_none : (w w' : TableWorker) (result : Result ℕ ServerRefusal) → FindsSlot w result w' → AddsNone (its_pass w) (its_pass w')
 find_none w w' (Ok slot) it = added_none (opening_of (its_start w)) (its_pass w) _ _ _ (its_pass w') it.1.adds tt
 find_none w w' (Err NoFree) it = added_none (opening_of (its_start w)) (its_pass w) _ _ _ (its_pass w') it (refl, tt)
 find_none w w' (Err Again) it = added_none (opening_of (its_start w)) (its_pass w) _ _ _ (its_pass w') it.0 tt
 find_none w w' (Err _) it = search same
 
+pub inserted : (w w' : TableWorker) (tag : ℕ) (placed : PlacedAt) → PutsAnyNext w tag (Ok placed) w' → Makes w w' tag placed.number
+inserted w w' tag placed it = let new = it.1.1.0 in record {
+  new = new;
+  one = added_one (its_opening w) (its_pass w) (Allocate placed.slot new) _ _ (its_pass w') new it.1.1.2 refl;
+  identity = it.1.1.1.identity;
+}
+
+pub replaced_at : (w w' : TableWorker) (slot tag : ℕ) (placed : Placed) → PutsNext w slot tag (Ok placed) w' → Makes w w' tag placed.number
+replaced_at w w' slot tag placed it = let put = it.1 in let new = put.placed.0 in record {
+  new = new;
+  one = one_then (its_pass w) put.between (its_pass w') new (placed_one (its_opening w) (its_pass w) slot new put.retired put.between put.placed.2)
+      (any_none (its_opening w) put.between put.retired placed.removal (its_pass w') put.retires);
+  identity = put.placed.1.identity;
+}
+
+pub put_in_empty : (w w' : TableWorker) (slot tag : ℕ) (done : Unit {0}) → PutsEmptyKept w slot tag (Ok done) w' → Makes w w' tag w.numbers.kept
+put_in_empty w w' slot tag done it = let new = it.1.0 in record {
+  new = new;
+  one = added_one (opening_of (its_start w)) (its_pass w) (Allocate slot new) _ _ (its_pass w') new it.1.2 refl;
+  identity = it.1.1.identity;
+}
+
+-- a file with the next number
+installs_next : (w w' : TableWorker) (tag number : ℕ) → Makes w w' tag number → UsesNumber w number w' → KeepsItsNumbers w w'
+installs_next w w' tag number made uses installing place some low d =
+    installs installing place some low w w' d made.new made.one (number_of_new made.new tag number made.identity ∙ uses.0) uses.1
+
 inserts : (w w' : TableWorker) (tag : ℕ) (result : Result PlacedAt ServerRefusal) → PutsAnyNext w tag result w' → KeepsItsNumbers w w'
 inserts w w' tag (Ok placed) it installing place some low d =
-    let new = it.1.1.0 in
-    installs installing place some low w w' d new (added_one (its_opening w) (its_pass w) (Allocate placed.slot new) _ _ (its_pass w') new it.1.1.2 refl)
-    (number_of_new new tag placed.number it.1.1.1.identity ∙ it.0.0) it.0.1
+    installs_next w w' tag placed.number (inserted w w' tag placed it) it.0 installing place some low d
 inserts w w' tag (Err reason) it installing place some low d =
     stays installing place some low w w' d (insert_none w w' tag w.numbers.next reason it.1) it.0
 
 replaces_at : (w w' : TableWorker) (slot tag : ℕ) (result : Result Placed ServerRefusal) → PutsNext w slot tag result w' → KeepsItsNumbers w w'
 replaces_at w w' slot tag (Ok placed) it installing place some low d =
-    let put = it.1 in let new = put.placed.0 in
-    installs installing place some low w w' d new
-    (one_then (its w) put.between.own (its w') new (placed_one (its_opening w) (its_pass w) slot new put.retired put.between put.placed.2)
-    (any_none (its_opening w) put.between put.retired placed.removal (its_pass w') put.retires))
-    (number_of_new new tag placed.number put.placed.1.identity ∙ it.0.0) it.0.1
+    installs_next w w' tag placed.number (replaced_at w w' slot tag placed it) it.0 installing place some low d
 replaces_at w w' slot tag (Err reason) it installing place some low d =
     stays installing place some low w w' d (replace_at_none w w' slot tag w.numbers.next reason it.1) it.0
 
 replaces : (w w' : TableWorker) (key : Key) (tag : ℕ) (result : Result Placed ServerRefusal) (freed released : Option ℕ) → ReplacesByKeyNext w key tag result freed released w' → KeepsItsNumbers w w'
 replaces w w' key tag (Ok placed) freed released it installing place some low d =
-    let made = renewed w w' key tag placed.number placed.removal freed released it.1 in
-    installs installing place some low w w' d made.new made.one (made.its_number ∙ it.0.0) it.0.1
+    installs_next w w' tag placed.number (renewed w w' key tag placed.number placed.removal freed released it.1) it.0 installing place some low d
 replaces w w' key tag (Err reason) freed released it installing place some low d =
     let none = replace_none w w' key tag w.numbers.next reason freed released it.1 in
     stays installing place some low w w' d none it.0
@@ -174,10 +190,8 @@ finds_next w w' (Err reason) it installing place some low d =
 
 puts_empty : (w w' : TableWorker) (slot tag : ℕ) (result : Result (Unit {0}) ServerRefusal) → PutsEmptyKept w slot tag result w' → KeepsItsNumbers w w'
 puts_empty w w' slot tag (Ok done) it installing place some low d =
-    let new = it.1.0 in
-    installs_kept installing place some low w w' d new
-    (added_one (opening_of (its_start w)) (its_pass w) (Allocate slot new) _ _ (its_pass w') new it.1.2 refl)
-    (number_of_new new tag w.numbers.kept it.1.1.identity) it.0
+    let made = put_in_empty w w' slot tag done it in
+    installs_kept installing place some low w w' d made.new made.one (number_of_new made.new tag w.numbers.kept made.identity) it.0
 puts_empty w w' slot tag (Err reason) it installing place some low d =
     spends installing place some low w w' d (put_empty_none (having_spent w) w' slot tag w.numbers.kept reason it.1) it.0
 
@@ -200,3 +214,49 @@ exports_keep = record {
   find = λ w w' answer number it. finds_next w w' it.result it.found;
   put_empty = λ w w' slot tag answer it. puts_empty w w' slot tag it.result it.placed;
 }
+
+-- each export's events are some more of its pass
+inserts_grow : (w w' : TableWorker) (tag : ℕ) (result : Result PlacedAt ServerRefusal) → PutsAnyNext w tag result w' → Grows (its_pass w) (its_pass w')
+inserts_grow w w' tag (Ok placed) it = (inserted w w' tag placed it).one.grows
+inserts_grow w w' tag (Err reason) it = (insert_none w w' tag w.numbers.next reason it.1).grows
+
+replaces_at_grow : (w w' : TableWorker) (slot tag : ℕ) (result : Result Placed ServerRefusal) → PutsNext w slot tag result w' → Grows (its_pass w) (its_pass w')
+replaces_at_grow w w' slot tag (Ok placed) it = (replaced_at w w' slot tag placed it).one.grows
+replaces_at_grow w w' slot tag (Err reason) it = (replace_at_none w w' slot tag w.numbers.next reason it.1).grows
+
+replaces_grow : (w w' : TableWorker) (key : Key) (tag : ℕ) (result : Result Placed ServerRefusal) (freed released : Option ℕ) → ReplacesByKeyNext w key tag result freed released w'
+    → Grows (its_pass w) (its_pass w')
+replaces_grow w w' key tag (Ok placed) freed released it = (renewed w w' key tag placed.number placed.removal freed released it.1).one.grows
+replaces_grow w w' key tag (Err reason) freed released it = (replace_none w w' key tag w.numbers.next reason freed released it.1).grows
+
+finds_grow : (w w' : TableWorker) (result : Result PlacedAt ServerRefusal) → FindsNext w result w' → Grows (its_pass w) (its_pass w')
+finds_grow w w' (Ok placed) it = (find_none w w' (Ok placed.slot) it.2).grows
+finds_grow w w' (Err reason) it = (find_none w w' (Err reason) it.1).grows
+
+puts_empty_grow : (w w' : TableWorker) (slot tag : ℕ) (result : Result (Unit {0}) ServerRefusal) → PutsEmptyKept w slot tag result w' → Grows (its_pass w) (its_pass w')
+puts_empty_grow w w' slot tag (Ok done) it = (put_in_empty w w' slot tag done it).one.grows
+puts_empty_grow w w' slot tag (Err reason) it = (put_empty_none (having_spent w) w' slot tag w.numbers.kept reason it.1).grows
+
+pub call_grows : (w w' : TableWorker) → IsExportCall w w' → Grows (its_pass w) (its_pass w')
+call_grows w w' (get_at slot answer out it) = (finds_none w w' slot it.call.found it.call.freed it.looked.0).grows
+call_grows w w' (get key answer out it) = (finds_key_none w w' key it.call.found it.call.freed it.call.released it.found).grows
+call_grows w w' (release answer dropped it) = (release_none w w' it.result it.released).grows
+call_grows w w' (insert tag answer number it) = inserts_grow w w' tag it.result it.allocated
+call_grows w w' (replace_at slot tag answer out it) = replaces_at_grow w w' slot tag it.call.placed it.placed
+call_grows w w' (replace key tag answer out it) = replaces_grow w w' key tag it.call.placed it.call.freed it.call.released it.placed
+call_grows w w' (remove_at slot answer out it) = (remove_at_none w w' slot it.call.removal it.removed).grows
+call_grows w w' (remove key answer out it) = (remove_none w w' key it.call.removal it.call.freed it.call.released it.removed).grows
+call_grows w w' (find answer number it) = finds_grow w w' it.result it.found
+call_grows w w' (put_empty slot tag answer it) = puts_empty_grow w w' slot tag it.result it.placed
+
+pub call_keeps : (w w' : TableWorker) → IsExportCall w w' → KeepsItsNumbers w w'
+call_keeps w w' (get_at slot answer out it) = exports_keep.get_at w w' slot answer out it
+call_keeps w w' (get key answer out it) = exports_keep.get w w' key answer out it
+call_keeps w w' (release answer dropped it) = exports_keep.release w w' answer dropped it
+call_keeps w w' (insert tag answer number it) = exports_keep.insert w w' tag answer number it
+call_keeps w w' (replace_at slot tag answer out it) = exports_keep.replace_at w w' slot tag answer out it
+call_keeps w w' (replace key tag answer out it) = exports_keep.replace w w' key tag answer out it
+call_keeps w w' (remove_at slot answer out it) = exports_keep.remove_at w w' slot answer out it
+call_keeps w w' (remove key answer out it) = exports_keep.remove w w' key answer out it
+call_keeps w w' (find answer number it) = exports_keep.find w w' answer number it
+call_keeps w w' (put_empty slot tag answer it) = exports_keep.put_empty w w' slot tag answer it

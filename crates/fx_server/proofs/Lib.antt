@@ -8,6 +8,7 @@ pub mod ExportsNumbers
 pub mod FileNumbers
 pub mod FilesNumbers
 pub mod FromEnd
+pub mod KeysFindFiles
 pub mod Looking
 pub mod OpenedNumbers
 pub mod Sending

@@ -11,6 +11,7 @@ use Rattle.fx_table.specs.Pass.{PassView, new_pass}
 use Rattle.fx_lasting.specs.Tables.{as_first}
 use Rattle.fx_server.specs.FileNumbers.{first_numbers, without_kept}
 use Rattle.fx_server.specs.FilesNumbers.{OpenedWorkersDrawTheirNumbers}
+use Rattle.fx_server.specs.Opened.{AreOpened}
 use Rattle.fx_server.specs.Workers.{its_pass}
 use Rattle.fx_server.specs.declared.file_numbers.FileNumbers.{FileNumbers}
 use Rattle.fx_server.specs.declared.worker.TableWorker.{TableWorker}
@@ -44,3 +45,17 @@ opened_draw slots workers installing list opened place other low =
       kept = inl (ap (λ (n : FileNumbers). n.kept) numbers);
       unused = λ f it. absurd (none f it);
     }
+
+-- the pass of a worker at a place has the number of the place, from 1
+pub opened_pass : (slots workers installing : ℕ) (list : List TableWorker) → AreOpened slots workers installing list → (place : ℕ) (other : TableWorker) → place < length list
+    → (its_pass (slice_index_or list place other)).number ≡ 1 + place
+opened_pass slots workers installing list opened place other low =
+    let first : List PassView = map new_pass (range_with_len 1 workers) in
+    let n = length-map-range_with_len new_pass 1 workers in
+    let same : length (map its_pass list) ≡ length (map (as_first installing) first) = ap length opened.passes in
+    let here : place < workers = omega (arith, length-map list its_pass, same, length-map first (as_first installing), n, low) in
+    let inside : place < length first = omega (arith, n, here) in
+    ap (λ (v : PassView). v.number) (sym (get_or-map its_pass list place other (its_pass other) low)
+    ∙ (ap (λ (l : List PassView). slice_index_or l place (its_pass other)) opened.passes
+    ∙ (get_or-map (as_first installing) first place (new_pass 0) (its_pass other) inside
+    ∙ ap (as_first installing) (get_or-map-range_with_len new_pass 1 workers place (1 + place) (new_pass 0) here refl))))

@@ -1,0 +1,160 @@
+-- Files in use have numbers of their own, and so a key finds its file.
+use Rattle.std.proofs.Common.{◌≡◌, ◌⊎◌, inl, inr, ℕ, zero, suc, ◌+◌, ◌<◌, ◌++◌, List, [], ◌∷◌, map, length, Option, Some, None, Ok, refl, sym, ap, subst, ◌∙◌, arith}
+use Rattle.std.proofs.lemmas.Bool.{eq-eqb, ne_eqb}
+use mathlib.Core.Logic.{dite}
+use native.Mathlib.Decide.{ℕ_discrete, dec_le}
+use Rattle.fx_base.specs.Identity.{Identity}
+use Rattle.fx_plain.specs.History.{AllowsAll, action_of, part_of_pass, state_after}
+use Rattle.fx_plain.specs.Laws.{IsInstalled}
+use Rattle.fx_plain.specs.State.{State, file_numbered}
+use Rattle.fx_plain.specs.Step.{Allows}
+use Rattle.fx_plain.specs.declared.event.Action.TheVariants.{Look}
+use Rattle.fx_plain.specs.declared.event.Event.{Event}
+use Rattle.fx_plain.specs.declared.event.File.{File}
+use Rattle.fx_table.specs.Calls.{LookedUp}
+use Rattle.fx_table.specs.Opening.{Opening, start_of}
+use Rattle.fx_table.specs.Pass.{PassView}
+use Rattle.fx_table.specs.declared.values.Doing.TheVariants.{Holding}
+use Rattle.fx_table.specs.declared.values.Hold.{Hold}
+use Rattle.fx_lasting.specs.Tables.{opening_of, opening_of_table}
+use Rattle.fx_lasting.specs.declared.key.Key.{Key}
+use Rattle.fx_server.specs.ByKey.{FindsByKey}
+use Rattle.fx_server.specs.FilesNumbers.{DrawsItsNumbers, HaveDrawnNumbers, KeepsItsNumbers, number_of_file}
+use Rattle.fx_server.specs.KeysFindFiles.{AKeyFindsItsFile, FilesInUseHaveTheirNumbers, AreExportCalls, IsInUse, ReturnsKey, inserts, replaces_at, replaces, puts_empty}
+use Rattle.fx_server.specs.Outcomes.{found_outcome}
+use Rattle.fx_server.specs.Workers.{hold_in, its_pass, its_start}
+use Rattle.fx_server.specs.declared.answers.CoreOutcome.{CoreOutcome}
+use Rattle.fx_server.specs.declared.answers.FoundFile.{FoundFile}
+use Rattle.fx_server.specs.declared.answers.LookAnswer.{LookAnswer}
+use Rattle.fx_server.specs.declared.worker.TableWorker.{TableWorker}
+use Rattle.fx_server.proofs.DrawnByCalls.{Grows, grows_then, installed_earlier, installed_later, number_of_new}
+use Rattle.fx_server.proofs.EndsOfKeys.{installed_at}
+use Rattle.fx_server.proofs.ExportsNumbers.{Makes, call_grows, call_keeps, inserted, put_in_empty, renewed, replaced_at}
+use Rattle.fx_server.proofs.FilesNumbers.{own_numbers}
+use Rattle.fx_server.proofs.OpenedNumbers.{opened_draw, opened_pass}
+
+next_place : (place : ℕ) → 1 + place ≡ suc place
+next_place place = omega arith
+
+-- calls in a row
+grows_by : (between : List TableWorker) (first last : TableWorker) → AreExportCalls first between last → Grows (its_pass first) (its_pass last)
+grows_by [] first last is = record { since = []; own = ap (λ (w : TableWorker). (its_pass w).own) is; number = ap (λ (w : TableWorker). (its_pass w).number) is }
+grows_by (next ∷ more) first last calls = grows_then (call_grows first next calls.0) (grows_by more next last calls.1)
+
+keeps_by : (between : List TableWorker) (first last : TableWorker) → AreExportCalls first between last → KeepsItsNumbers first last
+keeps_by [] first last is installing place some low d = subst (DrawsItsNumbers installing place) (sym is) d
+keeps_by (next ∷ more) first last calls installing place some low d =
+    keeps_by more next last calls.1 installing place some low (call_keeps first next calls.0 installing place some low d)
+
+module _ (slots installing : ℕ) (opened : List TableWorker) (now : ℕ → TableWorker) (h : List Event) (use' : IsInUse slots installing opened now h) where
+  its_number : (place : ℕ) → place < length opened → (its_pass (now place)).number ≡ suc place
+  its_number place low = (grows_by (use'.calls place low).0 _ (now place) (use'.calls place low).1).number
+      ∙ (opened_pass slots (length opened) installing opened use'.opens place (now place) low ∙ next_place place)
+
+  -- the part of a worker's pass
+  its_part : (place : ℕ) → place < length opened → part_of_pass (suc place) h ≡ (its_pass (now place)).own
+  its_part place low = subst (λ (n : ℕ). part_of_pass n h ≡ (its_pass (now place)).own) (its_number place low) (use'.parts place low).own
+
+  no_part : (pass : ℕ) → part_of_pass pass h ≡ [] → (draws : ℕ) × HaveDrawnNumbers installing pass draws (part_of_pass pass h)
+  no_part pass none = let empty : (f : File) → IsInstalled (part_of_pass pass h) f → ⊥ = λ f it. subst (λ (l : List Event). IsInstalled l f) none it in
+      (0, record { drawn = λ f it. absurd (empty f it); apart = λ f g f_in g_in. absurd (empty f f_in) })
+
+  each : (pass : ℕ) → (draws : ℕ) × HaveDrawnNumbers installing pass draws (part_of_pass pass h)
+  each zero = no_part zero (use'.authors zero (inl refl))
+  each (suc place) = dite (dec_le (suc place) (length opened))
+      (λ low. let calls = use'.calls place low in
+      let d = subst (λ (n : ℕ). DrawsItsNumbers installing n (now place)) (next_place place)
+      (keeps_by calls.0 _ (now place) calls.1 installing (1 + place) use'.few (omega arith)
+      (opened_draw slots (length opened) installing opened use'.opens place (now place) low)) in
+      (d.draws, subst (HaveDrawnNumbers installing (suc place) d.draws) (sym (its_part place low)) d.files))
+      (λ high. no_part (suc place) (use'.authors (suc place) (inr (omega (arith, high)))))
+
+pub their_numbers : FilesInUseHaveTheirNumbers
+their_numbers slots installing opened now h use' = own_numbers installing h use'.few (each slots installing opened now h use')
+
+-- a look-up found the file
+abbrev HasFound : List Event → File → Type 0
+HasFound [] f = ⊥
+HasFound (e ∷ h) f = HasFound h f ⊎ ((slot : ℕ) × (e.action ≡ Look slot (Some f)))
+
+found_earlier : (h more : List Event) (f : File) → HasFound h f → HasFound (more ++ h) f
+found_earlier h [] f it = it
+found_earlier h (e ∷ more) f it = inl (found_earlier h more f it)
+
+-- an event of a pass is one of the whole history
+found_whole : (q : ℕ) (h : List Event) (f : File) → HasFound (part_of_pass q h) f → HasFound h f
+found_whole q [] f it = it
+found_whole q (e ∷ h) f it = dite (ℕ_discrete e.pass q)
+    (λ same. elim (rw (eq-eqb e.pass q same) at it) [
+      | inl was ↦ inl (found_whole q h f was)
+      | inr is ↦ inr is
+    ])
+    (λ other. inl (found_whole q h f (rw (ne_eqb e.pass q other) at it)))
+
+installed_whole : (q : ℕ) (h : List Event) (f : File) → IsInstalled (part_of_pass q h) f → IsInstalled h f
+installed_whole q [] f it = it
+installed_whole q (e ∷ h) f it = dite (ℕ_discrete e.pass q)
+    (λ same. elim (rw (eq-eqb e.pass q same) at it) [
+      | inl was ↦ inl (installed_whole q h f was)
+      | inr is ↦ inr is
+    ])
+    (λ other. inl (installed_whole q h f (rw (ne_eqb e.pass q other) at it)))
+
+-- a file that a look-up found was installed, if the table was opened empty
+found_installed : (start : State) (h : List Event) (f : File) → ((s : ℕ) → start.at s ≡ None) → AllowsAll start (map action_of h) → HasFound h f → IsInstalled h f
+found_installed start [] f empty may it = it
+found_installed start (e ∷ h) f empty may (inl was) = inl (found_installed start h f empty may.0 was)
+found_installed start (e ∷ h) f empty may (inr is) =
+    let looks : Allows (state_after start (map action_of h)) (Look is.0 (Some f)) = subst (Allows (state_after start (map action_of h))) is.1 may.1 in
+    inl (installed_at start h is.0 f empty may.0 (sym looks.1))
+
+-- a pass that looked a slot up has found the file that it holds
+looked_found : (o : Opening) (v w : PassView) (slot : ℕ) (hold : Hold) (out : Option Identity) (f : File) → LookedUp o v slot (Ok hold) out w → w.doing ≡ Holding f hold → HasFound w.own f
+looked_found o v w slot hold None f it holds = let same : it.0 ≡ f = cc (sym it.2.now ∙ holds) in
+    subst (λ (own : List Event). HasFound own f) (sym it.2.own) (inr (slot, ap (λ (z : File). Look slot (Some z)) same))
+looked_found o v w slot hold (Some file) f it holds = let same : it.2.0 ≡ f = cc (sym it.2.2.now ∙ holds) in
+    subst (λ (own : List Event). HasFound own f) (sym it.2.2.own) (inr (slot, ap (λ (z : File). Look slot (Some z)) same))
+
+-- the file that a call installed which returned this key
+key_makes : (w w' : TableWorker) (tag : ℕ) (key : Key) → ReturnsKey w tag key w' → Makes w w' tag key.number
+key_makes w w' tag key (inserts answer number done is) = inserted w w' tag (record { slot = key.slot; number = key.number }) (rw is at done.allocated)
+key_makes w w' tag key (replaces_at answer out done placed is its) =
+    subst (Makes w w' tag) its (replaced_at w w' key.slot tag placed (rw is at done.placed))
+key_makes w w' tag key (replaces old answer out done placed is its) = let next = rw is at done.placed in
+    subst (Makes w w' tag) its (renewed w w' (record { slot = key.slot; number = old }) tag placed.number placed.removal done.call.freed done.call.released next.1)
+key_makes w w' tag key (puts_empty answer done is its) = subst (Makes w w' tag) its (put_in_empty w w' key.slot tag tt (rw is at done.placed))
+
+-- the tag that a look-up returned
+found_tag : (call : LookAnswer) (found : FoundFile) → call.found ≡ Ok found → (found_outcome call).tag ≡ found.tag
+found_tag call found is = rw is refl
+
+pub finds_its_file : AKeyFindsItsFile
+finds_its_file slots installing opened now h w w' u u' tag key answer out got found use' made returns gets is =
+    let m = key_makes w w' tag key returns in
+    let it : FindsByKey u key (Ok found) got.call.freed got.call.released u' = rw is at got.found in
+    let looked = it.2.looked in
+    let f = looked.0 in
+    let own = their_numbers slots installing opened now h use' in
+    let start = start_of (opening_of_table use'.opens.table) in
+    let empty : (s : ℕ) → start.at s ≡ None = λ s. ap (λ (o : Opening). (start_of o).at s) use'.opens.opening
+    ∙ ap (λ (st : State). file_numbered (st.at s) s) use'.opens.empty in
+    let saw : HasFound (its_pass u').own f = looked_found (opening_of (its_start u)) (its_pass u) (its_pass u') key.slot (hold_in it.0) it.2.out f looked.2.looked looked.2.holds in
+    let more = grows_by gets.after.0 u' (now gets.place) gets.after.1 in
+    let f_in : IsInstalled h f = found_installed start h f empty use'.legal.leads.0 (found_whole (suc gets.place) h f
+    (subst (λ (l : List Event). HasFound l f) (sym (its_part slots installing opened now h use' gets.place gets.low ∙ more.own)) (found_earlier (its_pass u').own more.since f saw))) in
+    let then = grows_by made.after.0 w' (now made.place) made.after.1 in
+    let in_own : IsInstalled (its_pass w').own m.new = subst (λ (l : List Event). IsInstalled l m.new) (sym m.one.grows.own)
+    (installed_later (its_pass w).own m.one.grows.since m.new m.one.there) in
+    let g_in : IsInstalled h m.new = installed_whole (suc made.place) h m.new
+    (subst (λ (l : List Event). IsInstalled l m.new) (sym (its_part slots installing opened now h use' made.place made.low ∙ then.own))
+    (installed_earlier (its_pass w').own then.since m.new in_own)) in
+    let its : number_of_file m.new ≡ key.number = number_of_new m.new tag key.number m.identity in
+    let same : f ≡ m.new = own f m.new f_in g_in (λ none. looked.1.0 (sym looked.1.1 ∙ none)) (looked.1.1 ∙ sym its) in
+    record {
+      file = f;
+      hold = hold_in it.0;
+      installed = record { since = m.one.grows.since; made = m.one.grows.own; there = subst (IsInstalled m.one.grows.since) (sym same) m.one.there };
+      holds = looked.2.holds;
+      its_tag = ap (λ (o : CoreOutcome). o.tag) got.its_outcome ∙ (found_tag got.call found is
+          ∙ ((it.3 f looked.2.holds).0 ∙ (ap (λ (z : File). z.identity.tag) same ∙ ap (λ (z : Identity). z.tag) m.identity)));
+    }
