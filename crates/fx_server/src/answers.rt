@@ -24,8 +24,8 @@ pub enum ServerRefusal {
     Full,
     /// An insertion or a search found neither a slot nor a step at which every slot had a file:
     /// another worker emptied a slot meanwhile, changed an empty one, or was in the middle of a
-    /// call. Or the slot's word changed at each try of a call by key, or at the try of one that
-    /// fills only an empty slot.
+    /// call. Or the slot's word changed during a call by key, or during one that fills only an
+    /// empty slot.
     Again,
     /// A number is out of its range.
     BadArgument,

@@ -47,7 +47,7 @@ impl TableWorker {
     ///
     /// # Errors
     /// `Busy`, `Reader`, `NoSlot`, in this order; `Empty` if the slot has no file, `Stale` if it
-    /// has another one, `Again` if look-ups changed the slot's word before each of four tries.
+    /// has another one, `Again` if the slot's word changed during the call.
     #[inline(always)]
     pub fn remove(&mut self, slot: u32, number: u64) -> RemoveAnswer
         requires good { IsGood self.old }

@@ -28,7 +28,7 @@ pub const READER: i64 = -5;
 pub const FULL: i64 = -6;
 
 /// An insertion or a search found neither a slot nor a step at which every slot had a file, since
-/// others were emptying or filling slots; or the slot's word changed at each try of the call.
+/// others were emptying or filling slots; or the slot's word changed during the call.
 pub const AGAIN: i64 = -7;
 
 /// An argument is out of range.

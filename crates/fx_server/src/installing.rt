@@ -78,7 +78,8 @@ impl TableWorker {
     ///
     /// # Errors
     /// `Busy`, `NoSlot` if the slot isn't in the allocation range, `Reader`, in this order;
-    /// `Stale` if the slot had a file, `Again` if it was empty and its word changed meanwhile.
+    /// `Stale` if the slot had a file, `Again` if it was empty and its word changed during the
+    /// call.
     #[inline(always)]
     pub fn put_empty(&mut self, slot: u32, tag: u64) -> Result<(), ServerRefusal>
         requires good { IsGood self.old }

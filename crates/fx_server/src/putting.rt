@@ -81,7 +81,8 @@ impl TableWorker {
     ///
     /// # Errors
     /// `Busy`, `NoSlot` if the slot isn't in the allocation range, `Reader`, in this order;
-    /// `Stale` if the slot had a file, `Again` if it was empty and its word changed meanwhile.
+    /// `Stale` if the slot had a file, `Again` if it was empty and its word changed during the
+    /// call.
     #[inline(always)]
     pub(crate) fn put_empty_as(
         &mut self,

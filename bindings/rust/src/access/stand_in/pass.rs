@@ -24,7 +24,7 @@ pub(crate) struct Pass {
 }
 
 /// The reason why a call that names a node changed nothing: the slot was empty, its file was on
-/// another node, or its word changed at each try.
+/// another node, or its word changed during the call.
 #[derive(Clone, Copy)]
 pub(crate) enum Miss {
     Empty,
