@@ -26,9 +26,11 @@ use Rattle.fx_server.specs.declared.worker.TableWorker.{TableWorker}
 pub data IsExportCall (w w' : TableWorker) : Type 0 where
   get_at : (slot : ℕ) (answer : ℤ) (out : CoreOutcome) → GetsAtAs w slot answer out w'
       → IsExportCall w w'
-  get : (key : Key) (answer : ℤ) (out : CoreOutcome) → GetsAs w key answer out w' → IsExportCall w w'
+  get : (key : Key) (answer : ℤ) (out : CoreOutcome) → GetsAs w key answer out w'
+      → IsExportCall w w'
   release : (answer : ℤ) (dropped : ℕ) → ReleasesAs w answer dropped w' → IsExportCall w w'
-  insert : (tag : ℕ) (answer : ℤ) (number : ℕ) → InsertsAs w tag answer number w' → IsExportCall w w'
+  insert : (tag : ℕ) (answer : ℤ) (number : ℕ) → InsertsAs w tag answer number w'
+      → IsExportCall w w'
   replace_at : (slot tag : ℕ) (answer : ℤ) (out : CoreOutcome)
       → ReplacesAtAs w slot tag answer out w' → IsExportCall w w'
   replace : (key : Key) (tag : ℕ) (answer : ℤ) (out : CoreOutcome)

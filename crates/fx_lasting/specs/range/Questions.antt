@@ -5,7 +5,8 @@ use Rattle.fx_plain.specs.declared.event.Action.TheVariants.{Full}
 use Rattle.fx_table.specs.Calls.{Adds, no_use}
 use Rattle.fx_lasting.specs.Passes.{Sat}
 use Rattle.fx_lasting.specs.Runs.{Runs}
-use Rattle.fx_lasting.specs.Tables.{IsPassOfTable, opening_of_table, view_of, steps_taken, MeetsMore}
+use Rattle.fx_lasting.specs.Tables.{IsPassOfTable, opening_of_table, view_of, steps_taken}
+use Rattle.fx_lasting.specs.Tables.{MeetsMore}
 use Rattle.fx_lasting.specs.Effects.{as_asked}
 use Rattle.fx_lasting.specs.declared.pass.LastingPass.{LastingPass}
 use Rattle.fx_lasting.specs.declared.table.LastingTable.{LastingTable}
