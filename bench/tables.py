@@ -162,10 +162,9 @@ def of_others():
 
 
 def of_counted():
-    """Returns the ratios of the table of a submission to others, row by row."""
-    others = {"plain words": "counted words", "arc-swap load": "arc-swap load", "load_full": "arc-swap load_full", "crossbeam-epoch": "crossbeam-epoch", "Mutex": "std's Mutex"}
+    """Returns the ratios of the table of a submission to plain words, row by row."""
     titles = dict.fromkeys(row for row, _ in read_kept(read("bench/counted.txt").splitlines()))
-    return lines([("CountedTable /", *others), *((row, *(f"{ratio('bench/counted.txt', row, 'counted', it):.2f}" for it in others.values())) for row in titles)])
+    return lines([("CountedTable /", "plain words"), *((row, f"{ratio('bench/counted.txt', row, 'counted', 'counted words'):.2f}") for row in titles)])
 
 
 def of_program():
@@ -173,9 +172,9 @@ def of_program():
     rows = [("script", "fixfiles / plain")]
     rows += [it for it in found("bench/program.txt", r"^bench: (.*?)(?: over words)?: ([\d.]+) times the plain") if "baton" not in it[0]]
     workers, text = [("by the clock, times as long as on one worker", "2 workers", "4 workers")], "bench/program.txt"
-    for name in ("1,023 reads of 4,096 bytes", "1,023 chains of 16 at one of 256 slots each"):
-        those = found(text, rf"^bench: {name}, \d+ times: .*?words, ([\d.]+) times that on 2 and ([\d.]+) times")
-        workers.append((name, *(f"{statistics.median(map(float, it)):.2f}" for it in zip(*those))))
+    name = "1,023 chains of 16 at one of 256 slots each"
+    those = found(text, rf"^bench: {name}, \d+ times: .*?words, ([\d.]+) times that on 2 and ([\d.]+) times")
+    workers.append((name, *(f"{statistics.median(map(float, it)):.2f}" for it in zip(*those))))
     opening = span(found(text, r"opening and closing, .*: counted / baton ([\d.]+)"), 0)
     return f"{lines(rows)}\n\n{lines(workers)}\n\n{lines([('opening and closing for 1,023 chains: CountedTable / BatonTable', opening)])}"
 

@@ -89,7 +89,7 @@ def command():
         for workers in WORKERS:
             checks.chains(table, workers)
     checks.calls()
-    for table in ("counted", "baton", "lasting"):
+    for table in ("counted", "baton"):
         checks.benched(table)
     checks.once()
     return checks.end()

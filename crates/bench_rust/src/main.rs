@@ -1,7 +1,7 @@
 //! Times the two proved lock-free tables, one of them also by the Rust crate in bindings/, next to
-//! plain, unproved Rust tables of the same words, and all next to arc-swap, crossbeam-epoch,
-//! sharded-slab and a lock of std, in turn in one process. Each line has the times of one round,
-//! for `bench/ratios.py`. With the argument `tails` it prints how long single calls take instead,
+//! plain, unproved Rust tables of the same words, and all next to arc-swap, crossbeam-epoch and
+//! sharded-slab, in turn in one process. Each line has the times of one round, for
+//! `bench/ratios.py`. With the argument `tails` it prints how long single calls take instead,
 //! and with `searches` how long the crate needs in tables that are nearly full. With `memory` it
 //! prints how many bytes tables of the crate take. With `calls` it makes one call in a loop.
 mod access;
@@ -9,7 +9,6 @@ mod bindings;
 mod calls;
 mod exports;
 mod lasting_words;
-mod locked;
 mod memory;
 mod others;
 mod proved;
@@ -24,7 +23,6 @@ mod work;
 use bindings::{Lasting, LastingKeys};
 use exports::{Exports, WORKERS};
 use lasting_words::LastingWords;
-use locked::Locked;
 use others::{Epochs, Swaps};
 use slabs::{Keys, Slabs};
 use timing::time;
@@ -51,16 +49,15 @@ fn print(name: &str, threads: usize, times: &[(&str, f64)]) {
 /// Measures each of the tables at a row of `bench/rows.txt`.
 fn round(name: &str, words: &str, row: Row, threads: usize) {
     let times = [
-        ("lasting", proved::time("lasting", words, threads)),
+        ("lasting", time::<Exports>(row, threads)),
         ("Rust crate", time::<Lasting>(row, threads)),
         ("lasting words", time::<LastingWords<1>>(row, threads)),
-        ("counted", proved::time("counted", words, threads)),
+        ("counted", proved::time(words, threads)),
         ("counted words", time::<Words>(row, threads)),
         ("arc-swap load", time::<Swaps<false>>(row, threads)),
         ("arc-swap load_full", time::<Swaps<true>>(row, threads)),
         ("crossbeam-epoch", time::<Epochs>(row, threads)),
         ("sharded-slab", time::<Slabs>(row, threads)),
-        ("std's Mutex", time::<Locked>(row, threads)),
     ];
     print(name, threads, &times);
 }

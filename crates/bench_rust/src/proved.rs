@@ -1,7 +1,7 @@
-//! The proved tables, in this process: the program of crates/bench_tables is linked in, with its
-//! `main` under another name, so that the code that was proved is measured. That program ends by
-//! `_exit`, which is replaced by `pthread_exit` here (`bench/bench-rust`), so that it ends the
-//! thread that it runs on, with its status.
+//! The table of a submission, in this process: the program of crates/bench_tables is linked in,
+//! with its `main` under another name, so that the code that was proved is measured. That program
+//! ends by `_exit`, which is replaced by `pthread_exit` here (`bench/bench-rust`), so that it ends
+//! the thread that it runs on, with its status.
 use std::env;
 use std::ffi::c_void;
 use std::fs::File;
@@ -56,10 +56,10 @@ fn printed() -> String {
     text
 }
 
-/// Returns the seconds that a proved table, "lasting" or "counted", needs for the row of these
-/// words, on `threads` threads. Nothing else uses the environment or standard output meanwhile.
-pub fn time(table: &str, row: &str, threads: usize) -> f64 {
-    env::set_var("TABLE_BENCH_ROW", format!("{table} {row} {threads}"));
+/// Returns the seconds that the proved `CountedTable` needs for the row of these words, on
+/// `threads` threads. Nothing else uses the environment or standard output meanwhile.
+pub fn time(row: &str, threads: usize) -> f64 {
+    env::set_var("TABLE_BENCH_ROW", format!("counted {row} {threads}"));
     let nanoseconds: f64 = printed().trim().parse().expect("nanoseconds");
     nanoseconds / 1e9
 }

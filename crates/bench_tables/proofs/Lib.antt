@@ -1,1 +1,1 @@
-pub mod FewHolds
+pub mod Vacant

@@ -5,8 +5,8 @@
 #![tactic(auto)]
 
 ghost use Rattle.std.specs.Prelude.{◌<◌, ◌≤◌, IfSome, length, vec_capacity};
+ghost use Rattle.fx_table.specs.Pass.{IsIdle};
 
-mod locked;
 mod measure;
 mod refusals;
 mod shared;
@@ -15,11 +15,9 @@ mod work;
 use fx_base::Catalogue;
 use fx_baton::BatonTable;
 use fx_counted::CountedTable;
-use fx_lasting::LastingTable;
-use fx_table::MAX_PASSES;
-use locked::Locked;
+use fx_table::{FileTable, MAX_PASSES};
 use measure::{shaped, time};
-use shared::{Chains, Lasts, Shared, Subject};
+use shared::{discard_all, look, put, put_any, read, take};
 use std::alloc::Global;
 use std::env;
 use std::io::Read;
@@ -28,7 +26,7 @@ use std::rt::Clock;
 use std::sync::Wait;
 use std::thread::Threads;
 use std::time::CpuClock;
-use work::{MARK, READ_LEN, Row, Shape, look, read, row_of};
+use work::{MARK, READ_LEN, Row, Shape, row_of};
 
 // A runtime for the calls that start threads.
 trait Host: Threads + Wait + Clock + CpuClock + Print + AllocGlobal + Sync {}
@@ -66,10 +64,8 @@ fn timed<H: Host>(rt: &H, catalogue: &Catalogue, table: &str, row: Row, threads:
         return None;
     }
     match table {
-        "lasting" => time::<Shared<LastingTable, Lasts>, H>(rt, catalogue, row, threads),
-        "counted" => time::<Shared<CountedTable, Chains>, H>(rt, catalogue, row, threads),
-        "baton" => time::<Shared<BatonTable, Chains>, H>(rt, catalogue, row, threads),
-        "mutex" => time::<Locked, H>(rt, catalogue, row, threads),
+        "counted" => time::<CountedTable, H>(rt, catalogue, row, threads),
+        "baton" => time::<BatonTable, H>(rt, catalogue, row, threads),
         _ => None,
     }
 }
@@ -85,22 +81,22 @@ fn report<H: Host>(rt: &H, words: &str) -> Option<()> {
 
 // Reads at slot 3 of a table of four slots, which is empty, installs a file at any empty slot, and
 // reads again. Prints the bytes that were read each time, and the slot.
-fn fill_last<S: Subject, R: Wait + Print>(
+fn fill_last<T: FileTable, R: Wait + Print>(
     rt: &R,
-    subject: &S,
-    pass: &mut S::Pass,
+    table: &T,
+    pass: &mut T::Pass,
     catalogue: &Catalogue,
     into: &mut Vec<u8>,
 )
-    requires ready { S.ready subject.now pass.old }
+    requires ready { T.fits table.now pass.old × IsIdle (T.view pass.old) }
     requires entry { 0 < length catalogue.now }
     requires room { READ_LEN ≤ vec_capacity into.old }
-    ensures { S.ready subject.now pass.new }
+    ensures { T.fits table.now pass.new × IsIdle (T.view pass.new) }
 {
-    read(rt, subject, pass, catalogue, 3, into);
+    read(rt, table, pass, catalogue, 3, into);
     let empty = into.len();
-    let first = subject.put_any(rt, pass, catalogue.open(0, MARK, 0));
-    read(rt, subject, pass, catalogue, 3, into);
+    let first = put_any(rt, table, pass, catalogue.open(0, MARK, 0));
+    read(rt, table, pass, catalogue, 3, into);
     let full = into.len();
     let _ = print!(rt; "{empty} and {full} bytes, {first:?}, ");
 }
@@ -108,28 +104,28 @@ fn fill_last<S: Subject, R: Wait + Print>(
 // Uses a full table of four slots, which has three files afterwards. Prints the slots at which a
 // file was installed at any empty slot: after the removal of the last file, and when no slot was
 // empty.
-fn use_full<S: Subject, R: Wait + Print>(
+fn use_full<T: FileTable, R: Wait + Print>(
     rt: &R,
-    subject: &S,
-    pass: &mut S::Pass,
+    table: &T,
+    pass: &mut T::Pass,
     catalogue: &Catalogue,
 )
-    requires ready { S.ready subject.now pass.old }
+    requires ready { T.fits table.now pass.old × IsIdle (T.view pass.old) }
     requires entry { 0 < length catalogue.now }
-    ensures { S.ready subject.now pass.new }
+    ensures { T.fits table.now pass.new × IsIdle (T.view pass.new) }
 {
-    subject.take(rt, pass, 3);
-    let again = subject.put_any(rt, pass, catalogue.open(0, MARK, 0));
-    look(rt, subject, pass, 3);
-    subject.put(rt, pass, 2, catalogue.open(0, MARK, 0));
-    subject.put(rt, pass, 3, catalogue.open(0, MARK, 0));
-    let last = subject.put_any(rt, pass, catalogue.open(0, MARK, 0));
-    subject.take(rt, pass, 3);
+    take(rt, table, pass, 3);
+    let again = put_any(rt, table, pass, catalogue.open(0, MARK, 0));
+    look(rt, table, pass, 3);
+    put(rt, table, pass, 2, catalogue.open(0, MARK, 0));
+    put(rt, table, pass, 3, catalogue.open(0, MARK, 0));
+    let last = put_any(rt, table, pass, catalogue.open(0, MARK, 0));
+    take(rt, table, pass, 3);
     let _ = print!(rt; "{again:?}, {last:?}, ");
 }
 
 // Opens a table, uses it, closes it, and prints the results.
-fn try_table<S: Subject, R: Wait + Print>(
+fn try_table<T: FileTable, R: Wait + Print>(
     rt: &R,
     alloc: Global,
     catalogue: &Catalogue,
@@ -141,18 +137,18 @@ fn try_table<S: Subject, R: Wait + Print>(
     let (slots, full, range) = (4, 3, 4);
     let shape = Shape { slots, full, range };
     print!(rt; "{name}: ").ok()?;
-    let files = match S::open(alloc, shaped(alloc, catalogue, shape)?, 1, 1) {
-        Err(plain) => {
+    let files = match T::open(alloc, shaped(alloc, catalogue, shape)?, 1, 1) {
+        Err((plain, _)) => {
             plain.abandon();
             return None;
         }
-        Ok((subject, mut passes)) => {
+        Ok((table, mut passes)) => {
             if !passes.is_empty() {
                 let pass = &mut passes[0];
-                fill_last(rt, &subject, pass, catalogue, &mut into);
-                use_full(rt, &subject, pass, catalogue);
+                fill_last(rt, &table, pass, catalogue, &mut into);
+                use_full(rt, &table, pass, catalogue);
             }
-            subject.close(alloc, passes)?
+            discard_all(table.close(passes))
         }
     };
     println!(rt; "{files} files").ok()
@@ -163,10 +159,8 @@ fn try_table<S: Subject, R: Wait + Print>(
 // fails.
 fn try_tables<R: Wait + Print>(rt: &R, alloc: Global) -> Option<()> {
     let catalogue = &one_entry(alloc)?;
-    try_table::<Shared<CountedTable, Chains>, R>(rt, alloc, catalogue, "counted")?;
-    try_table::<Shared<LastingTable, Lasts>, R>(rt, alloc, catalogue, "lasting")?;
-    try_table::<Shared<BatonTable, Chains>, R>(rt, alloc, catalogue, "baton")?;
-    try_table::<Locked, R>(rt, alloc, catalogue, "mutex")
+    try_table::<CountedTable, R>(rt, alloc, catalogue, "counted")?;
+    try_table::<BatonTable, R>(rt, alloc, catalogue, "baton")
 }
 
 // Returns the first 64 bytes of standard input as a text.

@@ -5,11 +5,11 @@ ghost use Rattle.fx_plain.specs.Contents.{state_of};
 ghost use Rattle.fx_table.specs.declared.limits.TheConstants.{MAX_PASSES};
 
 use crate::Host;
-use crate::shared::Subject;
+use crate::shared::discard_all;
 use crate::work::{Row, Shape, Work, work_all};
 use fx_base::{Catalogue, Mark};
 use fx_plain::PlainTable;
-use fx_table::MAX_CHAINS;
+use fx_table::{FileTable, MAX_CHAINS, SharedTable};
 use std::alloc::Global;
 use std::rt::Clock;
 use std::sync::atomic::{AtomicU32, AtomicU64, Ordering};
@@ -121,7 +121,7 @@ fn fill(plain: &mut PlainTable, catalogue: &Catalogue, full: u32)
 
 /// Returns the nanoseconds that `threads` threads need for the work of a row, on a new table of its
 /// shape, or `None` if an allocation or a clock fails.
-pub(crate) fn time<S: Subject, H: Host>(
+pub(crate) fn time<T: FileTable, H: Host>(
     rt: &H,
     catalogue: &Catalogue,
     row: Row,
@@ -132,19 +132,19 @@ pub(crate) fn time<S: Subject, H: Host>(
 {
     let (alloc, watch) = (rt.alloc(), Watch::new(rt, threads).ok()?);
     if let Work::Open = row.work {
-        return time_of_openings::<S, H>(rt, alloc, catalogue, row, threads);
+        return time_of_openings::<T, H>(rt, alloc, catalogue, row, threads);
     }
     let plain = shaped(alloc, catalogue, row.shape)?;
-    match S::open(alloc, plain, MAX_CHAINS, threads) {
-        Err(plain) => {
+    match T::open(alloc, plain, MAX_CHAINS, threads) {
+        Err((plain, _)) => {
             plain.abandon();
             None
         }
-        Ok((subject, mut passes)) => {
+        Ok((table, mut passes)) => {
             if !passes.is_empty() {
-                work_all(rt, &subject, &mut passes, catalogue, row, &watch);
+                work_all(rt, &table, &mut passes, catalogue, row, &watch);
             }
-            subject.close(alloc, passes)?;
+            discard_all(table.close(passes));
             watch.took()
         }
     }
@@ -152,7 +152,7 @@ pub(crate) fn time<S: Subject, H: Host>(
 
 // Returns the CPU time, in nanoseconds, of opening and closing a table of the row's shape as often
 // as the row says, or `None` if an allocation or the clock fails.
-fn time_of_openings<S: Subject, R: CpuClock>(
+fn time_of_openings<T: FileTable, R: CpuClock>(
     rt: &R,
     alloc: Global,
     catalogue: &Catalogue,
@@ -166,12 +166,12 @@ fn time_of_openings<S: Subject, R: CpuClock>(
     for _ in 0..row.times {
         let plain = shaped(alloc, catalogue, row.shape)?;
         let before = used(rt);
-        match S::open(alloc, plain, MAX_CHAINS, passes) {
-            Err(plain) => {
+        match T::open(alloc, plain, MAX_CHAINS, passes) {
+            Err((plain, _)) => {
                 plain.abandon();
                 return None;
             }
-            Ok((subject, passes)) => subject.close(alloc, passes)?,
+            Ok((table, passes)) => discard_all(table.close(passes)),
         };
         spent = spent.checked_add(used(rt)?.checked_sub(before?)?)?;
     }

@@ -1,10 +1,12 @@
 //! The work that is timed, by the words of `bench/rows.txt`, and how a thread does it on a table.
-ghost use Rattle.std.specs.Prelude.{◌≡◌, ◌<◌, ◌≤◌, length, All, vec_capacity};
+ghost use Rattle.std.specs.Prelude.{◌≡◌, ◌<◌, length, All};
+ghost use Rattle.fx_table.specs.Pass.{IsIdle};
 
 use crate::Host;
 use crate::measure::Watch;
-use crate::shared::Subject;
+use crate::shared::{look, put, put_any, read, take};
 use fx_base::{Catalogue, Mark};
+use fx_table::FileTable;
 use std::alloc::Global;
 use std::rt::Clock;
 use std::sync::Wait;
@@ -86,51 +88,20 @@ fn next(number: u32) -> u32 {
     number.wrapping_mul(1_664_525).wrapping_add(1_013_904_223)
 }
 
-/// Looks a slot up and releases the file there.
-pub(crate) fn look<S: Subject, R: Wait>(rt: &R, subject: &S, pass: &mut S::Pass, slot: u32)
-    requires { S.ready subject.now pass.old }
-    ensures { S.ready subject.now pass.new }
-{
-    if let Some((hold, _)) = subject.look_up(rt, pass, slot) {
-        subject.release(rt, pass, hold);
-    }
-}
-
-/// Looks a slot up, reads from the file there, and releases it.
-pub(crate) fn read<S: Subject, R: Wait>(
-    rt: &R,
-    subject: &S,
-    pass: &mut S::Pass,
-    catalogue: &Catalogue,
-    slot: u32,
-    into: &mut Vec<u8>,
-)
-    requires ready { S.ready subject.now pass.old }
-    requires room { READ_LEN ≤ vec_capacity into.old }
-    ensures ready { S.ready subject.now pass.new }
-    ensures room { READ_LEN ≤ vec_capacity into.new }
-{
-    if let Some((hold, entry)) = subject.look_up(rt, pass, slot) {
-        into.clear();
-        catalogue.read_into(entry, 0, READ_LEN, into);
-        subject.release(rt, pass, hold);
-    }
-}
-
 // Does the work of the thread with this number, from 0, when all threads are there.
-fn do_work<S: Subject, R: Wait + Clock + CpuClock>(
+fn do_work<T: FileTable, R: Wait + Clock + CpuClock>(
     rt: &R,
     alloc: Global,
-    subject: &S,
-    pass: &mut S::Pass,
+    table: &T,
+    pass: &mut T::Pass,
     catalogue: &Catalogue,
     row: Row,
     watch: &Watch,
     thread: u32,
 )
-    requires ready { S.ready subject.now pass.old }
+    requires ready { T.fits table.now pass.old × IsIdle (T.view pass.old) }
     requires entry { 0 < length catalogue.now }
-    ensures { S.ready subject.now pass.new }
+    ensures { T.fits table.now pass.new × IsIdle (T.view pass.new) }
 {
     let Ok(mut into) = Vec::with_capacity(alloc, READ_LEN as usize) else {
         return;
@@ -142,18 +113,18 @@ fn do_work<S: Subject, R: Wait + Clock + CpuClock>(
         let slot = row.slot(random >> 16);
         match row.work {
             Work::Mixed if i % 10 == 9 => {
-                subject.put(rt, pass, slot, catalogue.open(0, MARK, 0));
+                put(rt, table, pass, slot, catalogue.open(0, MARK, 0));
             }
-            Work::Look | Work::Mixed => look(rt, subject, pass, slot),
+            Work::Look | Work::Mixed => look(rt, table, pass, slot),
             Work::Chain => {
                 let slot = row.slot(thread.wrapping_mul(64).wrapping_add(i % 64));
-                subject.put(rt, pass, slot, catalogue.open(0, MARK, 0));
-                read(rt, subject, pass, catalogue, slot, &mut into);
-                subject.take(rt, pass, slot);
+                put(rt, table, pass, slot, catalogue.open(0, MARK, 0));
+                read(rt, table, pass, catalogue, slot, &mut into);
+                take(rt, table, pass, slot);
             }
             Work::Allocate => {
-                if let Some(slot) = subject.put_any(rt, pass, catalogue.open(0, MARK, 0)) {
-                    subject.take(rt, pass, slot);
+                if let Some(slot) = put_any(rt, table, pass, catalogue.open(0, MARK, 0)) {
+                    take(rt, table, pass, slot);
                 }
             }
             Work::Open => {}
@@ -163,18 +134,18 @@ fn do_work<S: Subject, R: Wait + Clock + CpuClock>(
 }
 
 /// Runs each of the passes in a thread of its own, at the same work, while the watch runs.
-pub(crate) fn work_all<S: Subject, H: Host>(
+pub(crate) fn work_all<T: FileTable, H: Host>(
     rt: &H,
-    subject: &S,
-    passes: &mut Vec<S::Pass>,
+    table: &T,
+    passes: &mut Vec<T::Pass>,
     catalogue: &Catalogue,
     row: Row,
     watch: &Watch,
 )
     requires some { 0 < length passes.old.items }
-    requires ready { All (λ p. S.ready subject.now p) passes.old.items }
+    requires ready { All (λ p. T.fits table.now p × IsIdle (T.view p)) passes.old.items }
     requires entry { 0 < length catalogue.now }
-    ensures ready { All (λ p. S.ready subject.now p) passes.new.items }
+    ensures ready { All (λ p. T.fits table.now p × IsIdle (T.view p)) passes.new.items }
     ensures count { length passes.new.items ≡ length passes.old.items }
 {
     let threads = passes.len();
@@ -182,12 +153,13 @@ pub(crate) fn work_all<S: Subject, H: Host>(
         rt,
         passes.as_mut_slice(),
         threads,
-        &|i, pass: &mut S::Pass|
-            requires { S.ready subject.now pass.old × (0 < length catalogue.now) }
-            ensures { S.ready subject.entry.now pass.new }
+        &|i, pass: &mut T::Pass|
+            requires ready { T.fits table.now pass.old × IsIdle (T.view pass.old) }
+            requires entry { 0 < length catalogue.now }
+            ensures { T.fits table.entry.now pass.new × IsIdle (T.view pass.new) }
         {
             let thread = (i % 16) as u32;
-            do_work(rt, rt.alloc(), subject, pass, catalogue, row, watch, thread)
+            do_work(rt, rt.alloc(), table, pass, catalogue, row, watch, thread)
         },
     );
 }

@@ -1,4 +1,4 @@
-use Rattle.bench_tables.proofs.FewHolds.{vacant_settled}
+use Rattle.bench_tables.proofs.Vacant.{vacant_settled}
 use Rattle.bench_tables.proofs.measure.shaped.Goals as goal
 
 pub prepare-requires-clause-settled : goal.prepare-requires-clause-settled

@@ -1,6 +1,10 @@
 use Rattle.std.proofs.Common.{◌≤◌, vec_capacity}
+use Rattle.fx_table.specs.Pass.{IsIdle}
 use Rattle.bench_tables.specs.declared.work.TheConstants.{READ_LEN}
 use Rattle.bench_tables.proofs.work.do_work.Given as goal
 
 abbrev pub invariant-loop-i : goal.invariant-loop-i
-invariant-loop-i g l = record { ready : g.S.Subject.ready l.subject l.pass; room : READ_LEN ≤ vec_capacity l.into }
+invariant-loop-i g l = record {
+  ready : g.T.SharedTable.fits l.table l.pass × IsIdle (g.T.SharedTable.view l.pass);
+  room : READ_LEN ≤ vec_capacity l.into;
+}
