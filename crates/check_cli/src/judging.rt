@@ -3,20 +3,23 @@
 ghost use Rattle.std.specs.Prelude.{IfOk};
 ghost use Rattle.check_judge.specs.Judged.{IsJudged};
 
-use check_explain::{Facts, Lines, Question, Words, cut_word};
+use check_explain::{Facts, Lines, Question, TextPlace, Words, cut_word};
 use check_judge::{Break, Fault, Judgement, judge, judge_from};
 use check_lines::copy_of;
-use check_search::Limits;
+use check_search::{Doubt, Limits};
 use fx_base::NoMemory;
 use fx_order::RingSlots;
 use fx_script::Script;
 use std::io::IsTerminal;
 use std::time::Instant;
 
-/// The limit of the first search, in states. Each later search has `LARGER` times as many.
+/// The largest limit of the first search, in states. Each later search has `LARGER` times as many.
 const FIRST_STATES: usize = 16_384;
 
 const LARGER: usize = 4;
+
+/// The number of bytes of a MiB.
+pub(crate) const MIB: usize = 1_048_576;
 
 /// The number of bytes that suffice for the one state of an empty submission.
 const EMPTY_BYTES: usize = 1 << 20;
@@ -27,9 +30,40 @@ const SEARCHES: usize = 32;
 /// The number of seconds before anything is printed.
 const QUIET_SECONDS: u64 = 2;
 
+// Returns the limit of the first search, in states, from which `LARGER` times as many again and
+// again become `most`: so the searches before the last one meet a third of its states.
+fn first_states(most: usize) -> usize {
+    let mut states = most;
+    for _ in 0..SEARCHES {
+        if states <= FIRST_STATES {
+            break;
+        }
+        states = states.div_ceil(LARGER);
+    }
+    states
+}
+
+// Prints on a terminal that a search with few states did not decide a submission, and why.
+fn tell_doubt(rt: &HostRuntime, submission: u32, doubt: &Doubt, few: Limits, most: usize) {
+    let (states, memory) = (few.states, few.bytes / MIB);
+    // A line that can't be printed is left out.
+    let _ = match doubt {
+        Doubt::TooManyStates => eprintln!(rt;
+            "fixcheck: submission {submission} has more than {states} states; the limit is {most}"
+        ),
+        Doubt::TooMuchMemory => eprintln!(rt;
+            "fixcheck: submission {submission} has more states than {memory} MiB hold"
+        ),
+        Doubt::NotShown => eprintln!(rt;
+            "fixcheck: submission {submission} isn't decided by {states} states; the limit is {most}"
+        ),
+    };
+}
+
 /// Decides whether a script may print a text, as `check_judge::judge` does with the given limits.
 /// If standard error is a terminal, it searches with few states first, and after two seconds prints
-/// how many states were too few.
+/// how many states were too few. Where the memory was too little, the next search is the last one:
+/// more states would need more memory.
 ///
 /// # Errors
 /// `NoMemory` if an allocation fails.
@@ -45,7 +79,7 @@ pub fn judged(
     let (true, Ok(begin)) = (rt.stderr().is_terminal(), Instant::now(rt)) else {
         return judge(alloc, script, text, limits);
     };
-    let mut states = FIRST_STATES;
+    let mut states = first_states(limits.states);
     for _ in 0..SEARCHES {
         if states >= limits.states {
             break;
@@ -55,17 +89,16 @@ pub fn judged(
             bytes: limits.bytes,
         };
         let judgement = judge(alloc, script, text, few)?;
-        if !matches!(&judgement, Judgement::Undecided(..)) {
+        let Judgement::Undecided(submission, doubt) = &judgement else {
             return Ok(judgement);
-        }
-        if let (Judgement::Undecided(submission, _), Ok(passed)) = (&judgement, begin.elapsed(rt))
+        };
+        if let Ok(passed) = begin.elapsed(rt)
             && passed.as_secs() >= QUIET_SECONDS
         {
-            let most = limits.states;
-            // A line that can't be printed is left out.
-            let _ = eprintln!(rt;
-                "fixcheck: submission {submission} has more than {states} states; the limit is {most}"
-            );
+            tell_doubt(rt, *submission, doubt, few, limits.states);
+        }
+        if matches!(doubt, Doubt::TooMuchMemory) {
+            break;
         }
         states = states.saturating_mul(LARGER);
     }
@@ -138,6 +171,7 @@ fn after_line(
 fn shown_after<'a>(
     question: &'a Question<'_>,
     broken: &Break,
+    place: &TextPlace<'a>,
     facts: &Option<Facts<'a>>,
 ) -> Result<Option<(RingSlots, usize, &'a [u8])>, NoMemory> {
     if let Some(facts) = facts
@@ -150,7 +184,7 @@ fn shown_after<'a>(
         };
         return Ok(Some((ring, 1, rest)));
     }
-    let mut lines = Lines::at(question.text, broken.at);
+    let mut lines = place.text;
     match after_line(question, broken, lines.take())? {
         Some((ring, commands)) => Ok(Some((ring, commands, lines.after_closes().rest))),
         None => Ok(None),
@@ -159,8 +193,8 @@ fn shown_after<'a>(
 
 /// Judges a text after a break, from the ring that the text shows there: the verdict is that of
 /// `check_judge::judge_from` on that ring, and nothing is proved of whether a play leads to it. A
-/// further break is counted from the beginning of the script and of the text. `facts`: those of the
-/// submission at the break. Returns `None` if the text shows no ring there.
+/// further break is counted from the beginning of the script and of the text. `place`: that of the
+/// break. `facts`: those of the submission there. Returns `None` if the text shows no ring there.
 ///
 /// # Errors
 /// `NoMemory` if an allocation fails.
@@ -168,9 +202,10 @@ pub(crate) fn judged_after<'a>(
     question: &'a Question<'_>,
     limits: Limits,
     broken: &'a Break,
+    place: &TextPlace<'a>,
     facts: &Option<Facts<'a>>,
 ) -> Result<Option<Judgement>, NoMemory> {
-    let Some((ring, played, rest)) = shown_after(question, broken, facts)? else {
+    let Some((ring, played, rest)) = shown_after(question, broken, place, facts)? else {
         return Ok(None);
     };
     let (alloc, script) = (question.alloc, question.script);

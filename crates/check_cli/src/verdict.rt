@@ -4,7 +4,7 @@ ghost use Rattle.check_cli.specs.Status.{status};
 
 use crate::judging::judged_after;
 use crate::lists::push_order;
-use check_explain::{Facts, Question, Words, push_why_broken};
+use check_explain::{Facts, Question, TextPlace, Words, push_why_broken};
 use check_judge::{Break, Judgement};
 use check_search::{Doubt, Limits};
 use fx_arguments::fixcheck::Settings;
@@ -23,28 +23,31 @@ pub fn status_of(judgement: &Judgement) -> u8
 }
 
 // Appends the command at which a text breaks, and its line of the script.
-fn push_command(report: &mut Words, question: &Question<'_>, commands: usize) {
-    if commands >= question.script.commands().len() {
+fn push_command(
+    report: &mut Words,
+    question: &Question<'_>,
+    broken: &Break,
+    place: &TextPlace<'_>,
+) {
+    if broken.commands >= question.script.commands().len() {
         return report.say("not legal: the end of the script; ");
     }
-    let command = commands.saturating_add(1);
-    let rest = question.asked_after(command).len();
-    let last = question.asked.len().saturating_sub(rest).saturating_sub(1);
-    let line = question.asked.get(last).map_or(0, |line| line.number);
+    let command = broken.commands.saturating_add(1);
     report.count("not legal: command ", command as u64, "");
-    report.count(", line ", line, " of the script; ");
+    report.count(", line ", question.line_at(place), " of the script; ");
 }
 
-// Appends the command at which a text breaks, and the reason. `facts`: those of the submission
-// there, if it is one.
+// Appends the command at which a text breaks at a place, and the reason. `facts`: those of the
+// submission there, if it is one.
 fn push_break(
     report: &mut Words,
     question: &Question<'_>,
     broken: &Break,
+    place: &TextPlace<'_>,
     facts: &Option<Facts<'_>>,
 ) -> Result<(), NoMemory> {
-    push_command(report, question, broken.commands);
-    push_why_broken(report, question, broken, facts)
+    push_command(report, question, broken, place);
+    push_why_broken(report, question, broken, place, facts)
 }
 
 // Appends the submission that wasn't decided, and the reason.
@@ -77,7 +80,9 @@ pub(crate) fn verdict_text(
             }
         }
         Judgement::NotLegal(broken) => {
-            push_break(&mut report, question, broken, &question.facts_at(broken)?)?;
+            let place = question.place_of(broken, question.beginning());
+            let facts = question.facts_at(broken, &place)?;
+            push_break(&mut report, question, broken, &place, &facts)?;
         }
         Judgement::Undecided(submission, doubt) => {
             report.say("undecided: ");
@@ -87,22 +92,23 @@ pub(crate) fn verdict_text(
     Ok(report)
 }
 
-// Appends a break, and the verdict on the text after it unless that is a further break, which it
-// returns. Nothing follows the end of the script.
+// Appends a break at a place, and the verdict on the text after it unless that is a further break,
+// which it returns. Nothing follows the end of the script.
 fn push_next(
     report: &mut Words,
     question: &Question<'_>,
     settings: &Settings<'_>,
     limits: Limits,
     broken: &Break,
+    place: &TextPlace<'_>,
 ) -> Result<Option<Break>, NoMemory> {
-    let facts = question.facts_at(broken)?;
-    push_break(report, question, broken, &facts)?;
+    let facts = question.facts_at(broken, place)?;
+    push_break(report, question, broken, place, &facts)?;
     if broken.commands >= question.script.commands().len() {
         return Ok(None);
     }
     let command = broken.commands.saturating_add(1) as u64;
-    match judged_after(question, limits, broken, &facts)? {
+    match judged_after(question, limits, broken, place, &facts)? {
         Some(Judgement::NotLegal(next)) => return Ok(Some(next)),
         Some(Judgement::Undecided(submission, doubt)) => {
             report.count("undecided after command ", command, ": ");
@@ -126,12 +132,14 @@ pub(crate) fn breaks_text(
     first: &Break,
 ) -> Result<Words, NoMemory> {
     let mut report = Words::new(question.alloc);
-    let mut next = push_next(&mut report, question, settings, limits, first)?;
+    let mut place = question.place_of(first, question.beginning());
+    let mut next = push_next(&mut report, question, settings, limits, first, &place)?;
     for _ in 0..question.script.commands().len() {
         let Some(broken) = next else {
             break;
         };
-        next = push_next(&mut report, question, settings, limits, &broken)?;
+        place = question.place_of(&broken, place);
+        next = push_next(&mut report, question, settings, limits, &broken, &place)?;
     }
     Ok(report)
 }

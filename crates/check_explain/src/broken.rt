@@ -3,8 +3,8 @@
 use crate::complaint::Complaint;
 use crate::facts::Facts;
 use crate::lines::Lines;
-use crate::question::Question;
-use crate::words::{Words, sign_before};
+use crate::question::{Question, TextPlace};
+use crate::words::{CUT, Words, sign_before};
 use check_judge::{Break, Fault, Reason};
 use check_lines::accepted_in;
 use fx_base::NoMemory;
@@ -107,15 +107,22 @@ fn why_closed(broken: &Break, line: &[u8], why: &mut Words) {
     }
 }
 
+// Checks whether a line of a closed file is the beginning of the expected one, after which the text
+// ends.
+fn is_cut_close(line: &[u8], expected: &[u8]) -> bool {
+    line.starts_with(b"closed") && !line.ends_with(b"\n") && expected.starts_with(line)
+}
+
 // Appends the first line in which a text differs from the likeliest one, and the reason, which may
 // be empty.
 fn push_difference(
     report: &mut Words,
     question: &Question<'_>,
     broken: &Break,
+    text: Lines<'_>,
     expected: &[u8],
 ) -> Result<(), NoMemory> {
-    let (mut found, mut likely) = (Lines::at(question.text, broken.at), Lines::new(expected));
+    let (mut found, mut likely) = (text, Lines::new(expected));
     for _ in 0..expected.len() {
         if likely.rest.is_empty() || found.first() != likely.first() {
             break;
@@ -126,7 +133,9 @@ fn push_difference(
     let (mut line, mut why) = (Words::new(question.alloc), Words::new(question.alloc));
     line.line(likely.first(), "the end");
     push_found(report, found, line.text()?);
-    if !is_one_more(question, broken, found.first(), &mut why) {
+    if is_cut_close(found.first(), likely.first()) {
+        why.say(CUT);
+    } else if !is_one_more(question, broken, found.first(), &mut why) {
         // the line of the end has no result, so that a `closed` line after it is the wrong one
         let rest = likely.rest;
         why_closed(
@@ -139,12 +148,18 @@ fn push_difference(
 }
 
 // Appends the judge's fault.
-fn push_fault(report: &mut Words, question: &Question<'_>, broken: &Break) -> Result<(), NoMemory> {
+fn push_fault(
+    report: &mut Words,
+    question: &Question<'_>,
+    broken: &Break,
+    text: Lines<'_>,
+) -> Result<(), NoMemory> {
     match &broken.fault {
-        Fault::Text(expected) => push_difference(report, question, broken, expected.as_bytes())?,
+        Fault::Text(expected) => {
+            push_difference(report, question, broken, text, expected.as_bytes())?;
+        }
         Fault::Line(lines, expected) => {
-            let found = Lines::at(question.text, broken.at).after(*lines);
-            push_found(report, found, expected.as_str());
+            push_found(report, text.after(*lines), expected.as_str());
             report.say("\n");
         }
         Fault::Order(submission, reason) => push_refusal(report, *submission, *reason),
@@ -170,9 +185,9 @@ fn push_complaint(
     Ok(())
 }
 
-/// Appends the reason why a text breaks: a complaint about the lines of the submission there, if
-/// one is found, or else the judge's fault. `facts`: those of the submission. The last line has its
-/// end.
+/// Appends the reason why a text breaks at a place: a complaint about the lines of the submission
+/// there, if one is found, or else the judge's fault. `facts`: those of the submission. The last
+/// line has its end.
 ///
 /// # Errors
 /// `NoMemory` if an allocation fails.
@@ -180,6 +195,7 @@ pub fn push_why_broken(
     report: &mut Words,
     question: &Question<'_>,
     broken: &Break,
+    place: &TextPlace<'_>,
     facts: &Option<Facts<'_>>,
 ) -> Result<(), NoMemory> {
     let (is_text, slot) = match &broken.fault {
@@ -191,7 +207,7 @@ pub fn push_why_broken(
         && !is_text
         && let Some(complaint) = facts.explain(slot)?
     {
-        return push_complaint(report, Lines::at(question.text, broken.at), &complaint);
+        return push_complaint(report, place.text, &complaint);
     }
-    push_fault(report, question, broken)
+    push_fault(report, question, broken, place.text)
 }

@@ -200,15 +200,14 @@ impl<'a> Facts<'a> {
         }
     }
 
-    // Returns the number, from 0, of the file with a mark. Those from `near` on are tried first.
-    fn file_marked(&self, near: usize, mark: Mark) -> Option<usize> {
-        for i in 0..self.files.len() {
-            let number = near.saturating_add(i) % self.files.len();
-            if self.files[number].file.mark == mark {
-                return Some(number);
-            }
+    // Returns the marks of the files in their order, each with its file's number, from 0.
+    fn marks(&self) -> Result<Vec<(Mark, usize)>, NoMemory> {
+        let mut marks = Vec::new(self.case.alloc);
+        for (number, it) in self.files.iter().enumerate() {
+            marks.push((it.file.mark, number))?;
         }
-        None
+        marks.sort()?;
+        Ok(marks)
     }
 
     // Returns the mark of a `closed` line, if the line can be read.
@@ -216,10 +215,9 @@ impl<'a> Facts<'a> {
         Some(self.read(line, 0)?.closed.first()?.mark)
     }
 
-    // Records the `closed` lines, and the first one of each file. The files from that of the line
-    // before on are tried first.
-    fn take_closes(&mut self) {
-        let mut near = 0usize;
+    // Records the `closed` lines, and the first one of each file.
+    fn take_closes(&mut self) -> Result<(), NoMemory> {
+        let marks = self.marks()?;
         for _ in 0..self.rest.rest.len() {
             if !self.rest.rest.starts_with(b"closed ") {
                 break;
@@ -228,10 +226,11 @@ impl<'a> Facts<'a> {
             let line = self.rest.take();
             let (mark, mut file) = (self.mark_in(line), None);
             if let Some(mark) = mark
-                && let Some(number) = self.file_marked(near, mark)
-                && let Some(it) = self.files.get_mut(number)
+                && let Ok(found) = marks.binary_search_by_key(&mark, |it| it.0)
+                && let Some((_, number)) = marks.get(found)
+                && let Some(it) = self.files.get_mut(*number)
             {
-                (near, file) = (number, Some(*it));
+                file = Some(*it);
                 it.closed = it.closed.or(Some(at));
             }
             let close = Close {
@@ -242,6 +241,7 @@ impl<'a> Facts<'a> {
             };
             self.is_whole &= self.closes.push(close).is_ok();
         }
+        Ok(())
     }
 
     /// Returns the facts of a case.
@@ -262,7 +262,7 @@ impl<'a> Facts<'a> {
         facts.add_files();
         facts.add_requests();
         if facts.is_answered() {
-            facts.take_closes();
+            facts.take_closes()?;
         }
         facts.is_whole.then_some(facts).ok_or(NoMemory)
     }

@@ -23,5 +23,5 @@ pub use complaint::Complaint;
 pub use facts::Facts;
 pub use history::History;
 pub use lines::{AskedLine, Lines, asked_lines, cut_word};
-pub use question::Question;
+pub use question::{Question, TextPlace};
 pub use words::{Words, sign_before};

@@ -43,10 +43,11 @@ impl<'a> Lines<'a> {
         }
     }
 
-    /// Returns the lines of a text from the one that begins at a byte on.
-    pub fn at(text: &'a [u8], at: usize) -> Lines<'a> {
-        let (front, rest) = text.split_at(at.min(text.len()));
-        let before = front.iter().filter(|byte| **byte == b'\n').count();
+    /// Returns the lines from the one that begins `count` bytes after the first one on.
+    pub fn after_bytes(self, count: usize) -> Lines<'a> {
+        let (front, rest) = self.rest.split_at(count.min(self.rest.len()));
+        let lines = front.iter().filter(|byte| **byte == b'\n').count();
+        let before = self.before.saturating_add(lines);
         Lines { rest, before }
     }
 

@@ -8,6 +8,9 @@ use std::alloc::Global;
 /// The largest number of bytes of a line that are shown.
 const SHOWN: usize = 100;
 
+/// The reason why a line without its end is wrong.
+pub(crate) const CUT: &str = "the text ends within this line";
+
 /// The column of [`Words::column`].
 const COLUMN: usize = 44;
 

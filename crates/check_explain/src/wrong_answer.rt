@@ -4,9 +4,11 @@ use crate::answers::{Answers, left_at_slots, read};
 use crate::case::{Act, Row, result_of};
 use crate::complaint::Complaint;
 use crate::facts::Facts;
-use crate::words::{Words, name_of};
+use crate::words::{CUT, Words, name_of};
+use check_lines::read_report;
 use fx_base::{Errno, NoMemory};
 use fx_chain::{Completion, Intent, refusal_of};
+use std::alloc::Global;
 
 // The reason why a completion without a file has no bytes.
 const ONLY_READS: &str = "only a read that finds a file has bytes";
@@ -132,14 +134,15 @@ fn misplaced(facts: &Facts<'_>, row: &Row<'_>, out: &mut Complaint) {
 }
 
 // Returns the reason why a line that begins with its request's place can't be read.
-fn why_unread(line: &[u8]) -> &'static str {
+fn why_unread(alloc: Global, line: &[u8]) -> Result<&'static str, NoMemory> {
     if !line.ends_with(b"\n") {
-        return "the text ends within this line";
+        return Ok(CUT);
     }
-    if line.iter().any(|byte| byte.is_ascii_uppercase()) {
-        return "bytes are printed in lower case";
-    }
-    "its result can't be read"
+    let lower = line.to_ascii_lowercase(alloc)?;
+    Ok(match read_report(alloc, &lower, 1)? {
+        Some(_) => "bytes are printed in lower case",
+        None => "its result can't be read",
+    })
 }
 
 // Says which answers a request may give.
@@ -158,7 +161,9 @@ fn unread(row: &Row<'_>, answers: &Answers<'_>, out: &mut Complaint) {
     if out.expected.begin(line) {
         out.expected.clear();
         expect(row, answers, out);
-        out.why.say(why_unread(line));
+        let why = why_unread(answers.facts.case.alloc, line);
+        out.why.is_whole &= why.is_ok();
+        out.why.say(why.unwrap_or_default());
     } else {
         misplaced(answers.facts, row, out);
     }

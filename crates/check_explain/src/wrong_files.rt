@@ -4,7 +4,7 @@ use crate::case::{Act, Installed};
 use crate::complaint::Complaint;
 use crate::facts::{Close, Facts};
 use crate::lines::Lines;
-use crate::words::name_of;
+use crate::words::{CUT, name_of};
 use fx_base::{Mark, NoMemory};
 use fx_chain::Intent;
 
@@ -17,7 +17,7 @@ fn is_wrong(
     out: &mut Complaint,
 ) -> bool {
     if !close.has_end {
-        out.wrong(at, "a whole line", "the text ends within this line");
+        out.wrong(at, "a whole line", CUT);
         return true;
     }
     let Some(mark) = close.mark else {

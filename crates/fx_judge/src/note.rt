@@ -50,7 +50,9 @@ fn note_reason(
         text: judged.text,
     };
     let mut why = Words::new(alloc);
-    push_why_broken(&mut why, &question, broken, &question.facts_at(broken)?)?;
+    let place = question.place_of(broken, question.beginning());
+    let facts = question.facts_at(broken, &place)?;
+    push_why_broken(&mut why, &question, broken, &place, &facts)?;
     let words = why.text()?.as_bytes();
     Ok(copy(words.strip_suffix(b"\n").unwrap_or(words), note))
 }
