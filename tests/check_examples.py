@@ -71,6 +71,7 @@ class Examples(Counted):
     def streams(self):
         for name, streams, status, message in STREAMS:
             self.compare(name, self.run(streams), (status, "", message))
+        self.compare("help to a full device", self.run("> /dev/full", "--help"), (4, "", "fixfiles: write failed\n"))
 
     def narrow(self, what, script, wanted, **variables):
         """A run whose reads and writes get less than they ask for, or fail."""

@@ -37,8 +37,10 @@ TWICE, OFTEN, LIST_MIB = 8, 60, 64
 # submissions, each of so many long reads: 8 MB of text. A program that makes a text for each of the
 # 120 rings has no room for them in so many MiB
 ANY, AFTER, LONG, ANY_MIB = 5, 100, 10, 128
-# the states of the searches before the last one, on a terminal
-TRIED = {16_384, 65_536, 262_144}
+# the states of the searches before the last one, on a terminal: quarters of the limit
+TRIED = {15_625, 62_500, 250_000}
+# how much memory a program may have that reads a file without an end
+ENDLESS_MIB = 64
 SCRIPT, TEXT = (os.path.join(ROOT, f"examples/open_read_close.{it}") for it in ("script", "text"))
 # what the system says of a path that leads to nothing, and of a folder
 NO_FILE, A_FOLDER = (f"{os.strerror(it)} (os error {it})" for it in (errno.ENOENT, errno.EISDIR))
@@ -127,6 +129,14 @@ class Verdicts(Counted):
         wanted = (b"not legal: command 2, line 5 of the script; line 4 of the text: expected a whole line, "
                   b"found closed 1.1.1.0 a without a line end; the text ends within this line\n")
         self.want_told("a text that ends within a closed file", [opens, "-"], (1, wanted, b""), b"sparse 0\n1.1.1 0\n1.2.1 0\nclosed 1.1.1.0 a")
+        closes = self.path("closes", b"file a.txt 6a\nregister 0\nunregister\n")
+        wanted = (b"not legal: command 2, line 3 of the script; line 3 of the text: expected closed r1.0 a.txt, "
+                  b"found closed r1.0 a without a line end; the text ends within this line\n")
+        self.want_told("a text that ends within a call's closed file", [closes, "-"], (1, wanted, b""), b"register 0\nunregister 0\nclosed r1.0 a")
+        reads = self.path("reads", b"file a 6a\nregister 0\nread 0 0 1\nsubmit\n")
+        for line, why in (("1.1.1 OK", "its result can't be read"), ("1.1.1 1 6A", "bytes are printed in lower case")):
+            wanted = f"not legal: command 2, line 4 of the script; line 2 of the text: expected 1.1.1 with 1 6a of a or -12, found {line}; {why}\n"
+            self.want_told(f"the line {line}", [reads, "-"], (1, wanted.encode(), b""), f"register 0\n{line}\n".encode())
         # the last line of a script may have no end
         script = self.path("script", b"sparse 1\nunregister")
         wanted = b"not legal: command 2, line 2 of the script; line 2 of the text: expected unregister 0, found nothing\n"
@@ -184,9 +194,17 @@ class Verdicts(Counted):
         wanted = 3, b"", b"fixcheck: standard input: line 1: unknown-command\n"
         self.want_told("a bad script on standard input", ["-", TEXT], wanted, b"x\n")
 
+    def endless(self):
+        """A script is read no further than shows that it is too long, and a text no further than the memory that it may have."""
+        how = limited(ENDLESS_MIB * 1024)
+        self.want_told("a script without an end", ["/dev/zero", TEXT], (3, b"", b"fixcheck: /dev/zero: line 0: long-script\n"), **how)
+        told = b"fixcheck: /dev/zero can't be read: it has more than 2 MiB; --memory gives another limit\n"
+        self.want_told("a text without an end", ["--memory=2", SCRIPT, "/dev/zero"], (4, b"", told), **how)
+
     def writes(self):
-        """A verdict, a history and lists that can't be written."""
-        for words in ([SCRIPT, TEXT], ["--history", SCRIPT, TEXT], ["--may", SCRIPT, "1.1.1"], ["--all", SCRIPT]):
+        """A verdict, a history, lists, help and the version that can't be written."""
+        asked = [SCRIPT, TEXT], ["--history", SCRIPT, TEXT], ["--may", SCRIPT, "1.1.1"], ["--all", SCRIPT], ["--help"], ["--version"]
+        for words in asked:
             with open("/dev/full", "wb") as full:
                 self.want_told(f"{words} to a full device", words, (4, None, b"fixcheck: write failed\n"), stdout=full)
 
@@ -329,6 +347,7 @@ def command():
         verdicts.files()
         verdicts.odd_lines()
         verdicts.arguments()
+        verdicts.endless()
         verdicts.long_text()
         verdicts.many_states()
         verdicts.fewer_lines()

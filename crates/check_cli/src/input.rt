@@ -1,12 +1,13 @@
 //! The script and the text that the program reads, and the reasons for which it ends without a
 //! verdict.
+use crate::judging::MIB;
 use check_explain::Lines;
 use fx_arguments::Refusal;
 use fx_arguments::fixcheck::{Asked, Settings};
 use fx_base::NoMemory;
-use fx_script::{Command, PlayFault, Script, ScriptError};
+use fx_script::{Command, LONGEST_SCRIPT, PlayFault, Script, ScriptError};
 use std::alloc::{AllocError, Global};
-use std::fs;
+use std::fs::File;
 use std::io::{self, ErrorKind, Read};
 
 /// The reason for which the program ends without a verdict.
@@ -30,6 +31,9 @@ const FILES: u8 = 4;
 
 const MEMORY: u8 = 5;
 
+/// The largest number of bytes of a script that are read: one more than it may have.
+const MOST_SCRIPT: u64 = LONGEST_SCRIPT as u64 + 1;
+
 impl From<Refusal> for NoVerdict {
     fn from(refusal: Refusal) -> NoVerdict {
         NoVerdict::Refused(refusal)
@@ -49,26 +53,24 @@ impl From<NoMemory> for NoVerdict {
 }
 
 impl NoVerdict {
+    /// Prints it: help and the version on standard output, and the others on standard error.
     /// Returns the exit status: 2 for wrong arguments, 3 for an invalid script, 4 for a failed read
-    /// or write, 5 for a failed allocation. A request for help or for the version returns 0.
-    pub fn status(&self) -> u8 {
+    /// or write, 5 for a failed allocation. Help and the version return 0 if they were written.
+    pub fn end(&self, rt: &HostRuntime) -> u8 {
+        // Nothing can be done if standard error fails.
         match self {
-            NoVerdict::Refused(refusal) => refusal.status(),
+            NoVerdict::Refused(refusal) => return refusal.end(rt, "fixcheck"),
+            NoVerdict::Because(_, words) => {
+                let _ = eprintln!(rt; "fixcheck: {words}");
+            }
+            NoVerdict::Fault(fault) => {
+                let _ = eprintln!(rt; "fixcheck: {fault}");
+            }
+        }
+        match self {
             NoVerdict::Because(status, _) => *status,
             NoVerdict::Fault(PlayFault::NoMemory) => MEMORY,
-            NoVerdict::Fault(_) => FILES,
-        }
-    }
-
-    /// Prints it: help and the version on standard output, and the others on standard error.
-    ///
-    /// # Errors
-    /// The error of the write, if it fails.
-    pub fn print(&self, rt: &HostRuntime) -> io::Result<()> {
-        match self {
-            NoVerdict::Refused(refusal) => refusal.print(rt, "fixcheck"),
-            NoVerdict::Because(_, words) => eprintln!(rt; "fixcheck: {words}"),
-            NoVerdict::Fault(fault) => eprintln!(rt; "fixcheck: {fault}"),
+            _ => FILES,
         }
     }
 }
@@ -78,22 +80,21 @@ fn name_of(path: &str) -> &str {
     if path == "-" { "standard input" } else { path }
 }
 
-// Returns the bytes of a file, or those of standard input for `-`.
-fn bytes_of(rt: &HostRuntime, path: &str) -> io::Result<Vec<u8>> {
-    if path != "-" {
-        return fs::read(rt, path);
-    }
+// Returns the first bytes of a file, or of standard input for `-`: at most `most`.
+fn bytes_of(rt: &HostRuntime, path: &str, most: u64) -> io::Result<Vec<u8>> {
     let mut bytes = Vec::new(rt.alloc());
-    rt.reader().read_to_end(&mut bytes)?;
+    if path == "-" {
+        rt.reader().take(most).read_to_end(&mut bytes)?;
+    } else {
+        File::open(rt, path)?.take(most).read_to_end(&mut bytes)?;
+    }
     Ok(bytes)
 }
 
-/// Reads the bytes of a file, or those of standard input for `-`.
-///
-/// # Errors
-/// Its path and the error if the read fails, `NoMemory` if an allocation fails.
-pub fn read_path(rt: &HostRuntime, path: &str) -> Result<Vec<u8>, NoVerdict> {
-    let error = match bytes_of(rt, path) {
+// Reads the first bytes of a file, or of standard input for `-`: at most `most`. Fails with its
+// path and the error if the read fails, and with `NoMemory` if an allocation fails.
+fn read_path(rt: &HostRuntime, path: &str, most: u64) -> Result<Vec<u8>, NoVerdict> {
+    let error = match bytes_of(rt, path, most) {
         Ok(bytes) => return Ok(bytes),
         Err(error) => error,
     };
@@ -101,6 +102,33 @@ pub fn read_path(rt: &HostRuntime, path: &str) -> Result<Vec<u8>, NoVerdict> {
         return Err(NoVerdict::Fault(PlayFault::NoMemory));
     }
     let words = format!(in rt.alloc(); "{} can't be read: {error}", name_of(path))?;
+    Err(NoVerdict::Because(FILES, words))
+}
+
+/// Reads the bytes of a script from a file, or from standard input for `-`: of one that is too
+/// long, only as many as show that.
+///
+/// # Errors
+/// Its path and the error if the read fails, `NoMemory` if an allocation fails.
+pub fn read_script(rt: &HostRuntime, path: &str) -> Result<Vec<u8>, NoVerdict> {
+    read_path(rt, path, MOST_SCRIPT)
+}
+
+/// Reads the bytes of a text of at most `memory` MiB from a file, or from standard input for `-`.
+///
+/// # Errors
+/// Its path and the error if the read fails or the text is longer, `NoMemory` if an allocation
+/// fails.
+pub fn read_text(rt: &HostRuntime, path: &str, memory: u32) -> Result<Vec<u8>, NoVerdict> {
+    let most = u64::from(memory).saturating_mul(MIB as u64);
+    let text = read_path(rt, path, most.saturating_add(1))?;
+    if text.len() as u64 <= most {
+        return Ok(text);
+    }
+    let name = name_of(path);
+    let words = format!(in rt.alloc();
+        "{name} can't be read: it has more than {memory} MiB; --memory gives another limit"
+    )?;
     Err(NoVerdict::Because(FILES, words))
 }
 
@@ -119,7 +147,7 @@ fn is_script(alloc: Global, source: &[u8]) -> Result<bool, NoVerdict> {
 
 // Checks whether a path is seen to lead to such a script.
 fn leads_to_script(rt: &HostRuntime, path: &str) -> bool {
-    match read_path(rt, path) {
+    match read_script(rt, path) {
         Ok(bytes) => matches!(is_script(rt.alloc(), &bytes), Ok(true)),
         Err(_) => false,
     }

@@ -15,8 +15,8 @@ use fx_arguments::fixcheck::{Asked, Settings, settings_in};
 use fx_arguments::words;
 use fx_order::Order;
 use fx_script::{PlayFault, Script};
-use input::{ARGUMENTS, NoVerdict, note_script, read_path, script_of};
-use judging::judged;
+use input::{ARGUMENTS, NoVerdict, note_script, read_script, read_text, script_of};
+use judging::{MIB, judged};
 use lists::{listing_of_answers, listing_of_texts, status_of_answers, status_of_texts};
 use std::io::{self, Write};
 use std::process::ExitCode;
@@ -24,9 +24,6 @@ use verdict::{breaks_text, status_of, verdict_text};
 
 /// The number of bytes of a history that are kept before they are written.
 const KEPT: usize = 65_536;
-
-/// The number of bytes of a MiB.
-const MIB: usize = 1_048_576;
 
 // Writes words to standard output.
 fn write(rt: &HostRuntime, words: &Words) -> Result<(), NoVerdict> {
@@ -122,7 +119,7 @@ fn print_verdict(
     script: &Script,
     source: &[u8],
 ) -> Result<u8, NoVerdict> {
-    let text = read_path(rt, path)?;
+    let text = read_text(rt, path, settings.memory)?;
     let asked = asked_lines(rt.alloc(), source)?;
     let question = Question {
         alloc: rt.alloc(),
@@ -143,7 +140,7 @@ fn check(rt: &HostRuntime) -> Result<u8, NoVerdict> {
     let alloc = rt.alloc();
     let words = words(rt)?;
     let settings = settings_in(alloc, words.as_slice())?;
-    let source = read_path(rt, settings.script)?;
+    let source = read_script(rt, settings.script)?;
     let script = script_of(rt, settings, &source)?;
     match settings.asked {
         Asked::Texts(most) => list_texts(rt, settings, most, &script),
@@ -155,10 +152,6 @@ fn check(rt: &HostRuntime) -> Result<u8, NoVerdict> {
 fn main(rt: HostRuntime) -> ExitCode {
     match check(&rt) {
         Ok(status) => ExitCode::from(status),
-        Err(ending) => {
-            // Nothing can be done if standard error fails.
-            let _ = ending.print(&rt);
-            ExitCode::from(ending.status())
-        }
+        Err(ending) => ExitCode::from(ending.end(&rt)),
     }
 }

@@ -83,7 +83,8 @@ fn states<'a>(alloc: Global) -> Arg<'a> {
 }
 
 fn memory<'a>(alloc: Global) -> Arg<'a> {
-    let help = "Largest number of MiB of these states; with more it is undecided";
+    let help =
+        "Largest number of MiB of TEXT, and of these states; --all may hold almost twice as much";
     number_option(alloc, "memory", "MIB", MOST_MEMORY, help).default_value("1024")
 }
 

@@ -10,6 +10,9 @@ use clap::{Arg, Command, value_parser};
 use std::alloc::{AllocError, Global};
 use std::{env, io};
 
+/// The exit status of a failed write.
+const WRITE: u8 = 4;
+
 /// The reason why the words of a command line are refused.
 #[derive(Drop)]
 pub enum Refusal {
@@ -64,6 +67,19 @@ impl Refusal {
             Refusal::Because(words) => eprintln!(rt; "{program}: {words}"),
             Refusal::NoMemory => eprintln!(rt; "{program}: out of memory"),
         }
+    }
+
+    /// Prints the reason for a program as [`Refusal::print`] does. Returns the exit status: that of
+    /// [`Refusal::status`], or 4 if help or the version couldn't be written, which it says on
+    /// standard error.
+    pub fn end(&self, rt: &HostRuntime, program: &str) -> u8 {
+        let (is_printed, status) = (self.print(rt, program).is_ok(), self.status());
+        if is_printed || status != 0 {
+            return status;
+        }
+        // Nothing more can be done if standard error fails.
+        let _ = eprintln!(rt; "{program}: write failed");
+        WRITE
     }
 }
 

@@ -22,11 +22,7 @@ fn status_of(fault: PlayFault) -> u8 {
 fn main(rt: HostRuntime) -> ExitCode {
     let Settings { workers, table } = match asked_settings(&rt) {
         Ok(settings) => settings,
-        Err(refusal) => {
-            // Nothing can be done if this write fails.
-            let _ = refusal.print(&rt, "fixfiles");
-            return ExitCode::from(refusal.status());
-        }
+        Err(refusal) => return ExitCode::from(refusal.end(&rt, "fixfiles")),
     };
     let (alloc, gate) = (rt.alloc(), &OpenGate);
     let (input, output) = (&mut rt.reader(), &mut io::writer(&rt));
