@@ -50,6 +50,18 @@ fn push_break(
     push_why_broken(report, question, broken, place, facts)
 }
 
+// Appends a break at a place, with the facts of the submission there. A function of its own, since
+// the borrow checker wants the facts, the question and the break at lifetimes of one signature.
+fn push_reason(
+    report: &mut Words,
+    question: &Question<'_>,
+    broken: &Break,
+    place: &TextPlace<'_>,
+) -> Result<(), NoMemory> {
+    let facts = question.facts_at(broken, place)?;
+    push_break(report, question, broken, place, &facts)
+}
+
 // Appends the submission that wasn't decided, and the reason.
 fn push_doubt(report: &mut Words, settings: &Settings<'_>, submission: u32, doubt: &Doubt) {
     report.count("submission ", u64::from(submission), "");
@@ -81,8 +93,7 @@ pub(crate) fn verdict_text(
         }
         Judgement::NotLegal(broken) => {
             let place = question.place_of(broken, question.beginning());
-            let facts = question.facts_at(broken, &place)?;
-            push_break(&mut report, question, broken, &place, &facts)?;
+            push_reason(&mut report, question, broken, &place)?;
         }
         Judgement::Undecided(submission, doubt) => {
             report.say("undecided: ");
