@@ -110,7 +110,7 @@ yachtjudge s/        raise TypeError(f"{name} must/        of = bytes(of)\n    i
 yachtjudge s/    numbers = operator.index(states), operator.index(memory)/    numbers = int(states), int(memory)/
 yachtjudge s/        if not 0 <= number <= MOST:/        if number > MOST:/
 yachtjudge s/        if not 0 <= number <= MOST:/        if number < 0:/
-yachtjudge s/__version__ = "5.0/__version__ = "5.1/
+yachtjudge s/__version__ = "6.0/__version__ = "6.1/
 yachtjudge s/        if verdict.note <= room:/        if room:/
 yachtjudge s/        at += length/        at += 1/
 yachtjudge s/    if code == NO_MEMORY:/    if code == MALFORMED:/
