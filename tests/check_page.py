@@ -21,7 +21,7 @@ from tests.echo_clients import run_clients
 # the numbers of cases that need fixcheck, and mandoc
 OF_FIXCHECK, OF_MANDOC = 13, 3
 # the first lines of README.md that name its readers, and its largest number of bytes
-HEAD, MOST_BYTES = 12, 8_200
+HEAD, MOST_BYTES = 30, 8_200
 # the number of cases of the tutorial, that of logs of which one must show the bug, the most lines
 # of a shortened log, and the number of logs without the bug
 OF_TUTORIAL, LOGS, MOST_LINES, LEGAL_LOGS = 6, 20, 15, 3
@@ -51,8 +51,9 @@ def faults(page):
 
 
 def sample_of_readme():
-    """The script of the table in README.md, and the text beside it."""
-    cells = [it for heading, it in rows(read("README.md")) if heading == "Quick start"][1:]
+    """The script of the first table of README.md, and the text beside it."""
+    cells = [it for _, it in rows(read("README.md"))]
+    cells = cells[1 : 1 + next(nth for nth, it in enumerate(cells) if it[0] == "`submit`")]
     return ["".join(f"{it[column].strip('`')}\n" for it in cells if it[column]) for column in (0, 1)]
 
 
@@ -125,19 +126,20 @@ def manual_pages(programs):
 
 
 def first_commands(checks):
-    """Checks that README.md is short, and that its first lines name both readers. Runs the two commands that it names first: a server over the
-    library, and the sample's script on this machine's kernel."""
+    """Checks that README.md is short, and that its first lines name both readers. Runs the sample's script on this machine's kernel, as its first
+    command does, and the server of its next command over the library."""
     text = read("README.md")
     head = "\n".join(text.split("\n")[:HEAD])
     is_short = len(text.encode()) <= MOST_BYTES and all(it in head for it in ("server's author", "kernel's maintainer"))
     checks.want(is_short, f"README.md has {len(text.encode())} bytes, or its first {HEAD} lines don't name both readers")
-    serve, play = (re.split("  +#", it)[0].strip() for it in next(blocks(read("README.md"))))
-    made, _, serve = serve.partition(" && ")
-    checks.want((made, play) == ("scripts/build-libraries yachtbanyan yachtdirect", "make kernel"), f"README.md begins with the commands {made} and {play}")
+    first, (serve, *_) = ([re.split("  +#", line)[0] for line in it] for it in list(blocks(text))[:2])
+    alone = commands_of(read("docs/use/RUST.md"), "RUSTFLAGS")
+    checks.want((first, [serve]) == (["make kernel", "make run"], alone), f"README.md begins with the commands {first} and {serve}")
+    serve = "YACHTBANYAN_LIB_DIR=$PWD/lib " + serve.partition("' ")[2]
     if shutil.which("cargo") and os.path.exists(f"{ROOT}/lib/libyachtbanyan.a"):
         target = {**os.environ, "CARGO_TARGET_DIR": f"{ROOT}/build/page", "PWD": ROOT}
         found = subprocess.run(serve, shell=True, cwd=ROOT, env=target, capture_output=True, text=True).stdout
-        checks.want(found == read("tests/bindings/server.text"), f"the first command of README.md prints {found!r}")
+        checks.want(found == read("tests/bindings/server.text"), f"over the library the server of README.md prints {found!r}")
     else:
         checks.skip(1, "cargo, or no library")
     found = subprocess.run(["make", "-s", "kernel"], cwd=ROOT, capture_output=True, text=True)
