@@ -1,14 +1,13 @@
 //! The real-time law of a shared table: what a thread does after another thread's call returned
 //! follows that call.
-ghost use Rattle.std.specs.Prelude.{◌≡◌, ◌≢◌, ◌<◌, true, false, None, Err, List};
+ghost use Rattle.std.specs.Prelude.{◌≡◌, ◌<◌, None, List};
 ghost use Rattle.fx_plain.specs.declared.event.Event.{Event};
 ghost use Rattle.fx_table.specs.Opening.{size_of};
 ghost use Rattle.fx_table.specs.Pass.{IsIdle};
 ghost use Rattle.fx_table.specs.Showing.{Learns, LooksUpAfter};
-ghost use Rattle.fx_table.specs.declared.values.LookFault.TheVariants.{Spent};
 
-use crate::shared_table::SharedTable;
-use crate::values::LookUp;
+use crate::file_table::FileTable;
+use crate::values::{Hold, LookFault};
 use std::sync::Wait;
 
 /// A shared table whose calls respect real time.
@@ -19,7 +18,7 @@ use std::sync::Wait;
 /// follows all that was shown, in the one history of the table
 /// (`laws::calls_follow_what_was_shown`). A pass may show and learn whatever it is doing. These
 /// calls do nothing at run time.
-pub trait RealTime: SharedTable {
+pub trait RealTime: FileTable {
     /// The history that a pass had seen when it showed it. It has no bytes, and may be dropped.
     type Seen: Send + Sync + Drop;
 
@@ -52,30 +51,28 @@ pub trait RealTime: SharedTable {
         ensures learns { Learns (Self.opening self.now) (shown seen.now) (Self.view pass.old)
             (Self.view pass.new) };
 
-    /// Learns what was shown, and then looks up a slot as [`SharedTable::look_up`] does. If a file
+    /// Learns what was shown, and then looks up a slot as [`FileTable::look`] does. If a file
     /// was put at the slot in what was shown, the look-up finds that file, or what a later change
     /// left there (`laws::a_look_up_finds_the_change`).
     ///
     /// # Errors
-    /// The errors of [`SharedTable::look_up`].
+    /// The errors of [`FileTable::look`].
     fn look_up_after(
         &self,
         rt: &impl Wait,
         pass: &mut Self::Pass,
         slot: u32,
         seen: &Self::Seen,
-    ) -> LookUp
+    ) -> Result<Hold, LookFault>
         requires fits { Self.fits self.now pass.old }
         requires idle { IsIdle (Self.view pass.old) }
         requires slot { slot < size_of (Self.opening self.now) }
         requires here { shows self.now seen.now }
         ensures fits { Self.fits self.now pass.new }
         ensures looked { LooksUpAfter (Self.opening self.now) (shown seen.now)
-            (Self.view pass.old) slot result.found result.freed (Self.view pass.new) }
-        ensures none_freed { (Self.opening self.now).lasts ≡ false → result.freed ≡ None }
-        ensures never_spent { (Self.opening self.now).lasts ≡ true → result.found ≢ Err Spent }
+            (Self.view pass.old) slot result None (Self.view pass.new) }
     {
         self.learn(pass, seen);
-        self.look_up(rt, pass, slot)
+        self.look(rt, pass, slot)
     }
 }

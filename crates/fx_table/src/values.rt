@@ -30,13 +30,12 @@ pub struct Retired {
     pub takes: u32,
 }
 
-/// The result of a look-up of a shared table. It must be consumed: the compiler rejects a program
-/// that drops one.
+/// The result of a look-up of a table that lasts. It must be consumed: the compiler rejects a
+/// program that drops one.
 pub struct LookUp {
     /// The hold of the file at the slot, or the reason why there is none.
     pub found: Result<Hold, LookFault>,
-    /// A removed file that this look-up was the last to use, to be closed. It is `None` unless the
-    /// table lasts.
+    /// A removed file that this look-up was the last to use, to be closed.
     pub freed: Option<OpenFile>,
 }
 
