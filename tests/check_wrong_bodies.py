@@ -27,32 +27,32 @@ EDITS = {
         "let removed = plain.take(slot);", "let removed = plain.take(slot); let _nothing = slot;", "ACCEPTED"),
 }
 ALL_PROVED = """\
-fn fx_baton::calls::BatonTableSharedTable::clear: proved, may wait
-fn fx_baton::calls::BatonTableSharedTable::release: proved, may wait
-fn fx_baton::calls::BatonTableSharedTable::take: proved, may wait
+fn fx_baton::calls::BatonTableFileTable::clear: proved, may wait
+fn fx_baton::calls::BatonTableFileTable::release: proved, may wait
+fn fx_baton::calls::BatonTableFileTable::take: proved, may wait
 fn fx_baton::calls::retired: proved
 fn fx_baton::laws::split_keeps_rule: proved where its callers give what it asks
 logic=proved functions=37 may-wait=9
 """
 BOTH_REFUSED = """\
 ./proofs/Closing.antt:157:18: note: large solution: the implicit argument {b} of `◌∙◌` was filled in with a large term
-./proofs/calls/BatonTableSharedTable/take/Answers.antt:7:5: note: large solution: it was filled in with a large term
-./proofs/calls/BatonTableSharedTable/clear/Answers.antt:22:5: error: `give_back-requires`: the two types first differ
-impl fx_baton::calls::BatonTableSharedTable: not proved; it waits for the proof of `put`, `clear`, `take`
+./proofs/calls/BatonTableFileTable/take/Answers.antt:7:5: note: large solution: it was filled in with a large term
+./proofs/calls/BatonTableFileTable/clear/Answers.antt:22:5: error: `give_back-requires`: the two types first differ
+impl fx_baton::calls::BatonTableFileTable: not proved; it waits for the proof of `put`, `clear`, `take`
 note: src/calls.rt:211:1: it is not proved that what the function ensures holds when it returns (`returns-in-Some-Some`)
 fn fx_baton::calls::retired: no proof: expected answers in ./proofs/calls/retired/Answers.antt; `search` did not prove it
-note: `search` has not tried the goals of `fx_baton::calls::BatonTableSharedTable::clear`, which wait for a callee's proof
-fn fx_baton::calls::BatonTableSharedTable::clear: not proved; it calls `fx_baton::calls::retired`, which is not proved
-fn fx_baton::calls::BatonTableSharedTable::release: proved, may wait
-fn fx_baton::calls::BatonTableSharedTable::take: no proof: it calls `fx_baton::calls::retired`, which is not proved
+note: `search` has not tried the goals of `fx_baton::calls::BatonTableFileTable::clear`, which wait for a callee's proof
+fn fx_baton::calls::BatonTableFileTable::clear: not proved; it calls `fx_baton::calls::retired`, which is not proved
+fn fx_baton::calls::BatonTableFileTable::release: proved, may wait
+fn fx_baton::calls::BatonTableFileTable::take: no proof: it calls `fx_baton::calls::retired`, which is not proved
 fn fx_baton::laws::split_keeps_rule: proved where its callers give what it asks
 logic=not-proved
 """
 # the report of a crate with both
-TOLD = ["fx_baton::calls::retired is not proved:", "fx_baton::calls::BatonTableSharedTable::clear is not proved:",
+TOLD = ["fx_baton::calls::retired is not proved:", "fx_baton::calls::BatonTableFileTable::clear is not proved:",
         "    src/calls.rt:211: it is not proved that what the function ensures holds when it returns"]
 # and without the line of a goal
-BY_HAND = "    proofs/calls/BatonTableSharedTable/clear/Answers.antt:22:5: error: `give_back-requires`: the two types first differ"
+BY_HAND = "    proofs/calls/BatonTableFileTable/clear/Answers.antt:22:5: error: `give_back-requires`: the two types first differ"
 # the wrong bodies that the design names
 NAMED = """look_counts_beside_the_slot retire_ignores_holders node_word_starts_at_one both_hand_the_file_out neither_hands_the_file_out
     update_drops_what_it_replaced put_denies_a_replacement full_after_one_scan control_word_without_bias end_before_swap

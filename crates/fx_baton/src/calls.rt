@@ -1,5 +1,7 @@
-//! The implementations of `SharedTable` and `FileTable` for the table guarded by one word.
-ghost use Rattle.std.specs.Prelude.{◌≡◌, Option, length, map, option_map, All};
+//! The implementation of `FileTable` for the table guarded by one word.
+ghost use Rattle.std.specs.Prelude.{◌≡◌, ℕ, ◌≤◌, Option, length, map, option_map, All, refl};
+ghost use mathlib.Core.Path.{subst};
+ghost use Rattle.fx_plain.specs.declared.table.TheConstants.{MOST_SLOTS};
 ghost use Rattle.fx_plain.specs.declared.event.File.{File};
 ghost use Rattle.fx_plain.specs.Table.{number_of};
 ghost use Rattle.fx_table.specs.Pass.{IsIdle, retired_of};
@@ -13,13 +15,11 @@ use crate::table::BatonTable;
 use crate::view::Call;
 use fx_base::{NoMemory, OpenFile};
 use fx_plain::PlainTable;
-use fx_table::{
-    CHAIN_NUMBERS, Empty, FileTable, Hold, LookFault, LookUp, Retired, SharedTable, numbers_for,
-};
+use fx_table::{CHAIN_NUMBERS, Empty, FileTable, Hold, LookFault, Retired, numbers_for};
 use std::alloc::Global;
 use std::sync::Wait;
 
-impl SharedTable for BatonTable {
+impl FileTable for BatonTable {
     type Pass = BatonPass;
 
     ghost opening = { opening_of_table };
@@ -27,6 +27,35 @@ impl SharedTable for BatonTable {
     ghost fits = { IsPassOfTable };
 
     ghost view = { view_of };
+
+    fn open(
+        alloc: Global,
+        plain: PlainTable,
+        chains: u32,
+        passes: u32,
+    ) -> Result<(BatonTable, Vec<BatonPass>), (PlainTable, NoMemory)> {
+        let Ok(mut list) = Vec::with_capacity(alloc, passes as usize) else {
+            return Err((plain, NoMemory));
+        };
+        match BatonTable::start(alloc, plain, chains, passes) {
+            Ok((table, seat)) => {
+                table.deal(seat, &mut list);
+                Ok((table, list))
+            }
+            Err(refused) => {
+                list.destroy_empty();
+                Err(refused)
+            }
+        }
+    }
+
+    fn close(self, passes: Vec<BatonPass>) -> PlainTable
+        requires all { length passes.items ≡ (opening_of_table self).passes }
+        requires ready { All (λ p. IsPassOfTable self p × IsIdle (view_of p)) passes.items }
+        ensures { ClosesTable (opening_of_table self) (map view_of passes.items) result }
+    {
+        self.close(passes)
+    }
 
     fn size(&self) -> u32 {
         self.size
@@ -52,11 +81,37 @@ impl SharedTable for BatonTable {
         pass.numbers_left
     }
 
-    // A look-up returns no file but the one that it found.
-    fn look_up(&self, rt: &impl Wait, pass: &mut BatonPass, slot: u32) -> LookUp {
-        LookUp {
-            found: self.look(rt, pass, slot),
-            freed: None,
+    // Pass p of n draws the chains p, p + n, p + 2n and so on.
+    fn draw(&self, pass: &mut BatonPass) -> Option<u32> {
+        if pass.no_chains_left {
+            return None;
+        }
+        let next = if pass.count == 0 {
+            pass.number
+        } else {
+            pass.chain + pass.passes
+        };
+        if next > self.chains {
+            pass.no_chains_left = true;
+            return None;
+        }
+        pass.chain = next;
+        pass.count += 1;
+        pass.numbers_left = CHAIN_NUMBERS;
+        Some(next)
+    }
+
+    fn look(&self, rt: &impl Wait, pass: &mut BatonPass, slot: u32) -> Result<Hold, LookFault> {
+        if pass.looks_left == 0 {
+            return Err(LookFault::Spent);
+        }
+        self.borrow(rt, pass);
+        let plain = pass.seat.slot_mut(&self.table.shared, 0);
+        let found = plain.look(slot);
+        self.give_back(pass, Call::Look(slot), found.is_none());
+        match found {
+            None => Err(LookFault::Empty),
+            Some((node, entry)) => Ok(Hold { node, entry }),
         }
     }
 
@@ -139,80 +194,11 @@ impl SharedTable for BatonTable {
         closed
     }
 
-    ghost fronts = { λ t p fits. fits.seated.front };
-}
-
-impl FileTable for BatonTable {
-    ghost use Rattle.std.specs.Prelude.{refl, ℕ, ◌≤◌};
-    ghost use mathlib.Core.Path.{subst};
-    ghost use Rattle.fx_plain.specs.declared.table.TheConstants.{MOST_SLOTS};
-
-    fn open(
-        alloc: Global,
-        plain: PlainTable,
-        chains: u32,
-        passes: u32,
-    ) -> Result<(BatonTable, Vec<BatonPass>), (PlainTable, NoMemory)> {
-        let Ok(mut list) = Vec::with_capacity(alloc, passes as usize) else {
-            return Err((plain, NoMemory));
-        };
-        match BatonTable::start(alloc, plain, chains, passes) {
-            Ok((table, seat)) => {
-                table.deal(seat, &mut list);
-                Ok((table, list))
-            }
-            Err(refused) => {
-                list.destroy_empty();
-                Err(refused)
-            }
-        }
-    }
-
-    fn close(self, passes: Vec<BatonPass>) -> PlainTable
-        requires all { length passes.items ≡ (opening_of_table self).passes }
-        requires ready { All (λ p. IsPassOfTable self p × IsIdle (view_of p)) passes.items }
-        ensures { ClosesTable (opening_of_table self) (map view_of passes.items) result }
-    {
-        self.close(passes)
-    }
-
-    // Pass p of n draws the chains p, p + n, p + 2n and so on.
-    fn draw(&self, pass: &mut BatonPass) -> Option<u32> {
-        if pass.no_chains_left {
-            return None;
-        }
-        let next = if pass.count == 0 {
-            pass.number
-        } else {
-            pass.chain + pass.passes
-        };
-        if next > self.chains {
-            pass.no_chains_left = true;
-            return None;
-        }
-        pass.chain = next;
-        pass.count += 1;
-        pass.numbers_left = CHAIN_NUMBERS;
-        Some(next)
-    }
-
     fn settle(&self, pass: &mut BatonPass) {
         self.table.shared.load::<Observe>(&mut pass.seat, 0);
     }
 
-    fn look(&self, rt: &impl Wait, pass: &mut BatonPass, slot: u32) -> Result<Hold, LookFault> {
-        if pass.looks_left == 0 {
-            return Err(LookFault::Spent);
-        }
-        self.borrow(rt, pass);
-        let plain = pass.seat.slot_mut(&self.table.shared, 0);
-        let found = plain.look(slot);
-        self.give_back(pass, Call::Look(slot), found.is_none());
-        match found {
-            None => Err(LookFault::Empty),
-            Some((node, entry)) => Ok(Hold { node, entry }),
-        }
-    }
+    ghost fronts = { λ t p fits. fits.seated.front };
 
     ghost few = { λ t. subst (λ (n : ℕ). n ≤ MOST_SLOTS) t.same_size t.few_slots };
 

@@ -13,7 +13,6 @@ mod life;
 mod pass;
 mod shown;
 mod table;
-mod table_calls;
 mod view;
 
 pub use pass::BatonPass;

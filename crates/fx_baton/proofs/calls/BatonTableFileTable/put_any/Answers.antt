@@ -1,5 +1,5 @@
 use Rattle.fx_baton.proofs.Calling.{may_lend, number_fresh, allocate_called, full_called, allocated_so, added}
-use Rattle.fx_baton.proofs.calls.BatonTableSharedTable.put_any.Goals as goal
+use Rattle.fx_baton.proofs.calls.BatonTableFileTable.put_any.Goals as goal
 
 pub slot_mut-plain-requires : goal.slot_mut-plain-requires
 slot_mut-plain-requires g c = may_lend c.borrow.ensures

@@ -1,5 +1,5 @@
 use Rattle.fx_baton.proofs.Calling.{may_lend, release_called, released_so}
-use Rattle.fx_baton.proofs.calls.BatonTableSharedTable.release.Goals as goal
+use Rattle.fx_baton.proofs.calls.BatonTableFileTable.release.Goals as goal
 
 pub slot_mut-plain-requires : goal.slot_mut-plain-requires
 slot_mut-plain-requires g c = may_lend c.borrow.ensures

@@ -1,6 +1,6 @@
 use Rattle.fx_baton.proofs.Words.{state_of, placed_so}
 use Rattle.fx_baton.proofs.Calling.{may_lend, slot_inside, number_fresh, put_called, added}
-use Rattle.fx_baton.proofs.calls.BatonTableSharedTable.put.Goals as goal
+use Rattle.fx_baton.proofs.calls.BatonTableFileTable.put.Goals as goal
 
 pub slot_mut-plain-requires : goal.slot_mut-plain-requires
 slot_mut-plain-requires g c = may_lend c.borrow.ensures

@@ -1,5 +1,5 @@
 use Rattle.fx_baton.proofs.Calling.{may_lend, retire_called, retired_so}
-use Rattle.fx_baton.proofs.calls.BatonTableSharedTable.retire.Goals as goal
+use Rattle.fx_baton.proofs.calls.BatonTableFileTable.retire.Goals as goal
 
 pub slot_mut-plain-requires : goal.slot_mut-plain-requires
 slot_mut-plain-requires g c = may_lend c.borrow.ensures
