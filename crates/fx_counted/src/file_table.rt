@@ -1,5 +1,4 @@
-//! The implementations of `SharedTable` and `FileTable` for the lock-free table. Of its calls only
-//! `put_any` may wait.
+//! The implementation of `FileTable` for the lock-free table. Of its calls only `put_any` may wait.
 ghost use Rattle.std.specs.Prelude.{◌≡◌, length, map, All, refl, ℕ, ◌≤◌};
 ghost use Rattle.fx_table.specs.Closing.{ClosesTable};
 ghost use Rattle.fx_table.specs.Pass.{IsIdle};
@@ -13,11 +12,11 @@ use crate::pass::CountedPass;
 use crate::table::CountedTable;
 use fx_base::{NoMemory, OpenFile};
 use fx_plain::PlainTable;
-use fx_table::{CHAIN_NUMBERS, Empty, FileTable, Hold, LookFault, LookUp, Retired, SharedTable};
+use fx_table::{CHAIN_NUMBERS, Empty, FileTable, Hold, LookFault, Retired};
 use std::alloc::Global;
 use std::sync::Wait;
 
-impl SharedTable for CountedTable {
+impl FileTable for CountedTable {
     type Pass = CountedPass;
 
     ghost opening = { opening_of_table };
@@ -25,6 +24,33 @@ impl SharedTable for CountedTable {
     ghost fits = { IsPassOfTable };
 
     ghost view = { view_of };
+
+    fn open(
+        alloc: Global,
+        plain: PlainTable,
+        chains: u32,
+        passes: u32,
+    ) -> Result<(CountedTable, Vec<CountedPass>), (PlainTable, NoMemory)> {
+        CountedTable::open_for(alloc, plain, chains, CHAIN_NUMBERS, passes)
+    }
+
+    fn open_for(
+        alloc: Global,
+        plain: PlainTable,
+        chains: u32,
+        most: u32,
+        passes: u32,
+    ) -> Result<(CountedTable, Vec<CountedPass>), (PlainTable, NoMemory)> {
+        CountedTable::open_for(alloc, plain, chains, most, passes)
+    }
+
+    fn close(self, passes: Vec<CountedPass>) -> PlainTable
+        requires all { length passes.items ≡ (opening_of_table self).passes }
+        requires ready { All (λ p. IsPassOfTable self p × IsIdle (view_of p)) passes.items }
+        ensures { ClosesTable (opening_of_table self) (map view_of passes.items) result }
+    {
+        self.close(passes)
+    }
 
     fn size(&self) -> u32 {
         self.size
@@ -50,12 +76,12 @@ impl SharedTable for CountedTable {
         pass.numbers_left
     }
 
-    // A look-up returns no file but the one that it found.
-    fn look_up(&self, _rt: &impl Wait, pass: &mut CountedPass, slot: u32) -> LookUp {
-        LookUp {
-            found: self.look(pass, slot),
-            freed: None,
-        }
+    fn draw(&self, pass: &mut CountedPass) -> Option<u32> {
+        self.draw(pass)
+    }
+
+    fn look(&self, _rt: &impl Wait, pass: &mut CountedPass, slot: u32) -> Result<Hold, LookFault> {
+        self.look(pass, slot)
     }
 
     fn release(&self, _rt: &impl Wait, pass: &mut CountedPass, hold: Hold) -> Option<OpenFile> {
@@ -109,48 +135,11 @@ impl SharedTable for CountedTable {
         self.retire(pass, retired)
     }
 
-    ghost fronts = { λ t p fits. fits.seated.front };
-}
-
-impl FileTable for CountedTable {
-    fn open(
-        alloc: Global,
-        plain: PlainTable,
-        chains: u32,
-        passes: u32,
-    ) -> Result<(CountedTable, Vec<CountedPass>), (PlainTable, NoMemory)> {
-        CountedTable::open_for(alloc, plain, chains, CHAIN_NUMBERS, passes)
-    }
-
-    fn open_for(
-        alloc: Global,
-        plain: PlainTable,
-        chains: u32,
-        most: u32,
-        passes: u32,
-    ) -> Result<(CountedTable, Vec<CountedPass>), (PlainTable, NoMemory)> {
-        CountedTable::open_for(alloc, plain, chains, most, passes)
-    }
-
-    fn close(self, passes: Vec<CountedPass>) -> PlainTable
-        requires all { length passes.items ≡ (opening_of_table self).passes }
-        requires ready { All (λ p. IsPassOfTable self p × IsIdle (view_of p)) passes.items }
-        ensures { ClosesTable (opening_of_table self) (map view_of passes.items) result }
-    {
-        self.close(passes)
-    }
-
-    fn draw(&self, pass: &mut CountedPass) -> Option<u32> {
-        self.draw(pass)
-    }
-
     fn settle(&self, pass: &mut CountedPass) {
         self.table.shared.load::<Observe>(&mut pass.seat, CONTROL);
     }
 
-    fn look(&self, _rt: &impl Wait, pass: &mut CountedPass, slot: u32) -> Result<Hold, LookFault> {
-        self.look(pass, slot)
-    }
+    ghost fronts = { λ t p fits. fits.seated.front };
 
     ghost few = { λ t. subst (λ (n : ℕ). n ≤ MOST_SLOTS) t.same_size t.few_slots };
 
