@@ -6,7 +6,7 @@ use Rattle.fx_chain.proofs.Words.{append-nil, cases_Bool, sum_by-append, sum_by-
 use Rattle.fx_chain.proofs.Words.{next_member, refusal, Explains, AnswersAfter, canceled, severs, Asked, PlayerView, AnswersNext, PlaysMembers}
 use Rattle.fx_chain.proofs.Words.{Place, sum_by, ECANCELED}
 use Rattle.std.proofs.Math.Bool.{or-false}
-use Rattle.fx_chain.proofs.ActsInTurn.{so_then, may_free_then}
+use Rattle.fx_chain.proofs.ActsInTurn.{so_then}
 use Rattle.fx_chain.proofs.Cases.{either_case}
 
 pub asked_more : (requests : List Request) (i : ℕ) (x : Request) → i < length requests → x ≡ slice_index_or requests i x
@@ -101,7 +101,7 @@ pub answers_next : (o : Opening) (catalogue : List FileEntry) (place : Place) (r
     (cs : List Completed) (c : Completed) (n : ℕ) → n ≡ place.member + length requests → PlaysMembers o catalogue place requests p cs q
     → AnswersNext o catalogue (record place { member = n }) (any_severs requests cs) r q c next
     → PlaysMembers o catalogue place (requests ++ r ∷ []) p (cs ++ c ∷ []) next
-answers_next o catalogue place requests r cs c n is done own = grind (arith, length-append, sum_by-append, so_then, may_free_then, explains_next)
+answers_next o catalogue place requests r cs c n is done own = grind (arith, length-append, sum_by-append, so_then, explains_next)
 
 -- the requests from a place on, as contracts see them
 abbrev pub asked_from : List Request → ℕ → List Asked

@@ -9,11 +9,10 @@ pub use Rattle.fx_chain.specs.Contexts.{PlayerActs, IsSamePlayer, player_view}
 pub use Rattle.fx_chain.specs.Explains.{AnswersAfter, Explains, canceled, first_member, severs}
 pub use Rattle.fx_chain.specs.Faults.{HasNoFault, IsFirstFault, fault_after, fault_of_next, fault_of, first_fault, has_bad_flags, is_long_read}
 pub use Rattle.fx_chain.specs.Faults.{is_long_update, or_later}
-pub use Rattle.fx_chain.specs.Freed.{Frees, MayFree, StepFrees, all_room, room_of}
-pub use Rattle.fx_chain.specs.Intents.{entry_installs, installs_of, list_installs, look_ups_of, weight_of}
+pub use Rattle.fx_chain.specs.Intents.{entry_installs, installs_of, list_installs, weight_of}
 pub use Rattle.fx_chain.specs.Operation.{Asked, Closes, Opens, Operation, Reads, Updates, all_asked, asked_of, is_fixed, is_link, operation_of}
 pub use Rattle.fx_chain.specs.Performs.{Acts, ActsSo, AnswersNext, PlayerView, PlaysMembers, player}
-pub use Rattle.fx_chain.specs.Removals.{IsLookUp, IsRelease, IsRetirement, HasLookedUp}
+pub use Rattle.fx_chain.specs.Removals.{IsRelease, IsRetirement}
 pub use Rattle.fx_chain.specs.Runs.{AreRuns, AreTheOnlyRuns, IsInRun, but_last, in_front, is_over, open_run, runs_of}
 pub use Rattle.fx_chain.specs.Weights.{all_installs, all_weights}
 pub use Rattle.fx_chain.specs.declared.chain.Chain.{Chain}
@@ -21,10 +20,10 @@ pub use Rattle.fx_chain.specs.declared.completion.Place.{Place}
 pub use Rattle.fx_chain.specs.declared.fault.CutFault.{CutFault}
 pub use Rattle.fx_chain.specs.declared.fault.TheConstants.{MOST_MEMBERS}
 pub use Rattle.fx_chain.specs.declared.request.Request.{Request}
-pub use Rattle.fx_plain.specs.History.{close_of, closed_by, closes_in, ◌▷▷◌, ◌▷◌}
+pub use Rattle.fx_plain.specs.History.{closed_by, closes_in, ◌▷▷◌, ◌▷◌}
 pub use Rattle.fx_plain.specs.declared.event.Action.{Action}
 pub use Rattle.fx_plain.specs.declared.event.Action.TheVariants.{Clear, Look, Put, Release, Take}
-pub use Rattle.fx_table.specs.Calls.{Adds, Cleared, Taken, Use, both_uses, no_use, one_look, one_number, LookedAfter, PlacedFile}
+pub use Rattle.fx_table.specs.Calls.{Adds, Cleared, Taken, Use, both_uses, no_use, one_look, one_number, PlacedFile}
 pub use Rattle.fx_table.specs.Opening.{Opening, size_of}
 pub use Rattle.fx_table.specs.Pass.{IsFront, IsIdle, PassView}
 pub use Rattle.fx_table.specs.declared.limits.TheConstants.{CHAIN_NUMBERS, MAX_CHAINS}

@@ -118,11 +118,6 @@ abbrev pub weight_of : Operation → ℕ
 weight_of (Updates off list) = length list
 weight_of _ = 1
 
--- the number of slots that a request looks up
-abbrev pub look_ups_of : Operation → ℕ
-look_ups_of (Reads slot off len) = 1
-look_ups_of _ = 0
-
 -- the slots that a request may reach, by the allocation range
 abbrev pub MayReach : ℕ × ℕ → Operation → ℕ → Type 0
 MayReach range (Opens name (Slot own)) slot = slot ≡ own

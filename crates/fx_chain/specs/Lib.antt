@@ -9,7 +9,6 @@ pub mod Completed
 pub mod Refusal
 pub mod Answers
 pub mod Intents
-pub mod Freed
 pub mod Explains
 pub mod Performs
 pub mod Removals

@@ -1,5 +1,5 @@
 -- The actions of a player of requests: a pass of a shared table, and a list of closes.
-use Rattle.std.specs.Prelude.{◌≡◌, ℕ, ◌+◌, ◌≤◌, Bool, false, List, ◌++◌, length}
+use Rattle.std.specs.Prelude.{◌≡◌, ℕ, ◌+◌, ◌≤◌, Bool, List, ◌++◌, length}
 use Rattle.fx_base.specs.Catalogue.{FileEntry}
 use Rattle.fx_base.specs.CloseListView.{CloseListView}
 use Rattle.fx_plain.specs.declared.event.Action.{Action}
@@ -12,8 +12,7 @@ use Rattle.fx_table.specs.declared.values.Doing.TheVariants.{Idle}
 use Rattle.fx_chain.specs.Answers.{Answers}
 use Rattle.fx_chain.specs.Completed.{Completed}
 use Rattle.fx_chain.specs.Explains.{Explains, AnswersAfter, first_member}
-use Rattle.fx_chain.specs.Freed.{MayFree, all_room, room_of}
-use Rattle.fx_chain.specs.Intents.{installs_of}
+use Rattle.fx_chain.specs.Intents.{installs_of, weight_of}
 use Rattle.fx_chain.specs.Operation.{Asked}
 use Rattle.fx_chain.specs.Weights.{all_installs, all_weights}
 use Rattle.fx_chain.specs.declared.completion.Place.{Place}
@@ -46,31 +45,26 @@ pub record ActsSo (o : Opening) (p : PlayerView) (looks numbers files : ℕ)
   pub few_numbers : used.numbers ≤ numbers
   pub few_files : length (closes_in actions) ≤ files
 
--- the request at its place was performed: it may get this answer by these actions, and in a table
--- that lasts a look-up may have freed a file
+-- the request at its place was performed: it may get this answer by these actions
 abbrev pub Performs : Opening → List FileEntry → Place → Asked → PlayerView → Completed → PlayerView
     → Type 0
 Performs o catalogue place request p c q =
-    ActsSo o p 1 (installs_of request.operation) (room_of o.lasts request.operation)
-    (MayFree o.lasts
-    (λ actions. Answers catalogue (size_of o) place request.operation actions c)) q
+    ActsSo o p 1 (installs_of request.operation) (weight_of request.operation)
+    (λ actions. Answers catalogue (size_of o) place request.operation actions c) q
 
 -- the next member of a chain got this answer, after one that severed the chain or not
 abbrev pub AnswersNext : Opening → List FileEntry → Place → Bool → Asked → PlayerView → Completed
     → PlayerView → Type 0
 AnswersNext o catalogue place severed request p c q =
-    ActsSo o p 1 (installs_of request.operation) (room_of o.lasts request.operation)
-    (MayFree o.lasts
-    (λ actions. AnswersAfter catalogue (size_of o) place severed request actions c)) q
+    ActsSo o p 1 (installs_of request.operation) (weight_of request.operation)
+    (λ actions. AnswersAfter catalogue (size_of o) place severed request actions c) q
 
--- the members from this place on were played: the actions explain their completions, and in a table
--- that lasts look-ups may have freed files
+-- the members from this place on were played: the actions explain their completions
 abbrev pub PlaysMembers : Opening → List FileEntry → Place → List Asked → PlayerView
     → List Completed → PlayerView → Type 0
 PlaysMembers o catalogue place requests p completions q =
-    ActsSo o p (length requests) (all_installs requests) (all_room o.lasts requests)
-    (MayFree o.lasts
-    (λ actions. Explains catalogue (size_of o) place requests actions completions)) q
+    ActsSo o p (length requests) (all_installs requests) (all_weights requests)
+    (λ actions. Explains catalogue (size_of o) place requests actions completions) q
 
 -- the chain was played, and its completions were appended to a list
 abbrev pub PlaysChain : Opening → List FileEntry → ℕ → ℕ → List Asked → PlayerView → List Completed
@@ -78,21 +72,3 @@ abbrev pub PlaysChain : Opening → List FileEntry → ℕ → ℕ → List Aske
 PlaysChain o catalogue submission chain requests p before q now =
     (completions : List Completed) × (now ≡ before ++ completions)
     × PlaysMembers o catalogue (first_member submission chain) requests p completions q
-
--- the same without freed files: all actions of the pass explain the completions
-abbrev pub PlaysChainExactly : Opening → List FileEntry → ℕ → ℕ → List Asked → PlayerView
-    → List Completed → PlayerView → List Completed → Type 0
-PlaysChainExactly o catalogue submission chain requests p before q now =
-    (completions : List Completed) × (now ≡ before ++ completions)
-    × ActsSo o p (length requests) (all_installs requests) (all_weights requests) (λ actions.
-    Explains catalogue (size_of o) (first_member submission chain) requests actions completions) q
-
--- a table that doesn't last frees no file in a look-up, and no room is needed for it
-abbrev pub OnlyLastingTablesFree : Type 0
-OnlyLastingTablesFree =
-    (o : Opening) (catalogue : List FileEntry) (submission chain : ℕ) (requests : List Asked)
-    (p q : PlayerView) (before now : List Completed)
-    → o.lasts ≡ false
-    → (all_room o.lasts requests ≡ all_weights requests)
-    × (PlaysChain o catalogue submission chain requests p before q now
-    → PlaysChainExactly o catalogue submission chain requests p before q now)

@@ -4,13 +4,13 @@ ghost use Rattle.fx_chain.specs.Completed.{completed, completed_of, refusal};
 
 use crate::completion::{Completion, Place};
 use fx_base::{Catalogue, CloseList, Errno};
-use fx_table::SharedTable;
+use fx_table::FileTable;
 use std::alloc::Global;
 
 /// The values that stay the same while a request is performed: the table, the catalogue, and the
 /// request's place.
 #[derive(Drop)]
-pub(crate) struct Context<'a, T: SharedTable, R> {
+pub(crate) struct Context<'a, T: FileTable, R> {
     pub(crate) rt: &'a R,
     pub(crate) alloc: Global,
     pub(crate) table: &'a T,
@@ -25,7 +25,7 @@ pub(crate) struct Player<'a, P> {
     pub(crate) closes: &'a mut CloseList,
 }
 
-impl<T: SharedTable, R> Context<'_, T, R> {
+impl<T: FileTable, R> Context<'_, T, R> {
     // Creates the answer of a request that fails with the error.
     pub(crate) fn refusal(&self, errno: Errno) -> Completion
         ensures { completed_of result ≡ refusal self.now.place errno }

@@ -4,7 +4,6 @@ ghost use Rattle.std.specs.Prelude.{◌≡◌, List, ◌∷◌, ◌++◌, MatchO
 ghost use Rattle.fx_chain.specs.Faults.{HasNoFault, IsFirstFault, fault_of};
 ghost use Rattle.fx_chain.specs.Operation.{Asked};
 ghost use Rattle.fx_chain.specs.OtherNumbers.{ExplainsByAnyNumbers, NumbersFilesAsAsked};
-ghost use Rattle.fx_chain.specs.Performs.{OnlyLastingTablesFree};
 ghost use Rattle.fx_chain.specs.Runs.{AreTheOnlyRuns, IsInRun, runs_of};
 
 use crate::fault::MOST_MEMBERS;
@@ -51,10 +50,4 @@ pub fn chains_answer_by_any_numbers()
 #[tactic(auto, using(crate::proofs::OtherNumbers::few_given))]
 pub fn chains_give_numbers_as_asked()
     ensures { NumbersFilesAsAsked }
-{}
-
-/// States that in a table that doesn't last a chain frees no file by a look-up: its actions are
-/// those that explain its completions, and the room that it needs is its weight.
-pub fn only_lasting_tables_free()
-    ensures { OnlyLastingTablesFree }
 {}

@@ -2,11 +2,10 @@
 ghost use Rattle.std.specs.Prelude.{◌≡◌, ◌<◌, length, ◌+◌, ◌≤◌, false, vec_len, vec_capacity};
 ghost use Rattle.fx_chain.specs.Completed.{completed_of, all_completed};
 ghost use Rattle.fx_chain.specs.Contexts.{IsSamePlayer, IsReady, player_view};
-ghost use Rattle.fx_chain.specs.Freed.{room_of, all_room};
-ghost use Rattle.fx_chain.specs.Intents.{installs_of};
+ghost use Rattle.fx_chain.specs.Intents.{installs_of, weight_of};
 ghost use Rattle.fx_chain.specs.Operation.{asked_of, operation_of, all_asked};
 ghost use Rattle.fx_chain.specs.Performs.{AnswersNext, Performs, PlaysChain, player};
-ghost use Rattle.fx_chain.specs.Weights.{all_installs};
+ghost use Rattle.fx_chain.specs.Weights.{all_installs, all_weights};
 ghost use Rattle.fx_table.specs.Pass.{IsIdle};
 
 use crate::completion::{Completion, Place};
@@ -15,7 +14,7 @@ use crate::gate::Gate;
 use crate::request::Request;
 use crate::steps::answer;
 use fx_base::{Catalogue, CloseList, Errno};
-use fx_table::SharedTable;
+use fx_table::FileTable;
 use std::alloc::Global;
 use std::sync::Wait;
 
@@ -25,13 +24,11 @@ use std::sync::Wait;
 ///
 /// Requires that the pass is idle (`is_idle`), has a look-up left (`looks_left`) and as many
 /// numbers as the request has [`Request::installs`] (`numbers_left`), and that the list has room
-/// for its [`Request::weight`] (`room`). In a table that lasts, a look-up may free a file that
-/// others removed: then the list needs room for its [`Request::looks`] too, and that file's close
-/// comes before the look-up.
+/// for its [`Request::weight`] (`room`).
 ///
 /// It allocates only the buffer of a read. If that allocation fails, the read completes with
 /// ENOMEM.
-pub fn perform<T: SharedTable>(
+pub fn perform<T: FileTable>(
     rt: &impl Wait,
     alloc: Global,
     table: &T,
@@ -45,8 +42,7 @@ pub fn perform<T: SharedTable>(
     requires idle { IsIdle (T.view pass.old) }
     requires looks { 0 < (T.view pass.old).looks_left }
     requires numbers { installs_of (operation_of request.now.op) ≤ (T.view pass.old).numbers_left }
-    requires room { room_of (T.opening table.now).lasts (operation_of request.now.op)
-        ≤ closes.old.room }
+    requires room { weight_of (operation_of request.now.op) ≤ closes.old.room }
     ensures fits { T.fits table.now pass.new }
     ensures performed { Performs (T.opening table.now) catalogue.now place (asked_of request.now)
         (player (T.view pass.old) closes.old) (completed_of result)
@@ -63,7 +59,7 @@ pub fn perform<T: SharedTable>(
 }
 
 // Performs a chain's next member, or cancels it after one that severed the chain.
-fn next_answer<T: SharedTable, R: Wait, G: Gate>(
+fn next_answer<T: FileTable, R: Wait, G: Gate>(
     context: &Context<'_, T, R>,
     player: &mut Player<'_, T::Pass>,
     gate: &G,
@@ -71,8 +67,7 @@ fn next_answer<T: SharedTable, R: Wait, G: Gate>(
     severed: bool,
 ) -> Completion
     requires ready { IsReady T.view (T.fits context.now.table.now) player.old 1
-        (installs_of (operation_of request.now.op))
-        (room_of (T.opening context.now.table.now).lasts (operation_of request.now.op)) }
+        (installs_of (operation_of request.now.op)) (weight_of (operation_of request.now.op)) }
     ensures kept { IsSamePlayer (T.fits context.now.table.now) player.old player.new }
     ensures answered { AnswersNext (T.opening context.now.table.now) context.now.catalogue.now
         context.now.place severed (asked_of request.now) (player_view T.view player.old)
@@ -89,7 +84,7 @@ fn next_answer<T: SharedTable, R: Wait, G: Gate>(
 
 // Returns the number of members of a chain. The pass has a look-up for each, and counts its
 // look-ups in a u32.
-fn members<T: SharedTable>(table: &T, pass: &T::Pass, requests: &[Request]) -> u32
+fn members<T: FileTable>(table: &T, pass: &T::Pass, requests: &[Request]) -> u32
     requires fits { T.fits table.now pass.now }
     requires looks { length requests.now ≤ (T.view pass.now).looks_left }
     ensures { result ≡ length requests.now }
@@ -105,11 +100,11 @@ fn members<T: SharedTable>(table: &T, pass: &T::Pass, requests: &[Request]) -> u
 ///
 /// Requires that the pass is idle (`is_idle`), has a look-up for each member (`looks_left`) and a
 /// number for each file that they install ([`Request::installs`], `numbers_left`), that the list
-/// has room for all files that they may close ([`Request::weight`], and in a table that lasts
-/// [`Request::looks`], `room`), and that `out` has reserved room for a completion of each.
+/// has room for all files that they may close ([`Request::weight`], `room`), and that `out` has
+/// reserved room for a completion of each.
 ///
 /// It allocates only the buffers of reads.
-pub fn run_chain<T: SharedTable, G: Gate>(
+pub fn run_chain<T: FileTable, G: Gate>(
     rt: &impl Wait,
     alloc: Global,
     table: &T,
@@ -126,8 +121,7 @@ pub fn run_chain<T: SharedTable, G: Gate>(
     requires idle { IsIdle (T.view pass.old) }
     requires looks { length requests.now ≤ (T.view pass.old).looks_left }
     requires numbers { all_installs (all_asked requests.now) ≤ (T.view pass.old).numbers_left }
-    requires room { all_room (T.opening table.now).lasts (all_asked requests.now)
-        ≤ closes.old.room }
+    requires room { all_weights (all_asked requests.now) ≤ closes.old.room }
     requires out { vec_len out.old + length requests.now ≤ vec_capacity out.old }
     ensures fits { T.fits table.now pass.new }
     ensures played { PlaysChain (T.opening table.now) catalogue.now submission chain

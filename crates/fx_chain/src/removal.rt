@@ -11,12 +11,12 @@ ghost use Rattle.fx_chain.specs.Removals.{IsRemovedBy, IsRelease, IsRetirement};
 
 use crate::context::{Context, Player};
 use fx_base::OpenFile;
-use fx_table::{Hold, Retired, SharedTable};
+use fx_table::{FileTable, Hold, Retired};
 use std::sync::Wait;
 
 // Retires the file that the pass removed, if there was one, and closes it if it has no holds now.
 // Otherwise its last release does.
-fn retire<T: SharedTable, R: Wait>(
+fn retire<T: FileTable, R: Wait>(
     context: &Context<'_, T, R>,
     player: &mut Player<'_, T::Pass>,
     removed: Option<Retired>,
@@ -38,7 +38,7 @@ fn retire<T: SharedTable, R: Wait>(
 
 // Releases the file that the pass holds, and closes it if it was retired and this was its last
 // hold.
-pub(crate) fn release<T: SharedTable, R: Wait>(
+pub(crate) fn release<T: FileTable, R: Wait>(
     context: &Context<'_, T, R>,
     player: &mut Player<'_, T::Pass>,
     hold: Hold,
@@ -56,7 +56,7 @@ pub(crate) fn release<T: SharedTable, R: Wait>(
 }
 
 // Empties a slot for a close, and returns whether there was a file.
-pub(crate) fn take<T: SharedTable, R: Wait>(
+pub(crate) fn take<T: FileTable, R: Wait>(
     context: &Context<'_, T, R>,
     player: &mut Player<'_, T::Pass>,
     slot: u32,
@@ -75,7 +75,7 @@ pub(crate) fn take<T: SharedTable, R: Wait>(
 }
 
 // Empties a slot for an update.
-pub(crate) fn clear<T: SharedTable, R: Wait>(
+pub(crate) fn clear<T: FileTable, R: Wait>(
     context: &Context<'_, T, R>,
     player: &mut Player<'_, T::Pass>,
     slot: u32,
@@ -92,7 +92,7 @@ pub(crate) fn clear<T: SharedTable, R: Wait>(
 }
 
 // Installs a file at a slot, and removes the file that was there.
-pub(crate) fn put<T: SharedTable, R: Wait>(
+pub(crate) fn put<T: FileTable, R: Wait>(
     context: &Context<'_, T, R>,
     player: &mut Player<'_, T::Pass>,
     slot: u32,

@@ -1,14 +1,13 @@
 //! Requests, as io_uring_enter(2) describes them: their kinds, the files that each kind may install
 //! and close, and the errors of requests that are refused before they reach the table.
 ghost use Rattle.std.specs.Prelude.{◌≡◌, ◌<◌, None, length, true, ◌+◌, ◌≤◌, false, ℕ, Some};
-ghost use Rattle.std.specs.Prelude.{◌↔◌, IfNone, IfSome, IsTrue, List, Option, Bool};
+ghost use Rattle.std.specs.Prelude.{◌↔◌, IfNone, IfSome, IsTrue, List, Option};
 ghost use Rattle.fx_base.specs.Catalogue.{FileEntry};
 ghost use Rattle.fx_base.specs.declared.errno.Errno.TheVariants.{ENOENT};
 ghost use Rattle.fx_chain.specs.Completed.{completed_of};
 ghost use Rattle.fx_chain.specs.Explains.{has_failed, severs};
 ghost use Rattle.fx_chain.specs.Faults.{has_bad_flags, is_long_read, is_long_update};
-ghost use Rattle.fx_chain.specs.Freed.{room_of};
-ghost use Rattle.fx_chain.specs.Intents.{IsOpened, installs_of, look_ups_of, weight_of};
+ghost use Rattle.fx_chain.specs.Intents.{IsOpened, installs_of, weight_of};
 ghost use Rattle.fx_chain.specs.Operation.{asked_of, is_fixed, is_link, operation_of};
 ghost use Rattle.fx_chain.specs.Refusal.{refusal_of, slot_refusal, target_refusal, list_refusal};
 
@@ -91,29 +90,13 @@ impl Request {
     }
 
     /// Returns the greatest number of files that the request may close: the length of the list for
-    /// an update, otherwise
-    /// 1. Each uses one place of the room in a list of closes. In a table that lasts, each of its
-    ///    [`Request::looks`] may free one more.
+    /// an update, one for every other request. Each uses one place of the room in a list of closes.
     pub fn weight(&self) -> usize
         ensures { result ≡ weight_of (operation_of self.now.op) }
     {
         match &self.op {
             Op::Update { off: _, list } => list.len(),
             _ => 1,
-        }
-    }
-
-    /// Returns the number of slots that the request looks up: 1 for a read, otherwise 0. In a table
-    /// that lasts, each may use one more place of the room in a list of closes.
-    #[tactic(auto, using(crate::proofs::ActsInTurn::room_at_most))]
-    pub fn looks(&self) -> usize
-        ensures value { result ≡ look_ups_of (operation_of self.now.op) }
-        ensures room { (lasts : Bool) → room_of lasts (operation_of self.now.op)
-            ≤ weight_of (operation_of self.now.op) + result }
-    {
-        match &self.op {
-            Op::Read { .. } => 1,
-            _ => 0,
         }
     }
 

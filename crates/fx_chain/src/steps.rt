@@ -1,17 +1,14 @@
 //! The steps of each kind of request on a shared table.
 ghost use Rattle.std.specs.List.{list_any};
-ghost use Rattle.std.specs.Prelude.{◌≡◌, ◌<◌, ◌^◌, None, length, true, ◌+◌, ◌≤◌, false, Some};
-ghost use Rattle.std.specs.Prelude.{Option};
+ghost use Rattle.std.specs.Prelude.{◌≡◌, ◌<◌, ◌^◌, None, length, ◌+◌, ◌≤◌, false};
 ghost use Rattle.fx_chain.specs.Answers.{AnswersAtTable, OpensAt, ReadsAt, AppliesAt, AppliesEntry};
 ghost use Rattle.fx_chain.specs.Answers.{AppliesList, TakesAt};
 ghost use Rattle.fx_chain.specs.Completed.{completed_of};
 ghost use Rattle.fx_chain.specs.Contexts.{PlayerActs, IsSamePlayer, IsReady, player_view};
-ghost use Rattle.fx_chain.specs.Freed.{MayFree, room_of};
-ghost use Rattle.fx_chain.specs.Intents.{entry_installs, installs_of, list_installs};
+ghost use Rattle.fx_chain.specs.Intents.{entry_installs, installs_of, list_installs, weight_of};
 ghost use Rattle.fx_chain.specs.Operation.{Opens, Reads, Updates, asked_of, operation_of};
 ghost use Rattle.fx_chain.specs.Performs.{Performs};
 ghost use Rattle.fx_chain.specs.Refusal.{refusal_of, is_bad_entry};
-ghost use Rattle.fx_chain.specs.Removals.{IsLookUp};
 ghost use Rattle.fx_chain.specs.declared.request.Target.TheVariants.{Slot, Any};
 ghost use Rattle.fx_table.specs.Opening.{size_of};
 
@@ -20,11 +17,11 @@ use crate::context::{Context, Player};
 use crate::removal::{clear, put, release, take};
 use crate::request::{Op, Request, Target, refusal_of};
 use fx_base::{Errno, MOST_ENTRIES};
-use fx_table::{Hold, LookUp, SharedTable};
+use fx_table::{FileTable, LookFault};
 use std::sync::Wait;
 
 // Opens a catalogue entry at a slot.
-fn open_at<T: SharedTable, R: Wait>(
+fn open_at<T: FileTable, R: Wait>(
     context: &Context<'_, T, R>,
     player: &mut Player<'_, T::Pass>,
     entry: u8,
@@ -44,7 +41,7 @@ fn open_at<T: SharedTable, R: Wait>(
 }
 
 // Opens a catalogue entry at any empty slot of the allocation range.
-fn open_any<T: SharedTable, R: Wait>(
+fn open_any<T: FileTable, R: Wait>(
     context: &Context<'_, T, R>,
     player: &mut Player<'_, T::Pass>,
     entry: u8,
@@ -67,7 +64,7 @@ fn open_any<T: SharedTable, R: Wait>(
 }
 
 // Opens the catalogue entry of a name.
-pub(crate) fn open<T: SharedTable, R: Wait>(
+pub(crate) fn open<T: FileTable, R: Wait>(
     context: &Context<'_, T, R>,
     player: &mut Player<'_, T::Pass>,
     name: &str,
@@ -91,31 +88,9 @@ pub(crate) fn open<T: SharedTable, R: Wait>(
     }
 }
 
-// Looks a slot up, and closes the file that the look-up freed, if any. Returns the hold of the file
-// that it found.
-fn look<T: SharedTable, R: Wait>(
-    context: &Context<'_, T, R>,
-    player: &mut Player<'_, T::Pass>,
-    slot: u32,
-) -> Option<Hold>
-    requires slot { slot < size_of (T.opening context.now.table.now) }
-    requires ready { IsReady T.view (T.fits context.now.table.now) player.old 1 0 0 }
-    requires room { (T.opening context.now.table.now).lasts ≡ true
-        → 0 < player.old.closes.now.room }
-    ensures kept { IsSamePlayer (T.fits context.now.table.now) player.old player.new }
-    ensures looked { IsLookUp (T.opening context.now.table.now) (player_view T.view player.old) slot
-        result (player_view T.view player.new) }
-{
-    let LookUp { found, freed } = context.table.look_up(context.rt, player.pass, slot);
-    if let Some(file) = freed {
-        player.closes.close(file);
-    }
-    found.ok()
-}
-
 // Reads a part of the file at a slot. The buffer is allocated before the look-up, so that no file
 // is held during the allocation.
-pub(crate) fn read<T: SharedTable, R: Wait>(
+pub(crate) fn read<T: FileTable, R: Wait>(
     context: &Context<'_, T, R>,
     player: &mut Player<'_, T::Pass>,
     slot: u32,
@@ -124,33 +99,33 @@ pub(crate) fn read<T: SharedTable, R: Wait>(
 ) -> Completion
     requires accepted { refusal_of context.now.catalogue.now
         (size_of (T.opening context.now.table.now)) (Reads slot off len) ≡ None }
-    requires ready { IsReady T.view (T.fits context.now.table.now) player.old 1 0
-        (room_of (T.opening context.now.table.now).lasts (Reads slot off len)) }
+    requires ready { IsReady T.view (T.fits context.now.table.now) player.old 1 0 1 }
     ensures kept { IsSamePlayer (T.fits context.now.table.now) player.old player.new }
-    ensures read { PlayerActs (T.opening context.now.table.now) T.view player.old 1 0
-        (room_of (T.opening context.now.table.now).lasts (Reads slot off len))
-        (MayFree (T.opening context.now.table.now).lasts (λ actions.
-        ReadsAt context.now.catalogue.now context.now.place slot off len actions
-        (completed_of result))) player.new }
+    ensures read { PlayerActs (T.opening context.now.table.now) T.view player.old 1 0 1
+        (λ actions. ReadsAt context.now.catalogue.now context.now.place slot off len actions
+        (completed_of result)) player.new }
 {
     let mut got = Vec::new(context.alloc);
     if got.reserve_exact(len as usize).is_err() {
         return context.refusal(Errno::ENOMEM);
     }
-    let Some(hold) = look(context, player, slot) else {
-        return context.refusal(Errno::EBADF);
-    };
-    let res = context.catalogue.read_into(hold.entry, off, len, &mut got) as i32;
-    release(context, player, hold);
-    Completion {
-        place: context.place,
-        res,
-        got,
+    match context.table.look(context.rt, player.pass, slot) {
+        Err(LookFault::Empty) => context.refusal(Errno::EBADF),
+        Err(LookFault::Spent) => unreachable!(),
+        Ok(hold) => {
+            let res = context.catalogue.read_into(hold.entry, off, len, &mut got) as i32;
+            release(context, player, hold);
+            Completion {
+                place: context.place,
+                res,
+                got,
+            }
+        }
     }
 }
 
 // Empties a slot.
-fn close<T: SharedTable, R: Wait>(
+fn close<T: FileTable, R: Wait>(
     context: &Context<'_, T, R>,
     player: &mut Player<'_, T::Pass>,
     slot: u32,
@@ -169,7 +144,7 @@ fn close<T: SharedTable, R: Wait>(
 
 // Applies one entry: -1 empties its slot, -2 leaves it as it is, and any other number installs that
 // catalogue entry.
-fn apply_entry<T: SharedTable, R: Wait>(
+fn apply_entry<T: FileTable, R: Wait>(
     context: &Context<'_, T, R>,
     player: &mut Player<'_, T::Pass>,
     in_list: u32,
@@ -198,7 +173,7 @@ fn apply_entry<T: SharedTable, R: Wait>(
 }
 
 // Applies the entries of a list, in order.
-fn apply_list<T: SharedTable, R: Wait>(
+fn apply_list<T: FileTable, R: Wait>(
     context: &Context<'_, T, R>,
     player: &mut Player<'_, T::Pass>,
     off: u32,
@@ -223,7 +198,7 @@ fn apply_list<T: SharedTable, R: Wait>(
 
 // Updates the slots from `off` on by a list (io_uring_register_files(3),
 // `io_uring_register_files_update`). The result is the length of the list.
-pub(crate) fn update<T: SharedTable, R: Wait>(
+pub(crate) fn update<T: FileTable, R: Wait>(
     context: &Context<'_, T, R>,
     player: &mut Player<'_, T::Pass>,
     off: u32,
@@ -245,14 +220,13 @@ pub(crate) fn update<T: SharedTable, R: Wait>(
 }
 
 // Performs a request at the context's place.
-pub(crate) fn answer<T: SharedTable, R: Wait>(
+pub(crate) fn answer<T: FileTable, R: Wait>(
     context: &Context<'_, T, R>,
     player: &mut Player<'_, T::Pass>,
     request: &Request,
 ) -> Completion
     requires ready { IsReady T.view (T.fits context.now.table.now) player.old 1
-        (installs_of (operation_of request.now.op))
-        (room_of (T.opening context.now.table.now).lasts (operation_of request.now.op)) }
+        (installs_of (operation_of request.now.op)) (weight_of (operation_of request.now.op)) }
     ensures kept { IsSamePlayer (T.fits context.now.table.now) player.old player.new }
     ensures performed { Performs (T.opening context.now.table.now) context.now.catalogue.now
         context.now.place (asked_of request.now) (player_view T.view player.old)

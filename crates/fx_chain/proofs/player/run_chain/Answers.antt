@@ -1,13 +1,13 @@
 use Rattle.fx_chain.proofs.Words.{rules, ◌≡◌, ◌<◌, ◌+◌, ◌++◌, ◌∷◌, [], length, take, sym, refl, ◌∙◌, append_assoc, arith, append-nil, map-append}
-use Rattle.fx_chain.proofs.Words.{size_of, completed_of, all_completed, first_member, Asked, asked_of, all_asked, installs_of, room_of, looks_least}
+use Rattle.fx_chain.proofs.Words.{size_of, completed_of, all_completed, first_member, Asked, asked_of, all_asked, installs_of, weight_of, looks_least}
 use Rattle.fx_chain.proofs.Words.{numbers_least}
-use Rattle.fx_chain.proofs.ActsInTurn.{so_nothing, may_free}
+use Rattle.fx_chain.proofs.ActsInTurn.{so_nothing}
 use Rattle.fx_chain.proofs.ChainGoesOn.{asked_more, asked_length, any_severs-push, answers_next, explained_count, weighs_from}
 use Rattle.fx_chain.proofs.player.run_chain.Goals as goal
 
 pub loop-i-init : goal.loop-i-init
 loop-i-init g c =
-    let seen = (g.met.T.SharedTable g.world.𝓛 g.world.𝓜 g.world.𝓡 ((λ s x. x), (λ x. x), (λ x. x), λ x. x)).fronts _ _ c.requires.fits in
+    let seen = (g.met.T.FileTable g.world.𝓛 g.world.𝓜 g.world.𝓡 ((λ s x. x), (λ x. x), (λ x. x), λ x. x)).fronts _ _ c.requires.fits in
     record {
       kept = (refl, refl, c.requires.fits);
       idle = c.requires.idle;
@@ -16,7 +16,7 @@ loop-i-init g c =
       room = c.requires.room;
       count = search rules;
       capacity = search rules;
-      done = ([], sym (append-nil (all_completed c.args.out.now.items)), refl, so_nothing _ seen c.requires.idle (may_free _ (refl, refl)));
+      done = ([], sym (append-nil (all_completed c.args.out.now.items)), refl, so_nothing _ seen c.requires.idle (refl, refl));
     }
 
 pub loop-i-preserved : goal.loop-i-preserved
@@ -27,7 +27,7 @@ loop-i-preserved g c =
     let ensures = c.next_answer-completion.ensures in
     let inside : c.loop-i.i < length requests = rw c.members-count.ensures at c.loop-i-test.true in
     let (cs, out_is, severed_is, plays) = i.done in
-    let o = g.T.SharedTable.opening c.args.table.now in
+    let o = g.T.FileTable.opening c.args.table.now in
     let first = first_member c.args.submission c.args.chain in
     let n = c.loop-i.i in
     let asked = all_asked (take n requests) in
@@ -36,9 +36,9 @@ loop-i-preserved g c =
     let front : all_asked (take (n + 1) requests) ≡ asked ++ asked_of x ∷ [] = asked_more requests n x inside c.index-requests-i.is in
     let answered = ensures.answered in
     let next = answers_next o c.args.catalogue.now first asked (asked_of x) cs done (n + 1) (omega arith) plays (rw severed_is at answered) in
-    let as_many = explained_count c.args.catalogue.now (size_of o) first asked plays.says.steps cs plays.says.says in
+    let as_many = explained_count c.args.catalogue.now (size_of o) first asked plays.actions cs plays.says in
     let installs = weighs_from (λ (r : Asked). installs_of r.operation) requests n x inside c.index-requests-i.is in
-    let room = weighs_from (λ (r : Asked). room_of o.lasts r.operation) requests n x inside c.index-requests-i.is in
+    let room = weighs_from (λ (r : Asked). weight_of r.operation) requests n x inside c.index-requests-i.is in
     record {
       kept = (ensures.kept.0 ∙ i.kept.0, ensures.kept.1 ∙ i.kept.1, ensures.kept.2);
       idle = answered.acts.adds.now;

@@ -5,7 +5,7 @@ use Rattle.fx_chain.proofs.steps.apply_list.Goals as goal
 
 pub loop-i-init : goal.loop-i-init
 loop-i-init g c =
-    let seen = (g.met.T.SharedTable g.world.𝓛 g.world.𝓜 g.world.𝓡 ((λ s x. x), (λ x. x), (λ x. x), λ x. x)).fronts _ _ c.requires.ready.0 in
+    let seen = (g.met.T.FileTable g.world.𝓛 g.world.𝓜 g.world.𝓡 ((λ s x. x), (λ x. x), (λ x. x), λ x. x)).fronts _ _ c.requires.ready.0 in
     record {
       kept = (refl, refl, c.requires.ready.0);
       idle = c.requires.ready.1;
