@@ -2,10 +2,10 @@
 //!
 //! The contract that others rely on is that of [`run_chain`]: a chain's actions on the table
 //! explain its completions (`specs/Explains.antt`, and for one request `specs/Answers.antt`).
-//! [`refusal_of`] returns the error of a request that is refused whatever is at the slots. [`check`]
-//! refuses a submission past the limits, and [`cut`] splits it into chains. Only `request.rt`,
-//! `steps.rt` and `intent.rt` distinguish the kinds of requests. Begin reading at `request.rt` and
-//! `specs/Answers.antt`, then `steps.rt` and `player.rt`.
+//! [`refusal_of`] returns the error of a request that is refused whatever is at the slots.
+//! [`check`] refuses a submission past the limits, and [`cut`] splits it into chains. Only
+//! `request.rt`, `steps.rt` and `intent.rt` distinguish the kinds of requests. Begin reading at
+//! `request.rt` and `specs/Answers.antt`, then `steps.rt` and `player.rt`.
 #![tactic(auto)]
 
 mod chain;

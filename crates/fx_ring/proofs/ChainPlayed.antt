@@ -5,7 +5,7 @@ use Rattle.fx_ring.proofs.Words.{Action, action_of, closes_in, part_of_chain, �
 use Rattle.fx_ring.proofs.Words.{first_member, Asked, all_weights, IsEnoughFor, WorkerState, worker_state, run_of_chain, completions_of_chain}
 use Rattle.fx_ring.proofs.Words.{HasWorked, HasRoom, drop, slice_index_or, sum_by, sum_by-drop_more, drop-drop, Contains-append_cases}
 use Rattle.fx_ring.proofs.Words.{sum_by-take-drop, closes_in-then, Draws, Use, contains_head, contains_tail, contains_cases, contains_map, each_all}
-use Rattle.fx_ring.proofs.Words.{PlaysChainExactly, player, explained_count}
+use Rattle.fx_ring.proofs.Words.{PlaysChain, player, explained_count}
 use Rattle.fx_ring.proofs.Parts.{only_first, only_second, not_first, not_second}
 use Rattle.fx_ring.proofs.CompletionPlaces.{explained_of_members}
 use Rattle.fx_table.proofs.Calls.{looks_least}
@@ -52,7 +52,7 @@ module _ {o : Opening} {catalogue : List FileEntry} {submission : ℕ} {runs : L
     {before now : List Completed} {closes files : CloseListView} {chain : ℕ}
     (worked : HasWorked catalogue (size_of o) submission runs (worker_state v before closes))
     (further : v.chain < chain) (inside : chain ≤ length runs)
-    (played : PlaysChainExactly o catalogue submission chain (run_of_chain runs chain) (player w closes) before (player y files) now)
+    (played : PlaysChain o catalogue submission chain (run_of_chain runs chain) (player w closes) before (player y files) now)
     (goes : GoesOn (drawing o v chain) x played.2.actions played.2.used) where
   abbrev events : List Event
   events = map (event_of (drawing o v chain)) played.2.actions
@@ -148,7 +148,7 @@ enough {runs} {w} room further inside =
 module _ {o : Opening} {catalogue : List FileEntry} {submission : ℕ} {runs : List (List Asked)} {v w x : PassView}
     {before now : List Completed} {closes files : CloseListView} {chain : ℕ} (inside : chain ≤ length runs) (drew : Draws o v (Some chain) w)
     (worked : HasWorked catalogue (size_of o) submission runs (worker_state v before closes))
-    (played : PlaysChainExactly o catalogue submission chain (run_of_chain runs chain) (player w closes) before (player x files) now) where
+    (played : PlaysChain o catalogue submission chain (run_of_chain runs chain) (player w closes) before (player x files) now) where
   goes : GoesOn (drawing o v chain) x played.2.actions played.2.used
   goes = let looks = looks_least played.2.acts.adds in
       subst (λ (z : PassView). GoesOn z x played.2.actions played.2.used) drew.3 (assumption (looks, played.2.acts.adds))

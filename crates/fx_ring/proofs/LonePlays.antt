@@ -7,7 +7,7 @@ use Rattle.fx_ring.proofs.Words.{Explains, first_member, Asked, runs_of, IsShort
 use Rattle.fx_ring.proofs.Words.{sum_by-cons, IsOneHistory, HasWorked, worker_state, completions_of_chain, run_of_chain, MOST_SLOTS, same_size}
 use Rattle.fx_ring.proofs.Words.{start_of, IsSettledSoFar, contains_map, contains_mapped, each_all, table_with_files, chain_less, begun_after}
 use Rattle.fx_ring.proofs.Words.{sum_by-le, map-map, Some, map-append, append_assoc, ◌▷◌, IsIdle, event_of, HasRoom, vec_capacity, all_completed}
-use Rattle.fx_ring.proofs.Words.{HasRoomFor, MOST_MEMBERS, Outcome, add-one, Draws, PlaysChainExactly, player, chains_to, zero, suc, part_of_pass}
+use Rattle.fx_ring.proofs.Words.{HasRoomFor, MOST_MEMBERS, Outcome, add-one, Draws, PlaysChain, player, chains_to, zero, suc, part_of_pass}
 use Rattle.fx_ring.proofs.Words.{eqb-true, filter_passes, contains_head, contains_tail, stays_at_rest, begins_at_rest, legal_behind, IsFront, ◌▷▷◌}
 use Rattle.fx_plain.specs.History.{held_by}
 use Rattle.fx_plain.specs.Reopening.{Renaming, renamed, renamed_event, numbers_given, with_number_of, IsTableAtRest, HasOtherNumbers}
@@ -202,7 +202,7 @@ module _ {P : Type 0} {V : P → PassView} {Fits : P → Type 0} {o : Opening} {
     {start w : PassView} {i chain capacity : ℕ} {pass then : P} {before now : List Completed} {closes files : CloseListView}
     (is : IsPlaying V Fits o catalogue submission requests start i pass before closes capacity) (inside : i + 1 ≤ length (runs_of requests))
     (next : chain ≡ (V pass).chain + 1) (drew : Draws o (V pass) (Some chain) w)
-    (played : PlaysChainExactly o catalogue submission (i + 1) (run_of_chain (runs_of requests) (i + 1)) (player w closes) before (player (V then) files) now)
+    (played : PlaysChain o catalogue submission (i + 1) (run_of_chain (runs_of requests) (i + 1)) (player w closes) before (player (V then) files) now)
   where
     abbrev since : List Event
     since = map (event_of w) played.2.actions ++ is.since

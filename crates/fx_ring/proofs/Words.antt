@@ -14,7 +14,7 @@ pub use Rattle.fx_chain.specs.Answers.{Answers, AnswersAtTable, AppliesEntry, Ap
 pub use Rattle.fx_chain.specs.Completed.{Completed, all_completed, completed_of, next_member}
 pub use Rattle.fx_chain.specs.Explains.{Explains, canceled, first_member, severs}
 pub use Rattle.fx_chain.specs.Operation.{Asked, Closes, Opens, Operation, Reads, Updates, all_asked, asked_of, operation_of}
-pub use Rattle.fx_chain.specs.Performs.{PlaysChainExactly, player}
+pub use Rattle.fx_chain.specs.Performs.{PlaysChain, player}
 pub use Rattle.fx_chain.specs.Runs.{runs_of}
 pub use Rattle.fx_chain.specs.Weights.{all_installs, all_weights, installs_of, weight_of}
 pub use Rattle.fx_chain.specs.declared.chain.Chain.{Chain}

@@ -3,7 +3,7 @@ ghost use Rattle.std.specs.Prelude.{◌≡◌, ◌+◌, ◌<◌, ◌≤◌, leng
 ghost use Rattle.fx_table.specs.Pass.{IsIdle};
 ghost use Rattle.fx_chain.specs.Completed.{all_completed};
 ghost use Rattle.fx_chain.specs.Operation.{all_asked};
-ghost use Rattle.fx_chain.specs.Performs.{PlaysChainExactly, player};
+ghost use Rattle.fx_chain.specs.Performs.{PlaysChain, player};
 ghost use Rattle.fx_chain.specs.Runs.{runs_of};
 ghost use Rattle.fx_ring.specs.Work.{AreCutInto, InstallAtMost, IsEnoughFor, run_of_chain};
 ghost use Rattle.fx_ring.specs.Work.{worker_state};
@@ -65,7 +65,7 @@ impl<'a, R: Wait, G: Gate> Submission<'a, R, G> {
             outcome.old.closes)
             (vec_capacity outcome.old.completions) }
         ensures fits { T.fits table.now pass.new }
-        ensures played { PlaysChainExactly (T.opening table.now) self.now.catalogue.now
+        ensures played { PlaysChain (T.opening table.now) self.now.catalogue.now
             (self.now.earlier + 1) chain
             (run_of_chain (runs_of (all_asked self.now.requests.now)) chain)
             (player (T.view pass.old) outcome.old.closes)

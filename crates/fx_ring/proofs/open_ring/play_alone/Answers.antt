@@ -27,23 +27,23 @@ loop-i-preserved g c =
     let is = c.loop-i.invariant in
     let count = as_many s.cut in
     let inside : c.loop-i.i + 1 ≤ length (runs_of (all_asked s.requests.now)) = omega (arith, count, c.loop-i-test.true) in
-    let next : Some c.in-Some._drawn ≡ Some ((g.T.SharedTable.view c.loop-i.pass).chain + 1) =
+    let next : Some c.in-Some._drawn ≡ Some ((g.T.FileTable.view c.loop-i.pass).chain + 1) =
     c.in-Some.ensures.next c.requires.alone.alone is.more (omega (arith, is.chain, c.requires.chains, inside, count)) in
     let short = runs_within s.cut (c.loop-i.i + 1 - 1) [] (omega (arith, inside)) in
     goes_on is inside (cc next) c.in-Some.ensures.drawn c.play_chain.ensures.played short.members c.play_chain.ensures.fits c.play_chain.ensures.capacity
 
 pub returns-clause-played : goal.returns-clause-played
 returns-clause-played g c registrations =
-    let V : g.row.T-Pass.Denot → PassView = λ p. g.T.SharedTable.view p in
+    let V : g.row.T-Pass.Denot → PassView = λ p. g.T.FileTable.view p in
     let s = c.args.submission.now in
-    let o = g.T.SharedTable.opening c.args.table.now in
+    let o = g.T.FileTable.opening c.args.table.now in
     let asked = all_asked s.requests.now in
     let before = V c.args.pass.now in
     let p = c.loop-i.invariant in
     let alone = c.requires.alone in
     let one = part_is_one_history p.since s.earlier asked alone.few_slots (runs_within s.cut) alone.settled
     (subst (λ (v : PassView). IsSettledSoFar o v) c.settle.ensures.same c.settle.ensures.settled)
-    (authors_of alone.settled ((g.met.T.SharedTable g.world.𝓛 g.world.𝓜 g.world.𝓡 ((λ s x. x), (λ x. x), (λ x. x), λ x. x)).fronts _ _ alone.fits))
+    (authors_of alone.settled ((g.met.T.FileTable g.world.𝓛 g.world.𝓜 g.world.𝓡 ((λ s x. x), (λ x. x), (λ x. x), λ x. x)).fronts _ _ alone.fits))
     p.own p.worked
     (λ chain low high. all_drawn c.loop-i.i chain low (omega (arith, high, as_many s.cut, c.loop-i-test.false))) registrations
     c.sort.ensures.completions c.sort.ensures.in_order

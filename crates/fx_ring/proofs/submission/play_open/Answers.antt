@@ -10,16 +10,16 @@ use Rattle.fx_ring.proofs.submission.play_open.Goals.{After-close-left}
 use Rattle.fx_ring.proofs.submission.play_open.Goals as goal
 
 pub gather-requires-clause-count : goal.gather-requires-clause-count
-gather-requires-clause-count g c = c.requires.room.count ∙ sym (as_many_passes g.T.SharedTable.view c.args.passes.items _ c.requires.new)
+gather-requires-clause-count g c = c.requires.room.count ∙ sym (as_many_passes g.T.FileTable.view c.args.passes.items _ c.requires.new)
 
 pub gather-requires-clause-room : goal.gather-requires-clause-room
 gather-requires-clause-room g c =
-    omega (arith, as_many_passes g.T.SharedTable.view c.args.passes.items _ c.requires.new, c.requires.room.crew)
+    omega (arith, as_many_passes g.T.FileTable.view c.args.passes.items _ c.requires.new, c.requires.room.crew)
 
 pub work_crew-requires-clause-ready : goal.work_crew-requires-clause-ready
 work_crew-requires-clause-ready g c κs within =
-    let V : g.row.T-Pass.Denot → PassView = λ p. g.T.SharedTable.view p in
-    let ready = all_gathered (λ p. g.T.SharedTable.fits c.args.table p × IsIdle (V p)) _ _ _ c.gather.ensures.passes c.requires.ready in
+    let V : g.row.T-Pass.Denot → PassView = λ p. g.T.FileTable.view p in
+    let ready = all_gathered (λ p. g.T.FileTable.fits c.args.table p × IsIdle (V p)) _ _ _ c.gather.ensures.passes c.requires.ready in
     let few = accepted-length (all_asked c.args.submission.now.requests.now) c.args.submission.now.cut.accepted in
     let new = all_gathered (λ p. IsNew PASS_LOOKS (V p)) _ _ _ c.gather.ensures.passes (all_new V c.args.passes.items _ c.requires.new) in
     let room = all_gathered (HasRoomFor (all_asked c.args.submission.now.requests.now)) _ _ _ c.gather.ensures.outcomes c.requires.room.outcomes in
@@ -34,23 +34,23 @@ work_crew-requires-clause-ready g c κs within =
 
 pub close-left-requires-clause-ready : goal.close-left-requires-clause-ready
 close-left-requires-clause-ready g c =
-    let Ready : g.row.T-Pass.Denot → Type 0 = λ p. g.T.SharedTable.fits c.args.table p × IsIdle (g.T.SharedTable.view p) in
+    let Ready : g.row.T-Pass.Denot → Type 0 = λ p. g.T.FileTable.fits c.args.table p × IsIdle (g.T.FileTable.view p) in
     subst (All Ready) (sym c.scatter.ensures.passes)
     (All-map Ready (λ w. w.pass) _ (λ k d l. let is = (c.work_crew.ensures.done k d l).between in (is.fits, is.idle)))
 
 -- the crew has played, and its passes are back
 module _ (g : Over) (c : After-close-left g) where
   abbrev V : g.row.T-Pass.Denot → PassView
-  V p = g.T.SharedTable.view p
+  V p = g.T.FileTable.view p
 
   abbrev ws : List (Worker g.row.T-Pass.Denot)
   ws = c.work_crew.new.crew.items
 
   played : HavePlayed c.args.submission.now.catalogue.now (c.args.submission.now.earlier + 1) (runs_of (all_asked c.args.submission.now.requests.now))
-      (g.T.SharedTable.opening c.args.table) (states V ws) c.close-left.result
+      (g.T.FileTable.opening c.args.table) (states V ws) c.close-left.result
   played =
       let s = c.args.submission.now in
-      let o = g.T.SharedTable.opening c.args.table in
+      let o = g.T.FileTable.opening c.args.table in
       let runs = runs_of (all_asked s.requests.now) in
       record {
         worked = All-map (HasWorked s.catalogue.now (size_of o) (s.earlier + 1) runs) (state_of_worker V) ws
@@ -84,7 +84,7 @@ returns-clause-played g c registrations =
     let a = (goal.at.returns-clause-played g c).After-close-left in
     let s = c.args.submission.now in
     let asked = all_asked s.requests.now in
-    subst (λ (r : Reported). IsOneHistory (ring_with s.catalogue.now (g.T.SharedTable.opening c.args.table).contents s.earlier registrations) asked r
+    subst (λ (r : Reported). IsOneHistory (ring_with s.catalogue.now (g.T.FileTable.opening c.args.table).contents s.earlier registrations) asked r
     (ring_with s.catalogue.now c.close-left.result (s.earlier + 1) registrations)) (sym c.report.ensures)
     (one_history registrations (played g a)
     (subst (λ (l : List Completed). IsPermutation l (all_completed c.sort.new.self.completions.items))

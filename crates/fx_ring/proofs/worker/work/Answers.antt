@@ -42,7 +42,7 @@ returns-clause-done g c =
       between = record {
         fits = c.in_default.ensures.fits;
         idle = ap (λ (v : PassView). v.doing) drawn ∙ b.idle;
-        worked = worked_all (g.T.SharedTable.opening c.args.play.now.table.now) b.worked drawn;
+        worked = worked_all (g.T.FileTable.opening c.args.play.now.table.now) b.worked drawn;
       };
       all_drawn = ap (λ (v : PassView). v.no_chains_left) drawn;
     }

@@ -14,4 +14,4 @@ map_same f (x ∷ xs) (y ∷ ys) count same =
 
 pub returns-clause-numbers : goal.returns-clause-numbers
 returns-clause-numbers g c =
-    map_same (λ w. (g.T.SharedTable.view w.pass).number) c.args.workers.now c.for_each_mut.new.s (search rules) (λ i d l. search rules)
+    map_same (λ w. (g.T.FileTable.view w.pass).number) c.args.workers.now c.for_each_mut.new.s (search rules) (λ i d l. search rules)
