@@ -4,7 +4,7 @@ use Rattle.fx_lasting.proofs.Words.{as_listed, get_elem?, some, ◌≡◌, ℕ, 
 use Rattle.fx_lasting.proofs.Words.{Bool, true, false, Option, Some, None, Start, Sat, Work, Glance, Change, Nothing, Outside, Runs, IsAtWork}
 use Rattle.fx_lasting.proofs.Words.{as_swapped, nodes_of, set, part_of_pass, TableId, Idle, Counted, Guarded, Retiring, Keeping, LastingPass}
 use Rattle.fx_lasting.proofs.Words.{LastingTable, IsSeatOf, IsPassOf, IsPassOfTable, IsBetweenCalls, Knows, MayPlace, opening_of, view_of, pass_of}
-use Rattle.fx_lasting.proofs.Words.{pass_in, numbers_of_pass, doing_in, hold_at, retired_at, retiring_work, IsHistory, Action, ◌▷◌, Put, Clear, Take}
+use Rattle.fx_lasting.proofs.Words.{pass_in, numbers_of_pass, doing_in, hold_at, retired_at, retiring_work, IsHistory, Action, ◌▷◌, Put, Take}
 use Rattle.fx_lasting.proofs.Words.{Release, Close, Look, File, Closed, numbered, full_name_in, count_in, LetsFileGo, option_map, Result, Ok, Err}
 use Rattle.fx_lasting.proofs.Words.{ok_or, is_some, not, ◌==◌, ◌≢◌, not-false, not-true, Use, no_use, one_number, one_look, Adds, IsNewFile}
 use Rattle.fx_lasting.proofs.Words.{Placed, Cleared, Taken, ReleasesFile, LookedAfter, LookedUp, adds_then}
@@ -233,11 +233,7 @@ module _ {id : TableId} {k : Start} {p : LastingPass} (fits : IsPassOf id k p) w
   its_retiring {f} {retired} =
       work_retiring k.passes p.next_visit p.next_entry p.idle p.guarded p.keeps p.stock.items f retired p.seat.me.0.work fits.knows
 
--- a removal by an update, and one by a close
-pub cleared_so : (o : Opening) (v w : PassView) (slot : ℕ) (removed : Option Retired) → HasRemoved o Clear v slot removed w → Cleared o v slot removed w
-cleared_so o v w slot None it = it
-cleared_so o v w slot (Some x) it = it
-
+-- a removal by a close
 pub taken_so : (o : Opening) (v w : PassView) (slot : ℕ) (removed : Option Retired) (result : Result Retired Empty) (empty : Empty)
     → result ≡ ok_or removed empty → HasRemoved o Take v slot removed w → Taken o v slot result w
 taken_so o v w slot None result empty answer it = rw answer it

@@ -22,7 +22,7 @@ pub use Rattle.table_seats.proofs.Gathered.{AreGathered}
 pub use Rattle.table_seats.proofs.Together.{HasLaws, Moves, find_pass, its_pass, its_range, not_there, of_one, total_same}
 pub use Rattle.table_seats.specs.Seats.{dealt, first_alone, first_view, joined, new_logs, shown_view, spent, without_first}
 pub use Rattle.table_seats.specs.Together.{HasSeen, Together}
-pub use Rattle.fx_lasting.specs.Laws.{AimsKeep, TakesBesideKeep, ReplacesHeldKeep, HasToLetGo, IsOffCount, ClearsKeep, TakesOutKeep, ExchangesKeep, HasPass, GlancesKeep, AnnouncesKeep}
+pub use Rattle.fx_lasting.specs.Laws.{AimsKeep, TakesBesideKeep, ReplacesHeldKeep, HasToLetGo, IsOffCount, TakesOutKeep, ExchangesKeep, HasPass, GlancesKeep, AnnouncesKeep}
 pub use Rattle.fx_lasting.specs.Laws.{ConfirmsKeep, WithdrawsKeep, TakesOnceKeep, HeatsKeep, SplitsKeep, JoinsKeep, LowersKeep, RaisesKeep, AsksKeep}
 pub use Rattle.fx_lasting.specs.Laws.{ChecksKeep, BreaksKeep, BeginsKeep, CountsKeep, DecidesKeep, IsGroup, PeeksKeep, InstallsKeep, StepsDownKeep}
 pub use Rattle.fx_lasting.specs.Laws.{LettingGoKeeps, SeeksKeep, BirthsKeep, RestsKeep, VisitsKeep, ChargesKeep, ParksKeep, ResumesKeep, SettlesKeep}
@@ -108,7 +108,7 @@ pub use Rattle.std.proofs.lemmas.List.FromFn.{length-map-range_with_len, get_or-
 pub use Rattle.std.proofs.lemmas.List.Sums.{sum_by-append, sum_by-cons}
 pub use Rattle.std.specs.Int.{bit_at, w64, trailing_zeros}
 pub use Rattle.std.specs.List.{range_with_len, AllWithin}
-pub use Rattle.fx_lasting.specs.life.Firsts.{AreFirstWords, AreNamed, AreLabelled}
+pub use Rattle.fx_lasting.specs.life.Firsts.{AreFirstWords, AreNamed}
 pub use Rattle.fx_table.proofs.FullSlots.{full_all, full_else, full_few, full_here}
 pub use Rattle.fx_table.specs.FullSlots.{first_at, full_in, if_full}
 pub use Rattle.fx_table.specs.Shells.{AreFirstHomes, IsShell, file_in_place}

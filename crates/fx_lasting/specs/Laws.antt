@@ -353,14 +353,7 @@ InstallsKeep tells = (k : Start) (slots id i slot n lost new : ℕ) (file : Iden
     → i ≡ slot_place slot → new ≡ file_word_of n file.entry + lost
     → Allows (Agrees k) slots id m i (λ _. new) (tells (step slots i new 0 none) m)
 
--- an idle pass leaves of a slot's word the name alone, for an update
-abbrev pub ClearsKeep : Kind → Type 0
-ClearsKeep tells = (k : Start) (slots id i slot : ℕ) (m : Sat) (x : Log) → HasPass k m x
-    → HasNoFile m.0.work → slot < slots_of k → IsOffCount k slot m.0.change → i ≡ slot_place slot
-    → Allows (Agrees k) slots id m i (λ word. bit_and word name_mask)
-    (tells (step slots i name_mask 0 none) m)
-
--- an idle pass leaves of a slot's word the name alone, for a close
+-- an idle pass leaves of a slot's word the name alone
 abbrev pub TakesOutKeep : Kind → Type 0
 TakesOutKeep tells = (k : Start) (slots id i slot : ℕ) (m : Sat) (x : Log) → HasPass k m x
     → HasNoFile m.0.work → slot < slots_of k → IsOffCount k slot m.0.change → i ≡ slot_place slot

@@ -4,24 +4,22 @@
 //! proof.
 ghost use Rattle.std.specs.Prelude.{◌≡◌, ◌≢◌, ◌+◌, ◌*◌, ◌-◌, ◌/◌, ◌<◌, ◌≤◌};
 ghost use Rattle.std.specs.Prelude.{false, Option, option_map, Err};
+ghost use Rattle.fx_plain.specs.declared.event.Action.TheVariants.{Take};
 ghost use Rattle.fx_plain.specs.declared.event.File.{File};
-ghost use Rattle.fx_table.specs.Calls.{Looked, LookedUp, Released, Placed, Cleared, Taken, HasRetired};
+ghost use Rattle.fx_table.specs.Calls.{Looked, LookedUp, Released, Placed, Taken, HasRetired};
 ghost use Rattle.fx_table.specs.Opening.{size_of};
 ghost use Rattle.fx_table.specs.Pass.{IsIdle, IsHoldOf, IsRetiredOf};
 ghost use Rattle.fx_table.specs.declared.values.LookFault.TheVariants.{Spent};
 ghost use Rattle.fx_lasting.specs.Fields.{count_in, full_name_in};
 ghost use Rattle.fx_lasting.specs.Tables.{view_of, MeetsMore, steps_taken, retired_at};
 ghost use Rattle.fx_lasting.specs.Tables.{opening_of_table, IsPassOfTable, IsSeatOfTable};
-ghost use Rattle.fx_lasting.specs.Effects.{Found, Removes, first_visit, IsOnList};
-ghost use Rattle.fx_lasting.specs.Laws.{SwapsOutKeep, TakesOutKeep};
-ghost use Rattle.fx_lasting.specs.slots.SwapSteps.{HasRemoved, SwapsOut};
+ghost use Rattle.fx_lasting.specs.Effects.{Found, first_visit, IsOnList};
+ghost use Rattle.fx_lasting.specs.slots.SwapSteps.{HasRemoved};
 ghost use Rattle.fx_lasting.specs.declared.view.Glance.TheVariants.{Hot, Cold};
 ghost use Rattle.fx_lasting.specs.declared.view.Work.TheVariants.{Idle};
 
 use crate::fields::{count_of, file_node_of, file_word, is_hot, node_named, retire_amount};
-use crate::kinds::{
-    ByClose, ByUpdate, Finishing, Glancing, Installing, Listing, RemovedBy, Retire, Taking,
-};
+use crate::kinds::{Finishing, Glancing, Installing, Listing, Retire, Taking};
 use crate::life::layout::{list_place, slot_place};
 use crate::pass::LastingPass;
 use crate::table::LastingTable;
@@ -193,22 +191,6 @@ impl LastingTable {
         replaced
     }
 
-    /// Empties a slot below `size` for an update, for an idle pass (`is_idle`), in at most six
-    /// atomic steps. Returns the file that was there, to be retired, or `None`
-    /// (io_uring_register(2), "IORING_REGISTER_FILES_UPDATE", an entry of -1).
-    #[inline(always)]
-    pub fn clear(&self, pass: &mut LastingPass, slot: u32) -> Option<Retired>
-        requires fits { IsPassOfTable self.now pass.old }
-        requires idle { IsIdle (view_of pass.old) }
-        requires slot { slot < size_of (opening_of_table self.now) }
-        ensures fits { IsPassOfTable self.now pass.new }
-        ensures cleared { Cleared (opening_of_table self.now) (view_of pass.old) slot result
-            (view_of pass.new) }
-        ensures steps { steps_taken pass.new ≤ steps_taken pass.old + 6 }
-    {
-        self.remove::<ByUpdate>(pass, slot)
-    }
-
     /// Empties a slot below `size` for a close, for an idle pass (`is_idle`), in at most six
     /// atomic steps. Returns the file that was there, to be retired (io_uring_prep_close(3),
     /// `io_uring_prep_close_direct`).
@@ -225,20 +207,18 @@ impl LastingTable {
             (view_of pass.new) }
         ensures steps { steps_taken pass.new ≤ steps_taken pass.old + 6 }
     {
-        self.remove::<ByClose>(pass, slot).ok_or(Empty)
+        self.remove(pass, slot).ok_or(Empty)
     }
 
-    // Empties the slot in a way, for an idle pass, in at most six steps. Returns the file that was
-    // there, to be retired.
+    // Empties the slot, for an idle pass, in at most six steps. Returns the file that was there, to
+    // be retired.
     #[inline(always)]
-    fn remove<A: RemovedBy>(&self, pass: &mut LastingPass, slot: u32) -> Option<Retired>
+    fn remove(&self, pass: &mut LastingPass, slot: u32) -> Option<Retired>
         requires fits { IsPassOfTable self.now pass.old }
         requires idle { IsIdle (view_of pass.old) }
         requires slot { slot < size_of (opening_of_table self.now) }
-        requires clears { TakesOutKeep (Removes A.action) }
-        requires swaps { SwapsOutKeep (SwapsOut A.action) }
         ensures fits { IsPassOfTable self.now pass.new }
-        ensures removed { HasRemoved (opening_of_table self.now) A.action (view_of pass.old) slot
+        ensures removed { HasRemoved (opening_of_table self.now) Take (view_of pass.old) slot
             result (view_of pass.new) }
         ensures steps { steps_taken pass.new ≤ steps_taken pass.old + 6 }
     {
@@ -246,7 +226,7 @@ impl LastingTable {
         let inside = self.is_in_range(slot);
         self.lower(&mut pass.seat, slot, inside);
         let entry = pass.next_entry;
-        let found = self.empty_slot::<A>(&mut pass.seat, &mut pass.stock, entry, slot);
+        let found = self.empty_slot(&mut pass.seat, &mut pass.stock, entry, slot);
         let removed = removed_in(found);
         self.raise(&mut pass.seat, slot, inside, removed.is_none());
         pass.next_visit = self.first_visit(found);

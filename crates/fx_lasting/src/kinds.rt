@@ -1,6 +1,7 @@
 //! The rule of a lasting table, and its kinds of step.
 ghost use Rattle.fx_lasting.specs.Agrees.{Agrees};
 ghost use Rattle.table_seats.specs.Seats.{first_view};
+ghost use Rattle.fx_plain.specs.declared.event.Action.TheVariants.{Take};
 ghost use Rattle.fx_lasting.specs.life.Cuts.{seats as views};
 ghost use Rattle.fx_lasting.specs.Effects.{Glances, Lists, Announces, Confirms, Withdraws, Takes};
 ghost use Rattle.fx_lasting.specs.Effects.{HeatsSlot, StepsDown, LettingGo, Seeks, Births, Rests};
@@ -18,7 +19,6 @@ ghost use Rattle.fx_lasting.specs.life.Showing.{HasLearned};
 use crate::view::{Log, Start, View};
 use atomic_table::{Play, TableRule};
 use fx_base::OpenFile;
-use std::marker::PhantomData;
 use table_seats::SeatView;
 
 /// The rule: words, places and passes agree with the state that one legal history leads to.
@@ -315,51 +315,19 @@ impl Play<Option<OpenFile>, View> for Replacing {
     ghost then = { Replaces };
 }
 
-/// The way in which a file is removed from its slot, for contracts alone.
-pub trait RemovedBy {
-    ghost use Rattle.std.specs.Prelude.{ℕ, Option};
-    ghost use Rattle.fx_plain.specs.declared.event.File.{File};
-    ghost use Rattle.fx_plain.specs.declared.event.Action.{Action};
-
-    // The action, by the slot and the file that is there.
-    ghost action: { ℕ → Option File → Action };
-}
-
-/// A removal by an update.
-pub struct ByUpdate;
-
-impl RemovedBy for ByUpdate {
-    ghost use Rattle.fx_plain.specs.declared.event.Action.TheVariants.{Clear};
-
-    ghost action = { Clear };
-}
-
-/// A removal by a close.
-pub struct ByClose;
-
-impl RemovedBy for ByClose {
-    ghost use Rattle.fx_plain.specs.declared.event.Action.TheVariants.{Take};
-
-    ghost action = { Take };
-}
-
 /// And: a pass without a stock empties a slot. Its word names the node still.
-pub struct Clearing<A> {
-    way: PhantomData<A>,
-}
+pub struct Clearing;
 
-impl<A: RemovedBy> Play<Option<OpenFile>, View> for Clearing<A> {
-    ghost then = { Removes A.action };
+impl Play<Option<OpenFile>, View> for Clearing {
+    ghost then = { Removes Take };
 }
 
 /// Swap: a slot is emptied. Its word names a node of the pass's stock, and the node that it named
 /// takes that node's place.
-pub struct Swapping<A> {
-    way: PhantomData<A>,
-}
+pub struct Swapping;
 
-impl<A: RemovedBy> Play<Option<OpenFile>, View> for Swapping<A> {
-    ghost then = { SwapsOut A.action };
+impl Play<Option<OpenFile>, View> for Swapping {
+    ghost then = { SwapsOut Take };
 }
 
 /// Lower: a group's word counts one full slot less, before the pass empties that slot.

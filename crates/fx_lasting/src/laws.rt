@@ -17,18 +17,18 @@ ghost use Rattle.fx_lasting.specs.Laws.{ParksKeep, ResumesKeep, SettlesKeep, Ski
 ghost use Rattle.fx_lasting.specs.Laws.{ChargesKeep, FinishesKeep, RetiresKeep, LowersKeep};
 ghost use Rattle.fx_lasting.specs.Laws.{ChecksKeep, BreaksKeep, RaisesKeep, BeginsKeep, AsksKeep};
 ghost use Rattle.fx_lasting.specs.Laws.{CountsKeep, DecidesKeep, PeeksKeep, SplitsKeep, JoinsKeep};
-ghost use Rattle.fx_lasting.specs.Laws.{ClearsKeep, TakesOutKeep, SwapsOutKeep, InstallsKeep};
+ghost use Rattle.fx_lasting.specs.Laws.{TakesOutKeep, SwapsOutKeep, InstallsKeep};
 ghost use Rattle.fx_lasting.specs.Laws.{ExchangesKeep, SeesKeep, TakesIfKeep, SwapsIfKeep};
 ghost use Rattle.fx_lasting.specs.Laws.{SwapsHeldKeep, TakesHeldKeep, ReplacesKeep, AimsKeep};
 ghost use Rattle.fx_lasting.specs.Laws.{TakesBesideKeep, ReplacesHeldKeep, EndsItsHoldKeep};
 
 use crate::kinds::{
-    Aiming, Announcing, Asking, Beginning, Birth, Breaking, ByClose, ByUpdate, Charging, Checking,
-    Clearing, Confirming, Counting, Deciding, EndingHold, Exchanging, Finishing, Glancing,
-    HeatingUp, Installing, Letting, Listing, Lowering, Numbering, OneHistory, Parking, Peeking,
-    Raising, ReadingNumber, ReadingTag, RecallingTag, Replacing, ReplacingHeld, Resting, Resuming,
-    Retire, Seeing, Seeking, Settling, Skimming, SteppingDown, Swapping, SwappingHeld, SwappingIf,
-    Tagging, Taking, TakingBeside, TakingHeld, TakingIf, Visiting, Withdrawing,
+    Aiming, Announcing, Asking, Beginning, Birth, Breaking, Charging, Checking, Clearing,
+    Confirming, Counting, Deciding, EndingHold, Exchanging, Finishing, Glancing, HeatingUp,
+    Installing, Letting, Listing, Lowering, Numbering, OneHistory, Parking, Peeking, Raising,
+    ReadingNumber, ReadingTag, RecallingTag, Replacing, ReplacingHeld, Resting, Resuming, Retire,
+    Seeing, Seeking, Settling, Skimming, SteppingDown, Swapping, SwappingHeld, SwappingIf, Tagging,
+    Taking, TakingBeside, TakingHeld, TakingIf, Visiting, Withdrawing,
 };
 use crate::view::{Start, View};
 use atomic_table::{Join, Play, Split, TableRule};
@@ -263,30 +263,17 @@ pub fn join_keeps_rule()
     ensures { JoinsKeep ⟦<Gather as Join<View>>⟧.both ⟦<Gather as Join<View>>⟧.spent }
 {}
 
-/// An idle pass that leaves of a slot's word the name alone, for an update, keeps the rule, and has
-/// the file that was there to retire.
-pub fn clear_keeps_rule()
-    ensures { ClearsKeep ⟦<Clearing<ByUpdate> as Play<Option<OpenFile>, View>>⟧.then }
-{}
-
-/// An idle pass that leaves of a slot's word the name alone, for a close, keeps the rule, and has
-/// the file that was there to retire.
+/// An idle pass that leaves of a slot's word the name alone keeps the rule, and has the file that
+/// was there to retire.
 pub fn take_out_keeps_rule()
-    ensures { TakesOutKeep ⟦<Clearing<ByClose> as Play<Option<OpenFile>, View>>⟧.then }
+    ensures { TakesOutKeep ⟦<Clearing as Play<Option<OpenFile>, View>>⟧.then }
 {}
 
-/// An idle pass that swaps the word of an empty slot, which names a node of its stock, into a slot,
-/// for an update, keeps the rule. It has the file that was there to retire, and the node that the
-/// slot named in its stock.
-pub fn swap_clear_keeps_rule()
-    ensures { SwapsOutKeep ⟦<Swapping<ByUpdate> as Play<Option<OpenFile>, View>>⟧.then }
-{}
-
-/// An idle pass that swaps the word of an empty slot, which names a node of its stock, into a slot,
-/// for a close, keeps the rule. It has the file that was there to retire, and the node that the
-/// slot named in its stock.
+/// An idle pass that swaps the word of an empty slot, which names a node of its stock, into a slot
+/// keeps the rule. It has the file that was there to retire, and the node that the slot named in
+/// its stock.
 pub fn swap_take_keeps_rule()
-    ensures { SwapsOutKeep ⟦<Swapping<ByClose> as Play<Option<OpenFile>, View>>⟧.then }
+    ensures { SwapsOutKeep ⟦<Swapping as Play<Option<OpenFile>, View>>⟧.then }
 {}
 
 /// A pass that swaps the word of the file that it places into a slot keeps the rule, and has the

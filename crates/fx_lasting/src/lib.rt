@@ -1,6 +1,5 @@
 //! A shared file table without a lock that never has to be closed. A cold file is looked up by an
-//! addition to its slot's word, a hot one by its name in a word of the pass's own; only an open at
-//! any slot may wait.
+//! addition to its slot's word, a hot one by its name in a word of the pass's own. No call waits.
 //!
 //! Begin reading at `calls.rt`, then `specs/Agrees.antt` (the rule that every step keeps) and
 //! `life/layout.rt` (the places of the words). `table_range` has the words that count the
@@ -21,7 +20,6 @@ mod pass;
 mod queries;
 mod range;
 pub mod retries;
-mod shared_table;
 mod slots;
 mod table;
 mod tried;

@@ -15,9 +15,8 @@ use std::alloc::Global;
 /// A file table that threads share without a lock, and that never has to be closed: look-ups and
 /// installations have no limit. A file that is looked up seldom is counted at its slot; one that is
 /// looked up often is announced in a word of the pass's own, so that passes that read one slot
-/// don't disturb each other. Of all calls only `put_any` may wait. It must be consumed: the
-/// compiler rejects a program that drops one without [`LastingTable::close`] or
-/// [`LastingTable::abandon`].
+/// don't disturb each other. No call waits. It must be consumed: the compiler rejects a program
+/// that drops one without [`LastingTable::close`] or [`LastingTable::abandon`].
 pub struct LastingTable {
     pub(crate) table: Table<Option<OpenFile>, View, Start, OneHistory, Global>,
     pub(crate) passes: u32,

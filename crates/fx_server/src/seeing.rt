@@ -6,7 +6,6 @@ ghost use Rattle.fx_server.specs.Workers.{IsGood, its_opening, its_pass, its_tab
 
 use crate::worker::TableWorker;
 use fx_lasting::LastingSeen;
-use fx_table::RealTime;
 
 impl TableWorker {
     /// Shows what the worker has seen. It has no bytes, and can go to another thread. The worker

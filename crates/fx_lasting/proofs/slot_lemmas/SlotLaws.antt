@@ -1,9 +1,9 @@
--- An installation, a clear, a take and an exchange keep the rule.
+-- An installation, a take and an exchange keep the rule.
 use Rattle.fx_lasting.proofs.Words.{IsIn, Round, first_visit, new_round, ◌≡◌, ℕ, ◌+◌, ◌^◌, ◌<◌, List, [], ◌∷◌, set, sym, refl, ap, ◌∙◌, subst}
 use Rattle.fx_lasting.proofs.Words.{arith, Option, Some, None, none, some, keeps, gives, rest, get_elem?, false, Closed, File, numbered, Event}
-use Rattle.fx_lasting.proofs.Words.{Action, Put, Clear, Take, Allocate, ◌▷◌, State, with_removed, changed_at, pass_event, held_by, Agrees, WorkAgrees}
+use Rattle.fx_lasting.proofs.Words.{Action, Put, Take, Allocate, ◌▷◌, State, with_removed, changed_at, pass_event, held_by, Agrees, WorkAgrees}
 use Rattle.fx_lasting.proofs.Words.{IsHistory, state_after_all, slots_of, nodes_of, slot_place, full_name_in, file_word_of, taking, held_in, if_file}
-use Rattle.fx_lasting.proofs.Words.{placed, Idle, Placing, Removes, Installs, Exchanges, Stepped, IsOffCount, IsInRange, ClearsKeep, TakesOutKeep}
+use Rattle.fx_lasting.proofs.Words.{placed, Idle, Placing, Removes, Installs, Exchanges, Stepped, IsOffCount, IsInRange, TakesOutKeep}
 use Rattle.fx_lasting.proofs.Words.{InstallsKeep, ExchangesKeep, account, uncounted, group_of, range_at_start, Outside, Bool, true, step}
 use Rattle.fx_lasting.proofs.Words.{retiring_work, ◌*◌, ◌-◌, ◌≤◌, HasNoFile, IsInStock, as_swapped, first_log, name_in, name_mask, bit_and}
 use Rattle.fx_lasting.proofs.Words.{mask_leaves_name, mod-mul-add, le-mul_of_pos_right, Placement, label_of, as_written, put_back, ActsAt}
@@ -30,14 +30,6 @@ IsRemoval act = (turn : Turn) (s : ℕ) → s < slots_of turn.v.start → let h 
     })
     × (held_by h turn.x.number ≡ held_by turn.r.history turn.x.number)
     × ActsAt s (act s ((state_after_all turn.v.start turn.r.history).at s))
-
-pub cleared : IsRemoval Clear
-cleared turn s inside = (
-  legal_more turn.v.start turn.r.life.legal (let z = (same_shape turn.v.start turn.r.history).0 in (omega arith, refl)) tt,
-  refl,
-  held_mine (pass_event turn.x (Clear s ((state_after_all turn.v.start turn.r.history).at s))) turn.r.history refl,
-  refl,
-)
 
 pub taken : IsRemoval Take
 taken turn s inside = (
@@ -101,11 +93,6 @@ module _ (act : ℕ → Option File → Action) (does : IsRemoval act) (turn : T
       carried = refl;
     },
   )
-
-pub clears_keep : ClearsKeep (Removes Clear)
-clears_keep k slots id i s m x has works inside off place = by_turn slots (λ k. (s < slots_of k) × IsOffCount k s m.0.change)
-    (λ _. slot_place s) (λ word. bit_and word name_mask) (λ i. Removes Clear (step slots i name_mask 0 none) m) has (inside, off) place
-    (λ st r here is fits. removal_made Clear cleared (turn_of m x has.1 id st r here) s is.0 works is.1 slots m.1 fits)
 
 pub takes_out_keep : TakesOutKeep (Removes Take)
 takes_out_keep k slots id i s m x has works inside off place = by_turn slots (λ k. (s < slots_of k) × IsOffCount k s m.0.change)

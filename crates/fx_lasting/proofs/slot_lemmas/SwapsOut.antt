@@ -1,7 +1,7 @@
 -- A removal by an exchange of names keeps the rule: the slot's word names a node of the pass's
 -- stock, and the node that it named takes that node's place.
 use Rattle.fx_lasting.proofs.Words.{◌≡◌, ℕ, ◌-◌, ◌<◌, List, [], ◌∷◌, sym, refl, ap, ◌∙◌, arith, Option, none, some, keeps, get_elem?, Closed, File}
-use Rattle.fx_lasting.proofs.Words.{Action, Clear, Take, ◌▷◌, pass_event, Agrees, slots_of, slot_place, Stepped, IsOffCount, account, range_at_start}
+use Rattle.fx_lasting.proofs.Words.{Action, Take, ◌▷◌, pass_event, Agrees, slots_of, slot_place, Stepped, IsOffCount, account, range_at_start}
 use Rattle.fx_lasting.proofs.Words.{step, retiring_work, HasNoFile, IsInStock, as_swapped, first_log, name_in, empty_word_of, SwapsOut, SwapsOutKeep}
 use Rattle.fx_lasting.proofs.node_lemmas.StockMoves.{names_a_node}
 use Rattle.fx_lasting.proofs.Histories.{part_mine}
@@ -9,7 +9,7 @@ use Rattle.fx_lasting.proofs.Keeping.{Turn, turn_of, After, Made, by_turn, w, en
 use Rattle.fx_lasting.proofs.Places.{slot_back}
 use Rattle.fx_lasting.proofs.slot_lemmas.Swaps.{found, found_so}
 use Rattle.fx_lasting.proofs.slot_lemmas.Emptying.{moved, moved_agrees, moved_tells}
-use Rattle.fx_lasting.proofs.slot_lemmas.SlotLaws.{IsRemoval, cleared, taken, old, its_round, ends}
+use Rattle.fx_lasting.proofs.slot_lemmas.SlotLaws.{IsRemoval, taken, old, its_round, ends}
 
 module _ (act : ℕ → Option File → Action) (does : IsRemoval act) (turn : Turn) (s : ℕ) (inside : s < slots_of turn.v.start)
     (free_of : HasNoFile turn.v.work) (off : IsOffCount turn.v.start s turn.v.change) (n : ℕ) (stocked : IsInStock turn.x.stock n) where
@@ -56,9 +56,6 @@ swaps_out_keep act does k slots id i s n new m x has works inside off stocked pl
     (λ k. (s < slots_of k) × IsOffCount k s m.0.change) (λ _. slot_place s) (λ _. empty_word_of n)
     (λ i. SwapsOut act (step slots i (empty_word_of n) 0 none) m) has (inside, off) place
     (λ st r here is fits. removal_made act does (turn_of m x has.1 id st r here) s is.0 works is.1 n stocked slots m.1))
-
-pub swap_clears_keep : SwapsOutKeep (SwapsOut Clear)
-swap_clears_keep = swaps_out_keep Clear cleared
 
 pub swap_takes_keep : SwapsOutKeep (SwapsOut Take)
 swap_takes_keep = swaps_out_keep Take taken

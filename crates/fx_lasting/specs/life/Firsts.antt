@@ -1,14 +1,10 @@
--- The first words of a shared table, from the table of one thread.
-use Rattle.std.specs.Prelude.{◌≡◌, ◌≢◌, ℕ, ◌<◌, ◌≤◌, List, Option, Some, length, slice_index}
-use Rattle.fx_base.specs.Identity.{Identity}
+-- The first words of a shared table.
+use Rattle.std.specs.Prelude.{◌≡◌, ◌≢◌, ℕ, ◌<◌, ◌≤◌, List, Some, length, slice_index}
 use Rattle.fx_plain.specs.State.{State}
 use Rattle.fx_plain.specs.declared.event.File.{File}
 use Rattle.fx_table.specs.FullSlots.{full_in, first_at}
-use Rattle.fx_table.specs.Shells.{file_in_place}
 use Rattle.table_range.specs.Groups.{question_place, group_place, groups_in, group_start, group_len}
-use Rattle.fx_lasting.specs.nodes.Labels.{HasWritten, label_of}
 use Rattle.fx_lasting.specs.life.Layout.{list_place, slot_place, hold_place, node_place, words_for}
-use Rattle.fx_lasting.specs.life.Layout.{tag_place, number_place, IsNoLabel}
 use Rattle.fx_lasting.specs.life.Opens.{word_for, node_for}
 use Rattle.fx_lasting.specs.Fields.{empty_word_of}
 
@@ -38,13 +34,3 @@ pub record AreFirstWords (st : State) (passes nodes : ℕ) (words : List ℕ) : 
   pub lists : (pass : ℕ) → pass ≤ 1024 → slice_index words (list_place pass) ≡ 0
   pub holds : (pass : ℕ) → 0 < pass → pass ≤ passes
       → slice_index words (hold_place st.size pass) ≡ 0
-
--- the labels of the files in the first `done` places were written, and no other word
-pub record AreLabelled (size passes : ℕ) (homes : List (Option Identity)) (done : ℕ)
-    (before words : List ℕ) : Type 0 where
-  pub count : length words ≡ length before
-  pub others : (place : ℕ) → ((slot : ℕ) → slot < done → IsNoLabel size passes slot place)
-      → slice_index words place ≡ slice_index before place
-  pub labels : (slot : ℕ) (file : Identity) → slot < done → file_in_place homes slot ≡ Some file
-      → HasWritten (label_of file) (slice_index words (tag_place size passes slot))
-      (slice_index words (number_place size passes slot))

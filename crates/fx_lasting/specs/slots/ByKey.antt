@@ -137,13 +137,3 @@ TriesKey k vh key Again freed p p' = OvertakenByKey k vh key freed p p'
 TriesKey k vh key NoSlot freed p p' = Unit {0}
 TriesKey k vh key Empty freed p p' = Unit {0}
 TriesKey k vh key Other freed p p' = Unit {0}
-
--- an allocation whose slot is that of the returned key
-abbrev pub slot_found : Result Key Identity → Result ℕ Identity
-slot_found (Ok key) = Ok key.slot
-slot_found (Err back) = Err back
-
--- the key is that of a file with this mark
-abbrev pub IsKeyOfMark : Mark → Result Key Identity → Type 0
-IsKeyOfMark mark (Ok key) = key ≡ key_at key.slot mark
-IsKeyOfMark mark (Err back) = Unit {0}

@@ -104,39 +104,6 @@ pub(crate) fn first_node(size: u32, passes: u32) -> u32
     RANGE_END + 8 * slot_lines(size) + 8 * passes
 }
 
-// Returns the place of a node's word.
-#[inline(always)]
-pub(crate) fn node_place(size: u32, passes: u32, node: u32) -> usize
-    requires size { size ≤ MOST_SLOTS }
-    requires passes { passes ≤ MOST_PASSES }
-    requires node { node < MOST_NODES }
-    ensures { result ≡ node_place size passes node }
-{
-    (RANGE_END + 8 * slot_lines(size) + 8 * passes + node_words(node)) as usize
-}
-
-// Returns the place of the tag of a node's file.
-#[inline(always)]
-pub(crate) fn tag_place(size: u32, passes: u32, node: u32) -> usize
-    requires size { size ≤ MOST_SLOTS }
-    requires passes { passes ≤ MOST_PASSES }
-    requires node { node < MOST_NODES }
-    ensures { result ≡ tag_place size passes node }
-{
-    node_place(size, passes, node) + 1
-}
-
-// Returns the place of the number of a node's file.
-#[inline(always)]
-pub(crate) fn number_place(size: u32, passes: u32, node: u32) -> usize
-    requires size { size ≤ MOST_SLOTS }
-    requires passes { passes ≤ MOST_PASSES }
-    requires node { node < MOST_NODES }
-    ensures { result ≡ number_place size passes node }
-{
-    node_place(size, passes, node) + 2
-}
-
 // Returns the number of words of a table with `nodes` nodes.
 pub(crate) fn words_for(size: u32, passes: u32, nodes: u32) -> usize
     requires size { size ≤ MOST_SLOTS }

@@ -1,15 +1,13 @@
 //! Opening a table.
-ghost use Rattle.std.specs.Prelude.{◌≡◌, ℕ, ◌+◌, ◌*◌, ◌<◌, ◌≤◌, [], length, map, slice_set};
-ghost use Rattle.std.specs.Prelude.{All, IfOk, IfErr, OnOk, OnErr, vec_len, vec_capacity};
-ghost use Rattle.fx_plain.specs.State.{IsSettled, vacant};
-ghost use Rattle.fx_plain.specs.Contents.{state_of, IsPrepared};
-ghost use Rattle.fx_table.specs.FullSlots.{full_in, first_at};
-ghost use Rattle.fx_table.specs.Opening.{IsGivenBack, lasting_opening, size_of};
+ghost use Rattle.std.specs.Prelude.{◌≡◌, ℕ, ◌+◌, ◌<◌, ◌≤◌, [], length, map};
+ghost use Rattle.std.specs.Prelude.{All, IfOk, vec_len, vec_capacity};
+ghost use Rattle.fx_plain.specs.State.{vacant};
+ghost use Rattle.fx_plain.specs.Contents.{state_of};
+ghost use Rattle.fx_table.specs.Opening.{lasting_opening, size_of};
 ghost use Rattle.fx_table.specs.Pass.{IsIdle};
-ghost use Rattle.fx_lasting.specs.life.Firsts.{AreFirstWords, AreLabelled, AreNamed};
-ghost use Rattle.fx_lasting.specs.life.Layout.{slot_place, node_place, words_for, stock_of, stocks_back};
+ghost use Rattle.fx_lasting.specs.life.Firsts.{AreNamed};
+ghost use Rattle.fx_lasting.specs.life.Layout.{slot_place, stock_of, stocks_back};
 ghost use Rattle.fx_lasting.specs.life.Lives.{ArePasses, HasAllPasses, IsNewPass};
-ghost use Rattle.fx_lasting.specs.Fields.{birth_word, file_word_of};
 ghost use Rattle.fx_lasting.specs.Passes.{empty_slots};
 ghost use Rattle.fx_lasting.specs.Tables.{view_of, opening_of_table, first_passes, IsPassOfTable};
 ghost use Rattle.std.specs.List.{range_with_len};
@@ -17,74 +15,25 @@ ghost use Rattle.fx_lasting.specs.declared.life.layout.TheConstants.{MOST_SLOTS,
 ghost use Rattle.fx_lasting.specs.declared.life.layout.TheConstants.{MOST_PASSES, MOST_INSTALLING};
 ghost use Rattle.fx_lasting.specs.declared.life.layout.TheConstants.{STOCK_SPACING};
 
-use crate::fields::{BORN, empty_word, file_word};
+use crate::fields::empty_word;
 use crate::life::layout::{
-    MOST_INSTALLING, MOST_PASSES, MOST_SLOTS, STOCK_SPACING, first_node, node_place, nodes_for,
-    number_place, slot_place, stock_start, tag_place, words_for,
+    MOST_INSTALLING, MOST_PASSES, MOST_SLOTS, STOCK_SPACING, first_node, nodes_for, slot_place,
+    stock_start, words_for,
 };
-use crate::nodes::labels::number_of_mark;
 use crate::pass::LastingPass;
 use crate::table::LastingTable;
 use crate::view::{Start, View};
-use atomic_table::{Refused, Seat, Table};
+use atomic_table::{Seat, Table};
 use fx_base::{NoMemory, OpenFile};
-use fx_plain::PlainTable;
-use fx_table::{move_out, put_all};
 use std::alloc::Global;
-use std::snapshot::Snapshot;
-use table_range::{group_bits, group_len, group_place, group_size, groups_in};
+use table_range::group_bits;
 use table_seats::Deal;
 
 impl LastingTable {
-    /// Shares a settled table (`PlainTable::is_settled`) between `passes` passes, 1 to
-    /// [`MOST_PASSES`]. The first `installing` of them install files, 1 to [`MOST_INSTALLING`]. The
-    /// passes are idle, and numbered from 1 in the order of the list. The file at slot `s` gets
-    /// node `s`. All memory is allocated here.
-    ///
-    /// # Errors
-    /// `NoMemory` if an allocation fails. The table comes back settled, with its files, size and
-    /// range.
-    pub fn open(
-        alloc: Global,
-        plain: PlainTable,
-        passes: u32,
-        installing: u32,
-    ) -> Result<(LastingTable, Vec<LastingPass>), (PlainTable, NoMemory)>
-        requires settled { IsSettled (state_of plain) }
-        requires passes { (1 ≤ passes) × (passes ≤ MOST_PASSES) }
-        requires installing { (1 ≤ installing) × (installing ≤ MOST_INSTALLING) }
-        requires of_all { installing ≤ passes }
-        ensures opened { IfOk result (λ (t, _).
-            opening_of_table t ≡ lasting_opening plain passes) }
-        ensures ready { IfOk result (λ (t, list).
-            All (λ p. IsPassOfTable t p × IsIdle (view_of p)) list.items) }
-        ensures count { IfOk result (λ (_, list). length list.items ≡ passes) }
-        ensures new { IfOk result (λ (_, list).
-            map view_of list.items ≡ first_passes installing passes) }
-        ensures refused { IfErr result (λ (back, _). IsGivenBack plain back) }
-    {
-        let Ok(mut list) = Vec::with_capacity(alloc, passes as usize) else {
-            return Err((plain, NoMemory));
-        };
-        let Ok(stocks) = first_stocks(alloc, plain.size(), passes, installing) else {
-            list.destroy_empty();
-            return Err((plain, NoMemory));
-        };
-        match LastingTable::start(alloc, plain, passes, installing) {
-            Ok((table, seat)) => {
-                table.deal(seat, &mut list, stocks);
-                Ok((table, list))
-            }
-            Err(refused) => {
-                list.destroy_empty();
-                Err(refused)
-            }
-        }
-    }
-
     /// Creates a table of `slots` empty slots, 1 to [`MOST_SLOTS`]. The allocation range is
-    /// `range`: its first slot and its number of slots. The passes are as [`LastingTable::open`]
-    /// returns them. All memory is allocated here.
+    /// `range`: its first slot and its number of slots. The table has `passes` passes, 1 to
+    /// [`MOST_PASSES`], idle and numbered from 1 in the order of the list. The first `installing`
+    /// of them install files, 1 to [`MOST_INSTALLING`]. All memory is allocated here.
     ///
     /// # Errors
     /// `NoMemory` if an allocation fails.
@@ -162,63 +111,6 @@ impl LastingTable {
             group_bits: group_bits(range_len),
         };
         Ok((table, seat))
-    }
-
-    // Creates the shared table, and a seat with all passes.
-    fn start(
-        alloc: Global,
-        mut plain: PlainTable,
-        passes: u32,
-        installing: u32,
-    ) -> Result<(LastingTable, Seat<Option<OpenFile>, View>), (PlainTable, NoMemory)>
-        requires settled { IsSettled (state_of plain) }
-        requires passes { ArePasses installing passes }
-        ensures opened { IfOk result (λ (t, _).
-            opening_of_table t ≡ lasting_opening plain passes) }
-        ensures installing { IfOk result (λ (t, _). t.table.shared.key.installing ≡ installing) }
-        ensures seat { IfOk result (λ (t, seat). HasAllPasses t seat) }
-        ensures refused { IfErr result (λ (back, _). IsGivenBack plain back) }
-    {
-        let size = plain.size();
-        let (range_start, range_len) = plain.range();
-        let key = Start {
-            plain: Some(Snapshot::of(&plain)),
-            size,
-            range_start,
-            range_len,
-            passes,
-            installing,
-        };
-        let nodes = nodes_for(size, passes, installing);
-        let Ok(mut words) = first_words(alloc, &plain, passes, nodes) else {
-            return Err((plain, NoMemory));
-        };
-        let Ok(homes) = move_out(alloc, &mut plain, nodes as usize) else {
-            return Err((plain, NoMemory));
-        };
-        write_labels(&mut words, &homes, size, passes);
-        match Table::new(alloc, words.as_slice(), homes, &key) {
-            Ok((table, seat)) => {
-                plain.dismiss();
-                Ok((
-                    LastingTable {
-                        table,
-                        passes,
-                        installing,
-                        size,
-                        range_start,
-                        range_len,
-                        first_node: first_node(size, passes),
-                        group_bits: group_bits(range_len),
-                    },
-                    seat,
-                ))
-            }
-            Err(Refused { slots }) => {
-                put_all(&mut plain, slots);
-                Err((plain, NoMemory))
-            }
-        }
     }
 
     // Hands each pass a seat and a stock of its own.
@@ -318,79 +210,5 @@ fn name_slots(words: &mut Vec<u64>, size: u32)
 {
     for slot in 0..size {
         words[slot_place(slot)] = empty_word(slot);
-    }
-}
-
-// Writes the words of a slot with a file, and of its node, which has the slot's number.
-fn write_slot(words: &mut Vec<u64>, size: u32, passes: u32, slot: u32, entry: u8)
-    requires size { size ≤ MOST_SLOTS }
-    requires passes { passes ≤ MOST_PASSES }
-    requires slot { slot < size }
-    requires inside { node_place size passes slot < vec_len words.old }
-    ensures entry { entry < 256 }
-    ensures words { words.new.items ≡ slice_set (slice_set words.old.items
-        (slot_place slot) (file_word_of slot entry)) (node_place size passes slot) birth_word }
-{
-    words[slot_place(slot)] = file_word(slot, entry);
-    words[node_place(size, passes, slot)] = BORN;
-}
-
-// Returns the number of the `len` slots from `first` on that have a file.
-fn full_from(plain: &PlainTable, first: u32, len: u32) -> u32
-    requires inside { first + len ≤ (state_of plain.now).size }
-    requires small { first + len ≤ MOST_SLOTS }
-    ensures full { result ≡ full_in (first_at (state_of plain.now)) first len }
-    ensures few { result ≤ len }
-{
-    let mut full = 0;
-    for slot in first..first + len {
-        if plain.entry_at(slot).is_some() {
-            full += 1;
-        }
-    }
-    full
-}
-
-// Creates the words of a shared table with the files of this table.
-fn first_words(
-    alloc: Global,
-    plain: &PlainTable,
-    passes: u32,
-    nodes: u32,
-) -> Result<Vec<u64>, NoMemory>
-    requires passes { passes ≤ MOST_PASSES }
-    requires nodes { (nodes ≤ MOST_NODES) × ((state_of plain.now).size ≤ nodes) }
-    ensures { IfOk result (λ words. AreFirstWords (state_of plain.now) passes nodes words.items) }
-{
-    let size = plain.size();
-    let mut words = vec![in alloc; 0; words_for(size, passes, nodes)]?;
-    name_slots(&mut words, size);
-    let (start, len) = plain.range();
-    for group in 0..groups_in(len) {
-        let first = start + group * group_size(len);
-        let full = full_from(plain, first, group_len(len, group));
-        words[group_place(group)] = u64::from(full);
-    }
-    for slot in 0..size {
-        if let Some(entry) = plain.entry_at(slot) {
-            write_slot(&mut words, size, passes, slot, entry);
-        }
-    }
-    Ok(words)
-}
-
-// Writes the labels of the files in the places of the slots' nodes.
-fn write_labels(words: &mut Vec<u64>, homes: &Vec<Option<OpenFile>>, size: u32, passes: u32)
-    requires size { size ≤ MOST_SLOTS }
-    requires passes { passes ≤ MOST_PASSES }
-    requires homes { size ≤ length homes.now.items }
-    requires words { words_for size passes size ≤ length words.old.items }
-    ensures { AreLabelled size passes homes.now.items size words.old.items words.new.items }
-{
-    for slot in 0..size {
-        if let Some(file) = &homes[slot as usize] {
-            words[tag_place(size, passes, slot)] = file.tag();
-            words[number_place(size, passes, slot)] = number_of_mark(file.mark());
-        }
     }
 }

@@ -1,6 +1,5 @@
 //! The search for an empty slot of the allocation range.
 ghost use Rattle.std.specs.Prelude.{◌≡◌, ℕ, ◌+◌, ◌-◌, ◌*◌, ◌<◌, ◌≤◌, true, false, IfSome, IfErr, None};
-ghost use Rattle.fx_table.specs.Calls.{Allocated};
 ghost use Rattle.fx_table.specs.Pass.{IsIdle};
 ghost use Rattle.fx_lasting.specs.AtWork.{IsAtWork};
 ghost use Rattle.fx_lasting.specs.Laws.{IsInRange};
@@ -24,8 +23,6 @@ use crate::tried::TriedPut;
 use crate::view::View;
 use atomic_table::Seat;
 use fx_base::{Closed, OpenFile};
-use std::sync::Wait;
-use std::thread;
 use table_range::{counts_all, group_len, group_place, group_size, groups_in};
 
 // The steps by which passes go from group to group. Each is a prime above MOST_GROUPS, so it leads
@@ -34,50 +31,15 @@ use table_range::{counts_all, group_len, group_place, group_size, groups_in};
 const STEPS: [u32; 8] = [67, 71, 73, 79, 83, 89, 97, 101];
 
 impl LastingTable {
-    /// Installs a file at an empty slot of the allocation range, under a number that no file has
-    /// had, for an idle pass (`is_idle`) that installs files (`numbers_left`), and returns the slot
-    /// (io_uring_prep_openat(3), "IORING_FILE_INDEX_ALLOC"). It tries again while other passes
-    /// change the range, and yields its thread between two tries.
-    ///
-    /// # Errors
-    /// Returns the file if every slot of the range has a file (ENFILE).
-    pub fn put_any<R: Wait>(
-        &self,
-        rt: &R,
-        pass: &mut LastingPass,
-        file: OpenFile,
-    ) -> Result<u32, OpenFile>
-        requires fits { IsPassOfTable self.now pass.old }
-        requires idle { IsIdle (view_of pass.old) }
-        requires numbers { 0 < (view_of pass.old).numbers_left }
-        ensures fits { IsPassOfTable self.now pass.new }
-        ensures allocated { Allocated (opening_of_table self.now) (view_of pass.old) file result
-            (view_of pass.new) }
-    {
-        let mut left = match self.try_put_any(pass, file) {
-            TriedPut::At(slot) => return Ok(slot),
-            TriedPut::Full(back) => return Err(back),
-            TriedPut::Again(back) => back,
-        };
-        for _ in rt.forever() {
-            thread::yield_now();
-            match self.try_put_any(pass, left) {
-                TriedPut::At(slot) => return Ok(slot),
-                TriedPut::Full(back) => return Err(back),
-                TriedPut::Again(back) => left = back,
-            }
-        }
-        unreachable!()
-    }
-
     /// Tries once to install a file at an empty slot of the allocation range, under a number that
-    /// no file has had, for an idle pass (`is_idle`) that installs files (`numbers_left`). It never
-    /// waits: it makes at most three atomic steps for each slot of a group, two for each group, and
-    /// eleven more than the table has passes. It tries the slot that the pass emptied last, or
-    /// else the one after the slot that it filled last, and then goes once over the groups that
-    /// aren't full. It returns the slot; or the file, if every slot of the range had a file at one
-    /// moment (ENFILE), or if neither was found. Then nothing has changed, and another pass emptied
-    /// a slot of the range during the call, changed an empty one, or was in the middle of a call.
+    /// no file has had, for an idle pass (`is_idle`) that installs files (`numbers_left`)
+    /// (io_uring_prep_openat(3), "IORING_FILE_INDEX_ALLOC"). It never waits: it makes at most three
+    /// atomic steps for each slot of a group, two for each group, and eleven more than the table
+    /// has passes. It tries the slot that the pass emptied last, or else the one after the slot
+    /// that it filled last, and then goes once over the groups that aren't full. It returns the
+    /// slot; or the file, if every slot of the range had a file at one moment (ENFILE), or if
+    /// neither was found. Then nothing has changed, and another pass emptied a slot of the range
+    /// during the call, changed an empty one, or was in the middle of a call.
     #[inline(always)]
     pub fn try_put_any(&self, pass: &mut LastingPass, file: OpenFile) -> TriedPut
         requires fits { IsPassOfTable self.now pass.old }

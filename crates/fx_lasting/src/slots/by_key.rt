@@ -1,10 +1,10 @@
-//! The look-up by key, which compares the number of the file that it holds, and the installations
-//! that return a key.
+//! The look-up by key, which compares the number of the file that it holds, and the installation
+//! that returns a key.
 ghost use Rattle.std.specs.Prelude.{◌≡◌, ◌+◌, ◌<◌, ◌≤◌};
-ghost use Rattle.fx_table.specs.Calls.{Allocated, Placed};
+ghost use Rattle.fx_table.specs.Calls.{Placed};
 ghost use Rattle.fx_table.specs.Opening.{size_of};
 ghost use Rattle.fx_table.specs.Pass.{IsIdle};
-ghost use Rattle.fx_lasting.specs.slots.ByKey.{IsKeyOfMark, LookedByKey, fault_for, key_at, slot_found};
+ghost use Rattle.fx_lasting.specs.slots.ByKey.{LookedByKey, fault_for, key_at};
 ghost use Rattle.fx_lasting.specs.Tables.{view_of, MeetsMore, steps_taken, opening_of_table, IsPassOfTable};
 
 use crate::answers::Miss;
@@ -14,7 +14,6 @@ use crate::pass::LastingPass;
 use crate::table::LastingTable;
 use fx_base::OpenFile;
 use fx_table::{LookUp, Retired};
-use std::sync::Wait;
 
 impl LastingTable {
     /// Looks up the file of a key, for an idle pass (`is_idle`), in at most thirteen atomic steps
@@ -86,31 +85,6 @@ impl LastingTable {
     {
         let key = Key::new(slot, file.mark());
         (key, self.put(pass, slot, file))
-    }
-
-    /// Installs a file as [`LastingTable::put_any`] does, and returns its key.
-    ///
-    /// # Errors
-    /// Returns the file if every slot of the range has a file (ENFILE).
-    pub fn put_any_key<R: Wait>(
-        &self,
-        rt: &R,
-        pass: &mut LastingPass,
-        file: OpenFile,
-    ) -> Result<Key, OpenFile>
-        requires fits { IsPassOfTable self.now pass.old }
-        requires idle { IsIdle (view_of pass.old) }
-        requires numbers { 0 < (view_of pass.old).numbers_left }
-        ensures fits { IsPassOfTable self.now pass.new }
-        ensures allocated { Allocated (opening_of_table self.now) (view_of pass.old) file
-            (slot_found result) (view_of pass.new) }
-        ensures key { IsKeyOfMark file.mark result }
-    {
-        let mark = file.mark();
-        match self.put_any(rt, pass, file) {
-            Ok(slot) => Ok(Key::new(slot, mark)),
-            Err(back) => Err(back),
-        }
     }
 }
 

@@ -2,14 +2,15 @@
 //! word, and the node that the slot named into the stock, as an installation does. So the removed
 //! file's node is in the stock of the pass that removed it.
 ghost use Rattle.std.specs.Prelude.{◌≡◌, ℕ, ◌<◌};
+ghost use Rattle.fx_plain.specs.declared.event.Action.TheVariants.{Take};
 ghost use Rattle.fx_lasting.specs.AtWork.{IsAtWork};
-ghost use Rattle.fx_lasting.specs.Laws.{IsOffCount, SwapsOutKeep, TakesOutKeep};
+ghost use Rattle.fx_lasting.specs.Laws.{IsOffCount};
 ghost use Rattle.fx_lasting.specs.Passes.{HasNoFile};
-ghost use Rattle.fx_lasting.specs.slots.SwapSteps.{HasEmptied, SwapsOut};
-ghost use Rattle.fx_lasting.specs.Effects.{Removes, pass_in};
+ghost use Rattle.fx_lasting.specs.slots.SwapSteps.{HasEmptied};
+ghost use Rattle.fx_lasting.specs.Effects.{pass_in};
 
 use crate::fields::{NAME, empty_word, node_named};
-use crate::kinds::{Clearing, RemovedBy, Swapping};
+use crate::kinds::{Clearing, Swapping};
 use crate::life::layout::slot_place;
 use crate::table::LastingTable;
 use crate::view::View;
@@ -21,7 +22,7 @@ impl LastingTable {
     // the node at the entry of the stock then, and the stock has the node that the slot named. A
     // pass without a stock leaves the name at the slot.
     #[inline(always)]
-    pub(crate) fn empty_slot<A: RemovedBy>(
+    pub(crate) fn empty_slot(
         &self,
         seat: &mut Seat<Option<OpenFile>, View>,
         stock: &mut Vec<u32>,
@@ -34,20 +35,18 @@ impl LastingTable {
         requires stock { stock.old.items ≡ (pass_in seat.old.me).stock }
         requires slot { slot < self.now.size }
         requires off { IsOffCount self.now.table.shared.key slot seat.old.me.0.change }
-        requires clears { TakesOutKeep (Removes A.action) }
-        requires swaps { SwapsOutKeep (SwapsOut A.action) }
         ensures table { seat.new.table_id ≡ seat.old.table_id }
         ensures places { seat.new.me.1 ≡ seat.old.me.1 }
-        ensures emptied { HasEmptied self.now.table.shared.key A.action slot result
+        ensures emptied { HasEmptied self.now.table.shared.key Take slot result
             stock.new.items seat.old.me seat.new.me }
     {
         let shared = &self.table.shared;
         let place = slot_place(slot);
         let at = entry as usize;
         if stock.len() <= at {
-            return shared.fetch_and::<Clearing<A>>(seat, place, NAME);
+            return shared.fetch_and::<Clearing>(seat, place, NAME);
         }
-        let found = shared.swap::<Swapping<A>>(seat, place, empty_word(stock[at]));
+        let found = shared.swap::<Swapping>(seat, place, empty_word(stock[at]));
         stock[at] = node_named(found);
         found
     }

@@ -1,50 +1,47 @@
 use Rattle.fx_lasting.proofs.Words.{◌∙◌, ap, arith, Start, Bool, true, uncounted, group_of, range_at_start, IsAtWork, opening_of, view_of, pass_of}
-use Rattle.fx_lasting.proofs.Words.{Runs, Glance, Outside, as_stocked, retiring_work, ◌▷◌, [], subst, sym, refl, no_use, PassView}
+use Rattle.fx_lasting.proofs.Words.{Runs, Glance, Outside, as_stocked, retiring_work, ◌▷◌, [], subst, sym, refl, no_use, PassView, Take}
 use Rattle.fx_lasting.proofs.slot_lemmas.Removals.{adds_stocked, emptied_around, emptied_at_work, emptied_stock, stocked_pass}
 use Rattle.fx_lasting.proofs.Running.{still_at_work}
 use Rattle.fx_lasting.proofs.Passing.{its_idle, account_so, knows_removed, removed_so, first_by}
 use Rattle.fx_lasting.proofs.table.LastingTable.remove.Goals.{After-lower}
 use Rattle.fx_lasting.proofs.node_lemmas.Settled.{still_idle}
 use Rattle.fx_lasting.specs.slots.SwapSteps.{HasRemoved}
-use Rattle.fx_lasting.proofs.table.LastingTable.remove.Given.{Over}
 use Rattle.fx_lasting.proofs.table.LastingTable.remove.Goals as goal
 
 -- the pass, before the slot is emptied
-at : (g : Over) (c : After-lower g) → IsAtWork c.args.self.now.table.shared.key c.settle.new.pass.number c.lower.new.seat.me
-at g c = still_at_work c.settle.ensures.fits.seated.at c.lower.ensures.runs
+at : (c : After-lower) → IsAtWork c.args.self.now.table.shared.key c.settle.new.pass.number c.lower.new.seat.me
+at c = still_at_work c.settle.ensures.fits.seated.at c.lower.ensures.runs
 
 pub empty_slot-found-requires : goal.empty_slot-found-requires
-empty_slot-found-requires g c =
-    let a = (goal.at.empty_slot-found-requires g c).After-lower in
+empty_slot-found-requires c =
+    let a = (goal.at.empty_slot-found-requires c).After-lower in
     let t = c.args.self.now in
     let f = c.settle.ensures.fits in
     let began = c.lower.ensures in
     record {
       table = began.table ∙ f.seated.table;
-      at = (c.settle.new.pass.number, at g a);
+      at = (c.settle.new.pass.number, at a);
       idle = rw began.runs.work (its_idle f (still_idle c.settle.ensures.same c.requires.idle) c.settle.ensures.unkept);
       stock = f.seated.stock ∙ sym began.runs.stock;
       slot = omega (arith, c.requires.slot, t.same_size);
-      clears = c.requires.clears;
-      swaps = c.requires.swaps;
       off = began.runs.change ∙ ap (λ (b : Bool). uncounted b true (group_of (range_at_start t.table.shared.key) c.args.slot)) c.is_in_range-inside.ensures;
     }
 
 pub raise-requires-clause-at : goal.raise-requires-clause-at
-raise-requires-clause-at g c =
-    let a = (goal.at.raise-requires-clause-at g c).After-lower in
-    (c.settle.new.pass.number, emptied_at_work (at g a) c.empty_slot-found.ensures.emptied)
+raise-requires-clause-at c =
+    let a = (goal.at.raise-requires-clause-at c).After-lower in
+    (c.settle.new.pass.number, emptied_at_work (at a) c.empty_slot-found.ensures.emptied)
 
 pub raise-requires-clause-change : goal.raise-requires-clause-change
-raise-requires-clause-change g c =
+raise-requires-clause-change c =
     let k : Start = c.args.self.now.table.shared.key in
     let went = c.empty_slot-found.ensures.emptied in
     went.runs.change ∙ account_so (range_at_start k) c.args.slot c.empty_slot-found.result went.file c.removed_in-removed.result c.is_in_range-inside.result
     c.is_none.result (c.removed_in-removed.ensures went.file went.names) c.is_none.ensures c.is_in_range-inside.ensures
 
 pub returns : goal.returns
-returns g c =
-    let a = (goal.at.returns g c).After-lower in
+returns c =
+    let a = (goal.at.returns c).After-lower in
     let k : Start = c.args.self.now.table.shared.key in
     let fits = c.settle.ensures.fits in
     let s = fits.seated in
@@ -56,17 +53,17 @@ returns g c =
     let file = went.file in
     let removed = c.removed_in-removed.result in
     let is = c.removed_in-removed.ensures file went.names in
-    let run = subst (λ (y : Glance). Runs (as_stocked stock c.settle.new.pass.seat.me) ([] ▷ g.A.RemovedBy.action c.args.slot file) (retiring_work k found file) y Outside 5
-    c.raise.new.seat.me) fits.calm (emptied_around (at g a) went began.runs c.raise.ensures.runs) in
+    let run = subst (λ (y : Glance). Runs (as_stocked stock c.settle.new.pass.seat.me) ([] ▷ Take c.args.slot file) (retiring_work k found file) y Outside 5
+    c.raise.new.seat.me) fits.calm (emptied_around (at a) went began.runs c.raise.ensures.runs) in
     let v = view_of c.settle.new.pass in
     let w = pass_of c.raise.new.seat.me.0 in
     let adds = adds_stocked s stock run no_use in
     record {
-      fits = stocked_pass s stock (emptied_stock (at g a) went) _ run (refl, refl) (c.raise.ensures.table ∙ (emptied.table ∙ began.table))
+      fits = stocked_pass s stock (emptied_stock (at a) went) _ run (refl, refl) (c.raise.ensures.table ∙ (emptied.table ∙ began.table))
           (c.raise.ensures.places ∙ (emptied.places ∙ (began.places ∙ s.places))) (refl, s.next)
           (knows_removed k found file removed _ _ _ _ c.settle.new.pass.next_entry stock
           c.settle.ensures.unkept is c.is_none-pass.ensures (c.first_visit-pass.ensures ∙ first_by c.args.self.now found));
-      removed = subst (λ (z : PassView). HasRemoved (opening_of k) g.A.RemovedBy.action z c.args.slot removed w) c.settle.ensures.same
-          (removed_so k v c.args.slot found w g.A.RemovedBy.action file removed is adds);
+      removed = subst (λ (z : PassView). HasRemoved (opening_of k) Take z c.args.slot removed w) c.settle.ensures.same
+          (removed_so k v c.args.slot found w Take file removed is adds);
       steps = let few = run.steps in let one = c.settle.ensures.steps in omega arith;
     }

@@ -1,6 +1,6 @@
 use Rattle.fx_lasting.proofs.Words.{sym, subst, Start, IsInside}
 use Rattle.fx_lasting.proofs.life_lemmas.Showing.{may_learn, learned_pass}
-use Rattle.fx_lasting.proofs.life.shown.LastingTableRealTime.learn.Goals as goal
+use Rattle.fx_lasting.proofs.table.LastingTable.learn.Goals as goal
 
 pub learn-requires-clause-table : goal.learn-requires-clause-table
 learn-requires-clause-table c = c.requires.fits.seated.table

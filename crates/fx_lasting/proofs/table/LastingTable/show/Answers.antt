@@ -1,5 +1,5 @@
 use Rattle.fx_lasting.proofs.life_lemmas.Showing.{may_show}
-use Rattle.fx_lasting.proofs.life.shown.LastingTableRealTime.show.Goals as goal
+use Rattle.fx_lasting.proofs.table.LastingTable.show.Goals as goal
 
 pub show-requires-clause-table : goal.show-requires-clause-table
 show-requires-clause-table c = c.requires.fits.seated.table
