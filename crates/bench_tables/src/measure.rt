@@ -9,7 +9,7 @@ use crate::shared::discard_all;
 use crate::work::{Row, Shape, Work, work_all};
 use fx_base::{Catalogue, Mark};
 use fx_plain::PlainTable;
-use fx_table::{FileTable, MAX_CHAINS, SharedTable};
+use fx_table::{FileTable, MAX_CHAINS};
 use std::alloc::Global;
 use std::rt::Clock;
 use std::sync::atomic::{AtomicU32, AtomicU64, Ordering};

@@ -8,7 +8,7 @@ ghost use Rattle.fx_table.specs.Pass.{IsIdle};
 use crate::work::READ_LEN;
 use fx_base::{Catalogue, OpenFile};
 use fx_plain::PlainTable;
-use fx_table::{FileTable, SharedTable};
+use fx_table::FileTable;
 use std::sync::Wait;
 
 /// Discards the files of a table, and returns their number.

@@ -1,5 +1,5 @@
 -- A look-up that follows a put that was shown.
-use Rattle.std.proofs.Common.{◌≡◌, ℕ, ◌<◌, List, [], ◌∷◌, ◌++◌, sym, refl, ap, ◌∙◌, subst, arith, cond, eqb, true, false, map, append_assoc, Contains, ⊎_elim}
+use Rattle.std.proofs.Common.{◌≡◌, ◌≢◌, ℕ, List, [], ◌∷◌, ◌++◌, sym, refl, ap, ◌∙◌, subst, arith, cond, eqb, true, false, map, append_assoc, Contains, ⊎_elim}
 use Rattle.std.specs.Prelude.{Option, Some, None, Result, Ok, Err}
 use Rattle.fx_base.specs.Identity.{Identity}
 use Rattle.fx_plain.specs.History.{IsSeenBy, AllReleaseTheirOwn, AllowsAll, action_of, part_of_pass, ◌▷◌, ◌▷▷◌}
@@ -94,23 +94,23 @@ abbrev pub entry_in : Result Hold LookFault → Option ℕ
 entry_in (Ok hold) = Some hold.entry
 entry_in (Err _) = None
 
--- a look-up of a pass with look-ups left makes one, and returns what it finds
+-- a look-up that isn't refused makes one, and returns what it finds
 record MakesLook (o : Opening) (v : PassView) (earlier : List Action) (slot : ℕ) (found : Result Hold LookFault) (w : PassView) : Type 0 where
   seen : Option File
   doing : Doing
   adds : Adds o v (earlier ▷ Look slot seen) doing one_look w
   is : entry_in found ≡ entry_seen seen
 
-makes_look : (o : Opening) (v : PassView) (earlier : List Action) (slot : ℕ) (found : Result Hold LookFault) (w : PassView) → 0 < v.looks_left
+makes_look : (o : Opening) (v : PassView) (earlier : List Action) (slot : ℕ) (found : Result Hold LookFault) (w : PassView) → found ≢ Err Spent
     → LookedAfter o v earlier slot found w → MakesLook o v earlier slot found w
-makes_look o v earlier slot (Ok hold) w some_left l = record {
+makes_look o v earlier slot (Ok hold) w unspent l = record {
   seen = Some l.0;
   doing = Holding l.0 hold;
   adds = l.2;
   is = ap (λ (n : ℕ). Some n) l.1.entry;
 }
-makes_look o v earlier slot (Err Spent) w some_left l = absurd (omega (arith, some_left, l.0))
-makes_look o v earlier slot (Err EmptySlot) w some_left l = record { seen = None; doing = Idle; adds = l; is = refl }
+makes_look o v earlier slot (Err Spent) w unspent l = absurd (unspent refl)
+makes_look o v earlier slot (Err EmptySlot) w unspent l = record { seen = None; doing = Idle; adds = l; is = refl }
 
 module _ (o : Opening) (shown : List Event) (v u w : PassView) (earlier : List Action) (slot entry : ℕ) (found : Result Hold LookFault)
     (learns : Learns o shown v u) (put : HasPut slot entry shown) (looks : MakesLook o u earlier slot found w) where
@@ -164,21 +164,18 @@ module _ (o : Opening) (shown : List Event) (v u w : PassView) (earlier : List A
         looks.is ∙ (ap entry_seen seen_new ∙ ap (λ (n : ℕ). Some n) put.its_entry);
   }
 
-looks_left_then : (o : Opening) (shown : List Event) (v u : PassView) → Learns o shown v u → 0 < v.looks_left → 0 < u.looks_left
-looks_left_then o shown v u learns left = subst (λ (z : PassView). 0 < z.looks_left) (sym learns.same) left
-
 finds_what_was_put : (o : Opening) (shown : List Event) (v : PassView) (slot entry : ℕ) (found : Result Hold LookFault) (freed : Option Identity) (w : PassView)
-    → LooksUpAfter o shown v slot found freed w → 0 < v.looks_left → HasPut slot entry shown → FindsThePut slot entry (entry_in found) w.front
-finds_what_was_put o shown v slot entry found None w l left put =
-    finds_so o shown v l.between w [] slot entry found l.learns put (makes_look o l.between [] slot found w (looks_left_then o shown v l.between l.learns left) l.looked)
-finds_what_was_put o shown v slot entry found (Some file) w l left put =
+    → LooksUpAfter o shown v slot found freed w → found ≢ Err Spent → HasPut slot entry shown → FindsThePut slot entry (entry_in found) w.front
+finds_what_was_put o shown v slot entry found None w l unspent put =
+    finds_so o shown v l.between w [] slot entry found l.learns put (makes_look o l.between [] slot found w unspent l.looked)
+finds_what_was_put o shown v slot entry found (Some file) w l unspent put =
     finds_so o shown v l.between w ([] ▷ Close l.looked.0) slot entry found l.learns put
-    (makes_look o l.between ([] ▷ Close l.looked.0) slot found w (looks_left_then o shown v l.between l.learns left) l.looked.2)
+    (makes_look o l.between ([] ▷ Close l.looked.0) slot found w unspent l.looked.2)
 
 pub finds_the_put : (o : Opening) (shown : List Event) (v : PassView) (slot entry : ℕ) (look : LookUp) (result : Option ℕ) (w : PassView)
-    → LooksUpAfter o shown v slot look.found look.freed w → 0 < v.looks_left → HasPut slot entry shown → entry_in look.found ≡ result → FindsThePut slot entry result w.front
-finds_the_put o shown v slot entry look result w l left put is =
-    subst (λ (found : Option ℕ). FindsThePut slot entry found w.front) is (finds_what_was_put o shown v slot entry look.found look.freed w l left put)
+    → LooksUpAfter o shown v slot look.found look.freed w → look.found ≢ Err Spent → HasPut slot entry shown → entry_in look.found ≡ result → FindsThePut slot entry result w.front
+finds_the_put o shown v slot entry look result w l unspent put is =
+    subst (λ (found : Option ℕ). FindsThePut slot entry found w.front) is (finds_what_was_put o shown v slot entry look.found look.freed w l unspent put)
 
 -- what was found stays so, and the history goes on
 finds_then : (slot entry : ℕ) (found : Option ℕ) (h more : List Event) → FindsThePut slot entry found h → IsSeenBy h more → FindsThePut slot entry found more

@@ -3,6 +3,8 @@
 //! finds that file, unless an action between the two changed the slot.
 ghost use Rattle.std.specs.Prelude.{◌≡◌, ◌<◌, ◌≤◌, ◌+◌, length, All};
 ghost use Rattle.std.specs.Thread.{IsSync};
+ghost use Rattle.fx_lasting.specs.Tables.{IsPassOfTable, opening_of_table, view_of};
+ghost use Rattle.fx_lasting.specs.life.Showing.{IsSeenOf, shown_of};
 ghost use Rattle.fx_table.specs.Opening.{size_of};
 ghost use Rattle.fx_table.specs.Pass.{IsIdle};
 ghost use Rattle.example_library.specs.HandOver.{HasPut, FindsThePut};
@@ -10,128 +12,123 @@ ghost use Rattle.example_library.specs.HandOver.{HasPut, FindsThePut};
 use crate::life::close_all;
 use crate::serve::close_returned;
 use fx_base::{Catalogue, CloseList, Mark, NoMemory, OpenFile};
-use fx_lasting::LastingTable;
-use fx_table::{LookUp, RealTime, SharedTable};
+use fx_lasting::{LastingPass, LastingSeen, LastingTable};
+use fx_table::LookUp;
 use std::alloc::Global;
 use std::sync::Wait;
 use std::thread::{Threads, join_mut};
 
 // Puts a file at a slot, and shows what the pass has seen by then. Returns the file that was
 // replaced, if nobody uses it.
-fn put_and_show<T: RealTime, R: Wait>(
-    rt: &R,
+fn put_and_show(
     catalogue: &Catalogue,
-    table: &T,
-    pass: &mut T::Pass,
+    table: &LastingTable,
+    pass: &mut LastingPass,
     slot: u32,
     entry: u8,
-) -> (T::Seen, Option<OpenFile>)
-    requires ready { T.fits table.now pass.old × IsIdle (T.view pass.old) }
-    requires slot { slot < size_of (T.opening table.now) }
+) -> (LastingSeen, Option<OpenFile>)
+    requires ready { IsPassOfTable table.now pass.old × IsIdle (view_of pass.old) }
+    requires slot { slot < size_of (opening_of_table table.now) }
     requires entry { entry < length catalogue.now }
-    requires numbers { 0 < (T.view pass.old).numbers_left }
-    ensures ready { T.fits table.now pass.new × IsIdle (T.view pass.new) }
-    ensures here { T.shows table.now result.0 }
-    ensures put { HasPut slot entry (T.shown result.0) }
+    requires numbers { 0 < (view_of pass.old).numbers_left }
+    ensures ready { IsPassOfTable table.now pass.new × IsIdle (view_of pass.new) }
+    ensures here { IsSeenOf table.now result.0 }
+    ensures put { HasPut slot entry (shown_of result.0) }
 {
     let file = catalogue.open(entry, Mark::Registered { k: 1, i: slot }, 0);
-    let removed = table.put(rt, pass, slot, file);
+    let removed = table.put(pass, slot, file);
     let seen = table.show(pass);
     let Some(removed) = removed else {
         return (seen, None);
     };
-    (seen, table.retire(rt, pass, removed))
+    (seen, table.retire(pass, removed))
 }
 
 // Looks a slot up after what was shown, and returns the entry that it finds.
-fn find<T: RealTime, R: Wait>(
-    rt: &R,
-    table: &T,
-    pass: &mut T::Pass,
+fn find(
+    table: &LastingTable,
+    pass: &mut LastingPass,
     slot: u32,
     entry: u8,
-    seen: &T::Seen,
+    seen: &LastingSeen,
     closes: &mut CloseList,
 ) -> Option<u8>
-    requires ready { T.fits table.now pass.old × IsIdle (T.view pass.old) }
-    requires slot { slot < size_of (T.opening table.now) }
-    requires looks { 0 < (T.view pass.old).looks_left }
-    requires here { T.shows table.now seen.now }
-    requires put { HasPut slot entry (T.shown seen.now) }
+    requires ready { IsPassOfTable table.now pass.old × IsIdle (view_of pass.old) }
+    requires slot { slot < size_of (opening_of_table table.now) }
+    requires here { IsSeenOf table.now seen.now }
+    requires put { HasPut slot entry (shown_of seen.now) }
     requires room { 2 ≤ closes.old.room }
-    ensures ready { T.fits table.now pass.new × IsIdle (T.view pass.new) }
-    ensures found { FindsThePut slot entry result (T.view pass.new).front }
+    ensures ready { IsPassOfTable table.now pass.new × IsIdle (view_of pass.new) }
+    ensures found { FindsThePut slot entry result (view_of pass.new).front }
 {
-    let LookUp { found, freed } = table.look_up_after(rt, pass, slot, seen);
+    let LookUp { found, freed } = table.look_up_after(pass, slot, seen);
     close_returned(freed, closes);
     let Ok(hold) = found else {
         return None;
     };
     let entry = hold.entry;
-    close_returned(table.release(rt, pass, hold), closes);
+    close_returned(table.release(pass, hold), closes);
     Some(entry)
 }
 
 /// Puts a file of an entry at a slot, in a thread of its own, and looks the slot up by another pass
 /// once that thread is done. Returns the entry that the other pass finds, or `None` if the slot has
 /// no file. It is the entry that was put, unless an action between changed the slot.
-pub fn hand_over<T: RealTime, R: Threads + Wait + Sync>(
+pub fn hand_over<R: Threads + Wait + Sync>(
     rt: &R,
     catalogue: &Catalogue,
-    table: &T,
-    first: &mut T::Pass,
-    second: &mut T::Pass,
+    table: &LastingTable,
+    first: &mut LastingPass,
+    second: &mut LastingPass,
     slot: u32,
     entry: u8,
     closes: &mut CloseList,
 ) -> Option<u8>
-    requires first { T.fits table.now first.old × IsIdle (T.view first.old) }
-    requires second { T.fits table.now second.old × IsIdle (T.view second.old) }
-    requires slot { slot < size_of (T.opening table.now) }
+    requires first { IsPassOfTable table.now first.old × IsIdle (view_of first.old) }
+    requires second { IsPassOfTable table.now second.old × IsIdle (view_of second.old) }
+    requires slot { slot < size_of (opening_of_table table.now) }
     requires entry { entry < length catalogue.now }
-    requires numbers { 0 < (T.view first.old).numbers_left }
-    requires looks { 0 < (T.view second.old).looks_left }
+    requires numbers { 0 < (view_of first.old).numbers_left }
     requires room { 3 ≤ closes.old.room }
-    ensures first { T.fits table.now first.new × IsIdle (T.view first.new) }
-    ensures second { T.fits table.now second.new × IsIdle (T.view second.new) }
-    ensures found { FindsThePut slot entry result (T.view second.new).front }
+    ensures first { IsPassOfTable table.now first.new × IsIdle (view_of first.new) }
+    ensures second { IsPassOfTable table.now second.new × IsIdle (view_of second.new) }
+    ensures found { FindsThePut slot entry result (view_of second.new).front }
 {
     let ((seen, replaced), ()) = join_mut(
         rt,
-        &mut || -> (T::Seen, Option<OpenFile>)
-            requires { IsSync R.row × T.fits table.now first.now × IsIdle (T.view first.now)
-                × (slot < size_of (T.opening table.now)) × (entry < length catalogue.now)
-                × (0 < (T.view first.now).numbers_left) }
-            ensures { T.fits table.entry.now first.exit.now × IsIdle (T.view first.exit.now)
-                × T.shows table.entry.now result.0 × HasPut slot entry (T.shown result.0) }
-        { put_and_show(rt, catalogue, table, first, slot, entry) },
+        &mut || -> (LastingSeen, Option<OpenFile>)
+            requires { IsSync R.row × IsPassOfTable table.now first.now × IsIdle (view_of first.now)
+                × (slot < size_of (opening_of_table table.now)) × (entry < length catalogue.now)
+                × (0 < (view_of first.now).numbers_left) }
+            ensures { IsPassOfTable table.entry.now first.exit.now × IsIdle (view_of first.exit.now)
+                × IsSeenOf table.entry.now result.0 × HasPut slot entry (shown_of result.0) }
+        { put_and_show(catalogue, table, first, slot, entry) },
         &mut || (),
     );
     close_returned(replaced, closes);
-    find(rt, table, second, slot, entry, &seen, closes)
+    find(table, second, slot, entry, &seen, closes)
 }
 
-// Hands entry 1 over at slot 0 between the two passes of a list, if the first has a number left and
-// the second a look-up.
-fn hand_over_between<T: RealTime, R: Threads + Wait + Sync>(
+// Hands entry 1 over at slot 0 between the two passes of a list, if the first may install files.
+fn hand_over_between<R: Threads + Wait + Sync>(
     rt: &R,
     catalogue: &Catalogue,
-    table: &T,
-    passes: &mut Vec<T::Pass>,
+    table: &LastingTable,
+    passes: &mut Vec<LastingPass>,
     closes: &mut CloseList,
 ) -> Option<u8>
     requires two { length passes.old.items ≡ 2 }
-    requires ready { All (λ p. T.fits table.now p × IsIdle (T.view p)) passes.old.items }
-    requires slot { 0 < size_of (T.opening table.now) }
+    requires ready { All (λ p. IsPassOfTable table.now p × IsIdle (view_of p)) passes.old.items }
+    requires slot { 0 < size_of (opening_of_table table.now) }
     requires entry { 1 < length catalogue.now }
     requires room { 3 ≤ closes.old.room }
     ensures two { length passes.new.items ≡ 2 }
-    ensures ready { All (λ p. T.fits table.now p × IsIdle (T.view p)) passes.new.items }
+    ensures ready { All (λ p. IsPassOfTable table.now p × IsIdle (view_of p)) passes.new.items }
 {
     let mut second = passes.pop().unwrap();
     let mut first = passes.pop().unwrap();
     let mut found = None;
-    if table.numbers_left(&first) > 0 && table.looks_left(&second) > 0 {
+    if table.numbers_left(&first) > 0 {
         let (one, other) = (&mut first, &mut second);
         found = hand_over(rt, catalogue, table, one, other, 0, 1, closes);
     }

@@ -6,16 +6,17 @@ ghost use Rattle.fx_table.specs.Pass.{IsIdle};
 
 use crate::lasting::{discard, discard_all};
 use fx_base::{Catalogue, Mark, NoMemory};
-use fx_lasting::{Key, KeyFault, KeyLook, KeyPut, KeyTaken, LastingPass, LastingTable, PutOverKey};
+use fx_lasting::{
+    Key, KeyFault, KeyLook, KeyPut, KeyTaken, LastingPass, LastingTable, PutOverKey, TriedPut,
+};
 use std::alloc::Global;
 use std::fmt::Debug;
-use std::sync::Wait;
 use std::sync::atomic::{AtomicU32, Ordering};
 
 // Opens entry 0 with a mark of its own, and puts the file at any slot. Returns the key in 64 bits.
-// Returns `None` if the pass may not install files, no slot is empty, or the key has more bits.
-fn publish<R: Wait>(
-    rt: &R,
+// Returns `None` if the pass may not install files, no empty slot is found, or the key has more
+// bits.
+fn publish(
     catalogue: &Catalogue,
     table: &LastingTable,
     pass: &mut LastingPass,
@@ -28,10 +29,10 @@ fn publish<R: Wait>(
     if table.numbers_left(pass) == 0 {
         return None;
     }
-    let file = catalogue.open(0, Mark::Registered { k: 1, i }, 0);
-    match table.put_any_key(rt, pass, file) {
-        Ok(key) => key.to_bits(),
-        Err(file) => {
+    let mark = Mark::Registered { k: 1, i };
+    match table.try_put_any(pass, catalogue.open(0, mark, 0)) {
+        TriedPut::At(slot) => Key::new(slot, mark).to_bits(),
+        TriedPut::Full(file) | TriedPut::Again(file) => {
             file.discard();
             None
         }
@@ -136,12 +137,11 @@ fn put_at_first(
     if table.numbers_left(pass) == 0 || table.size() == 0 {
         return None;
     }
-    let file = catalogue.open(0, Mark::Registered { k: 1, i }, 0);
-    let (key, replaced) = table.put_key(pass, 0, file);
-    if let Some(old) = replaced {
+    let mark = Mark::Registered { k: 1, i };
+    if let Some(old) = table.put(pass, 0, catalogue.open(0, mark, 0)) {
         discard(table.retire(pass, old), closed);
     }
-    Some(key)
+    Some(Key::new(0, mark))
 }
 
 // Prints a key, and its 64 bits.
@@ -158,7 +158,7 @@ fn print_closed<R: Print, A: Debug>(rt: &R, call: &str, answer: &A, closed: &Ato
 
 // Puts a file, removes it by its key, and puts another file at its slot. Prints what the other pass
 // finds by the keys. Stops early if a file can't be put.
-fn use_keys<R: Wait + Print>(
+fn use_keys<R: Print>(
     rt: &R,
     catalogue: &Catalogue,
     table: &LastingTable,
@@ -172,13 +172,13 @@ fn use_keys<R: Wait + Print>(
     ensures pass { IsPassOfTable table.now pass.new × IsIdle (view_of pass.new) }
 {
     let closed = AtomicU32::new(0);
-    let old = publish(rt, catalogue, table, pass, 1)?;
+    let old = publish(catalogue, table, pass, 1)?;
     print_key(rt, old);
     let found = find(table, finder, old, &closed);
     let _ = println!(rt; "looked up by the key: {found:?}");
     let removed = remove(table, pass, old, &closed);
     print_closed(rt, "removed by the key", &removed, &closed);
-    let new = publish(rt, catalogue, table, pass, 2)?;
+    let new = publish(catalogue, table, pass, 2)?;
     print_key(rt, new);
     let stale = find(table, finder, old, &closed);
     let found = find(table, finder, new, &closed);
@@ -210,7 +210,7 @@ fn replace_by_key<R: Print>(
 }
 
 // Uses keys by the two passes of a list, the first of which may install files.
-fn use_keys_between<R: Wait + Print>(
+fn use_keys_between<R: Print>(
     rt: &R,
     catalogue: &Catalogue,
     table: &LastingTable,
@@ -234,11 +234,7 @@ fn use_keys_between<R: Wait + Print>(
 ///
 /// # Errors
 /// `NoMemory` if an allocation fails.
-pub fn share_by_key<R: Wait + Print>(
-    rt: &R,
-    alloc: Global,
-    catalogue: &Catalogue,
-) -> Result<(), NoMemory>
+pub fn share_by_key<R: Print>(rt: &R, alloc: Global, catalogue: &Catalogue) -> Result<(), NoMemory>
     requires entry { 0 < length catalogue.now }
 {
     let room = Vec::with_capacity(alloc, 1)?;

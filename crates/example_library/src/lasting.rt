@@ -1,12 +1,13 @@
 //! A table that never has to be closed. One thread replaces a file 100,000 times, and another one
 //! looks it up 100,000 times.
 ghost use Rattle.std.specs.Prelude.{◌≡◌, ◌<◌, All, IfOk, length};
+ghost use Rattle.fx_lasting.specs.Tables.{IsPassOfTable, opening_of_table, view_of};
 ghost use Rattle.fx_table.specs.Opening.{size_of};
 ghost use Rattle.fx_table.specs.Pass.{IsIdle};
 
 use fx_base::{Catalogue, Mark, NoMemory, OpenFile};
-use fx_lasting::LastingTable;
-use fx_table::{LookUp, SharedTable};
+use fx_lasting::{LastingPass, LastingTable};
+use fx_table::LookUp;
 use std::alloc::Global;
 use std::sync::Wait;
 use std::sync::atomic::{AtomicU32, Ordering};
@@ -26,86 +27,79 @@ pub(crate) fn discard(file: Option<OpenFile>, closed: &AtomicU32) {
 }
 
 // Puts a new opening of entry 0 at slot 0. Does nothing if the pass may not install files.
-fn replace<T: SharedTable, R: Wait>(
-    rt: &R,
-    catalogue: &Catalogue,
-    table: &T,
-    pass: &mut T::Pass,
-    closed: &AtomicU32,
-)
-    requires ready { T.fits table.now pass.old × IsIdle (T.view pass.old) }
-    requires slot { 0 < size_of (T.opening table.now) }
+fn replace(catalogue: &Catalogue, table: &LastingTable, pass: &mut LastingPass, closed: &AtomicU32)
+    requires ready { IsPassOfTable table.now pass.old × IsIdle (view_of pass.old) }
+    requires slot { 0 < size_of (opening_of_table table.now) }
     requires entry { 0 < length catalogue.now }
-    ensures ready { T.fits table.now pass.new × IsIdle (T.view pass.new) }
+    ensures ready { IsPassOfTable table.now pass.new × IsIdle (view_of pass.new) }
 {
     if table.numbers_left(pass) == 0 {
         return;
     }
     let file = catalogue.open(0, Mark::Registered { k: 1, i: 0 }, 0);
-    if let Some(removed) = table.put(rt, pass, 0, file) {
-        discard(table.retire(rt, pass, removed), closed);
+    if let Some(removed) = table.put(pass, 0, file) {
+        discard(table.retire(pass, removed), closed);
     }
 }
 
 // Looks slot 0 up, and releases the file. Each call may return a removed file that nobody uses.
-fn look<T: SharedTable, R: Wait>(rt: &R, table: &T, pass: &mut T::Pass, closed: &AtomicU32)
-    requires ready { T.fits table.now pass.old × IsIdle (T.view pass.old) }
-    requires slot { 0 < size_of (T.opening table.now) }
-    ensures ready { T.fits table.now pass.new × IsIdle (T.view pass.new) }
+fn look(table: &LastingTable, pass: &mut LastingPass, closed: &AtomicU32)
+    requires ready { IsPassOfTable table.now pass.old × IsIdle (view_of pass.old) }
+    requires slot { 0 < size_of (opening_of_table table.now) }
+    ensures ready { IsPassOfTable table.now pass.new × IsIdle (view_of pass.new) }
 {
-    let LookUp { found, freed } = table.look_up(rt, pass, 0);
+    let LookUp { found, freed } = table.look_up(pass, 0);
     discard(freed, closed);
     if let Ok(hold) = found {
-        discard(table.release(rt, pass, hold), closed);
+        discard(table.release(pass, hold), closed);
     }
 }
 
 // Replaces the file `TIMES` times, or looks it up `TIMES` times.
-fn work<T: SharedTable, R: Wait>(
-    rt: &R,
+fn work(
     catalogue: &Catalogue,
-    table: &T,
-    pass: &mut T::Pass,
+    table: &LastingTable,
+    pass: &mut LastingPass,
     replaces: bool,
     closed: &AtomicU32,
 )
-    requires ready { T.fits table.now pass.old × IsIdle (T.view pass.old) }
-    requires slot { 0 < size_of (T.opening table.now) }
+    requires ready { IsPassOfTable table.now pass.old × IsIdle (view_of pass.old) }
+    requires slot { 0 < size_of (opening_of_table table.now) }
     requires entry { 0 < length catalogue.now }
-    ensures ready { T.fits table.now pass.new × IsIdle (T.view pass.new) }
+    ensures ready { IsPassOfTable table.now pass.new × IsIdle (view_of pass.new) }
 {
     for _ in 0..TIMES {
         if replaces {
-            replace(rt, catalogue, table, pass, closed);
+            replace(catalogue, table, pass, closed);
         } else {
-            look(rt, table, pass, closed);
+            look(table, pass, closed);
         }
     }
 }
 
 // Runs each pass in a thread of its own, and waits for both threads. The first thread replaces.
-fn run_both<T: SharedTable, R: Threads + Wait + Sync>(
+fn run_both<R: Threads + Wait + Sync>(
     rt: &R,
     catalogue: &Catalogue,
-    table: &T,
-    passes: &mut Vec<T::Pass>,
+    table: &LastingTable,
+    passes: &mut Vec<LastingPass>,
     closed: &AtomicU32,
 )
-    requires ready { All (λ p. T.fits table.now p × IsIdle (T.view p)) passes.old.items }
-    requires slot { 0 < size_of (T.opening table.now) }
+    requires ready { All (λ p. IsPassOfTable table.now p × IsIdle (view_of p)) passes.old.items }
+    requires slot { 0 < size_of (opening_of_table table.now) }
     requires entry { 0 < length catalogue.now }
-    ensures ready { All (λ p. T.fits table.now p × IsIdle (T.view p)) passes.new.items }
+    ensures ready { All (λ p. IsPassOfTable table.now p × IsIdle (view_of p)) passes.new.items }
     ensures count { length passes.new.items ≡ length passes.old.items }
 {
     thread::for_each_mut(
         rt,
         passes.as_mut_slice(),
         2,
-        &|i, pass: &mut T::Pass|
-            requires { T.fits table.now pass.old × IsIdle (T.view pass.old)
-                × (0 < size_of (T.opening table.now)) × (0 < length catalogue.now) }
-            ensures { T.fits table.entry.now pass.new × IsIdle (T.view pass.new) }
-        { work(rt, catalogue, table, pass, i == 0, closed) },
+        &|i, pass: &mut LastingPass|
+            requires { IsPassOfTable table.now pass.old × IsIdle (view_of pass.old)
+                × (0 < size_of (opening_of_table table.now)) × (0 < length catalogue.now) }
+            ensures { IsPassOfTable table.entry.now pass.new × IsIdle (view_of pass.new) }
+        { work(catalogue, table, pass, i == 0, closed) },
     );
 }
 

@@ -1,12 +1,12 @@
 //! The life of the table: it is opened, served by four threads, and closed after the last request.
 ghost use Rattle.std.specs.Prelude.{◌≡◌, ◌≤◌, All, length, vec_len};
+ghost use Rattle.fx_lasting.specs.Tables.{IsPassOfTable, view_of};
 ghost use Rattle.fx_table.specs.Pass.{IsIdle};
 
 use crate::desk::Desk;
 use crate::serve::serve;
 use fx_base::{CloseList, NoMemory, OpenFile};
-use fx_lasting::LastingTable;
-use fx_table::SharedTable;
+use fx_lasting::{LastingPass, LastingTable};
 use std::alloc::Global;
 use std::sync::Wait;
 use std::thread;
@@ -19,24 +19,24 @@ pub const SLOTS: u32 = 4;
 const PASSES: u32 = 4;
 
 // Serves by each pass in a thread of its own, until there are no more requests.
-fn serve_by_threads<T: SharedTable, R: Threads + Wait + Sync>(
+fn serve_by_threads<R: Threads + Wait + Sync>(
     rt: &R,
     alloc: Global,
     desk: &Desk<'_>,
-    table: &T,
-    passes: &mut Vec<T::Pass>,
+    table: &LastingTable,
+    passes: &mut Vec<LastingPass>,
 )
-    requires ready { All (λ p. T.fits table.now p × IsIdle (T.view p)) passes.old.items }
-    ensures ready { All (λ p. T.fits table.now p × IsIdle (T.view p)) passes.new.items }
+    requires ready { All (λ p. IsPassOfTable table.now p × IsIdle (view_of p)) passes.old.items }
+    ensures ready { All (λ p. IsPassOfTable table.now p × IsIdle (view_of p)) passes.new.items }
     ensures count { length passes.new.items ≡ length passes.old.items }
 {
     thread::for_each_mut(
         rt,
         passes.as_mut_slice(),
         PASSES as usize,
-        &|_, pass: &mut T::Pass|
-            requires { T.fits table.now pass.old × IsIdle (T.view pass.old) }
-            ensures { T.fits table.entry.now pass.new × IsIdle (T.view pass.new) }
+        &|_, pass: &mut LastingPass|
+            requires { IsPassOfTable table.now pass.old × IsIdle (view_of pass.old) }
+            ensures { IsPassOfTable table.entry.now pass.new × IsIdle (view_of pass.new) }
         { serve(rt, alloc, desk, table, pass) },
     );
 }

@@ -1,11 +1,13 @@
 //! The work of one thread of the server, by its pass.
 ghost use Rattle.std.specs.Prelude.{◌<◌, ◌≤◌, ◌+◌, IfOk, vec_len, vec_capacity};
+ghost use Rattle.fx_lasting.specs.Tables.{IsPassOfTable, opening_of_table, view_of};
 ghost use Rattle.fx_table.specs.Opening.{size_of};
 ghost use Rattle.fx_table.specs.Pass.{IsIdle};
 
 use crate::desk::{Desk, Job};
 use fx_base::{CloseList, Mark, NoMemory, OpenFile};
-use fx_table::{LookUp, SharedTable};
+use fx_lasting::{LastingPass, LastingTable};
+use fx_table::LookUp;
 use std::alloc::Global;
 use std::sync::Wait;
 use std::sync::atomic::Ordering;
@@ -43,45 +45,43 @@ fn make_room(alloc: Global, desk: &Desk<'_>, closes: &mut CloseList) -> Result<(
 // Reads the first bytes of the file at a slot, and checks whether there are as many. Closes the
 // file if this is its last user, and also a file that was removed while this look-up was on its way
 // and that nobody else uses.
-fn read_once<T: SharedTable, R: Wait>(
-    rt: &R,
+fn read_once(
     desk: &Desk<'_>,
-    table: &T,
-    pass: &mut T::Pass,
+    table: &LastingTable,
+    pass: &mut LastingPass,
     slot: u32,
     bytes: &mut Vec<u8>,
     closes: &mut CloseList,
 ) -> bool
-    requires ready { T.fits table.now pass.old × IsIdle (T.view pass.old) }
-    requires slot { slot < size_of (T.opening table.now) }
+    requires ready { IsPassOfTable table.now pass.old × IsIdle (view_of pass.old) }
+    requires slot { slot < size_of (opening_of_table table.now) }
     requires bytes { vec_len bytes.old + LENGTH ≤ vec_capacity bytes.old }
     requires room { 2 ≤ closes.old.room }
-    ensures ready { T.fits table.now pass.new × IsIdle (T.view pass.new) }
+    ensures ready { IsPassOfTable table.now pass.new × IsIdle (view_of pass.new) }
 {
-    let LookUp { found, freed } = table.look_up(rt, pass, slot);
+    let LookUp { found, freed } = table.look_up(pass, slot);
     close_returned(freed, closes);
     let Ok(hold) = found else {
         return false;
     };
     let count = desk.catalogue.read_into(hold.entry, 0, LENGTH, bytes);
-    close_returned(table.release(rt, pass, hold), closes);
+    close_returned(table.release(pass, hold), closes);
     count == LENGTH
 }
 
 // Reads the first bytes of the file at a slot as often as the client asks. Counts the request if
 // each look-up read a file.
-fn read<T: SharedTable, R: Wait>(
-    rt: &R,
+fn read(
     alloc: Global,
     desk: &Desk<'_>,
-    table: &T,
-    pass: &mut T::Pass,
+    table: &LastingTable,
+    pass: &mut LastingPass,
     slot: u32,
     times: u32,
     closes: &mut CloseList,
 ) -> Result<(), NoMemory>
-    requires ready { T.fits table.now pass.old × IsIdle (T.view pass.old) }
-    ensures ready { T.fits table.now pass.new × IsIdle (T.view pass.new) }
+    requires ready { IsPassOfTable table.now pass.old × IsIdle (view_of pass.old) }
+    ensures ready { IsPassOfTable table.now pass.new × IsIdle (view_of pass.new) }
 {
     if slot >= table.size() {
         return Ok(());
@@ -90,7 +90,7 @@ fn read<T: SharedTable, R: Wait>(
     for _ in 0..times {
         make_room(alloc, desk, closes)?;
         let mut bytes = Vec::with_capacity(alloc, LENGTH as usize)?;
-        has_read &= read_once(rt, desk, table, pass, slot, &mut bytes, closes);
+        has_read &= read_once(desk, table, pass, slot, &mut bytes, closes);
     }
     if has_read {
         desk.read.fetch_add(1, Ordering::SeqCst);
@@ -99,19 +99,18 @@ fn read<T: SharedTable, R: Wait>(
 }
 
 // Puts a file at a slot, and closes the old one if nobody reads it.
-fn replace<T: SharedTable, R: Wait>(
-    rt: &R,
+fn replace(
     desk: &Desk<'_>,
-    table: &T,
-    pass: &mut T::Pass,
+    table: &LastingTable,
+    pass: &mut LastingPass,
     slot: u32,
     entry: u8,
     tag: u64,
     closes: &mut CloseList,
 )
-    requires ready { T.fits table.now pass.old × IsIdle (T.view pass.old) }
+    requires ready { IsPassOfTable table.now pass.old × IsIdle (view_of pass.old) }
     requires room { 2 ≤ closes.old.room }
-    ensures ready { T.fits table.now pass.new × IsIdle (T.view pass.new) }
+    ensures ready { IsPassOfTable table.now pass.new × IsIdle (view_of pass.new) }
 {
     let is_right = slot < table.size() && (entry as u32) < desk.catalogue.len();
     if !is_right || table.numbers_left(pass) == 0 {
@@ -119,29 +118,28 @@ fn replace<T: SharedTable, R: Wait>(
     }
     let mark = Mark::Registered { k: 1, i: slot };
     let file = desk.catalogue.open(entry, mark, tag);
-    if let Some(removed) = table.put(rt, pass, slot, file) {
-        close_returned(table.retire(rt, pass, removed), closes);
+    if let Some(removed) = table.put(pass, slot, file) {
+        close_returned(table.retire(pass, removed), closes);
     }
 }
 
 // Serves a request.
-fn answer<T: SharedTable, R: Wait>(
-    rt: &R,
+fn answer(
     alloc: Global,
     desk: &Desk<'_>,
-    table: &T,
-    pass: &mut T::Pass,
+    table: &LastingTable,
+    pass: &mut LastingPass,
     job: Job,
     closes: &mut CloseList,
 ) -> Result<(), NoMemory>
-    requires ready { T.fits table.now pass.old × IsIdle (T.view pass.old) }
-    ensures ready { T.fits table.now pass.new × IsIdle (T.view pass.new) }
+    requires ready { IsPassOfTable table.now pass.old × IsIdle (view_of pass.old) }
+    ensures ready { IsPassOfTable table.now pass.new × IsIdle (view_of pass.new) }
 {
     match job {
-        Job::Read { slot, times } => read(rt, alloc, desk, table, pass, slot, times, closes),
+        Job::Read { slot, times } => read(alloc, desk, table, pass, slot, times, closes),
         Job::Replace { slot, entry, tag } => {
             make_room(alloc, desk, closes)?;
-            replace(rt, desk, table, pass, slot, entry, tag, closes);
+            replace(desk, table, pass, slot, entry, tag, closes);
             Ok(())
         }
     }
@@ -159,15 +157,15 @@ fn refuse_all<R: Wait>(rt: &R, desk: &Desk<'_>) {
 
 /// Serves requests until there are no more. A request for which an allocation fails is counted as
 /// refused. The thread closes the files that its requests return, into a list of its own.
-pub fn serve<T: SharedTable, R: Wait>(
+pub fn serve<R: Wait>(
     rt: &R,
     alloc: Global,
     desk: &Desk<'_>,
-    table: &T,
-    pass: &mut T::Pass,
+    table: &LastingTable,
+    pass: &mut LastingPass,
 )
-    requires ready { T.fits table.now pass.old × IsIdle (T.view pass.old) }
-    ensures ready { T.fits table.now pass.new × IsIdle (T.view pass.new) }
+    requires ready { IsPassOfTable table.now pass.old × IsIdle (view_of pass.old) }
+    ensures ready { IsPassOfTable table.now pass.new × IsIdle (view_of pass.new) }
 {
     let Ok(mut closes) = CloseList::with_room(alloc, ROOM) else {
         return refuse_all(rt, desk);
@@ -178,7 +176,7 @@ pub fn serve<T: SharedTable, R: Wait>(
             break;
         };
         has_served = true;
-        let count = match answer(rt, alloc, desk, table, pass, job, &mut closes) {
+        let count = match answer(alloc, desk, table, pass, job, &mut closes) {
             Ok(()) => &desk.served,
             Err(NoMemory) => &desk.refused,
         };

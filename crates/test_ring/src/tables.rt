@@ -1,16 +1,13 @@
-//! Shared tables without a ring: two passes in every interleaving of their calls, and a chain on a
-//! table that lasts. Each call returns, whatever the other pass holds or has yet to retire: no
-//! clause says that a call which may wait returns. What it returns is in its contract.
-ghost use Rattle.std.specs.Prelude.{◌≡◌, true, All, length};
+//! Shared tables without a ring: two passes in every interleaving of their calls. Each call
+//! returns, whatever the other pass holds or has yet to retire: no clause says that a call which
+//! may wait returns. What it returns is in its contract.
+ghost use Rattle.std.specs.Prelude.{◌≡◌, All, length};
 ghost use Rattle.fx_table.specs.Pass.{IsHoldOf, IsIdle, IsRetiredOf};
-ghost use Rattle.fx_lasting.specs.Tables.{IsPassOfTable, opening_of_table, view_of};
 
-use crate::setting::{Host, close, first_chain, in_chain, one_file, open, read};
-use fx_base::{Catalogue, CloseList, Mark, OpenFile};
+use crate::setting::{Host, one_file};
+use fx_base::{Catalogue, Mark, OpenFile};
 use fx_baton::BatonTable;
-use fx_chain::{Completion, OpenGate, run_chain};
 use fx_counted::CountedTable;
-use fx_lasting::{LastingPass, LastingTable};
 use fx_plain::PlainTable;
 use fx_table::{FileTable, Hold, Retired};
 
@@ -178,59 +175,4 @@ fn retired_while_held(rt: HostRuntime) {
         play_on::<BatonTable, _>(&rt, used);
         play_on::<CountedTable, _>(&rt, used);
     }
-}
-
-// Opens a table of one slot that lasts, with one pass, which installs files.
-fn open_lasting<H: Host>(rt: &H) -> (LastingTable, Vec<LastingPass>)
-    ensures lasts { (opening_of_table result.0).lasts ≡ true }
-    ensures passes { (opening_of_table result.0).passes ≡ 1 }
-    ensures count { length result.1.items ≡ 1 }
-    ensures ready { All (λ p. IsPassOfTable result.0 p × IsIdle (view_of p)) result.1.items }
-{
-    match LastingTable::open_sparse(rt.alloc(), 1, (0, 1), 1, 1) {
-        Ok(opened) => opened,
-        Err(_refused) => panic!(rt; "memory for a shared table"),
-    }
-}
-
-// Checks whether these are the completions of an open, a read of five bytes and a close, by the
-// first chain, and whether the file that the chain opened is closed.
-fn is_played(out: &[Completion], closes: &CloseList) -> bool {
-    out.len() == 3
-        && out[0].is_answer(first_chain(1), 0, &[])
-        && out[1].is_answer(first_chain(2), 5, &[7; 5])
-        && out[2].is_answer(first_chain(3), 0, &[])
-        && closes.files() == [first_chain(1).installed(0, 0)].as_slice()
-}
-
-// Plays a chain that opens a file at the slot, reads five bytes of it and closes the slot. Nobody
-// else uses the table, so that the close finds the file and closes it.
-fn play_chain<H: Host>(rt: &H, table: &LastingTable, pass: &mut LastingPass)
-    requires lasts { (opening_of_table table.now).lasts ≡ true }
-    requires ready { IsPassOfTable table.now pass.old × IsIdle (view_of pass.old) }
-    ensures ready { IsPassOfTable table.now pass.new × IsIdle (view_of pass.new) }
-{
-    let (alloc, catalogue) = (rt.alloc(), one_file(rt));
-    let open = in_chain(open(rt), 0);
-    let requests = [open, in_chain(read(0, 0, 5), 1), close(0)];
-    let mut out = Vec::with_capacity(alloc, 3).expect(rt, "memory");
-    let mut closes = CloseList::with_room(alloc, 4).expect(rt, "memory");
-    assert!(rt; 3 <= table.looks_left(pass) && 1 <= table.numbers_left(pass));
-    let (gate, out_of, closed) = (&OpenGate, &mut out, &mut closes);
-    run_chain(
-        rt, alloc, table, pass, &catalogue, 1, 1, &requests, gate, out_of, closed,
-    );
-    assert!(rt; table.is_idle(pass) && is_played(&out, &closes));
-}
-
-// No ring plays a chain on a table that lasts, so that only this test does.
-#[test]
-fn chain_on_a_table_that_lasts(rt: HostRuntime) {
-    let (table, mut passes) = open_lasting(&rt);
-    play_chain(&rt, &table, &mut passes[0]);
-    let size = table.size() as usize;
-    let room = Vec::with_capacity(rt.alloc(), size).expect(&rt, "room for each file");
-    let left = table.close(passes, room);
-    assert!(rt; left.is_empty());
-    left.destroy_empty();
 }

@@ -5,6 +5,6 @@ use Rattle.bench_tables.proofs.work.do_work.Given as goal
 
 abbrev pub invariant-loop-i : goal.invariant-loop-i
 invariant-loop-i g l = record {
-  ready : g.T.SharedTable.fits l.table l.pass × IsIdle (g.T.SharedTable.view l.pass);
+  ready : g.T.FileTable.fits l.table l.pass × IsIdle (g.T.FileTable.view l.pass);
   room : READ_LEN ≤ vec_capacity l.into;
 }
