@@ -28,7 +28,7 @@ PROOFS, BODIES = "docs/inside/PROOFS.md", "crates/WRONG_BODIES.md"
 CALLER = "Preconditions of the public calls"
 # the least number of claims of each kind
 LEAST = {"tables": 600, "conditions": 85, "reading list": 4, "promises": 6, "wrong bodies": 480, "quotes": 170,
-         "atomic steps": 14, "defaults": 8, "options": 20, "wrong claims": 3, "pages": 450, "measurements": 30, "kept outputs": 8}
+         "atomic steps": 13, "defaults": 8, "options": 20, "wrong claims": 3, "pages": 450, "measurements": 30, "kept outputs": 8}
 # the kept outputs of which docs/use/CHECKING.md shows lines, and how many
 QUOTED = {"examples/judged/explained.judged": 6, "examples/judged/submissions.judged": 5, "examples/questions/replaced_under_a_reader.texts": 7,
           "examples/questions/open_any_beside_a_close.texts": 6}
@@ -69,7 +69,7 @@ def contracts_in(text, file):
     for path, parts in functions_of(text):
         owner, _, name = re.sub(r"(\byacht_\w+)_\d+$", r"\1", path).rpartition("::")
         owners, heads = {file, *re.findall(r"\w+", owner)}, [re.match(r"(requires|ensures)\*?(?: (\w+))?", it) for it in parts[1:]]
-        if "for" not in owners or {"SharedTable", "FileTable"} & owners:
+        if "for" not in owners or "FileTable" in owners:
             yield Contract(name, owners, {it[2] for it in heads}, words_of(" ".join(parts)), any(it[1] == "requires" for it in heads))
     for head, body in re.findall(r"^(?:pub(?:\([a-z]+\))? )?(?:impl|trait)\b(.*?) \{\n(.*?)^\}", text, re.MULTILINE | re.DOTALL):
         if model := re.fullmatch(r" Model for (\w+)", head):
