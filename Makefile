@@ -38,7 +38,7 @@ help:
 	@echo 'Test:'
 	@echo '  make test                     proves and tests everything'
 	@echo 'Measure:'
-	@echo '  make bench                    times scripts and tables against plain Rust, and the judge of logs'
+	@echo '  make bench                    compares scripts with plain Rust, and times the judge of logs'
 	@echo '  make help-all                 lists all commands'
 
 help-all: help

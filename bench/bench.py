@@ -1,14 +1,10 @@
-"""bench [--instructions] PROGRAM TABLES: times scripts on the program and on bench/plain.rs, a plain Rust program that does the same,
-alternately in one run. It prints each time as a multiple of the plain program's, and fails only if the two write different texts. Then
-TABLES, the program of crates/bench_tables, measures the shared tables alternately. With --instructions it only counts the
-instructions of playing a tenth of each script's submissions, by callgrind (valgrind).
-
-Each time is CPU time: the least of several runs, less that of the same script with a bad line at its end, which is read and not
-played. So it is the time of playing alone; reading is timed after it. Without rustc only the program's own times are printed. A
-submission is timed on 1, 2 and 4 workers by wall-clock time, which other work changes; the machine's load is printed with it."""
+"""bench PROGRAM TABLES: compares the program with bench/plain.rs, a plain Rust program that does the same. It prints the instructions of
+playing scripts, each as a multiple of the plain program's, and fails only if the two write different texts. They are counted by
+callgrind (valgrind), of a tenth of each script's submissions, less those of the same script with a bad line at its end, which is read
+and not played. Then a submission is timed on 1, 2 and 4 workers by wall-clock time, which other work changes, and the opening of the
+shared tables, by TABLES, the program of crates/bench_tables, alternately."""
 import os
 import re
-import resource
 import shutil
 import subprocess
 import sys
@@ -35,7 +31,7 @@ def own_slots(times):
     return lines("file a.txt 68656c6c6f", "sparse 256", *([request for chain in chains for request in linked(*chain)] + ["submit"]) * times)
 
 
-def scripts(part=1):
+def scripts(part):
     """Each script with what it shows. Of those with several submissions it makes a part."""
     yield "1,023 chains of one read (nothing is installed), 200 times", lines(*FULL, *(["read 7 0 5"] * 1023 + ["submit"]) * (200 // part))
     opens = [f"open a.txt at {it % 256}" for it in range(1023)]
@@ -47,30 +43,6 @@ def scripts(part=1):
     yield "16,368 opens, reads and closes, of each chain at one of 256 slots, 10 times", own_slots(10 // part)
     yield "16,368 updates of 16 entries", heaviest_submission()[0]
     yield "1,023 reads of 4,096 bytes (a text of 8 million bytes)", large_text(1)[0]
-
-
-def processor_time():
-    """The seconds of the programs that have ended: other work on the machine disturbs them less than a clock."""
-    used = resource.getrusage(resource.RUSAGE_CHILDREN)
-    return used.ru_utime + used.ru_stime
-
-
-def least_time(program, script):
-    """Returns the CPU seconds of the quickest run, its text and its status."""
-    best, ran = None, None
-    for _ in range(RUNS):
-        started = processor_time()
-        ran = subprocess.run([program], input=script.encode(), capture_output=True)
-        took = processor_time() - started
-        best = took if best is None else min(best, took)
-    return best, ran.stdout, ran.returncode
-
-
-def playing_time(program, script):
-    whole, text, status = least_time(program, script)
-    if status != 0:
-        sys.exit(f"bench: {program} ended with status {status}")
-    return whole - least_time(program, script + BAD_LINE)[0], text
 
 
 def counted(program, script):
@@ -92,42 +64,21 @@ def small_scripts():
 
 
 def count_instructions(program, plain):
-    """Prints the instructions of each script by those of the plain program, and of a small submission over each table."""
+    """Prints the instructions of each script by those of the plain program. Returns how many of the texts differ."""
+    differ = 0
     for what, script in scripts(PART):
+        texts = [subprocess.run([it], input=script.encode(), capture_output=True, check=True).stdout for it in (program, plain)]
+        differ += texts[0] != texts[1]
         own, other = instructions([program], script), instructions([plain], script)
         print(f"bench: {what}: {own / other:.2f} times the plain program's {other:,} instructions", flush=True)
     for what, script, none in small_scripts():
-        other = instructions([plain], script) - instructions([plain], none)
-        for table in "words", "baton":
-            own = instructions([program, "--table", table], script) - instructions([program, "--table", table], none)
-            print(f"bench: {what} by itself over {table}: {own / other:.2f} times the plain program's {other / 5_000:,.0f} instructions", flush=True)
-    own, other = (counted([it], only_read()) for it in (program, plain))
-    print(f"bench: {len(only_read()):,} bytes of requests are read: {own / other:.2f} times the plain program's {other:,} instructions", flush=True)
-
-
-def plain_program():
-    """The second program, or None where it can't be built here."""
-    if shutil.which("rustc") is None:
-        print("bench: there is no rustc here: nothing to compare with")
-        return None
-    os.makedirs(BUILD, exist_ok=True)
-    subprocess.run(["rustc", "-O", "--edition", "2021", "-o", f"{BUILD}/plain", f"{ROOT}/bench/plain.rs"], check=True)
-    return f"{BUILD}/plain"
-
-
-def tell(what, own, plain):
-    beside = f", {own / plain:.1f} times the plain program's {1000 * plain:.1f}" if plain else ""
-    print(f"bench: {what}: {1000 * own:.1f} ms{beside}", flush=True)
-
-
-def only_read():
-    """Returns a script of 4 million bytes that is read and not played, since its last line is bad."""
-    return lines(*["read 7 0 5"] * 380_000) + BAD_LINE
-
-
-def measure_reading(program, plain):
-    script = only_read()
-    tell(f"{len(script):,} bytes of requests are read", least_time(program, script)[0], plain and least_time(plain, script)[0])
+        own, other = (instructions([it], script) - instructions([it], none) for it in (program, plain))
+        print(f"bench: {what} by itself: {own / other:.2f} times the plain program's {other / 5_000:,.0f} instructions", flush=True)
+    # it is read and not played, since its last line is bad
+    script = lines(*["read 7 0 5"] * 380_000) + BAD_LINE
+    own, other = (counted([it], script) for it in (program, plain))
+    print(f"bench: {len(script):,} bytes of requests are read: {own / other:.2f} times the plain program's {other:,} instructions", flush=True)
+    return differ
 
 
 def clock_of(program, workers, path):
@@ -171,28 +122,22 @@ def table_time(program, table, work, threads):
 
 
 def measure_tables(program):
-    print(f"bench: the tables compared, each line the median of {RUNS} rounds", flush=True)
-    for name, work in ratios.rows():
+    for name, work in (it for it in ratios.rows() if it[1].startswith("open ")):
         for threads in 1, 2, 4:
             rounds = [{it: table_time(program, it, work, threads) for it in ("counted", "baton")} for _ in range(RUNS)]
             ratios.tell("bench", ratios.title(name, threads), rounds, 1)
 
 
 def command():
-    given = arguments(__doc__, "program tables", flags="instructions")
-    program, tables = given.program, given.tables
-    plain, differ = plain_program(), 0
-    if given.instructions:
-        count_instructions(program, plain)
-        return 0
-    for what, script in scripts():
-        own, text = playing_time(program, script)
-        other, wanted = playing_time(plain, script) if plain else (None, text)
-        tell(what, own, other)
-        if text != wanted:
-            print("bench: they wrote different texts")
-            differ += 1
-    measure_reading(program, plain)
-    measure_crews(program)
-    measure_tables(tables)
+    given = arguments(__doc__, "program tables")
+    for tool in "rustc", "valgrind":
+        if shutil.which(tool) is None:
+            sys.exit(f"bench: there is no {tool} here: nothing is measured")
+    os.makedirs(BUILD, exist_ok=True)
+    subprocess.run(["rustc", "-O", "--edition", "2021", "-o", f"{BUILD}/plain", f"{ROOT}/bench/plain.rs"], check=True)
+    differ = count_instructions(given.program, f"{BUILD}/plain")
+    measure_crews(given.program)
+    measure_tables(given.tables)
+    if differ:
+        print(f"bench: {differ} texts differ")
     return 1 if differ else 0

@@ -1,8 +1,7 @@
 """measure-calls [TIMES]: prints the instructions and the locked steps of calls of the Rust crate, by slot and by key, of its core as C calls
 it, and of arc-swap and sharded-slab, in a loop of one thread (crates/bench_rust/src/calls.rs), by callgrind: the difference between runs of
-TIMES calls (10,000) and of twice as many. `search` is an insertion into a table of 1,048,576 slots of which two are empty, and a removal by
-another handle; a hundredth as many are counted. A locked step is an instruction with a lock, or an exchange with memory. Of ten times as
-many look-ups at random of 65,536 values it prints how many cache lines each waits for, by cachegrind, with caches of 32 KB and of 1 MB. It
+TIMES calls (10,000) and of twice as many. A locked step is an instruction with a lock, or an exchange with memory. Of ten times as many
+look-ups at random of 65,536 values it prints how many cache lines each waits for, by cachegrind, with caches of 32 KB and of 1 MB. It
 needs valgrind, objdump and what bench/bench-rust needs, which builds the program first."""
 import os
 import re
@@ -15,7 +14,7 @@ from scripts.repository import ROOT
 PROGRAM = f"{ROOT}/build/bench_rust/release/bench_rust"
 TABLES = "crate", "crate by key", "core", "arc-swap load", "sharded-slab"
 RANDOM = "crate", "crate by key", "sharded-slab"
-CALLS = "loop", "look", "insert, remove", "insert, look, remove", "replace"
+CALLS = "look", "insert, remove", "insert, look, remove", "replace"
 
 
 def locked():
@@ -54,9 +53,8 @@ def command():
     those = locked()
     for table in TABLES:
         for calls in CALLS:
-            if (table, calls) != ("sharded-slab", "replace"):
+            if (table, calls) != ("sharded-slab", "replace") and not (table == "arc-swap load" and calls.startswith("insert")):
                 measure(those, table, calls, given.times)
-    measure(those, "crate by key", "search", max(given.times // 100, 1))
     times = 10 * given.times
     for table in RANDOM:
         small, large = ((last - first) / times for first, last in zip(missed(table, times), missed(table, 2 * times)))

@@ -1,9 +1,8 @@
 """measure-fixcheck PROGRAM FIXFILES [COUNT [KIND]]: measures how many texts fixcheck, the PROGRAM, decides, and how long it takes.
 
 FIXFILES plays COUNT scripts of each kind of submission, or of the kind with the number KIND, from 1, and fixcheck judges each text
-unchanged, with one line spoiled by one of the kinds of tests/spoiled_lines.py, and with the bytes of two reads of one slot exchanged,
-if it doesn't refuse that text before a search. A row has the numbers of texts that are legal, not legal and undecided, with the
-default limits, and the CPU seconds of the longest run and the MiB of the largest. It only measures: nothing fails it."""
+unchanged, and with one line spoiled by one of the kinds of tests/spoiled_lines.py. A row has the numbers of texts that are legal, not
+legal and undecided, with the default limits, and the CPU seconds of the longest run and the MiB of the largest."""
 import os
 import random
 import subprocess
@@ -94,48 +93,15 @@ def spoiled_somehow(rng, script, text):
             return wrong.text
 
 
-def read_slots(script):
-    """The slot of each read, by its place."""
-    slots, submission, chain, member = {}, 1, 1, 0
-    for line in script.splitlines():
-        command, *words = line.split(" ")
-        if command == "submit":
-            submission, chain, member = submission + 1, 1, 0
-        elif command in ("open", "read", "close", "update"):
-            member += 1
-            if command == "read":
-                slots[f"{submission}.{chain}.{member}"] = words[0]
-            if words[-1] != "link":
-                chain, member = chain + 1, 0
-    return slots
-
-
-def exchanged(rng, script, text):
-    """The text in which two reads of one slot, of different chains of a submission, have each other's bytes; or None if all such
-    reads have the same."""
-    slots, lines = read_slots(script), text.split("\n")
-    reads = [(at, *line.split(" ")) for at, line in enumerate(lines) if spoiled_lines.READ.match(line)]
-    pairs = [(one, other) for one in reads for other in reads
-             if one[0] < other[0] and slots[one[1]] == slots[other[1]] and one[3] != other[3] and one[1].split(".")[0] == other[1].split(".")[0]
-             and one[1].split(".")[1] != other[1].split(".")[1]]
-    if not pairs:
-        return None
-    one, other = rng.choice(pairs)
-    lines[one[0]], lines[other[0]] = " ".join([one[1], *other[2:]]), " ".join([other[1], *one[2:]])
-    return "\n".join(lines)
-
-
 class Row:
     """Verdicts, and what the longest and the largest took."""
 
     def __init__(self):
         self.verdicts, self.seconds, self.memory = dict.fromkeys(VERDICTS, 0), 0, 0
 
-    def ask(self, program, script, text, needs_search=False):
-        """Counts the verdict on a text, but not of one that is decided without a search, if it has to need one."""
+    def ask(self, program, script, text):
+        """Counts the verdict on a text."""
         with kept_script(script.encode()) as source, kept_script(text.encode()) as asked:
-            if needs_search and subprocess.run([program, "--states", "1", source, asked], stdout=subprocess.DEVNULL).returncode != UNDECIDED:
-                return
             it = subprocess.Popen([program, source, asked], stdout=subprocess.DEVNULL)
             _, status, usage = os.wait4(it.pid, 0)
             it.returncode = os.waitstatus_to_exitcode(status)
@@ -149,16 +115,13 @@ class Row:
 
 def measured(program, fixfiles, name, count):
     made, workers, turn = KINDS[name]
-    rows = {"played": Row(), "spoiled": Row(), "exchanged": Row()}
+    rows = {"played": Row(), "spoiled": Row()}
     for seed in range(count):
         rng = random.Random(seed)
         script = made(rng)
         text = played(fixfiles, script, workers, turn, seed)
         rows["played"].ask(program, script, text)
         rows["spoiled"].ask(program, script, spoiled_somehow(rng, script, text))
-        wrong = exchanged(rng, script, text)
-        if wrong is not None:
-            rows["exchanged"].ask(program, script, wrong, needs_search=True)
     for kind, row in rows.items():
         print(f"{name}, {kind}: {row.told()}", flush=True)
 

@@ -138,8 +138,7 @@ def of_searches():
 
 def of_lasting():
     rows = [("the core's calls / sharded-slab, by its own keys", "1 thread", "2 threads", "4 threads")]
-    names = [f"own-slot chains, {it}" for it in (*FULL[:2], "4,092 of 4,096 full", FULL[2])]
-    names += [f"allocation and take, {it}" for it in (*FULL[:2], "3,850 of 4,096 full", "4,092 of 4,096 full", FULL[2], "61,600 of 65,536 full")]
+    names = [f"{work}, {it}" for work in ("own-slot chains", "allocation and take") for it in (FULL[1], "4,092 of 4,096 full", FULL[2])]
     names += ["look and release, 4,096 slots", "look and release, 65,536 slots"]
     return lines([*rows, *((it, *on_threads("bench/tables.txt", it, "lasting", "sharded-slab keys")) for it in names)])
 
@@ -170,7 +169,7 @@ def of_counted():
 def of_program():
     """Returns the instructions of fixfiles by those of plain Rust, and the times of more workers by those of one."""
     rows = [("script", "fixfiles / plain")]
-    rows += [it for it in found("bench/program.txt", r"^bench: (.*?)(?: over words)?: ([\d.]+) times the plain") if "baton" not in it[0]]
+    rows += found("bench/program.txt", r"^bench: (.*?)(?: over words)?: ([\d.]+) times the plain")
     workers, text = [("by the clock, times as long as on one worker", "2 workers", "4 workers")], "bench/program.txt"
     name = "1,023 chains of 16 at one of 256 slots each"
     those = found(text, rf"^bench: {name}, \d+ times: .*?words, ([\d.]+) times that on 2 and ([\d.]+) times")
