@@ -302,7 +302,7 @@ INLINE = (
     ("docs/use/CHECKING.md", r"builds `fixcheck` before that \(", MINUTES, lambda: minutes("check_cli")),
     ("docs/use/KERNEL.md", r"build `fixcheck` once \(", MINUTES, lambda: minutes("check_cli")),
     ("docs/use/LINUX.md", r"builds `fixcheck` \(", MINUTES, lambda: minutes("check_cli")),
-    ("docs/use/LITMUS.md", r"`fixfiles` and `fixcheck` \(", MINUTES, lambda: minutes("fx_cli", "check_cli")),
+    ("docs/use/LINUX.md", r"`fixfiles` and `fixcheck` \(", MINUTES, lambda: minutes("fx_cli", "check_cli")),
     ("docs/inside/LIBRARY.md", r"crates below, in ", MINUTES, lambda: minutes("example_library")),
 )
 MARKED = re.compile(r"(<!-- bench/write-tables ([\w-]+) -->\n)(.*?)(\n<!-- end -->)", re.DOTALL)

@@ -8,8 +8,9 @@ from scripts.pages import anchors
 from scripts.repository import ROOT, read, write
 
 PAGES = {"docs/use/ARCHIVE.md": "README.md"} | {
-    it: it for it in (*(f"docs/{name}.md" for name in ("use/BAD_ENTRY", "use/BINDINGS", "use/C", "use/CHECKING", "use/CHOOSING", "use/DIRECT", "inside/FLIGHT", "use/KERNEL", "use/LIMITS", "use/LINUX", "use/LITMUS", "inside/MODEL", "use/PYTHON", "use/RECORDING", "use/RUST", "use/SCRIPT")), "examples/README.md")}
-ARM_PAGES = {"docs/use/ARCHIVE_ARM64.md": "README.md"} | {it: it for it in (f"docs/use/{name}.md" for name in ("BINDINGS", "C", "CHOOSING", "DIRECT", "PYTHON", "RUST"))}
+    it: it for it in (*(f"docs/{name}.md" for name in ("use/BAD_ENTRY", "use/BINDINGS", "use/C", "use/CHECKING", "use/CHOOSING", "use/DIRECT", "inside/FLIGHT", "use/KERNEL", "use/LIMITS", "use/LINUX", "inside/MODEL", "use/PYTHON", "use/RECORDING", "use/RUST", "use/SCRIPT")), "examples/README.md")}
+# the first page of the other archive is the section of the first one
+ARM_PAGES = {"docs/use/ARCHIVE.md": "README.md"} | {it: it for it in (f"docs/use/{name}.md" for name in ("BINDINGS", "C", "CHOOSING", "DIRECT", "PYTHON", "RUST"))}
 # what the archives have beside pages and scripts
 FOLDERS = ("LICENSE", "c", "completions", "docs/pictures", "examples", "kernel", "man")
 ARM_FOLDERS = ("LICENSE", "c", "examples", "man")
@@ -82,7 +83,10 @@ def with_links(text, source, page, is_arm=False):
 def command():
     folder, is_arm = sys.argv[-1], "--arm" in sys.argv[1:-1]
     for source, page in (ARM_PAGES if is_arm else PAGES).items():
-        text = with_links(with_commands(read(source)), source, page, is_arm)
+        text = read(source)
+        if is_arm and page == "README.md":
+            text = "# Yachtbanyan for ARM64\n" + text.split("## For ARM64\n")[1]
+        text = with_links(with_commands(text), source, page, is_arm)
         # the archive has these folders at its top, and its crate has the library inside
         text = re.sub(r"\bbindings/(?=(recorder|python)\b)|YACHTBANYAN_LIB_DIR=\.\./\.\./lib ", "", text)
         write(os.path.join(os.path.abspath(folder), page), text)

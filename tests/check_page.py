@@ -268,10 +268,9 @@ def command():
     for it, (script, text) in {"README.md": sample_of_readme(), "docs/use/SCRIPT.md": sample_of("docs/use/SCRIPT.md")}.items():
         checks.want(run([program], script) == (0, text, ""), f"the sample of {it} prints another text")
     checks.want(is_drawn("docs/inside/PROOFS.md"), "the history of docs/inside/PROOFS.md isn't the one that model/picture prints")
-    checks.want(read("crates/example_library/stdout") in texts_of("docs/inside/LIBRARY.md"), "docs/inside/LIBRARY.md has another text of example_library")
-    checks.want(read("crates/example_library/stdout").splitlines(True)[0] in texts_of("docs/inside/LIBRARY.md"), "docs/inside/LIBRARY.md has another text of first.rt")
-    first = [line for line in read("crates/example_library/src/first.rt").split("\n") if line]
-    checks.want(first in blocks(read("docs/inside/LIBRARY.md"), spans_gaps=True), "docs/inside/LIBRARY.md has another program than first.rt")
+    printed, shown = read("crates/example_library/stdout"), texts_of("docs/inside/LIBRARY.md")
+    checks.want(any(printed.endswith(it) for it in shown if it.count("\n") > 3), "docs/inside/LIBRARY.md ends with another text of example_library")
+    checks.want(printed.splitlines(True)[0] in shown, "docs/inside/LIBRARY.md has another text of first.rt")
     for name, holds in manual_pages({"fixfiles": program, "fixcheck": given.fixcheck}) if given.fixcheck else ():
         checks.want(holds, f"not right: {name}")
     table = dict(faults(section(page, "## Faults")))
