@@ -237,7 +237,7 @@ VERSION = re.compile(
     r'\byacht_(?:open|direct_open|judge|outcomes|judge_events|judge_whole_updates|explain_events)_)(?=\d)[\d.]*\d', re.M)
 # the files with the version, and how often each has it or a part of it
 VERSIONED = {
-    "bindings/python/yachtjudge.py": 16, "bindings/recorder/src/c.rs": 1, "bindings/rust/Cargo.toml": 1, "bindings/rust_judge/Cargo.toml": 1,
+    "bindings/python/yachtjudge.py": 11, "bindings/recorder/src/c.rs": 1, "bindings/rust/Cargo.toml": 1, "bindings/rust_judge/Cargo.toml": 1,
     **{f"bindings/rust_judge/src/{it}.rs": count for it, count in (("core", 5), ("log", 3), ("script", 2))},
     "crates/fx_arguments/src/fixcheck.rt": 1, "crates/fx_judge_c/src/exports.rt": 5,
     "include/yachtbanyan.h": 5, "include/yachtdirect.h": 5, "include/yachtjudge.h": 9,

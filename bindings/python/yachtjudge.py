@@ -25,7 +25,7 @@ from pathlib import Path
 from typing import TYPE_CHECKING, Any, Literal, Union
 
 from yachtevents import BadEvent, Events
-from yachtsteps import Point, Step, Steps, _Reason, _Step
+from yachtsteps import Point, Step, Steps, _Reason, _Step, fields
 
 if TYPE_CHECKING:
     import yachtlog
@@ -113,48 +113,23 @@ class LogVerdict:
 
 
 class _Verdict(ctypes.Structure):
-    _fields_ = [
-        ("commands", c_uint64),
-        ("at", c_uint64),
-        ("note", c_uint64),
-        ("submission", c_uint32),
-        ("line", c_uint32),
-    ]
+    _fields_ = fields(uint64="commands at note", uint32="submission line")
 
 
 class _Texts(ctypes.Structure):
-    _fields_ = [("count", c_uint64), ("bytes", c_uint64), ("line", c_uint32)]
+    _fields_ = fields(uint64="count bytes", uint32="line")
 
 
 class _Event(ctypes.Structure):
-    _fields_ = [
-        ("kind", c_uint32),
-        ("call", c_uint32),
-        ("member", c_uint32),
-        ("res", c_int32),
-        ("slot", c_uint32),
-        ("first", c_uint32),
-        ("count", c_uint32),
-        ("by_call", c_uint32),
-        ("by_member", c_uint32),
-        ("by_entry", c_uint32),
-        ("file", c_uint8),
-    ]
+    _fields_ = [*fields(uint32="kind call member", int32="res"), *fields(uint32="slot first count by_call by_member by_entry", uint8="file")]
 
 
 class _Request(ctypes.Structure):
-    _fields_ = [
-        ("kind", c_uint32),
-        ("slot", c_uint32),
-        ("first", c_uint32),
-        ("count", c_uint32),
-        ("flags", c_uint8),
-        ("file", c_uint8),
-    ]
+    _fields_ = fields(uint32="kind slot first count", uint8="flags file")
 
 
 class _Judgement(ctypes.Structure):
-    _fields_ = [("at", c_uint64), ("fault", c_uint32), ("line", c_uint32)]
+    _fields_ = fields(uint64="at", uint32="fault line")
 
 
 def _paths() -> Iterator[Path]:
@@ -197,82 +172,17 @@ def _load() -> ctypes.CDLL:
 
 
 _library = _load()
-_library.yacht_judge_6.restype = c_uint32
-_library.yacht_judge_6.argtypes = [
-    POINTER(c_uint8),
-    c_size_t,
-    POINTER(c_uint8),
-    c_size_t,
-    c_uint32,
-    c_uint32,
-    POINTER(c_uint8),
-    c_size_t,
-    POINTER(_Verdict),
-]
-_library.yacht_outcomes_6.restype = c_uint32
-_library.yacht_outcomes_6.argtypes = [
-    POINTER(c_uint8),
-    c_size_t,
-    c_uint32,
-    c_uint32,
-    POINTER(c_uint8),
-    c_size_t,
-    POINTER(c_uint64),
-    c_size_t,
-    POINTER(_Texts),
-]
-_library.yacht_judge_events_6.restype = c_uint32
-_library.yacht_judge_events_6.argtypes = [
-    POINTER(c_uint8),
-    c_size_t,
-    c_uint32,
-    POINTER(_Request),
-    c_size_t,
-    POINTER(c_int32),
-    c_size_t,
-    POINTER(c_uint8),
-    c_size_t,
-    POINTER(_Event),
-    c_size_t,
-    c_uint32,
-    c_uint32,
-    POINTER(_Judgement),
-]
-_library.yacht_judge_whole_updates_6.restype = c_uint32
-_library.yacht_judge_whole_updates_6.argtypes = [
-    POINTER(c_uint8),
-    c_size_t,
-    c_uint32,
-    POINTER(_Request),
-    c_size_t,
-    POINTER(c_int32),
-    c_size_t,
-    POINTER(c_uint8),
-    c_size_t,
-    POINTER(_Event),
-    c_size_t,
-    c_uint32,
-    c_uint32,
-    POINTER(_Judgement),
-]
-_library.yacht_explain_events_6.restype = c_uint32
-_library.yacht_explain_events_6.argtypes = [
-    POINTER(c_uint8),
-    c_size_t,
-    c_uint32,
-    POINTER(_Request),
-    c_size_t,
-    POINTER(c_int32),
-    c_size_t,
-    POINTER(c_uint8),
-    c_size_t,
-    POINTER(_Event),
-    c_size_t,
-    c_uint64,
-    POINTER(_Step),
-    c_size_t,
-    POINTER(_Reason),
-]
+# bytes, the limits, and a log
+_BYTES, _LIMITS = (POINTER(c_uint8), c_size_t), (c_uint32, c_uint32)
+_LOG = *_BYTES, c_uint32, POINTER(_Request), c_size_t, POINTER(c_int32), c_size_t, *_BYTES, POINTER(_Event), c_size_t
+for _function, _given in (
+    (_library.yacht_judge_6, (*_BYTES, *_BYTES, *_LIMITS, *_BYTES, POINTER(_Verdict))),
+    (_library.yacht_outcomes_6, (*_BYTES, *_LIMITS, *_BYTES, POINTER(c_uint64), c_size_t, POINTER(_Texts))),
+    (_library.yacht_judge_events_6, (*_LOG, *_LIMITS, POINTER(_Judgement))),
+    (_library.yacht_judge_whole_updates_6, (*_LOG, *_LIMITS, POINTER(_Judgement))),
+    (_library.yacht_explain_events_6, (*_LOG, c_uint64, POINTER(_Step), c_size_t, POINTER(_Reason))),
+):
+    _function.restype, _function.argtypes = c_uint32, _given
 
 
 def _bytes(of: Words, name: str) -> tuple[Any, int]:

@@ -4,8 +4,7 @@ from __future__ import annotations
 
 import ctypes
 from collections.abc import Sequence
-from ctypes import c_uint8, c_uint32, c_uint64
-from typing import TYPE_CHECKING, NamedTuple
+from typing import TYPE_CHECKING, Any, NamedTuple
 
 from yachtevents import numbered
 from yachtlines import NO_FILE, Mark
@@ -28,6 +27,11 @@ SHAPES = {
     "stays": (1, False, 1), "takes": (0, False, 2), "taken-by": (0, False, 2), "lands": (0, False, 1),
     "misses": (0, False, 1), "existed": (1, False, 0),
 }
+
+
+def fields(**kinds: Any) -> list[tuple[str, Any]]:
+    """Returns the members of a struct, of each type those with these names, in order."""
+    return [(name, getattr(ctypes, f"c_{kind}")) for kind, names in kinds.items() for name in names.split()]
 
 
 class Point(NamedTuple):
@@ -57,35 +61,15 @@ class Step(NamedTuple):
 
 
 class _Point(ctypes.Structure):
-    _fields_ = [
-        ("kind", c_uint32),
-        ("slot", c_uint32),
-        ("at", c_uint64),
-        ("access", c_uint64),
-        ("by_call", c_uint32),
-        ("by_member", c_uint32),
-        ("by_entry", c_uint32),
-        ("file", c_uint8),
-    ]
+    _fields_ = fields(uint32="kind slot", uint64="at access") + fields(uint32="by_call by_member by_entry", uint8="file")
 
 
 class _Step(ctypes.Structure):
-    _fields_ = [
-        ("rule", c_uint32),
-        ("is_strict", c_uint32),
-        ("first", c_uint64),
-        ("second", c_uint64),
-        ("access", c_uint64),
-        ("premise", c_uint64),
-        ("other", c_uint64),
-        ("slot", c_uint64),
-        ("from", _Point),
-        ("to", _Point),
-    ]
+    _fields_ = [*fields(uint32="rule is_strict", uint64="first second access premise other slot"), ("from", _Point), ("to", _Point)]
 
 
 class _Reason(ctypes.Structure):
-    _fields_ = [("steps", c_uint64), ("at", c_uint64), ("fault", c_uint32), ("line", c_uint32)]
+    _fields_ = fields(uint64="steps at", uint32="fault line")
 
 
 class Steps:

@@ -2,57 +2,39 @@
 use std::error::Error;
 use std::fmt;
 
-/// The reason why an event isn't one of a log.
-#[derive(Clone, Copy, Debug, PartialEq, Eq)]
-#[non_exhaustive]
-pub enum LogFault {
-    /// The number of a call isn't that of the next call.
-    WrongNumber,
-    /// The requests of a call have a fault, or aren't one chain.
-    NotOneChain,
-    /// An answer without its call.
-    NotCalled,
-    /// An answer that isn't that of the chain's next member.
-    OutOfTurn,
-    /// A further answer of a call that is answered.
-    AnsweredTwice,
-    /// The end of a hold that isn't there.
-    NotHeld,
-    /// The log is settled while a call isn't answered.
-    StillOpen,
-    /// The catalogue doesn't have a file that the event names.
-    UnknownFile,
+/// Defines the faults of events, in the order of their numbers from 1, with their words.
+macro_rules! faults {
+    ($($name:ident $words:literal)*) => {
+        /// The reason why an event isn't one of a log.
+        #[derive(Clone, Copy, Debug, PartialEq, Eq)]
+        #[non_exhaustive]
+        pub enum LogFault { $(#[doc = concat!("The reason: ", $words, ".")] $name),* }
+
+        const FAULTS: &[LogFault] = &[$(LogFault::$name),*];
+
+        impl fmt::Display for LogFault {
+            fn fmt(&self, f: &mut fmt::Formatter<'_>) -> fmt::Result {
+                f.write_str(match self { $(LogFault::$name => $words),* })
+            }
+        }
+    };
 }
 
-const FAULTS: [LogFault; 7] = [
-    LogFault::WrongNumber,
-    LogFault::NotOneChain,
-    LogFault::NotCalled,
-    LogFault::OutOfTurn,
-    LogFault::AnsweredTwice,
-    LogFault::NotHeld,
-    LogFault::StillOpen,
-];
+faults! {
+    WrongNumber "the number of a call isn't that of the next call"
+    NotOneChain "the requests of a call have a fault, or aren't one chain"
+    NotCalled "an answer without its call"
+    OutOfTurn "an answer that isn't that of the chain's next member"
+    AnsweredTwice "a further answer of a call that is answered"
+    NotHeld "the end of a hold that isn't there"
+    StillOpen "the log is settled while a call isn't answered"
+    UnknownFile "the catalogue doesn't have this file"
+}
 
 impl LogFault {
     /// Returns the fault of this number.
     pub(crate) fn of(number: u32) -> LogFault {
         FAULTS[number as usize - 1]
-    }
-}
-
-impl fmt::Display for LogFault {
-    fn fmt(&self, f: &mut fmt::Formatter<'_>) -> fmt::Result {
-        f.write_str(match self {
-            LogFault::WrongNumber => "the number of a call isn't that of the next call",
-            LogFault::NotOneChain => "the requests of a call have a fault, or aren't one chain",
-            LogFault::NotCalled => "an answer without its call",
-            LogFault::OutOfTurn => "an answer that isn't that of the chain's next member",
-            LogFault::AnsweredTwice => "a further answer of a call that is answered",
-            LogFault::NotHeld => "the end of a hold that isn't there",
-            LogFault::StillOpen => "the log is settled while a call isn't answered",
-            LogFault::UnknownFile => "the catalogue doesn't have this file",
-        })
     }
 }
 

@@ -151,6 +151,32 @@ pub struct Log {
     is_too_long: bool,
 }
 
+// Returns an event of a call, without the fields that its kind may need.
+fn event(kind: u32, call: u32) -> core::Event {
+    core::Event {
+        kind,
+        call,
+        ..core::Event::default()
+    }
+}
+
+/// Calls a function of the judge with a log and further arguments.
+macro_rules! ask {
+    ($function:expr, $log:expr, $($more:expr),*) => {{
+        let (it, script) = ($log, &$log.catalogue);
+        let (requests, entries) = (&it.requests, &it.entries);
+        let (bytes, events) = (&it.bytes, &it.events);
+        // SAFETY: the slices are valid for their lengths, and the written ones overlap no other.
+        unsafe {
+            $function(
+                script.as_ptr(), script.len(), it.slots, requests.as_ptr(), requests.len(),
+                entries.as_ptr(), entries.len(), bytes.as_ptr(), bytes.len(),
+                events.as_ptr(), events.len(), $($more),*
+            )
+        }
+    }};
+}
+
 impl Log {
     /// Creates a log without events, of a table of empty slots. The files of the script `catalogue`
     /// are those that requests can open, numbered from 0.
@@ -183,13 +209,11 @@ impl Log {
     // Appends the event of a file.
     fn add_file(&mut self, kind: u32, call: u32, file: File) {
         self.add(core::Event {
-            kind,
-            call,
             by_call: file.call,
             by_member: file.member,
             by_entry: file.entry,
             file: file.file,
-            ..core::Event::default()
+            ..event(kind, call)
         });
     }
 
@@ -239,10 +263,9 @@ impl Log {
             self.requests.push(request);
         }
         self.add_call(core::Event {
-            kind: core::EVENT_CALL,
             first,
             count,
-            ..core::Event::default()
+            ..event(core::EVENT_CALL, 0)
         })
     }
 
@@ -251,22 +274,19 @@ impl Log {
         let (first, count) = self.part(self.bytes.len(), bytes.len());
         self.bytes.extend(bytes);
         self.add(core::Event {
-            kind: core::EVENT_DONE,
-            call,
             member,
             res,
             first,
             count,
-            ..core::Event::default()
+            ..event(core::EVENT_DONE, call)
         });
     }
 
     /// Appends the call of a look of a slot. Returns its number.
     pub fn look(&mut self, slot: u32) -> u32 {
         self.add_call(core::Event {
-            kind: core::EVENT_LOOK,
             slot,
-            ..core::Event::default()
+            ..event(core::EVENT_LOOK, 0)
         })
     }
 
@@ -274,21 +294,13 @@ impl Log {
     pub fn found(&mut self, call: u32, file: Option<File>) {
         match file {
             Some(file) => self.add_file(core::EVENT_FOUND, call, file),
-            None => self.add(core::Event {
-                kind: core::EVENT_EMPTY,
-                call,
-                ..core::Event::default()
-            }),
+            None => self.add(event(core::EVENT_EMPTY, call)),
         }
     }
 
     /// Appends that the hold of the file that a look found begins to end.
     pub fn free(&mut self, call: u32) {
-        self.add(core::Event {
-            kind: core::EVENT_FREE,
-            call,
-            ..core::Event::default()
-        });
+        self.add(event(core::EVENT_FREE, call));
     }
 
     /// Appends that a file was closed, at some time before.
@@ -299,10 +311,7 @@ impl Log {
     /// Appends that the observer waited until each call was answered, and each removed file was
     /// closed.
     pub fn settled(&mut self) {
-        self.add(core::Event {
-            kind: core::EVENT_SETTLED,
-            ..core::Event::default()
-        });
+        self.add(event(core::EVENT_SETTLED, 0));
     }
 
     /// Judges the log, by searches within the limits.
@@ -346,25 +355,8 @@ impl Log {
             core::yacht_judge_events_6
         };
         let mut judgement = core::Judgement::default();
-        // SAFETY: the slices are valid for their lengths, and the written value overlaps none.
-        let number = unsafe {
-            judge(
-                self.catalogue.as_ptr(),
-                self.catalogue.len(),
-                self.slots,
-                self.requests.as_ptr(),
-                self.requests.len(),
-                self.entries.as_ptr(),
-                self.entries.len(),
-                self.bytes.as_ptr(),
-                self.bytes.len(),
-                self.events.as_ptr(),
-                self.events.len(),
-                limits.states,
-                limits.memory,
-                &mut judgement,
-            )
-        };
+        let Limits { states, memory } = limits;
+        let number = ask!(judge, self, states, memory, &mut judgement);
         let at = judgement.at as usize;
         match number {
             core::LEGAL => Ok(LogVerdict::Legal),
@@ -410,26 +402,9 @@ impl Log {
     pub(crate) fn explained(&self, at: usize, room: usize) -> (u32, core::Reason, Vec<core::Step>) {
         let mut reason = core::Reason::default();
         let mut steps = vec![core::Step::default(); room];
-        // SAFETY: the slices are valid for their lengths, and the written ones overlap no other.
-        let number = unsafe {
-            core::yacht_explain_events_6(
-                self.catalogue.as_ptr(),
-                self.catalogue.len(),
-                self.slots,
-                self.requests.as_ptr(),
-                self.requests.len(),
-                self.entries.as_ptr(),
-                self.entries.len(),
-                self.bytes.as_ptr(),
-                self.bytes.len(),
-                self.events.as_ptr(),
-                self.events.len(),
-                at as u64,
-                steps.as_mut_ptr(),
-                steps.len(),
-                &mut reason,
-            )
-        };
+        let ask = core::yacht_explain_events_6;
+        let (first, length) = (steps.as_mut_ptr(), steps.len());
+        let number = ask!(ask, self, at as u64, first, length, &mut reason);
         (number, reason, steps)
     }
 }

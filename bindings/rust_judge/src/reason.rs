@@ -27,10 +27,19 @@ pub enum Point {
     },
 }
 
-/// A rule of the steps of a reason.
-#[derive(Clone, Copy, Debug, PartialEq, Eq)]
-#[non_exhaustive]
-pub enum Rule {
+/// Defines the rules, in the order of their numbers from 1.
+macro_rules! rules {
+    ($($(#[$words:meta])* $name:ident,)*) => {
+        /// A rule of the steps of a reason.
+        #[derive(Clone, Copy, Debug, PartialEq, Eq)]
+        #[non_exhaustive]
+        pub enum Rule { $($(#[$words])* $name),* }
+
+        const RULES: &[Rule] = &[$(Rule::$name),*];
+    };
+}
+
+rules! {
     /// An event comes before a later event.
     Events,
     /// A call comes before its accesses.
@@ -87,36 +96,6 @@ pub enum Rule {
     /// A file was installed before it was closed.
     Existed,
 }
-
-const RULES: [Rule; 27] = [
-    Rule::Events,
-    Rule::Begins,
-    Rule::Ends,
-    Rule::Calls,
-    Rule::Installs,
-    Rule::Places,
-    Rule::Follows,
-    Rule::Finds,
-    Rule::Closes,
-    Rule::Settles,
-    Rule::Empties,
-    Rule::Precedes,
-    Rule::Displaces,
-    Rule::Outlives,
-    Rule::Then,
-    Rule::FindsClosed,
-    Rule::ClosesTwice,
-    Rule::ClosesHeld,
-    Rule::CantAnswer,
-    Rule::Holds,
-    Rule::Differs,
-    Rule::Stays,
-    Rule::Takes,
-    Rule::TakenBy,
-    Rule::Lands,
-    Rule::Misses,
-    Rule::Existed,
-];
 
 /// A step of a reason: a point comes before another one in each flight. `first`, `second`,
 /// `access`, `premise`, `other` and `slot` are 0 if the rule doesn't use them
