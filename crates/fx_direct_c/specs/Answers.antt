@@ -1,6 +1,6 @@
 -- The numbers that the functions return for C, and what they write.
 use Rattle.std.specs.Prelude.{◌≡◌, ◌⊎◌, ℕ, ℤ, ◌≤◌, List, length, map, take, slice_index, Option}
-use Rattle.std.specs.Prelude.{Some, None, Result, Ok, Err, MatchResult, MatchOption}
+use Rattle.std.specs.Prelude.{Some, None, Result, Ok, Err, MatchResult}
 use Rattle.fx_direct.specs.Keys.{FitsBits, bits_of}
 use Rattle.fx_direct.specs.Living.{AreKeysOf}
 use Rattle.fx_direct.specs.Phases.{AllUnused, phase_at}
@@ -12,7 +12,6 @@ use Rattle.fx_direct.specs.declared.transition.Transition.TheVariants.{Reserves,
 use Rattle.fx_direct.specs.declared.key.LifeKey.{LifeKey}
 use Rattle.fx_direct.specs.declared.phase.Phase.{Phase}
 use Rattle.fx_direct.specs.declared.phase.Slot.{Slot}
-use Rattle.fx_direct.specs.declared.refusal.Full.{Full}
 use Rattle.fx_direct.specs.declared.refusal.LifeRefusal.{LifeRefusal}
 use Rattle.fx_direct.specs.declared.refusal.LifeRefusal.TheVariants.{Stale, Is, TooManyRequests}
 use Rattle.fx_direct.specs.declared.refusal.LifeRefusal.TheVariants.{TooManyUsers}
@@ -41,21 +40,7 @@ code_of_refusal (Is Closing) = IS_CLOSING
 code_of_refusal TooManyRequests = TOO_MANY_REQUESTS
 code_of_refusal TooManyUsers = TOO_MANY_USERS
 
--- of a call that returns no slot
-abbrev pub made_code : Result (Unit {0}) LifeRefusal → ℤ
-made_code (Ok _) = DONE
-made_code (Err why) = code_of_refusal why
-
--- of a call that returns a slot, and the slot that it writes
-abbrev pub start_code : Result ℕ LifeRefusal → ℤ
-start_code (Ok slot) = DONE
-start_code (Err why) = code_of_refusal why
-
-abbrev pub start_slot : Result ℕ LifeRefusal → ℕ → ℕ
-start_slot (Ok slot) old = slot
-start_slot (Err why) old = old
-
--- of a call that may ask for a close, and the slot that it writes
+-- the number, and the slot that is written, of a call that may ask for a close
 abbrev pub close_code : Result (Option ℕ) LifeRefusal → ℤ
 close_code (Ok None) = DONE
 close_code (Ok (Some slot)) = CLOSE
@@ -65,19 +50,6 @@ abbrev pub close_slot : Result (Option ℕ) LifeRefusal → ℕ → ℕ
 close_slot (Ok (Some slot)) old = slot
 close_slot answer old = old
 
--- of a reservation, and the key and the slot that it writes
-abbrev pub reserve_code : Result LifeKey Full → ℤ
-reserve_code (Ok key) = DONE
-reserve_code (Err full) = FULL
-
-abbrev pub reserve_key : Result LifeKey Full → ℕ → ℕ
-reserve_key (Ok key) old = bits_of key 0
-reserve_key (Err full) old = old
-
-abbrev pub reserve_slot : Result LifeKey Full → ℕ → ℕ
-reserve_slot (Ok key) old = key.slot
-reserve_slot (Err full) old = old
-
 -- a machine was opened with this number of unused slots, and is in its place
 pub record OpensMachine (slots : ℕ) (place : Option (List Slot)) : Type 0 where
   pub machine : List Slot
@@ -85,21 +57,22 @@ pub record OpensMachine (slots : ℕ) (place : Option (List Slot)) : Type 0 wher
   pub size : length machine ≡ slots
   pub unused : AllUnused machine
 
+-- the transition was refused, for the reason of this number
+pub record Refuses (old : List Slot) (t : Transition) (code : ℤ) (new : List Slot) : Type 0 where
+  pub why : LifeRefusal
+  pub its_code : code ≡ code_of_refusal why
+  pub refused : RefusesTransition old t why
+  pub same : new ≡ old
+
 -- the transition was made, or refused
-pub record MakesAs (old : List Slot) (t : Transition) (code : ℤ) (new : List Slot) : Type 0 where
-  pub answer : Result (Unit {0}) LifeRefusal
-  pub its_code : code ≡ made_code answer
-  pub made : MatchResult answer (λ _. Advances old t new) (λ why. (new ≡ old)
-      × RefusesTransition old t why)
+abbrev pub MakesAs : List Slot → Transition → ℤ → List Slot → Type 0
+MakesAs old t code new = ((code ≡ DONE) × Advances old t new) ⊎ Refuses old t code new
 
 -- a request was counted, or refused
-pub record StartsAs (old : List Slot) (k : LifeKey) (code : ℤ) (old_slot new_slot : ℕ)
-    (new : List Slot) : Type 0 where
-  pub answer : Result ℕ LifeRefusal
-  pub its_code : code ≡ start_code answer
-  pub its_slot : new_slot ≡ start_slot answer old_slot
-  pub made : MatchResult answer (λ slot. (slot ≡ k.slot) × Advances old (Starts k) new)
-      (λ why. (new ≡ old) × RefusesTransition old (Starts k) why)
+abbrev pub StartsAs : List Slot → LifeKey → ℤ → (old_slot new_slot : ℕ) → List Slot → Type 0
+StartsAs old k code old_slot new_slot new =
+    ((code ≡ DONE) × (new_slot ≡ k.slot) × Advances old (Starts k) new)
+    ⊎ ((new_slot ≡ old_slot) × Refuses old (Starts k) code new)
 
 -- the transition was made, and the close that is due was asked for; or it was refused
 pub record ClosesAs (old : List Slot) (t : Transition) (code : ℤ) (old_slot new_slot : ℕ)
@@ -111,55 +84,29 @@ pub record ClosesAs (old : List Slot) (t : Transition) (code : ℤ) (old_slot ne
       (λ why. (new ≡ old) × RefusesTransition old t why)
 
 -- a life began under this key, or none could
-pub record ReservesAs (old : List Slot) (code : ℤ) (old_key new_key old_slot new_slot : ℕ)
-    (new : List Slot) : Type 0 where
-  pub answer : Result LifeKey Full
-  pub its_code : code ≡ reserve_code answer
-  pub its_key : new_key ≡ reserve_key answer old_key
-  pub its_slot : new_slot ≡ reserve_slot answer old_slot
-  pub made : MatchResult answer (λ k. Advances old (Reserves k) new × FitsBits k)
-      (λ _. (new ≡ old) × ((k : LifeKey) → IsEnabled old (Reserves k) → ⊥))
-
--- of a question about a phase: its number, and the counts that are written
-abbrev pub asked_code : Option Phase → ℤ
-asked_code None = STALE
-asked_code (Some phase) = phase_code phase
-
-abbrev pub asked_requests : Option Phase → ℕ → ℕ
-asked_requests None old = old
-asked_requests (Some phase) old = requests_in phase
-
-abbrev pub asked_users : Option Phase → ℕ → ℕ
-asked_users None old = old
-asked_users (Some phase) old = users_in phase
+abbrev pub ReservesAs : List Slot → ℤ → (old_key new_key old_slot new_slot : ℕ) → List Slot → Type 0
+ReservesAs old code old_key new_key old_slot new_slot new =
+    ((code ≡ DONE) × (k : LifeKey) × (new_key ≡ bits_of k 0) × (new_slot ≡ k.slot)
+    × Advances old (Reserves k) new × FitsBits k)
+    ⊎ ((code ≡ FULL) × (new_key ≡ old_key) × (new_slot ≡ old_slot) × (new ≡ old)
+    × ((k : LifeKey) → IsEnabled old (Reserves k) → ⊥))
 
 -- the phase of the life under a key was returned, or that no life is under way
-pub record ShowsPhase (slots : List Slot) (k : LifeKey) (code : ℤ)
-    (old_requests new_requests old_users new_users : ℕ) : Type 0 where
-  pub answer : Option Phase
-  pub its_code : code ≡ asked_code answer
-  pub its_requests : new_requests ≡ asked_requests answer old_requests
-  pub its_users : new_users ≡ asked_users answer old_users
-  pub is : MatchOption answer (HasLife slots k → ⊥)
-      (λ phase. HasLife slots k × (phase ≡ phase_at slots k.slot))
-
--- of a question about a key, and the key that it writes
-abbrev pub key_code : Option LifeKey → ℤ
-key_code None = STALE
-key_code (Some key) = DONE
-
-abbrev pub found_key : Option LifeKey → ℕ → ℕ
-found_key None old = old
-found_key (Some key) old = bits_of key 0
+abbrev pub ShowsPhase : List Slot → LifeKey → ℤ → (old_requests new_requests old_users new_users : ℕ)
+    → Type 0
+ShowsPhase slots k code old_requests new_requests old_users new_users =
+    (HasLife slots k × (code ≡ phase_code (phase_at slots k.slot))
+    × (new_requests ≡ requests_in (phase_at slots k.slot))
+    × (new_users ≡ users_in (phase_at slots k.slot)))
+    ⊎ ((code ≡ STALE) × (new_requests ≡ old_requests) × (new_users ≡ old_users)
+    × (HasLife slots k → ⊥))
 
 -- the key of the life under way at a slot was written, or none is under way there
-pub record ShowsKey (slots : List Slot) (slot : ℕ) (code : ℤ) (old_key new_key : ℕ)
-    : Type 0 where
-  pub answer : Option LifeKey
-  pub its_code : code ≡ key_code answer
-  pub its_key : new_key ≡ found_key answer old_key
-  pub is : MatchOption answer ((k : LifeKey) → k.slot ≡ slot → HasLife slots k → ⊥)
-      (λ k. (k.slot ≡ slot) × HasLife slots k)
+abbrev pub ShowsKey : List Slot → ℕ → ℤ → (old_key new_key : ℕ) → Type 0
+ShowsKey slots slot code old_key new_key =
+    ((code ≡ DONE) × (k : LifeKey) × (new_key ≡ bits_of k 0) × (k.slot ≡ slot) × HasLife slots k)
+    ⊎ ((code ≡ STALE) × (new_key ≡ old_key)
+    × ((k : LifeKey) → k.slot ≡ slot → HasLife slots k → ⊥))
 
 -- keys of lives under way were written, each once and as many as fit, and nothing after them
 pub record WritesKeys (slots : List Slot) (count : ℕ) (old new : List ℕ) : Type 0 where

@@ -12,8 +12,8 @@ ghost use Rattle.fx_direct_c.specs.Answers.{ClosesAs, MakesAs, OpensMachine, Res
 ghost use Rattle.fx_direct_c.specs.Answers.{ShowsPhase, StartsAs, WritesKeys};
 ghost use Rattle.fx_direct_c.specs.declared.codes.TheConstants.{BAD_ARGUMENT, DONE, NO_MEMORY};
 
-use crate::answers::{of_close, of_done, of_key, of_phase, of_reserve, of_start};
-use crate::codes::{BAD_ARGUMENT, DONE, NO_MEMORY};
+use crate::answers::{of_close, of_phase, of_refusal};
+use crate::codes::{BAD_ARGUMENT, DONE, FULL, NO_MEMORY, STALE};
 use crate::handle::{MachineHandle, MachinePlace};
 use fx_direct::{DirectSlots, LifeKey, MOST_SLOTS};
 use std::alloc::Global;
@@ -58,7 +58,12 @@ pub extern "C" fn yacht_direct_reserve(
     ensures { ReservesAs machine.old.slots result key.old key.new slot.old slot.new
         machine.new.slots }
 {
-    of_reserve(machine.as_mut().reserve(), key, slot)
+    let Ok(begun) = machine.as_mut().reserve() else {
+        return FULL;
+    };
+    *key = begun.to_bits(0);
+    *slot = begun.slot;
+    DONE
 }
 
 /// Reports the completion of a key's open, with its result: a negative one installed no file. It
@@ -72,11 +77,14 @@ pub extern "C" fn yacht_direct_opened(
     ensures { MakesAs machine.old.slots (Opens (key_in_bits key) (int_le (pos 0) result_of_open)) result
         machine.new.slots }
 {
-    of_done(
-        machine
-            .as_mut()
-            .opened(LifeKey::from_bits(key).0, result_of_open >= 0),
-    )
+    let installed = result_of_open >= 0;
+    match machine
+        .as_mut()
+        .opened(LifeKey::from_bits(key).0, installed)
+    {
+        Ok(()) => DONE,
+        Err(why) => of_refusal(why),
+    }
 }
 
 /// Counts a request, and writes the slot. It returns `DONE`; or why it is refused, and writes
@@ -86,7 +94,13 @@ pub extern "C" fn yacht_direct_start(machine: &mut MachineHandle, key: u64, slot
     ensures { StartsAs machine.old.slots (key_in_bits key) result slot.old slot.new
         machine.new.slots }
 {
-    of_start(machine.as_mut().start(LifeKey::from_bits(key).0), slot)
+    match machine.as_mut().start(LifeKey::from_bits(key).0) {
+        Ok(its_slot) => {
+            *slot = its_slot;
+            DONE
+        }
+        Err(why) => of_refusal(why),
+    }
 }
 
 /// Reports the completion of a request. It returns `DONE`; `CLOSE`, and writes the slot; or why it
@@ -104,7 +118,10 @@ pub extern "C" fn yacht_direct_finish(machine: &mut MachineHandle, key: u64, slo
 pub extern "C" fn yacht_direct_hold(machine: &mut MachineHandle, key: u64) -> i32
     ensures { MakesAs machine.old.slots (Holds (key_in_bits key)) result machine.new.slots }
 {
-    of_done(machine.as_mut().hold(LifeKey::from_bits(key).0))
+    match machine.as_mut().hold(LifeKey::from_bits(key).0) {
+        Ok(()) => DONE,
+        Err(why) => of_refusal(why),
+    }
 }
 
 /// Reports that such a user is gone. It returns what `yacht_direct_finish` returns.
@@ -131,7 +148,10 @@ pub extern "C" fn yacht_direct_end(machine: &mut MachineHandle, key: u64, slot: 
 pub extern "C" fn yacht_direct_closed(machine: &mut MachineHandle, key: u64) -> i32
     ensures { MakesAs machine.old.slots (Closes (key_in_bits key)) result machine.new.slots }
 {
-    of_done(machine.as_mut().closed(LifeKey::from_bits(key).0))
+    match machine.as_mut().closed(LifeKey::from_bits(key).0) {
+        Ok(()) => DONE,
+        Err(why) => of_refusal(why),
+    }
 }
 
 /// Reports that the close of a key left the file at its slot. It returns `CLOSE`, and writes the
@@ -167,11 +187,12 @@ pub extern "C" fn yacht_direct_phase(
         users.old users.new }
     ensures same { machine.new.slots ≡ machine.old.slots }
 {
-    of_phase(
-        machine.as_mut().phase(LifeKey::from_bits(key).0),
-        requests,
-        users,
-    )
+    let Some(phase) = machine.as_mut().phase(LifeKey::from_bits(key).0) else {
+        return STALE;
+    };
+    *requests = phase.requests();
+    *users = phase.users();
+    of_phase(phase)
 }
 
 /// Returns the number of lives under way.
@@ -199,7 +220,11 @@ pub extern "C" fn yacht_direct_key_at(machine: &mut MachineHandle, slot: u32, ke
     ensures shown { ShowsKey machine.old.slots slot result key.old key.new }
     ensures same { machine.new.slots ≡ machine.old.slots }
 {
-    of_key(machine.as_mut().key_at(slot), key)
+    let Some(found) = machine.as_mut().key_at(slot) else {
+        return STALE;
+    };
+    *key = found.to_bits(0);
+    DONE
 }
 
 /// Writes the keys of the lives under way, each once and as many as fit, and returns their number.
