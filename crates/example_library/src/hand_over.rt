@@ -9,8 +9,7 @@ ghost use Rattle.fx_table.specs.Opening.{size_of};
 ghost use Rattle.fx_table.specs.Pass.{IsIdle};
 ghost use Rattle.example_library.specs.HandOver.{HasPut, FindsThePut};
 
-use crate::life::close_all;
-use crate::serve::close_returned;
+use crate::closes::{close_all, close_returned};
 use fx_base::{Catalogue, CloseList, Mark, NoMemory, OpenFile};
 use fx_lasting::{LastingPass, LastingSeen, LastingTable};
 use fx_table::LookUp;

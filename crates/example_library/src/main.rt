@@ -1,23 +1,18 @@
 //! The examples, each in a file of its own. `first.rt` goes from nothing to a full table. In
 //! `tasks.rt` two threads share one and do what a server does: they learn that a file is
 //! closed, open files until the table is full, and replace a file under load. After that come a
-//! table that never has to be closed (`lasting.rt`), files that are named by keys (`keys.rt`), a
-//! server (`server.rt`), the order between two threads (`hand_over.rt`), and the verdicts on two
-//! logs (`flight.rt`).
+//! table that never has to be closed (`lasting.rt`), files that are named by keys (`keys.rt`), the
+//! order between two threads (`hand_over.rt`), and the verdicts on two logs (`flight.rt`).
 #![tactic(auto)]
 
 ghost use Rattle.std.specs.Prelude.{◌<◌, length};
 
-mod desk;
-mod feed;
+mod closes;
 mod first;
 mod flight;
 mod hand_over;
 mod keys;
 mod lasting;
-mod life;
-mod serve;
-mod server;
 mod tasks;
 
 use fx_base::{AddFault, Catalogue, NoMemory};
@@ -37,7 +32,6 @@ fn run<R: Threads + Wait + Sync + Print>(
     tasks::run(rt, alloc, catalogue)?;
     lasting::replace_while_looked_up(rt, alloc, catalogue)?;
     keys::share_by_key(rt, alloc, catalogue)?;
-    server::serve_clients(rt, alloc, catalogue)?;
     if let Some(entry) = hand_over::hand_over_once(rt, alloc, catalogue)? {
         let _ = println!(rt; "one thread put entry 1, and another one found entry {entry}");
     }

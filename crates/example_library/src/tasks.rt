@@ -5,8 +5,8 @@ ghost use Rattle.std.specs.Thread.{IsSync};
 ghost use Rattle.fx_table.specs.Opening.{size_of};
 ghost use Rattle.fx_table.specs.Pass.{IsIdle};
 
+use crate::closes::close_returned;
 use crate::first::replace;
-use crate::serve::close_returned;
 use fx_base::{Catalogue, CloseList, Mark, NoMemory, OpenFile};
 use fx_counted::CountedTable;
 use fx_plain::PlainTable;

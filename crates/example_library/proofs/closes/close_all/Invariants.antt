@@ -1,6 +1,6 @@
 use Rattle.std.proofs.Common.{◌≤◌, length}
 use Rattle.std.specs.Prelude.{vec_len}
-use Rattle.example_library.proofs.life.close_all.Given as goal
+use Rattle.example_library.proofs.closes.close_all.Given as goal
 
 -- the list of closes has room for the files that are left
 abbrev pub invariant-loop-slot : goal.invariant-loop-slot
