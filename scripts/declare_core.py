@@ -53,12 +53,6 @@ class Export:
         head, end = f"    pub(crate) fn {self.name}(", f"){' -> i64' if self.result else ''};"
         return fitting(f"{head}{', '.join(given)}{end}", f"{head}{broken}\n    {end}")
 
-    def same_type(self):
-        """Returns a line that the compiler refuses unless the stand-in has the same function."""
-        kinds = ", ".join(kind for *_, kind in self.parameters)
-        line = f"    let _: unsafe fn({kinds}){' -> i64' if self.result else ''} = stand_in::{self.name};"
-        return fitting(line, line.replace(" = ", " =\n        "))
-
 
 def fitting(line, broken):
     """Returns a line, or its other layout if it is too long."""
@@ -157,13 +151,6 @@ use super::core::Core;
 unsafe extern "C" {{
 {chr(10).join(it.for_rust() for it in exports())}
 }}
-
-// The stand-in has the same functions.
-#[cfg(yachtbanyan_stand_in)]
-const _: () = {{
-    use super::stand_in;
-{chr(10).join(it.same_type() for it in exports())}
-}};
 """
 
 

@@ -16,17 +16,16 @@ FILE = "scripts/seconds.txt"
 
 
 def spent(folder, *words):
-    """The processor seconds of a command, which must succeed."""
-    before = resource.getrusage(resource.RUSAGE_CHILDREN)
+    """Returns the processor seconds of a command, which must succeed."""
+    before = sum(resource.getrusage(resource.RUSAGE_CHILDREN)[:2])
     ran = subprocess.run(words, cwd=folder, stdin=subprocess.DEVNULL, stdout=subprocess.PIPE, stderr=subprocess.STDOUT, text=True, check=False)
-    after = resource.getrusage(resource.RUSAGE_CHILDREN)
     if ran.returncode:
         sys.exit(f"{' '.join(words)} in {folder} ended with status {ran.returncode}:\n{ran.stdout[-2000:]}")
-    return round(after.ru_utime + after.ru_stime - before.ru_utime - before.ru_stime)
+    return round(sum(resource.getrusage(resource.RUSAGE_CHILDREN)[:2]) - before)
 
 
 def seconds_of(room, name, below):
-    """Of the crate's proof, and of its tests."""
+    """Returns the seconds of the crate's proof, and of its tests."""
     folder = f"{room}/crates/{name}"
     for it in below:
         spent(f"{room}/crates/{it}", "rt", "lib", "--statements")

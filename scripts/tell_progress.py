@@ -1,6 +1,6 @@
 """tell-progress LOG: prints on standard error how long the gate is expected to take here, and then once a minute how much of it is done, by
-its LOG, and how long the rest takes. The estimate is scaled by the proofs that have ended; it is a lower bound ("at least") if there is
-none, or if they took far longer than measured. Ends with the gate, or with the process that started this one."""
+its LOG, and how long the rest takes: the measured seconds that are left, scaled by those that have passed, or a lower bound ("at least") if
+no proof has ended. Ends with the gate, or with the process that started this one."""
 import contextlib
 import os
 import re
@@ -13,32 +13,16 @@ from scripts.repository import read_bytes
 
 PROVED = re.compile(r"^(?:rt: )?(\w+)(: its tests)?(?: are)? (?:proved$|is kept:)", re.MULTILINE)
 PROCESSORS = len(os.sched_getaffinity(0))
-TESTS = ": its tests"
-# the estimate may differ from the measured seconds by these factors
-LEAST, MOST = 0.5, 3
-
-
-def work():
-    """Returns the seconds of each proof of the gate, and its dependencies. The tests of a crate depend on it."""
-    seconds, below, known = {}, crates(), measured()
-    for name in list(below):
-        proof, tests = known.get(name, (UNMEASURED, 0))
-        seconds[name] = proof
-        if tests:
-            seconds[name + TESTS], below[name + TESTS] = tests, [name]
-    return seconds, below
-
-
-def rest_of(whole, left, passed):
-    """Returns the seconds that the rest takes, and whether that is a lower bound. `whole` and `left` are measured seconds."""
-    scale = passed / (whole - left) if left < whole else 1
-    return left * min(max(scale, LEAST), MOST), left == whole or scale > MOST
 
 
 def main(path):
-    begin, parent, minutes = time.monotonic(), os.getppid(), 0
-    seconds, below = work()
-    whole, said = expected(seconds, {}, below, PROCESSORS), ""
+    begin, parent, minutes, said = time.monotonic(), os.getppid(), 0, ""
+    below, known = crates(), measured()
+    seconds = {it: known.get(it, (UNMEASURED, 0))[0] for it in below}
+    # the tests of a crate depend on it
+    for name in [it for it in below if known.get(it, (0, 0))[1]]:
+        seconds[f"{name}: its tests"], below[f"{name}: its tests"] = known[name][1], [name]
+    whole = expected(seconds, {}, below, PROCESSORS)
     print(f"The gate proves {len(seconds)} crates and tests: that takes {spread_in_words(*spread(seconds, below, PROCESSORS))} here.", file=sys.stderr, flush=True)
     while os.getppid() == parent and not VERDICT.search(said):
         time.sleep(1)
@@ -48,9 +32,9 @@ def main(path):
         minutes += 1
         done = {name + tests for name, tests in PROVED.findall(said)}
         left = {it: n for it, n in seconds.items() if it not in done}
-        rest = rest_of(whole, expected(left, {}, below, PROCESSORS), 60 * minutes)
-        words = f"  after {minutes} min: {len(seconds) - len(left)} of {len(seconds)} proved, {in_words(*rest)} left"
-        print(words, file=sys.stderr, flush=True)
+        rest = expected(left, {}, below, PROCESSORS)
+        words = in_words(rest * (60 * minutes / (whole - rest) if rest < whole else 1), rest == whole)
+        print(f"  after {minutes} min: {len(seconds) - len(left)} of {len(seconds)} proved, {words} left", file=sys.stderr, flush=True)
 
 
 def command():

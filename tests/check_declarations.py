@@ -112,8 +112,37 @@ def texts_of(library):
 
 
 def plain(language, text):
-    """Returns a text without what is no declaration for C."""
+    """Returns a text without what is no declaration for C, and with what its macros or tables write."""
+    text = of_rows(text) if language == "Python" else of_macros(text) if language in ("Rust", "stand-in") else text
     return re.sub(FORMS[language][0], "", text, flags=re.S) if FORMS[language][0] else text
+
+
+def of_macros(text):
+    """Returns a text of Rust with the constants, structs and functions that its macros define, each by a row."""
+    numbers = lambda it: "\n".join(f"const {name}: i32 = {value};" for name, value in re.findall(r"(\w+) (-?\d+)", it[1]))
+    text = re.sub(r"numbers! \{ (.*?) \}", numbers, text)
+    struct = lambda it: f"#[repr(C)]\n#[derive(Copy)]\npub(crate) struct {it[1]} {{\n" + re.sub(r"(\w+: \w+),?\s*", r"pub(crate) \1,\n", it[2]) + "\n}"
+    text = re.sub(r"^structs! \{\n(.*?)\n\}$", lambda it: re.sub(r"^    (\w+) \{ (.*?) \}$", struct, it[1], flags=re.M | re.S), text, flags=re.M | re.S)
+    # what a function of a row begins with, and its result, stand in the macro
+    for first, abi, given, result in re.findall(r"\$name:ident\((\w+), .*?extern \"(\w+)\" .*?fn \$name\((.*?)\$\(\$more.*?\) -> (\w+);", text, re.S):
+        row = lambda it, given=given, result=result: f"    pub(crate) fn {it[1]}({given}{it[2]}) -> {result};"
+        block = lambda it, first=first, abi=abi, row=row: f'unsafe extern "{abi}" {{\n' + re.sub(rf"^    (\w+)\({first}, (.*?)\);$", row, it[1], flags=re.M | re.S) + "\n}"
+        text = re.sub(rf"^functions! \{{\n(    \w+\({first}, .*?)\n\}}$", block, text, flags=re.M | re.S)
+    for given, result in re.findall(r"fn \$name\((it: .*?)\) -> (\w+) \{", text):
+        text = re.sub(r"^    (yacht_\w+)\(it, key\)", rf"fn \1({given.replace('$', '')}) -> {result} {{", text, flags=re.M)
+    return text
+
+
+def of_rows(text):
+    """Returns a text of Python with the members of its structs and the types of its functions one by one."""
+    def struct(found):
+        rows = re.findall(r'(\w+)="([^"]*)"|\("(\w+)", (\w+)\)', found[2])
+        return found[1] + "[" + ", ".join(f'("{name}", {kind})' for of, names, *one in rows for name, kind in ([(it, f"c_{of}") for it in names.split()] or [one])) + "]\n"
+
+    text = re.sub(r"(class _\w+\(ctypes\.Structure\):\n    _fields_ = )(.*)\n", struct, text)
+    for name in re.findall(r"^(_[A-Z]+) = ", text, re.M):
+        text = text.replace(f"*{name}", re.search(rf"^{name} = (.*)$", text, re.M)[1])
+    return re.sub(r"^    \(_library\.(\w+), \((.*)\)\),$", r"_library.\1.restype = c_uint32\n_library.\1.argtypes = [\2]\n", text, flags=re.M)
 
 
 def differences(texts):

@@ -173,7 +173,8 @@ def _load() -> ctypes.CDLL:
 
 _library = _load()
 # bytes, the limits, and a log
-_BYTES, _LIMITS = (POINTER(c_uint8), c_size_t), (c_uint32, c_uint32)
+_BYTES = POINTER(c_uint8), c_size_t
+_LIMITS = c_uint32, c_uint32
 _LOG = *_BYTES, c_uint32, POINTER(_Request), c_size_t, POINTER(c_int32), c_size_t, *_BYTES, POINTER(_Event), c_size_t
 for _function, _given in (
     (_library.yacht_judge_6, (*_BYTES, *_BYTES, *_LIMITS, *_BYTES, POINTER(_Verdict))),

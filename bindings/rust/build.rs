@@ -12,16 +12,10 @@ const HELP: &str = "In the repository, `make libraries` makes it in the folder l
                     builds the crate without a library, over a stand-in, of which nothing is proved";
 
 fn by_pkg_config() -> Option<PathBuf> {
-    let mut asked = Command::new("pkg-config");
-    let answer = asked
-        .args(["--variable=libdir", "yachtbanyan"])
-        .output()
-        .ok()?;
-    let folder = String::from_utf8(answer.stdout).ok()?;
-    answer
-        .status
-        .success()
-        .then(|| PathBuf::from(folder.trim()))
+    let words = ["--variable=libdir", "yachtbanyan"];
+    let asked = Command::new("pkg-config").args(words).output().ok()?;
+    let folder = PathBuf::from(String::from_utf8(asked.stdout).ok()?.trim());
+    asked.status.success().then_some(folder)
 }
 
 /// Returns which targets have a library in a folder.
@@ -51,10 +45,9 @@ fn version_in(library: &Path, name: &str) -> Option<String> {
     let bytes = fs::read(library).ok()?;
     let mark = format!("@(#){name} ").into_bytes();
     let at = bytes.windows(mark.len()).position(|it| it == mark)? + mark.len();
-    let digits = bytes[at..]
-        .iter()
-        .take_while(|it| b"0123456789.".contains(it));
-    Some(digits.map(|it| char::from(*it)).collect())
+    let rest = bytes[at..].iter().map(|it| char::from(*it));
+    let digits = rest.take_while(|it| "0123456789.".contains(*it));
+    Some(digits.collect())
 }
 
 /// Links a library of the folder. Panics unless it is there, and is of the crate's version.
@@ -90,11 +83,9 @@ fn main() {
     let all = Path::new(&env::var("CARGO_MANIFEST_DIR").expect("cargo sets it")).join("lib");
     let own = all.join(&target);
     let given = env::var_os("YACHTBANYAN_LIB_DIR").map(PathBuf::from);
-    let by = if given.is_some() {
-        "YACHTBANYAN_LIB_DIR"
-    } else {
-        "pkg-config"
-    };
+    let by = given
+        .as_ref()
+        .map_or("pkg-config", |_| "YACHTBANYAN_LIB_DIR");
     let known = given.or_else(|| own.join(LIBRARY).exists().then_some(own));
     let Some(folder) = known.or_else(|| is_host.then(by_pkg_config).flatten()) else {
         panic!(

@@ -8,26 +8,19 @@ const LIBRARY: &str = "libyachtjudge.a";
 const MARK: &[u8] = b"@(#)yachtjudge ";
 
 fn by_pkg_config() -> Option<PathBuf> {
-    let mut asked = Command::new("pkg-config");
-    let answer = asked
-        .args(["--variable=libdir", "yachtjudge"])
-        .output()
-        .ok()?;
-    let folder = String::from_utf8(answer.stdout).ok()?;
-    answer
-        .status
-        .success()
-        .then(|| PathBuf::from(folder.trim()))
+    let words = ["--variable=libdir", "yachtjudge"];
+    let asked = Command::new("pkg-config").args(words).output().ok()?;
+    let folder = PathBuf::from(String::from_utf8(asked.stdout).ok()?.trim());
+    asked.status.success().then_some(folder)
 }
 
 /// Returns the version that a library names in itself, or `None` if it names none.
 fn version_in(library: &Path) -> Option<String> {
     let bytes = fs::read(library).ok()?;
     let at = bytes.windows(MARK.len()).position(|it| it == MARK)? + MARK.len();
-    let digits = bytes[at..]
-        .iter()
-        .take_while(|it| b"0123456789.".contains(it));
-    Some(digits.map(|it| char::from(*it)).collect())
+    let rest = bytes[at..].iter().map(|it| char::from(*it));
+    let digits = rest.take_while(|it| "0123456789.".contains(*it));
+    Some(digits.collect())
 }
 
 /// Panics unless the folder has the library, and this is of the crate's version.

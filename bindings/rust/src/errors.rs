@@ -202,19 +202,41 @@ impl<T> fmt::Display for Refused<T> {
     }
 }
 
-impl fmt::Display for Reason {
-    fn fmt(&self, f: &mut fmt::Formatter<'_>) -> fmt::Result {
-        match *self {
-            Reason::Full { slots: 1 } => f.write_str("the only slot has a value"),
-            Reason::Full { slots } => write!(f, "all {slots} slots have values"),
-            Reason::Again => f.write_str("other threads are filling or emptying slots"),
-            Reason::Making => f.write_str("the handle is making a value for insert_with"),
-            Reason::Empty { slot } => GetError::Empty { slot }.fmt(f),
-            Reason::Stale { slot } => GetError::Stale { slot }.fmt(f),
-            Reason::NoSlot(error) => error.fmt(f),
-            Reason::NoSeat(error) => error.fmt(f),
+/// Gives an error that has the reasons of a look-up their words and their conversion, and the words
+/// of its further reasons.
+macro_rules! with_reasons_of_a_look_up {
+    ($error:ident $(, $reason:pat => $words:expr)*) => {
+        impl From<GetError> for $error {
+            fn from(error: GetError) -> $error {
+                match error {
+                    GetError::Empty { slot } => $error::Empty { slot },
+                    GetError::Stale { slot } => $error::Stale { slot },
+                    GetError::NoSlot(error) => $error::NoSlot(error),
+                    GetError::NoSeat(error) => $error::NoSeat(error),
+                }
+            }
         }
-    }
+
+        impl fmt::Display for $error {
+            fn fmt(&self, f: &mut fmt::Formatter<'_>) -> fmt::Result {
+                match *self {
+                    $error::Empty { slot } => write!(f, "slot {slot} is empty"),
+                    $error::Stale { slot } => write!(f, "slot {slot} has another value"),
+                    $error::NoSlot(error) => error.fmt(f),
+                    $error::NoSeat(error) => error.fmt(f),
+                    $($reason => $words.fmt(f),)*
+                }
+            }
+        }
+    };
+}
+
+with_reasons_of_a_look_up! { RemoveError }
+with_reasons_of_a_look_up! { Reason,
+    Reason::Full { slots: 1 } => "the only slot has a value",
+    Reason::Full { slots } => format_args!("all {slots} slots have values"),
+    Reason::Again => "other threads are filling or emptying slots",
+    Reason::Making => "the handle is making a value for insert_with"
 }
 
 impl fmt::Display for OpenError {
@@ -273,17 +295,6 @@ impl fmt::Display for GetError {
     }
 }
 
-impl fmt::Display for RemoveError {
-    fn fmt(&self, f: &mut fmt::Formatter<'_>) -> fmt::Result {
-        match *self {
-            RemoveError::Empty { slot } => GetError::Empty { slot }.fmt(f),
-            RemoveError::Stale { slot } => GetError::Stale { slot }.fmt(f),
-            RemoveError::NoSlot(error) => error.fmt(f),
-            RemoveError::NoSeat(error) => error.fmt(f),
-        }
-    }
-}
-
 impl From<NoSlot> for RemoveError {
     fn from(error: NoSlot) -> RemoveError {
         RemoveError::NoSlot(error)
@@ -293,28 +304,6 @@ impl From<NoSlot> for RemoveError {
 impl From<NoSeat> for RemoveError {
     fn from(error: NoSeat) -> RemoveError {
         RemoveError::NoSeat(error)
-    }
-}
-
-impl From<GetError> for RemoveError {
-    fn from(error: GetError) -> RemoveError {
-        match error {
-            GetError::Empty { slot } => RemoveError::Empty { slot },
-            GetError::Stale { slot } => RemoveError::Stale { slot },
-            GetError::NoSlot(error) => RemoveError::NoSlot(error),
-            GetError::NoSeat(error) => RemoveError::NoSeat(error),
-        }
-    }
-}
-
-impl From<GetError> for Reason {
-    fn from(error: GetError) -> Reason {
-        match error {
-            GetError::Empty { slot } => Reason::Empty { slot },
-            GetError::Stale { slot } => Reason::Stale { slot },
-            GetError::NoSlot(error) => Reason::NoSlot(error),
-            GetError::NoSeat(error) => Reason::NoSeat(error),
-        }
     }
 }
 

@@ -34,16 +34,6 @@ const WIDE_SLOT: u32 = MOST_SLOTS.ilog2();
 /// value: a call finds that value, safely. The first keys of two tables are equal, so a key in the
 /// wrong table often finds a value.
 ///
-/// ```
-/// use yachtbanyan::Table;
-///
-/// let (one, other) = (Table::<&str>::with_slots(1)?, Table::<&str>::with_slots(1)?);
-/// let key = one.insert("of one")?;
-/// other.insert("of the other")?;
-/// assert_eq!(*other.get_owned(key)?, "of the other");
-/// # Ok::<(), Box<dyn std::error::Error>>(())
-/// ```
-///
 /// Keys are ordered by slot. The order of numbers means nothing. Each handle has 2^64 numbers
 /// divided by the number of handles. If a handle uses them up, its further values have no number,
 /// and the keys of those are stale from the beginning. No number is used again.
@@ -65,13 +55,6 @@ impl Key {
     }
 
     /// Returns the slot of the value.
-    ///
-    /// ```
-    /// let table = yachtbanyan::Table::<u64>::with_slots(4)?;
-    /// let key = table.insert(7)?;
-    /// assert!(key.slot() < 4 && table.contains(key.slot())?);
-    /// # Ok::<(), Box<dyn std::error::Error>>(())
-    /// ```
     #[inline]
     pub fn slot(self) -> u32 {
         self.slot

@@ -83,20 +83,17 @@ fn serve_own(handle: &Handle<Value>, own: &mut Own, random: u64, number: u64) {
         3 => handle.remove(key).ok(),
         4 => handle.table().remove(key).ok(),
         5 => handle.get(key).ok().and_then(|guard| guard.remove().ok()),
-        6 => match handle.replace(key, Value::new(number)) {
-            Ok((key, old)) => {
+        by => {
+            let value = Value::new(number);
+            let done = match by {
+                6 => handle.replace(key, value),
+                _ => handle.table().replace(key, value),
+            };
+            done.ok().map(|(key, old)| {
                 *own = Some((key, number));
-                Some(old)
-            }
-            Err(_) => None,
-        },
-        _ => match handle.table().replace(key, Value::new(number)) {
-            Ok((key, old)) => {
-                *own = Some((key, number));
-                Some(old)
-            }
-            Err(_) => None,
-        },
+                old
+            })
+        }
     };
     if !old.is_none_or(is_wanted) {
         WRONG.fetch_add(1, SeqCst);
@@ -124,23 +121,14 @@ fn serve(handle: &Handle<Value>, mut seed: u64, rounds: u64) {
             }
             9 => drop(handle.contains(slot)),
             10..=12 => drop(handle.replace_at(slot, Value::new(number))),
-            13 => {
-                own = handle
-                    .insert(Value::new(number))
-                    .ok()
-                    .map(|key| (key, number))
-            }
-            14 if round % 2 == 0 => {
-                own = handle
-                    .try_insert(Value::new(number))
-                    .ok()
-                    .map(|key| (key, number))
-            }
-            14 => {
-                own = handle
-                    .insert_with(|_| Value::new(number))
-                    .ok()
-                    .map(|key| (key, number))
+            13..=14 => {
+                let value = Value::new(number);
+                let key = match (what, round % 2) {
+                    (13, _) => handle.insert(value).ok(),
+                    (_, 0) => handle.try_insert(value).ok(),
+                    _ => handle.insert_with(|_| Value::new(number)).ok(),
+                };
+                own = key.map(|key| (key, number));
             }
             15 => drop(handle.remove_at(slot)),
             _ => serve_own(handle, &mut own, random >> 12, number),

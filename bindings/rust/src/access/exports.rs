@@ -87,21 +87,3 @@ unsafe extern "C" {
     pub(crate) fn yacht_core_find(worker: *mut Core, number: *mut u64) -> i64;
     pub(crate) fn yacht_core_put_empty(worker: *mut Core, slot: u32, tag: u64) -> i64;
 }
-
-// The stand-in has the same functions.
-#[cfg(yachtbanyan_stand_in)]
-const _: () = {
-    use super::stand_in;
-    let _: unsafe fn(u32, u32, *mut Core, usize) -> i64 = stand_in::yacht_core_open;
-    let _: unsafe fn(Core) = stand_in::yacht_core_close;
-    let _: unsafe fn(*mut Core, u32, *mut Outcome) -> i64 = stand_in::yacht_core_get_at;
-    let _: unsafe fn(*mut Core, u32, u64, *mut Outcome) -> i64 = stand_in::yacht_core_get;
-    let _: unsafe fn(*mut Core, *mut u64) -> i64 = stand_in::yacht_core_release;
-    let _: unsafe fn(*mut Core, u64, *mut u64) -> i64 = stand_in::yacht_core_insert;
-    let _: unsafe fn(*mut Core, u32, u64, *mut Outcome) -> i64 = stand_in::yacht_core_replace_at;
-    let _: unsafe fn(*mut Core, u32, u64, u64, *mut Outcome) -> i64 = stand_in::yacht_core_replace;
-    let _: unsafe fn(*mut Core, u32, *mut Outcome) -> i64 = stand_in::yacht_core_remove_at;
-    let _: unsafe fn(*mut Core, u32, u64, *mut Outcome) -> i64 = stand_in::yacht_core_remove;
-    let _: unsafe fn(*mut Core, *mut u64) -> i64 = stand_in::yacht_core_find;
-    let _: unsafe fn(*mut Core, u32, u64) -> i64 = stand_in::yacht_core_put_empty;
-};

@@ -208,13 +208,6 @@ impl<T> OwnedGuard<T> {
     }
 
     /// Returns the slot at which the value was found.
-    ///
-    /// ```
-    /// let table = yachtbanyan::Table::<u64>::with_slots(4)?;
-    /// table.replace_at(3, 7)?;
-    /// assert_eq!(table.get_owned_at(3)?.slot(), 3);
-    /// # Ok::<(), Box<dyn std::error::Error>>(())
-    /// ```
     #[inline]
     pub fn slot(&self) -> u32 {
         self.slot

@@ -235,14 +235,6 @@ impl<T> Handle<T> {
 
     /// Checks whether a slot has a value. A slot that the table hasn't has none. It is a look-up,
     /// and may drop values that others replaced or removed while it ran.
-    ///
-    /// ```
-    /// let table = yachtbanyan::Table::<u64>::with_slots(2)?;
-    /// let handle = table.handle()?;
-    /// handle.replace_at(1, 7)?;
-    /// assert_eq!([0, 1, 2].map(|slot| handle.contains(slot)), [false, true, false]);
-    /// # Ok::<(), Box<dyn std::error::Error>>(())
-    /// ```
     pub fn contains(&self, slot: u32) -> bool {
         let (values, core) = self.parts();
         // SAFETY: the seat is this handle's (one user), and holds nothing between two calls.
@@ -268,16 +260,6 @@ impl<T> Handle<T> {
     }
 
     /// Checks whether no slot had a value when each was looked at, by [`Handle::contains`].
-    ///
-    /// ```
-    /// let table = yachtbanyan::Table::<u64>::with_slots(4)?;
-    /// let handle = table.handle()?;
-    /// let key = handle.insert(7)?;
-    /// assert!(!handle.is_empty());
-    /// handle.remove(key)?;
-    /// assert!(handle.is_empty());
-    /// # Ok::<(), Box<dyn std::error::Error>>(())
-    /// ```
     pub fn is_empty(&self) -> bool {
         !(0..self.table().slots()).any(|it| self.contains(it))
     }
@@ -300,13 +282,6 @@ impl<T> Handle<T> {
     }
 
     /// Returns the table.
-    ///
-    /// ```
-    /// let table = yachtbanyan::Table::<u64>::with_slots(2)?;
-    /// let handle = table.handle()?;
-    /// assert_eq!(handle.table().slots(), 2);
-    /// # Ok::<(), Box<dyn std::error::Error>>(())
-    /// ```
     #[inline]
     pub fn table(&self) -> &Table<T> {
         self.reader.table()

@@ -27,26 +27,6 @@ use std::fmt;
 /// assert_eq!(thread.join().unwrap(), Ok(5));
 /// # Ok::<(), Box<dyn std::error::Error>>(())
 /// ```
-///
-/// Two threads can't share one:
-///
-/// ```compile_fail,E0277
-/// let table = yachtbanyan::Table::<u64>::with_slots(1).unwrap();
-/// let reader = table.reader().unwrap();
-/// std::thread::scope(|scope| {
-///     scope.spawn(|| drop(reader.get_at(0)));
-/// });
-/// ```
-///
-/// But it may go to another one:
-///
-/// ```
-/// let table = yachtbanyan::Table::<u64>::with_slots(1).unwrap();
-/// let reader = table.reader().unwrap();
-/// std::thread::scope(|scope| {
-///     scope.spawn(move || drop(reader.get_at(0)));
-/// });
-/// ```
 #[must_use = "a reader is in use until it is dropped"]
 pub struct Reader<T> {
     table: Table<T>,
@@ -104,17 +84,6 @@ impl<T> Reader<T> {
     ///
     /// # Errors
     /// `Stale` if the slot has another value, and as of [`Reader::get_at`].
-    ///
-    /// ```
-    /// let table = yachtbanyan::Table::<u64>::with_slots(2)?;
-    /// let reader = table.reader()?;
-    /// let key = table.insert(7)?;
-    /// assert_eq!(*reader.get(key)?, 7);
-    /// table.replace_at(key.slot(), 8)?;
-    /// let error = reader.get(key).unwrap_err();
-    /// assert_eq!(error.to_string(), format!("slot {} has another value", key.slot()));
-    /// # Ok::<(), Box<dyn std::error::Error>>(())
-    /// ```
     #[inline]
     pub fn get(&self, key: Key) -> Result<Guard<'_, T>, GetError> {
         self.find(key)
@@ -195,14 +164,6 @@ impl<T> Reader<T> {
     }
 
     /// Returns the table.
-    ///
-    /// ```
-    /// let table = yachtbanyan::Table::<u64>::with_slots(4)?;
-    /// let reader = table.reader()?;
-    /// reader.table().replace_at(3, 7)?;
-    /// assert_eq!(*reader.get_at(3)?, 7);
-    /// # Ok::<(), Box<dyn std::error::Error>>(())
-    /// ```
     #[inline]
     pub fn table(&self) -> &Table<T> {
         &self.table

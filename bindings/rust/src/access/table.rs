@@ -62,14 +62,6 @@ impl<T> Table<T> {
     }
 
     /// Returns the number of slots. They are numbered from 0.
-    ///
-    /// ```
-    /// let table = yachtbanyan::Table::<u64>::with_slots(4)?;
-    /// for slot in 0..table.slots() {
-    ///     table.replace_at(slot, u64::from(slot))?;
-    /// }
-    /// # Ok::<(), Box<dyn std::error::Error>>(())
-    /// ```
     pub fn slots(&self) -> u32 {
         self.values.slots()
     }
@@ -167,13 +159,6 @@ impl<T> Table<T> {
     /// # Errors
     /// `Full` with the value if at one moment during the call every slot had a value, `NoSeat` with
     /// the value if all seats that install have handles.
-    ///
-    /// ```
-    /// let table = yachtbanyan::Table::<String>::with_slots(4)?;
-    /// let key = table.insert("value".to_string())?;
-    /// assert_eq!(table.get_owned(key)?.as_str(), "value");
-    /// # Ok::<(), Box<dyn std::error::Error>>(())
-    /// ```
     pub fn insert(&self, value: T) -> Result<Key, Refused<T>> {
         let call = match self.values.seats.claim_call() {
             Ok(call) => call,
@@ -225,15 +210,6 @@ impl<T> Table<T> {
     ///
     /// # Errors
     /// `NoSlot` if the table has no such slot, `NoSeat` if all seats that install have handles.
-    ///
-    /// ```
-    /// use yachtbanyan::{Old, Table};
-    ///
-    /// let table = Table::<u64>::with_slots(4)?;
-    /// table.replace_at(3, 7)?;
-    /// assert_eq!(table.remove_at(3)?, Old::Unused(7));
-    /// # Ok::<(), Box<dyn std::error::Error>>(())
-    /// ```
     pub fn remove_at(&self, slot: u32) -> Result<Old<T>, RemoveError> {
         let call = self.values.seats.claim_call()?;
         // SAFETY: the seat is this call's (one user).
@@ -248,13 +224,6 @@ impl<T> Table<T> {
     ///
     /// # Errors
     /// [`NoSeat::Handle`] if all seats that install have handles.
-    ///
-    /// ```
-    /// let table = yachtbanyan::Table::<u64>::with_slots(4)?;
-    /// table.replace_at(3, 7)?;
-    /// assert!(table.contains(3)? && !table.contains(2)?);
-    /// # Ok::<(), Box<dyn std::error::Error>>(())
-    /// ```
     pub fn contains(&self, slot: u32) -> Result<bool, NoSeat> {
         let call = self.values.seats.claim_call()?;
         // SAFETY: the seat is this call's (one user).

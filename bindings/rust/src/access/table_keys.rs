@@ -13,17 +13,6 @@ impl<T> Table<T> {
     ///
     /// # Errors
     /// `Stale` if the slot has another value, and as of [`Table::get_owned_at`].
-    ///
-    /// ```
-    /// use yachtbanyan::{GetError, Table};
-    ///
-    /// let table = Table::<u64>::with_slots(1)?;
-    /// let key = table.insert(7)?;
-    /// assert_eq!(*table.get_owned(key)?, 7);
-    /// table.replace_at(0, 8)?;
-    /// assert_eq!(table.get_owned(key).unwrap_err(), GetError::Stale { slot: 0 });
-    /// # Ok::<(), Box<dyn std::error::Error>>(())
-    /// ```
     pub fn get_owned(&self, key: Key) -> Result<OwnedGuard<T>, GetError> {
         self.find_owned(key)
     }
@@ -36,16 +25,6 @@ impl<T> Table<T> {
     /// With the new value: `Stale` if the slot has another value than that of the key, `Empty` if
     /// it has none, `NoSlot` if the table has no such slot, `NoSeat` if all seats that install have
     /// handles.
-    ///
-    /// ```
-    /// use yachtbanyan::{Old, Table};
-    ///
-    /// let table = Table::<u64>::with_slots(4)?;
-    /// let first = table.insert(7)?;
-    /// let (second, old) = table.replace(first, 8)?;
-    /// assert_eq!((old, table.remove(second)?), (Old::Unused(7), Old::Unused(8)));
-    /// # Ok::<(), Box<dyn std::error::Error>>(())
-    /// ```
     pub fn replace(&self, key: Key, value: T) -> Result<(Key, Old<T>), Refused<T>> {
         let values = self.values();
         let call = match values.seats.claim_call() {
@@ -71,18 +50,6 @@ impl<T> Table<T> {
     /// # Errors
     /// `Stale` if the slot has another value, `Empty` if it has none, `NoSlot` if the table has no
     /// such slot, `NoSeat` if all seats that install have handles.
-    ///
-    /// ```
-    /// use yachtbanyan::{Old, RemoveError, Table};
-    ///
-    /// let table = Table::<u64>::with_slots(1)?;
-    /// let first = table.insert(7)?;
-    /// assert_eq!(table.remove(first), Ok(Old::Unused(7)));
-    /// let second = table.insert(8)?;
-    /// assert_eq!(table.remove(first), Err(RemoveError::Stale { slot: 0 }));
-    /// assert_eq!(table.remove(second), Ok(Old::Unused(8)));
-    /// # Ok::<(), Box<dyn std::error::Error>>(())
-    /// ```
     pub fn remove(&self, key: Key) -> Result<Old<T>, RemoveError> {
         let (old, unused) = remove_by_call(self.values(), key)?;
         let old = old.map(|old| old.map(|it| *it));

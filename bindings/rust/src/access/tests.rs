@@ -3,8 +3,8 @@
 mod answers;
 mod balance;
 #[cfg(yachtbanyan_stand_in)]
+mod numbers;
+#[cfg(yachtbanyan_stand_in)]
 mod orders;
 #[cfg(yachtbanyan_stand_in)]
 mod steps;
-#[cfg(yachtbanyan_stand_in)]
-mod within;

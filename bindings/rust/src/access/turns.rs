@@ -38,12 +38,19 @@ pub(crate) type Job = Box<dyn FnOnce()>;
 #[repr(C, align(16))]
 struct Context([u64; 1024]);
 
+impl Default for Context {
+    fn default() -> Context {
+        Context([0; 1024])
+    }
+}
+
 unsafe extern "C" {
     fn getcontext(context: *mut Context) -> i32;
     fn makecontext(context: *mut Context, start: extern "C" fn(), count: i32, ...);
     fn swapcontext(from: *mut Context, to: *const Context) -> i32;
 }
 
+#[derive(Default)]
 struct Thread {
     context: Box<Context>,
     job: Option<Job>,
@@ -69,6 +76,7 @@ struct Thread {
 struct Choice(Vec<usize>);
 
 /// An exploration, and its present run.
+#[derive(Default)]
 struct Turns {
     by_call: bool,
     seen: HashSet<u64>,
@@ -181,7 +189,7 @@ extern "C" fn start() {
 }
 
 fn thread(at: usize, job: Job, stack: &mut [u64]) -> Thread {
-    let mut context = Box::new(Context([0; 1024]));
+    let mut context = Box::<Context>::default();
     // SAFETY: there is room for a context of any machine, which has the stack at these places
     // (makecontext(3), <sys/ucontext.h>).
     unsafe {
@@ -196,16 +204,9 @@ fn thread(at: usize, job: Job, stack: &mut [u64]) -> Thread {
     Thread {
         context,
         job: Some(job),
-        is_done: false,
-        waits: None,
-        woke: 0,
-        changed: 0,
-        found: 0,
-        since: None,
         clock,
-        values: 0,
         first_word: at,
-        calls: 0,
+        ..Thread::default()
     }
 }
 
@@ -213,21 +214,8 @@ impl Turns {
     fn new(by_call: bool) -> Turns {
         Turns {
             by_call,
-            seen: HashSet::new(),
-            path: Vec::new(),
-            depth: 0,
-            steps: 0,
-            is_old: false,
-            fault: None,
-            main: Box::new(Context([0; 1024])),
-            threads: Vec::new(),
-            now: 0,
-            begun: false,
-            changed: 0,
-            memory: 0,
-            atomics: HashMap::new(),
-            uses: HashMap::new(),
             stacks: (0..MOST).map(|_| vec![0; STACK / 8]).collect(),
+            ..Turns::default()
         }
     }
 

@@ -8,36 +8,16 @@ pub(super) struct Machine {
     pub(super) slots: *mut u8,
 }
 
-/// The call is done.
-pub(super) const DONE: i32 = 0;
-/// The call is done, and nobody uses the file any more: the slot is to be closed.
-pub(super) const CLOSE: i32 = 1;
-/// No slot is free.
-pub(super) const FULL: i32 = -6;
-/// An argument is out of range.
-pub(super) const BAD_ARGUMENT: i32 = -8;
-/// An allocation failed.
-pub(super) const NO_MEMORY: i32 = -9;
-/// The life of the key is over, or never was.
-pub(super) const STALE: i32 = -10;
-/// The open isn't completed.
-pub(super) const IS_OPENING: i32 = -11;
-/// The file is open.
-pub(super) const IS_LIVE: i32 = -12;
-/// The life was ended, and requests or users are left.
-pub(super) const IS_ENDING: i32 = -13;
-/// The close isn't completed.
-pub(super) const IS_CLOSING: i32 = -14;
-/// 2^32 - 1 requests are in flight under the key.
-pub(super) const TOO_MANY_REQUESTS: i32 = -15;
-/// The key has 2^32 - 1 users.
-pub(super) const TOO_MANY_USERS: i32 = -16;
+/// Defines numbers of the header.
+macro_rules! numbers {
+    ($($name:ident $number:literal),*) => { $(pub(super) const $name: i32 = $number;)* };
+}
 
-/// The phases.
-pub(super) const OPENING: i32 = 1;
-pub(super) const LIVE: i32 = 2;
-pub(super) const ENDING: i32 = 3;
-pub(super) const CLOSING: i32 = 4;
+// the answers, as yachtdirect.h describes them
+numbers! { DONE 0, CLOSE 1, FULL -6, BAD_ARGUMENT -8, NO_MEMORY -9, STALE -10, IS_OPENING -11 }
+numbers! { IS_LIVE -12, IS_ENDING -13, IS_CLOSING -14, TOO_MANY_REQUESTS -15, TOO_MANY_USERS -16 }
+// the phases
+numbers! { OPENING 1, LIVE 2, ENDING 3, CLOSING 4 }
 
 /// The largest number of slots.
 pub(super) const MOST_SLOTS: u32 = 1_048_576;

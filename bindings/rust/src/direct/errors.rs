@@ -38,88 +38,63 @@ pub struct Full {
     pub slots: u32,
 }
 
-/// The reason why a call by a key is refused. It has changed nothing.
-///
-/// ```
-/// use yachtbanyan::direct::{Refusal, Slots};
-///
-/// let mut slots = Slots::<()>::new(4)?;
-/// let key = slots.reserve()?;
-/// let error = slots.start(key).unwrap_err();
-/// assert_eq!(error, Refusal::IsOpening { key });
-/// assert_eq!(error.number(), -11);
-/// assert_eq!(error.to_string(), format!("{key}: the open is not completed"));
-/// # Ok::<(), Box<dyn std::error::Error>>(())
-/// ```
-#[derive(Clone, Copy, Debug, PartialEq, Eq)]
-#[non_exhaustive]
-pub enum Refusal {
+/// Defines the refusals of calls by a key, each with its number in yachtdirect.h and its words.
+macro_rules! refusals {
+    ($($(#[$meaning:meta])* $name:ident $number:ident $words:literal)*) => {
+        /// The reason why a call by a key is refused. It has changed nothing.
+        ///
+        /// ```
+        /// use yachtbanyan::direct::{Refusal, Slots};
+        ///
+        /// let mut slots = Slots::<()>::new(4)?;
+        /// let key = slots.reserve()?;
+        /// let error = slots.start(key).unwrap_err();
+        /// assert_eq!(error, Refusal::IsOpening { key });
+        /// assert_eq!(error.number(), -11);
+        /// assert_eq!(error.to_string(), format!("{key}: the open is not completed"));
+        /// # Ok::<(), Box<dyn std::error::Error>>(())
+        /// ```
+        #[derive(Clone, Copy, Debug, PartialEq, Eq)]
+        #[non_exhaustive]
+        pub enum Refusal { $(
+            $(#[$meaning])*
+            $name {
+                /// The key.
+                key: Key,
+            },
+        )* }
+
+        impl Refusal {
+            /// Returns the refusal of a number of yachtdirect.h.
+            pub(super) fn of(number: i32, key: Key) -> Refusal {
+                match number { $($number => Refusal::$name { key },)* _ => Refusal::Stale { key } }
+            }
+
+            fn parts(self) -> (Key, i32, &'static str) {
+                match self { $(Refusal::$name { key } => (key, $number, $words)),* }
+            }
+        }
+    };
+}
+
+refusals! {
     /// The life of the key is over, or never was.
-    Stale {
-        /// The key.
-        key: Key,
-    },
+    Stale STALE "the life of the key is over"
     /// The open isn't completed.
-    IsOpening {
-        /// The key.
-        key: Key,
-    },
-    /// The file is open: it wasn't ended; of `finish` and `release`, no request or no user is
-    /// left.
-    IsLive {
-        /// The key.
-        key: Key,
-    },
+    IsOpening IS_OPENING "the open is not completed"
+    /// The file is open: it wasn't ended; of `finish` and `release`, no request or no user is left.
+    IsLive IS_LIVE "the file is open"
     /// The life was ended; of `finish` and `release`, no request or no user is left.
-    IsEnding {
-        /// The key.
-        key: Key,
-    },
+    IsEnding IS_ENDING "the life was ended"
     /// The close isn't completed.
-    IsClosing {
-        /// The key.
-        key: Key,
-    },
+    IsClosing IS_CLOSING "the close is not completed"
     /// 2^32 - 1 requests are in flight under the key.
-    TooManyRequests {
-        /// The key.
-        key: Key,
-    },
+    TooManyRequests TOO_MANY_REQUESTS "too many requests are in flight"
     /// The key has 2^32 - 1 users.
-    TooManyUsers {
-        /// The key.
-        key: Key,
-    },
+    TooManyUsers TOO_MANY_USERS "there are too many users"
 }
 
 impl Refusal {
-    /// Returns the refusal of a number of yachtdirect.h.
-    pub(super) fn of(number: i32, key: Key) -> Refusal {
-        match number {
-            IS_OPENING => Refusal::IsOpening { key },
-            IS_LIVE => Refusal::IsLive { key },
-            IS_ENDING => Refusal::IsEnding { key },
-            IS_CLOSING => Refusal::IsClosing { key },
-            TOO_MANY_REQUESTS => Refusal::TooManyRequests { key },
-            TOO_MANY_USERS => Refusal::TooManyUsers { key },
-            _ => Refusal::Stale { key },
-        }
-    }
-
-    fn parts(self) -> (Key, i32, &'static str) {
-        match self {
-            Refusal::Stale { key } => (key, STALE, "the life of the key is over"),
-            Refusal::IsOpening { key } => (key, IS_OPENING, "the open is not completed"),
-            Refusal::IsLive { key } => (key, IS_LIVE, "the file is open"),
-            Refusal::IsEnding { key } => (key, IS_ENDING, "the life was ended"),
-            Refusal::IsClosing { key } => (key, IS_CLOSING, "the close is not completed"),
-            Refusal::TooManyRequests { key } => {
-                (key, TOO_MANY_REQUESTS, "too many requests are in flight")
-            }
-            Refusal::TooManyUsers { key } => (key, TOO_MANY_USERS, "there are too many users"),
-        }
-    }
-
     /// Returns the key of the call.
     pub fn key(self) -> Key {
         self.parts().0

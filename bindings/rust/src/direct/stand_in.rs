@@ -191,20 +191,26 @@ pub(super) unsafe extern "C" fn yacht_direct_opened(
     number(opened.map(|()| DONE))
 }
 
-pub(super) unsafe extern "C" fn yacht_direct_start(
-    machine: *mut Machine,
-    key: u64,
-    slot: *mut u32,
-) -> i32 {
-    unsafe { at_slot(plain(machine).start(key), key, slot) }
+/// Defines the calls by a key that write its slot.
+macro_rules! calls_of_a_slot {
+    ($($name:ident($plain:ident, $key:ident) $answer:expr;)*) => { $(
+        pub(super) unsafe extern "C" fn $name(it: *mut Machine, $key: u64, slot: *mut u32) -> i32 {
+            let $plain = unsafe { plain(it) };
+            let answer = $answer;
+            unsafe { at_slot(answer, $key, slot) }
+        }
+    )* };
 }
 
-pub(super) unsafe extern "C" fn yacht_direct_finish(
-    machine: *mut Machine,
-    key: u64,
-    slot: *mut u32,
-) -> i32 {
-    unsafe { at_slot(plain(machine).finish(key), key, slot) }
+calls_of_a_slot! {
+    yacht_direct_start(it, key) it.start(key);
+    yacht_direct_finish(it, key) it.finish(key);
+    yacht_direct_release(it, key) it.release(key);
+    yacht_direct_end(it, key) {
+        let ended = it.in_phase(key, LIVE).map(|life| life.phase = ENDING);
+        ended.and_then(|()| it.settle(key))
+    };
+    yacht_direct_close_failed(it, key) it.in_phase(key, CLOSING).map(|_| CLOSE);
 }
 
 pub(super) unsafe extern "C" fn yacht_direct_hold(machine: *mut Machine, key: u64) -> i32 {
@@ -217,35 +223,8 @@ pub(super) unsafe extern "C" fn yacht_direct_hold(machine: *mut Machine, key: u6
     number(held)
 }
 
-pub(super) unsafe extern "C" fn yacht_direct_release(
-    machine: *mut Machine,
-    key: u64,
-    slot: *mut u32,
-) -> i32 {
-    unsafe { at_slot(plain(machine).release(key), key, slot) }
-}
-
-pub(super) unsafe extern "C" fn yacht_direct_end(
-    machine: *mut Machine,
-    key: u64,
-    slot: *mut u32,
-) -> i32 {
-    let plain = unsafe { plain(machine) };
-    let ended = plain.in_phase(key, LIVE).map(|life| life.phase = ENDING);
-    unsafe { at_slot(ended.and_then(|()| plain.settle(key)), key, slot) }
-}
-
 pub(super) unsafe extern "C" fn yacht_direct_closed(machine: *mut Machine, key: u64) -> i32 {
     number(unsafe { plain(machine) }.end_of_life(key, CLOSING))
-}
-
-pub(super) unsafe extern "C" fn yacht_direct_close_failed(
-    machine: *mut Machine,
-    key: u64,
-    slot: *mut u32,
-) -> i32 {
-    let closing = unsafe { plain(machine) }.in_phase(key, CLOSING);
-    unsafe { at_slot(closing.map(|_| CLOSE), key, slot) }
 }
 
 pub(super) unsafe extern "C" fn yacht_direct_phase(

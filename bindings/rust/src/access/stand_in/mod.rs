@@ -78,11 +78,9 @@ impl Worker {
         )
     }
 
-    // Removes the file of a key. The pass holds it meanwhile, and its hold ends with the removal.
+    // Removes the file of a key, by a worker that isn't refused. The pass holds it meanwhile, and its
+    // hold ends with the removal.
     fn remove(&mut self, slot: u32, number: u64, out: &mut Outcome) -> i64 {
-        if let Some(refusal) = self.refuses(None, true) {
-            return refusal;
-        }
         let Worker { table, pass, .. } = self;
         let node = match look_key(table, pass, slot, number, out) {
             Ok(node) => node,
@@ -100,9 +98,6 @@ impl Worker {
     // Replaces the file of a key. The pass holds it meanwhile, and its hold ends with the
     // replacement.
     fn replace(&mut self, slot: u32, number: u64, tag: u64, out: &mut Outcome) -> i64 {
-        if let Some(refusal) = self.refuses(None, true) {
-            return refusal;
-        }
         let next = self.number;
         let Worker { table, pass, .. } = self;
         if slot as usize >= table.size {
@@ -209,33 +204,87 @@ pub(crate) unsafe fn yacht_core_close(handle: Core) {
     drop(unsafe { Box::from_raw(handle.worker().cast::<Worker>()) });
 }
 
-pub(crate) unsafe fn yacht_core_get_at(handle: *mut Core, slot: u32, out: *mut Outcome) -> i64 {
-    let (mut it, out) = unsafe { (worker(handle), &mut *out) };
-    *out = Outcome::default();
-    if let Some(refusal) = it.refuses(Some(slot), false) {
-        return refusal;
-    }
-    let Worker { table, pass, .. } = &mut *it;
-    let Looked { found, freed } = table.look_up(pass, slot as usize);
-    out.freed = freed.unwrap_or(0);
-    found.map_or(EMPTY, |(node, _)| it.hold(node, None, out))
+/// Defines the calls of a worker that write an outcome or a number, unless they are refused: each
+/// with the slot that must be there, and whether the worker installs.
+macro_rules! calls {
+    ($($name:ident($it:ident $(, $given:ident: $kind:ty)* => $out:ident: $to:ty;
+                   $slot:expr, $installs:literal) $body:block)*) => { $(
+        pub(crate) unsafe fn $name(handle: *mut Core, $($given: $kind,)* out: *mut $to) -> i64 {
+            let (mut $it, $out) = unsafe { (worker(handle), &mut *out) };
+            *$out = <$to>::default();
+            if let Some(refusal) = $it.refuses($slot, $installs) {
+                return refusal;
+            }
+            $body
+        }
+    )* };
 }
 
-pub(crate) unsafe fn yacht_core_get(
-    handle: *mut Core,
-    slot: u32,
-    number: u64,
-    out: *mut Outcome,
-) -> i64 {
-    let (mut it, out) = unsafe { (worker(handle), &mut *out) };
-    *out = Outcome::default();
-    if let Some(refusal) = it.refuses(None, false) {
-        return refusal;
+calls! {
+    yacht_core_get_at(it, slot: u32 => out: Outcome; Some(slot), false) {
+        let Worker { table, pass, .. } = &mut *it;
+        let Looked { found, freed } = table.look_up(pass, slot as usize);
+        out.freed = freed.unwrap_or(0);
+        found.map_or(EMPTY, |(node, _)| it.hold(node, None, out))
     }
-    let Worker { table, pass, .. } = &mut *it;
-    match look_key(table, pass, slot, number, out) {
-        Ok(node) => it.hold(node, Some(number), out),
-        Err(refusal) => refusal,
+
+    yacht_core_get(it, slot: u32, number: u64 => out: Outcome; None, false) {
+        let Worker { table, pass, .. } = &mut *it;
+        match look_key(table, pass, slot, number, out) {
+            Ok(node) => it.hold(node, Some(number), out),
+            Err(refusal) => refusal,
+        }
+    }
+
+    yacht_core_insert(it, tag: u64 => number: u64; None, true) {
+        let next = it.number;
+        let Worker { table, pass, .. } = &mut *it;
+        let found = table.try_put_any(pass, tag, next);
+        if let Found::At(_) = found {
+            *number = it.draw();
+        }
+        code_found(&found)
+    }
+
+    yacht_core_replace_at(it, slot: u32, tag: u64 => out: Outcome; Some(slot), true) {
+        out.number = it.draw();
+        let Worker { table, pass, .. } = &mut *it;
+        let old = table.put(pass, slot as usize, tag, out.number);
+        if node_in(old).is_none() {
+            return DONE;
+        }
+        it.retire(old, out)
+    }
+
+    yacht_core_replace(it, slot: u32, number: u64, tag: u64 => out: Outcome; None, true) {
+        let done = it.replace(slot, number, tag, out);
+        if done >= 0 {
+            out.number = it.draw();
+        }
+        done
+    }
+
+    yacht_core_remove_at(it, slot: u32 => out: Outcome; Some(slot), true) {
+        let Worker { table, pass, .. } = &mut *it;
+        let old = table.take(pass, slot as usize);
+        if node_in(old).is_none() {
+            return EMPTY;
+        }
+        it.retire(old, out)
+    }
+
+    yacht_core_remove(it, slot: u32, number: u64 => out: Outcome; None, true) {
+        it.remove(slot, number, out)
+    }
+
+    yacht_core_find(it => number: u64; None, true) {
+        let Worker { table, pass, .. } = &mut *it;
+        let found = table.find(pass);
+        if let Found::At(_) = found {
+            it.kept = it.draw();
+            *number = it.kept;
+        }
+        code_found(&found)
     }
 }
 
@@ -247,97 +296,6 @@ pub(crate) unsafe fn yacht_core_release(handle: *mut Core, dropped: *mut u64) ->
     };
     let Worker { table, pass, .. } = &mut *it;
     answer(table.release(pass, node), DONE, dropped)
-}
-
-pub(crate) unsafe fn yacht_core_insert(handle: *mut Core, tag: u64, number: *mut u64) -> i64 {
-    let (mut it, number) = unsafe { (worker(handle), &mut *number) };
-    *number = 0;
-    if let Some(refusal) = it.refuses(None, true) {
-        return refusal;
-    }
-    let next = it.number;
-    let Worker { table, pass, .. } = &mut *it;
-    let found = table.try_put_any(pass, tag, next);
-    if let Found::At(_) = found {
-        *number = it.draw();
-    }
-    code_found(&found)
-}
-
-pub(crate) unsafe fn yacht_core_replace_at(
-    handle: *mut Core,
-    slot: u32,
-    tag: u64,
-    out: *mut Outcome,
-) -> i64 {
-    let (mut it, out) = unsafe { (worker(handle), &mut *out) };
-    *out = Outcome::default();
-    if let Some(refusal) = it.refuses(Some(slot), true) {
-        return refusal;
-    }
-    out.number = it.draw();
-    let Worker { table, pass, .. } = &mut *it;
-    let old = table.put(pass, slot as usize, tag, out.number);
-    if node_in(old).is_none() {
-        return DONE;
-    }
-    it.retire(old, out)
-}
-
-pub(crate) unsafe fn yacht_core_replace(
-    handle: *mut Core,
-    slot: u32,
-    number: u64,
-    tag: u64,
-    out: *mut Outcome,
-) -> i64 {
-    let (mut it, out) = unsafe { (worker(handle), &mut *out) };
-    *out = Outcome::default();
-    let done = it.replace(slot, number, tag, out);
-    if done >= 0 {
-        out.number = it.draw();
-    }
-    done
-}
-
-pub(crate) unsafe fn yacht_core_remove_at(handle: *mut Core, slot: u32, out: *mut Outcome) -> i64 {
-    let (mut it, out) = unsafe { (worker(handle), &mut *out) };
-    *out = Outcome::default();
-    if let Some(refusal) = it.refuses(Some(slot), true) {
-        return refusal;
-    }
-    let Worker { table, pass, .. } = &mut *it;
-    let old = table.take(pass, slot as usize);
-    if node_in(old).is_none() {
-        return EMPTY;
-    }
-    it.retire(old, out)
-}
-
-pub(crate) unsafe fn yacht_core_remove(
-    handle: *mut Core,
-    slot: u32,
-    number: u64,
-    out: *mut Outcome,
-) -> i64 {
-    let (mut it, out) = unsafe { (worker(handle), &mut *out) };
-    *out = Outcome::default();
-    it.remove(slot, number, out)
-}
-
-pub(crate) unsafe fn yacht_core_find(handle: *mut Core, number: *mut u64) -> i64 {
-    let (mut it, number) = unsafe { (worker(handle), &mut *number) };
-    *number = 0;
-    if let Some(refusal) = it.refuses(None, true) {
-        return refusal;
-    }
-    let Worker { table, pass, .. } = &mut *it;
-    let found = table.find(pass);
-    if let Found::At(_) = found {
-        it.kept = it.draw();
-        *number = it.kept;
-    }
-    code_found(&found)
 }
 
 pub(crate) unsafe fn yacht_core_put_empty(handle: *mut Core, slot: u32, tag: u64) -> i64 {

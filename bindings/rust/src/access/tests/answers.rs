@@ -1,12 +1,27 @@
 //! Each call with its answer in words, and the answers that it may have at a moment of the table.
 use super::balance::{Before, Beside, Case, Scene, Value, GUARDS, HANDLES};
-use crate::{Key, Old, Reason, Refused, RemoveError};
+use crate::{Guard, Key, Old, OwnedGuard, Reason, Refused, RemoveError};
 use std::fmt::Debug;
 
 /// An answer in words, and the key of a value that the call installed.
 pub(super) type Answer = (String, Option<Key>);
 /// A call with a key.
 pub(super) type Call = fn(&Scene, Key) -> Answer;
+
+/// Returns what can't be refused.
+fn sure<R>(found: R) -> Result<R, ()> {
+    Ok(found)
+}
+
+fn insert_with(it: &Scene) -> Result<Key, Reason> {
+    let mut given = None;
+    let answer = it.handle.insert_with(|key| {
+        given = Some(key);
+        it.value()
+    });
+    assert!(answer.is_err() || answer.ok() == given, "another key");
+    answer
+}
 
 /// Returns the answer of a call that is done as `done` says.
 fn said<R, E: Debug>(answer: Result<R, E>, done: impl FnOnce(R) -> Answer) -> Answer {
@@ -37,111 +52,56 @@ fn reason(refused: Refused<Value>) -> Reason {
     refused.reason
 }
 
-pub(super) const CALLS: &[(&str, Call)] = &[
-    ("Handle::get_at", |it, key| {
-        said(it.handle.get_at(key.slot()), found)
-    }),
-    ("Handle::get", |it, key| said(it.handle.get(key), found)),
-    ("Reader::get_at", |it, key| {
-        said(it.reader.get_at(key.slot()), found)
-    }),
-    ("Reader::get", |it, key| said(it.reader.get(key), found)),
-    ("Table::get_owned_at", |it, key| {
-        said(it.table.get_owned_at(key.slot()), found)
-    }),
-    ("Table::get_owned", |it, key| {
-        said(it.table.get_owned(key), found)
-    }),
-    ("Handle::insert", |it, _| {
-        said(it.handle.insert(it.value()).map_err(reason), inserted)
-    }),
-    ("Handle::try_insert", |it, _| {
-        said(it.handle.try_insert(it.value()).map_err(reason), inserted)
-    }),
-    ("Handle::insert_with", |it, _| {
-        let mut given = None;
-        let answer = it.handle.insert_with(|key| {
-            given = Some(key);
-            it.value()
-        });
-        assert!(answer.is_err() || answer.ok() == given, "another key");
-        said(answer, inserted)
-    }),
-    ("Table::insert", |it, _| {
-        said(it.table.insert(it.value()).map_err(reason), inserted)
-    }),
-    ("Handle::replace_at", |it, key| {
-        let answer = it.handle.replace_at(key.slot(), it.value());
-        said(answer.map_err(reason), replaced)
-    }),
-    ("Table::replace_at", |it, key| {
-        let answer = it.table.replace_at(key.slot(), it.value());
-        said(answer.map_err(reason), replaced)
-    }),
-    ("Handle::replace", |it, key| {
-        let answer = it.handle.replace(key, it.value());
-        said(answer.map_err(reason), replaced)
-    }),
-    ("Table::replace", |it, key| {
-        let answer = it.table.replace(key, it.value());
-        said(answer.map_err(reason), replaced)
-    }),
-    ("Handle::remove_at", |it, key| {
-        let answer = it.handle.remove_at(key.slot());
-        said(answer.map_err(RemoveError::from), removed)
-    }),
-    ("Table::remove_at", |it, key| {
-        said(it.table.remove_at(key.slot()), removed)
-    }),
-    ("Handle::remove", |it, key| {
-        said(it.handle.remove(key), removed)
-    }),
-    ("Table::remove", |it, key| {
-        said(it.table.remove(key), removed)
-    }),
-    ("Guard::remove", |it, key| match it.handle.get(key) {
-        Ok(guard) => said(guard.remove(), removed),
-        Err(error) => said(Err(error), found::<()>),
-    }),
-    ("Guard::remove of a reader", |it, key| {
-        match it.reader.get(key) {
-            Ok(guard) => said(guard.remove(), removed),
-            Err(error) => said(Err(error), found::<()>),
-        }
-    }),
-    ("OwnedGuard::remove", |it, key| {
-        match it.table.get_owned(key) {
-            Ok(guard) => said(guard.remove(), removed),
-            Err(error) => said(Err(error), found::<()>),
-        }
-    }),
-    ("Handle::contains", |it, key| {
-        count(it.handle.contains(key.slot()).into())
-    }),
-    ("Table::contains", |it, key| {
-        said(it.table.contains(key.slot()), |it| count(it.into()))
-    }),
-    ("Handle::iter", |it, _| {
-        let each = it.handle.iter().map(|it| it.map(drop));
-        said(each.collect::<Result<Vec<()>, _>>(), |it| count(it.len()))
-    }),
-    ("Reader::iter", |it, _| {
-        let all: Result<Vec<_>, _> = it.reader.iter().collect();
-        said(all, |it| count(it.len()))
-    }),
-    ("Handle::len", |it, _| count(it.handle.len() as usize)),
-    ("Handle::is_empty", |it, _| {
-        count(it.handle.is_empty().into())
-    }),
-    ("Table::handle", |it, _| {
-        let two = [it.table.handle(), it.table.handle()];
-        count(two.into_iter().flatten().count())
-    }),
-    ("Table::reader", |it, _| {
-        let two = [it.table.reader(), it.table.reader()];
-        count(two.into_iter().flatten().count())
-    }),
-];
+/// Defines the calls by their names, each with what is said of its result.
+macro_rules! calls {
+    ($($name:literal |$it:ident, $key:ident| $result:expr => $done:expr;)*) => {
+        pub(super) const CALLS: &[(&str, Call)] =
+            &[$(($name, |$it: &Scene, $key: Key| said($result, $done))),*];
+    };
+}
+
+calls! {
+    "Handle::get_at" |it, key| it.handle.get_at(key.slot()) => found;
+    "Handle::get" |it, key| it.handle.get(key) => found;
+    "Reader::get_at" |it, key| it.reader.get_at(key.slot()) => found;
+    "Reader::get" |it, key| it.reader.get(key) => found;
+    "Table::get_owned_at" |it, key| it.table.get_owned_at(key.slot()) => found;
+    "Table::get_owned" |it, key| it.table.get_owned(key) => found;
+    "Handle::insert" |it, _key| it.handle.insert(it.value()).map_err(reason) => inserted;
+    "Handle::try_insert" |it, _key| it.handle.try_insert(it.value()).map_err(reason) => inserted;
+    "Handle::insert_with" |it, _key| insert_with(it) => inserted;
+    "Table::insert" |it, _key| it.table.insert(it.value()).map_err(reason) => inserted;
+    "Handle::replace_at" |it, key|
+        it.handle.replace_at(key.slot(), it.value()).map_err(reason) => replaced;
+    "Table::replace_at" |it, key|
+        it.table.replace_at(key.slot(), it.value()).map_err(reason) => replaced;
+    "Handle::replace" |it, key| it.handle.replace(key, it.value()).map_err(reason) => replaced;
+    "Table::replace" |it, key| it.table.replace(key, it.value()).map_err(reason) => replaced;
+    "Handle::remove_at" |it, key|
+        it.handle.remove_at(key.slot()).map_err(RemoveError::from) => removed;
+    "Table::remove_at" |it, key| it.table.remove_at(key.slot()) => removed;
+    "Handle::remove" |it, key| it.handle.remove(key) => removed;
+    "Table::remove" |it, key| it.table.remove(key) => removed;
+    "Guard::remove" |it, key|
+        it.handle.get(key).map_err(RemoveError::from).and_then(Guard::remove) => removed;
+    "Guard::remove of a reader" |it, key|
+        it.reader.get(key).map_err(RemoveError::from).and_then(Guard::remove) => removed;
+    "OwnedGuard::remove" |it, key|
+        it.table.get_owned(key).map_err(RemoveError::from).and_then(OwnedGuard::remove) => removed;
+    "Handle::contains" |it, key| sure(it.handle.contains(key.slot()).into()) => count;
+    "Table::contains" |it, key| it.table.contains(key.slot()).map(usize::from) => count;
+    "Handle::iter" |it, _key|
+        it.handle.iter().map(|it| it.map(drop)).collect::<Result<Vec<()>, _>>()
+            => |it| count(it.len());
+    "Reader::iter" |it, _key|
+        it.reader.iter().collect::<Result<Vec<_>, _>>() => |it| count(it.len());
+    "Handle::len" |it, _key| sure(it.handle.len()) => |it| count(it as usize);
+    "Handle::is_empty" |it, _key| sure(it.handle.is_empty()) => |it| count(it.into());
+    "Table::handle" |it, _key| sure([it.table.handle(), it.table.handle()]) => |two|
+        count(two.into_iter().flatten().count());
+    "Table::reader" |it, _key| sure([it.table.reader(), it.table.reader()]) => |two|
+        count(two.into_iter().flatten().count());
+}
 
 /// What slot 1 has at a moment: nothing, the value of the right key, or another one.
 #[derive(Clone, Copy, PartialEq)]

@@ -20,53 +20,31 @@ pub(super) struct Family {
     looks: u32,
 }
 
-/// One full slot, which is hot for threads that are listed.
-const HOT: Family = Family {
-    slots: 1,
-    full: 1,
-    cold_takes: 0,
-    group_bits: None,
-    looks: 2,
-};
-/// One full slot that stays cold.
-const COLD: Family = Family {
-    cold_takes: 16,
-    looks: 1,
-    ..HOT
-};
-/// One full slot that gets hot by the second take, and threads that are listed.
-const WARM: Family = Family {
-    cold_takes: 2,
-    ..COLD
-};
-/// One full slot, and threads that aren't listed.
-const NEW: Family = Family { looks: 0, ..HOT };
-/// An allocation range of one slot.
-const ONE: Family = Family {
-    group_bits: Some(0),
-    ..COLD
-};
-/// A range of two slots, each a group of its own.
-const RANGE: Family = Family {
-    slots: 2,
-    full: 2,
-    ..ONE
-};
-/// Such a range with a free slot.
-const HALF: Family = Family { full: 1, ..RANGE };
-/// Such a range of one group.
-const GROUP: Family = Family {
-    group_bits: Some(1),
-    ..RANGE
-};
-/// A range of three slots, in groups of two and of one.
-const GROUPS: Family = Family {
-    slots: 3,
-    full: 3,
-    ..GROUP
-};
+// one full slot: hot for threads that are listed; cold; hot from the second take on, with threads
+// that are listed; and hot, with threads that aren't listed
+const HOT: Family = Family::of(1, 1, 0, None, 2);
+const COLD: Family = Family::of(1, 1, 16, None, 1);
+const WARM: Family = Family::of(1, 1, 2, None, 1);
+const NEW: Family = Family::of(1, 1, 0, None, 0);
+// an allocation range of one slot; of two, each a group of its own, full or with a free slot; of
+// two in one group; and of three, in groups of two and of one
+const ONE: Family = Family::of(1, 1, 16, Some(0), 1);
+const RANGE: Family = Family::of(2, 2, 16, Some(0), 1);
+const HALF: Family = Family::of(2, 1, 16, Some(0), 1);
+const GROUP: Family = Family::of(2, 2, 16, Some(1), 1);
+const GROUPS: Family = Family::of(3, 3, 16, Some(1), 1);
 
 impl Family {
+    const fn of(slots: u32, full: u32, cold_takes: u64, bits: Option<u32>, looks: u32) -> Family {
+        Family {
+            slots,
+            full,
+            cold_takes,
+            group_bits: bits,
+            looks,
+        }
+    }
+
     fn open(&self, count: usize) -> Scene {
         let mut cores: Vec<_> = (0..count).map(|_| Core::none()).collect();
         let opened =
