@@ -140,7 +140,7 @@ def for_rust():
     about = f"""The exports of the verified core, and the numbers that they return. In the core's words a value is a file.
 `scripts/declare-core` writes this file from `{SOURCE}`, which describes each function."""
     return f"""{folded(about, "//! ", "//! ")}
-#![allow(dead_code)]
+#![allow(dead_code, unused_imports)]
 use super::core::Core;
 
 {outcome()}

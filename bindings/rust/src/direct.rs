@@ -77,33 +77,15 @@
 //!
 //! # Promise
 //!
-//! In every run in which the premises below hold: a request that was started under a key finds the
-//! file that the open under this key installed, and no other one. An open finds its slot empty.
-//! Each file is asked to be closed at most once, or once more after each close that failed; and
-//! exactly once if its life was ended, and each request and user came back. When a slot is
-//! reserved, no request, no user and no file of an earlier life is left there. This is proved of
-//! the library beneath.
+//! A request that was started under a key finds the file that the open under this key installed,
+//! and an open finds its slot empty. Each file is asked to be closed at most once, or once more
+//! after each close that failed. When a slot is reserved, nothing of an earlier life is left there.
+//! This is proved of the library beneath, under the premises of docs/use/DIRECT.md ("Promise"):
 //!
-//! # Premises
-//!
-//! - At [`Slots::new`] the slots lie inside the ring's table, they are empty, and no request is in
-//!   flight at them. So before other slots are opened for the same ring, [`Slots::len`] of the
-//!   earlier ones is 0.
-//! - There is one submission for each call: of an open after [`Slots::reserve`], of a request after
-//!   [`Slots::start`], of a close after [`Next::Close`].
-//! - [`Slots::finish`] is called once, after the last completion of the request. Of a multishot
-//!   request it is the one without `IORING_CQE_F_MORE`, which may have data. Of a zero-copy send it
-//!   is the one with `IORING_CQE_F_NOTIF`, or one without `IORING_CQE_F_MORE` whose result is
-//!   negative and not -125 (`ECANCELED`): a send that its link cancels answers -125 without
-//!   `IORING_CQE_F_MORE`, and its notification follows.
-//! - Each key goes to the `Slots` that returned it. A key doesn't name its ring, and the first keys
-//!   of two rings are equal: with a key of another ring, [`Slots::release`] may return the close of
-//!   a connection whose [`User`] lives.
-//! - Nobody else writes these slots: no update of the ring's table there, and no open at a slot
-//!   that the kernel chooses, unless the ring's allocation range lies outside them. By default it
-//!   is the whole table.
-//! - The kernel posts a completion once, with its request's `user_data`. An open succeeds if and
-//!   only if it put its file at the slot, and a close if and only if it took one.
+//! - The slots of [`Slots::new`] are empty, and nobody else writes them.
+//! - There is one submission for each call, and [`Slots::finish`] is called once, after the last
+//!   completion of the request (DIRECT, "The last completion").
+//! - Each key goes to the `Slots` that returned it: the first keys of two rings are equal.
 //!
 //! # Values, and other threads
 //!

@@ -26,11 +26,6 @@ pub enum OpenError {
 
 /// Each seat of a kind was in use when it was looked at. Nothing is lost: the call may be made
 /// again.
-///
-/// ```
-/// let error = yachtbanyan::NoSeat::Handle { in_use: 64 };
-/// assert_eq!(error.to_string(), "64 handles are in use; Options::handles sets at most 64");
-/// ```
 #[derive(Clone, Copy, Debug, PartialEq, Eq)]
 #[non_exhaustive]
 pub enum NoSeat {

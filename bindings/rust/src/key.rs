@@ -127,15 +127,6 @@ impl Key {
     }
 
     /// Returns the key of the lowest `width` of these bits, as [`Key::from_bits`].
-    ///
-    /// ```
-    /// use yachtbanyan::{Key, Table};
-    ///
-    /// let key = Table::<u64>::with_slots(4)?.insert(7)?;
-    /// let bits = key.to_bits_below(32).ok_or("the key has more bits")?;
-    /// assert_eq!(Key::from_bits_below(bits | 1 << 32, 32), key);
-    /// # Ok::<(), Box<dyn std::error::Error>>(())
-    /// ```
     pub fn from_bits_below(bits: u64, width: u32) -> Key {
         Key::from_bits(bits & low(width))
     }

@@ -39,28 +39,11 @@ impl Options {
 
     /// Sets the number of handles, 1 to [`MOST_HANDLES`](crate::MOST_HANDLES). Calls of the table
     /// that install or remove use the seats that no handle has.
-    ///
-    /// ```
-    /// use yachtbanyan::{NoSeat, Options};
-    ///
-    /// let table = Options::new(4).handles(2).open::<u64>()?;
-    /// let handles = (table.handle()?, table.handle()?);
-    /// assert_eq!(table.contains(0), Err(NoSeat::Handle { in_use: 2 }));
-    /// drop(handles);
-    /// assert_eq!(table.contains(0), Ok(false));
-    /// # Ok::<(), Box<dyn std::error::Error>>(())
-    /// ```
     pub fn handles(self, handles: u32) -> Options {
         Options { handles, ..self }
     }
 
     /// Sets the number of readers.
-    ///
-    /// ```
-    /// let table = yachtbanyan::Options::new(4).readers(0).open::<u64>()?;
-    /// assert!(table.reader().is_err());
-    /// # Ok::<(), yachtbanyan::OpenError>(())
-    /// ```
     pub fn readers(self, readers: u32) -> Options {
         Options { readers, ..self }
     }

@@ -1,7 +1,7 @@
 //! The exports of the verified core, and the numbers that they return. In the core's words a value
 //! is a file. `scripts/declare-core` writes this file from `crates/fx_server_c/src/exports.rt`,
 //! which describes each function.
-#![allow(dead_code)]
+#![allow(dead_code, unused_imports)]
 use super::core::Core;
 
 /// The numbers that a call returns beside its answer. Each is 0 if there is no such file.

@@ -68,15 +68,6 @@ impl<'r, T> Guard<'r, T> {
     }
 
     /// Returns the key of the value, by which others find it while it is at its slot.
-    ///
-    /// ```
-    /// let table = yachtbanyan::Table::<u64>::with_slots(4)?;
-    /// let handle = table.handle()?;
-    /// handle.replace_at(3, 7)?;
-    /// let key = handle.get_at(3)?.key();
-    /// assert_eq!(*handle.get(key)?, 7);
-    /// # Ok::<(), Box<dyn std::error::Error>>(())
-    /// ```
     #[inline]
     pub fn key(&self) -> Key {
         Key::new(self.slot, self.number)
@@ -214,13 +205,6 @@ impl<T> OwnedGuard<T> {
     }
 
     /// Returns the key of the value, by which others find it while it is at its slot.
-    ///
-    /// ```
-    /// let table = yachtbanyan::Table::<u64>::with_slots(4)?;
-    /// let key = table.insert(7)?;
-    /// assert_eq!(table.get_owned(key)?.key(), key);
-    /// # Ok::<(), Box<dyn std::error::Error>>(())
-    /// ```
     #[inline]
     pub fn key(&self) -> Key {
         Key::new(self.slot, self.number)

@@ -265,18 +265,6 @@ impl<T> Handle<T> {
     }
 
     /// Returns an iterator over guards of the values, as [`Reader::iter`].
-    ///
-    /// ```
-    /// let table = yachtbanyan::Table::<u64>::with_slots(4)?;
-    /// let handle = table.handle()?;
-    /// (1..4).for_each(|number| drop(handle.insert(number)));
-    /// let mut sum = 0;
-    /// for guard in &handle {
-    ///     sum += *guard?;
-    /// }
-    /// assert_eq!(sum, 6);
-    /// # Ok::<(), Box<dyn std::error::Error>>(())
-    /// ```
     pub fn iter(&self) -> Iter<'_, T> {
         self.reader.iter()
     }

@@ -64,17 +64,6 @@ impl<T> Reader<T> {
     /// # Errors
     /// `Empty` if the slot has no value, `NoSlot` if the table has no such slot, `NoSeat` if a
     /// guard of this reader is alive already and the table has no seat for another.
-    ///
-    /// ```
-    /// use yachtbanyan::{GetError, Table};
-    ///
-    /// let table = Table::<u64>::with_slots(2)?;
-    /// let reader = table.reader()?;
-    /// assert_eq!(reader.get_at(1).unwrap_err(), GetError::Empty { slot: 1 });
-    /// let key = table.insert(7)?;
-    /// assert_eq!(*reader.get_at(key.slot())?, 7);
-    /// # Ok::<(), Box<dyn std::error::Error>>(())
-    /// ```
     #[inline]
     pub fn get_at(&self, slot: u32) -> Result<Guard<'_, T>, GetError> {
         self.find(At(slot))

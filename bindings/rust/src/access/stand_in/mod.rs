@@ -78,8 +78,8 @@ impl Worker {
         )
     }
 
-    // Removes the file of a key, by a worker that isn't refused. The pass holds it meanwhile, and its
-    // hold ends with the removal.
+    // Removes the file of a key, by a worker that isn't refused. The pass holds it meanwhile, and
+    // its hold ends with the removal.
     fn remove(&mut self, slot: u32, number: u64, out: &mut Outcome) -> i64 {
         let Worker { table, pass, .. } = self;
         let node = match look_key(table, pass, slot, number, out) {
