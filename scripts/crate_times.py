@@ -64,14 +64,10 @@ def expected(left, running, below, lanes):
     return clock
 
 
-def spread(seconds, below, lanes):
-    """Returns the seconds by the clock that crates take in that many lanes: if no lane is ever free, and if each crate has one lane."""
-    return sum(seconds.values()) / lanes, expected(seconds, {}, below, lanes)
-
-
-def spread_in_words(least, most):
-    """Returns two numbers of seconds as a range of minutes."""
-    first, last = max(round(least / 60), 1), max(round(most / 60), 1)
+def spread_in_words(seconds, below, lanes):
+    """Returns as a range of minutes how long crates take in that many lanes: if no lane is ever free, and if each crate has one lane."""
+    most = expected(seconds, {}, below, lanes)
+    first, last = max(round(sum(seconds.values()) / lanes / 60), 1), max(round(most / 60), 1)
     return f"{first} to {last} minutes" if first < last else in_words(most).removeprefix("about ")
 
 
@@ -80,7 +76,7 @@ def minutes(*roots):
     below, known = crates(), measured()
     those = {it for root in roots for it in needed(root, below)} or set(below)
     seconds = {it: sum(known.get(it, (UNMEASURED, 0))) for it in below if it in those}
-    return spread_in_words(*spread(seconds, below, 4))
+    return spread_in_words(seconds, below, 4)
 
 
 def in_words(seconds, is_least=False):

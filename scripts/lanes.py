@@ -20,7 +20,7 @@ import tempfile
 import time
 
 from scripts import refusals
-from scripts.crate_times import KEPT, UNMEASURED, behind, crates, expected, in_words, measured, needed, spread, spread_in_words, static_libraries
+from scripts.crate_times import KEPT, UNMEASURED, behind, crates, expected, in_words, measured, needed, spread_in_words, static_libraries
 from scripts.proved import copy_below, take_back
 from scripts.repository import ROOT, SOURCES, files_of, is_newer
 
@@ -146,7 +146,7 @@ class Lanes:
 
     def range(self):
         """Returns how long all takes, in words, before the first crate has begun."""
-        return spread_in_words(*spread(self.seconds, self.below, self.lanes))
+        return spread_in_words(self.seconds, self.below, self.lanes)
 
     def words(self, name, jobs):
         """Returns the command that proves a crate with that many jobs. Of a library the statements are kept and not the proofs, as in the

@@ -7,7 +7,7 @@ import re
 import sys
 import time
 
-from scripts.crate_times import UNMEASURED, crates, expected, in_words, measured, spread, spread_in_words
+from scripts.crate_times import UNMEASURED, crates, expected, in_words, measured, spread_in_words
 from scripts.proved import VERDICT
 from scripts.repository import read_bytes
 
@@ -23,7 +23,7 @@ def main(path):
     for name in [it for it in below if known.get(it, (0, 0))[1]]:
         seconds[f"{name}: its tests"], below[f"{name}: its tests"] = known[name][1], [name]
     whole = expected(seconds, {}, below, PROCESSORS)
-    print(f"The gate proves {len(seconds)} crates and tests: that takes {spread_in_words(*spread(seconds, below, PROCESSORS))} here.", file=sys.stderr, flush=True)
+    print(f"The gate proves {len(seconds)} crates and tests: that takes {spread_in_words(seconds, below, PROCESSORS)} here.", file=sys.stderr, flush=True)
     while os.getppid() == parent and not VERDICT.search(said):
         time.sleep(1)
         said = read_bytes(os.path.abspath(path)).decode(errors="replace") if os.path.exists(path) else ""
