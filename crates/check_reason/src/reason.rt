@@ -1,6 +1,6 @@
 //! The reason why a beginning of a log has no flight: a search proposes a certificate, and the
 //! checker of certificates takes it or not.
-ghost use Rattle.std.specs.Prelude.{◌≡◌, ℕ, IfOk, IfSome, take};
+ghost use Rattle.std.specs.Prelude.{◌≡◌, ◌<◌, ℕ, IfOk, IfSome, length, take};
 ghost use Rattle.fx_base.specs.Catalogue.{IsCatalogue};
 ghost use Rattle.fx_order.specs.Slots.{ring_of_slots};
 ghost use Rattle.fx_flight.specs.Events.{all_happenings};
@@ -82,6 +82,8 @@ pub fn explain(
 ) -> Result<Option<LogReason>, NoMemory>
     requires { IsCatalogue catalogue.now }
     ensures count { IfOk result (λ reason. IfSome reason (λ reason. reason.count ≡ count)) }
+    ensures steps { IfOk result (λ reason. IfSome reason (λ reason.
+        0 < length reason.steps.items)) }
     ensures refuted { IfOk result (λ reason. IfSome reason (λ reason.
         (submissions registrations : ℕ)
         → IsLegalLog (ring_of_slots catalogue.now slots.now submissions registrations)
