@@ -28,11 +28,7 @@ PROOFS, BODIES = "docs/inside/PROOFS.md", "crates/WRONG_BODIES.md"
 CALLER = "Preconditions of the public calls"
 # the least number of claims of each kind
 LEAST = {"tables": 600, "conditions": 85, "reading list": 4, "promises": 6, "wrong bodies": 480, "quotes": 170,
-<<<<<<< HEAD
-         "atomic steps": 13, "defaults": 8, "options": 20, "wrong claims": 3, "pages": 450, "measurements": 30, "kept outputs": 8}
-=======
-         "atomic steps": 14, "defaults": 8, "options": 20, "wrong claims": 3, "pages": 450, "measurements": 29, "kept outputs": 8}
->>>>>>> bf0b612a (docs: say sizes, keys and descriptors once, quote less)
+         "atomic steps": 13, "defaults": 8, "options": 20, "wrong claims": 3, "pages": 450, "measurements": 29, "kept outputs": 8}
 # the kept outputs of which docs/use/CHECKING.md shows lines, and how many
 QUOTED = {"examples/judged/explained.judged": 6, "examples/judged/submissions.judged": 5, "examples/questions/replaced_under_a_reader.texts": 7,
           "examples/questions/open_any_beside_a_close.texts": 6}

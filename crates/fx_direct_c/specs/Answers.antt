@@ -92,8 +92,8 @@ ReservesAs old code old_key new_key old_slot new_slot new =
     × ((k : LifeKey) → IsEnabled old (Reserves k) → ⊥))
 
 -- the phase of the life under a key was returned, or that no life is under way
-abbrev pub ShowsPhase : List Slot → LifeKey → ℤ → (old_requests new_requests old_users new_users : ℕ)
-    → Type 0
+abbrev pub ShowsPhase : List Slot → LifeKey → ℤ
+    → (old_requests new_requests old_users new_users : ℕ) → Type 0
 ShowsPhase slots k code old_requests new_requests old_users new_users =
     (HasLife slots k × (code ≡ phase_code (phase_at slots k.slot))
     × (new_requests ≡ requests_in (phase_at slots k.slot))
