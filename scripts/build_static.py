@@ -12,7 +12,7 @@ import tempfile
 import time
 
 from scripts.crate_times import crates, needed
-from scripts.proved import Gate, copy_below
+from scripts.proved import Gate, copy_crates
 from scripts.repository import ROOT, SOURCES, files_of, is_newer
 
 # the words of the toolchain that choose a machine
@@ -82,7 +82,7 @@ def command():
         print(f"build-static: the gate has not proved each crate below {name}", file=sys.stderr)
         return 1
     with tempfile.TemporaryDirectory(prefix=f"{name}-") as room:
-        copy_below(room, name, below, gate)
+        copy_crates(room, gate, name)
         for machine in machines:
             status = build(room, name, machine, began)
             if status:

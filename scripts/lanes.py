@@ -21,7 +21,7 @@ import time
 
 from scripts import refusals
 from scripts.crate_times import KEPT, UNMEASURED, behind, crates, expected, in_words, measured, needed, spread_in_words, static_libraries
-from scripts.proved import copy_below, take_back
+from scripts.proved import copy_crates, take_back
 from scripts.repository import ROOT, SOURCES, files_of, is_newer
 
 LOG = "build/program.log"
@@ -56,16 +56,16 @@ def is_kept(name, below, kept):
 
 
 class Job:
-    """A crate that is being proved, in a process group of its own: in place, or in a copy with the crates `below`. Its folder is locked
-    as the toolchain does it, so that another run there waits. It has a lower priority unless it is on a longest path (`is_far`)."""
+    """A crate that is being proved, in a process group of its own: in place, or in a copy with the crates below (`is_apart`). Its folder is
+    locked as the toolchain does it, so that another run there waits. It has a lower priority unless it is on a longest path (`is_far`)."""
 
-    def __init__(self, name, words, is_far, below=None):
+    def __init__(self, name, words, is_far, is_apart):
         self.name, self.is_far, self.path, self.begin = name, is_far, f"build/{name}.log", time.monotonic()
-        self.copy = tempfile.TemporaryDirectory(prefix=f"{name}-") if below else None
+        self.copy = tempfile.TemporaryDirectory(prefix=f"{name}-") if is_apart else None
         if self.copy:
             self.lock = os.open(f"crates/{name}", os.O_RDONLY)
             fcntl.flock(self.lock, fcntl.LOCK_EX)
-            copy_below(self.copy.name, name, below)
+            copy_crates(self.copy.name, of=name)
         with open(self.path, "wb") as log:
             how = {"stdin": subprocess.DEVNULL, "stdout": log, "stderr": log, "start_new_session": True}
             words = words if is_far else ["nice", "-n", "10", *words]
@@ -168,8 +168,7 @@ class Lanes:
         for name in chosen:
             self.left.remove(name)
             jobs = max(min(PROCESSORS // len(far), MOST_JOBS), 1) if name in far else 1
-            is_apart = any(not it.copy for it in self.jobs)
-            self.jobs.append(Job(name, self.words(name, jobs), name in far, self.below if is_apart else None))
+            self.jobs.append(Job(name, self.words(name, jobs), name in far, any(not it.copy for it in self.jobs)))
 
     def take(self, job):
         """Takes the results of a crate that has ended. Returns whether it was proved."""

@@ -5,7 +5,7 @@ import shutil
 import subprocess
 import sys
 
-from scripts.crate_times import needed
+from scripts.crate_times import crates, needed
 from scripts.repository import ROOT, SOURCES, files_of, read, write
 
 PARTS = (*SOURCES, "out")
@@ -56,28 +56,19 @@ def copy_part(room, name, part):
         shutil.copytree(f"{ROOT}/crates/{name}/{part}", f"{room}/crates/{name}/{part}", symlinks=True, copy_function=how)
 
 
-def copy_crates(room, gate=None):
-    """Copies the crates into a folder, with what earlier checks kept of them, or with the libraries that the gate has made so far."""
-    for file in ("crates.txt", "HANDLES"):
-        shutil.copy(f"{ROOT}/{file}", room)
-    for name in os.listdir(f"{ROOT}/crates"):
-        parts = PARTS if not gate else [*PARTS[:-1], "out/rlib"] if gate.has_proved(name) else PARTS[:-1]
-        for part in parts:
-            copy_part(room, name, part)
-    if gate and gate.is_newer():
-        mark_libraries(room, gate)
-
-
-def copy_below(room, name, below, gate=None):
-    """Copies a crate with what earlier checks kept of it, and the crates below it with their libraries, which the gate has made where
-    one is given. No other crate is listed there."""
-    those = needed(name, below)
+def copy_crates(room, gate=None, of=None):
+    """Copies the crates into a folder, with what earlier checks kept of them, or with the libraries that the gate has made so far. If `of` is a
+    crate, only this one is copied, with the crates below it and their libraries, and no other crate is listed there."""
+    those = needed(of, crates()) if of else os.listdir(f"{ROOT}/crates")
     shutil.copy(f"{ROOT}/HANDLES", room)
-    lines = read(f"{ROOT}/crates.txt").splitlines(keepends=True)
-    write(f"{room}/crates.txt", "".join(it for it in lines if re.match(r"\w*", it)[0] in those))
+    lines = read("crates.txt").splitlines(keepends=True)
+    write(f"{room}/crates.txt", "".join(it for it in lines if not of or re.match(r"\w*", it)[0] in those))
     for it in those:
-        for part in (*PARTS[:-1], "out" if it == name and not gate else "out/rlib"):
-            copy_part(room, it, part)
+        for part in PARTS:
+            if part != "out":
+                copy_part(room, it, part)
+            elif not gate or gate.has_proved(it):
+                copy_part(room, it, "out/rlib" if gate or of not in (None, it) else "out")
     if gate and gate.is_newer():
         mark_libraries(room, gate)
 

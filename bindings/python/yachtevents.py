@@ -20,8 +20,8 @@ ENTRY = struct.Struct("@i")
 NO_FILE = 0, 0, 0, 0
 
 
-class BadEvent(ValueError):
-    """An event of a log has a fault, or says what no call can. `line` is its line, from 1; `fault` is the name of the fault, or the reason."""
+class Faulty(ValueError):
+    """A line has a fault: `line` is its number, and `fault` the name of the fault."""
 
     line: int
     fault: str
@@ -30,6 +30,10 @@ class BadEvent(ValueError):
         super().__init__(f"line {line}: {fault}")
         self.line = line
         self.fault = fault
+
+
+class BadEvent(Faulty):
+    """An event of a log has a fault, or says what no call can. `line` is its line, from 1; `fault` is the name of the fault, or the reason."""
 
 
 def numbered(log: Lines, events: Sequence[Event]) -> list[int]:

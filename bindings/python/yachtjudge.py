@@ -24,7 +24,7 @@ from dataclasses import dataclass
 from pathlib import Path
 from typing import TYPE_CHECKING, Any, Literal, Union
 
-from yachtevents import BadEvent, Events
+from yachtevents import BadEvent, Events, Faulty
 from yachtsteps import Point, Step, Steps, _Reason, _Step, fields
 
 if TYPE_CHECKING:
@@ -49,16 +49,8 @@ MEMORY = 1_024
 MOST = 2**32 - 1
 
 
-class BadScript(ValueError):
+class BadScript(Faulty):
     """The bytes are not a script. `line` has the first fault, from 1, or 0 if there are too many bytes; `fault` is its name."""
-
-    line: int
-    fault: str
-
-    def __init__(self, line: int, fault: str) -> None:
-        super().__init__(f"line {line}: {fault}")
-        self.line = line
-        self.fault = fault
 
 
 class NoMemory(MemoryError):
