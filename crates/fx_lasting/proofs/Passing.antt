@@ -7,7 +7,7 @@ use Rattle.fx_lasting.proofs.Words.{LastingTable, IsSeatOf, IsPassOf, IsPassOfTa
 use Rattle.fx_lasting.proofs.Words.{pass_in, numbers_of_pass, doing_in, hold_at, retired_at, retiring_work, IsHistory, Action, ◌▷◌, Put, Take}
 use Rattle.fx_lasting.proofs.Words.{Release, Close, Look, File, Closed, numbered, full_name_in, count_in, LetsFileGo, option_map, Result, Ok, Err}
 use Rattle.fx_lasting.proofs.Words.{ok_or, is_some, not, ◌==◌, ◌≢◌, not-false, not-true, Use, no_use, one_number, one_look, Adds, IsNewFile}
-use Rattle.fx_lasting.proofs.Words.{Placed, Cleared, Taken, ReleasesFile, LookedAfter, LookedUp, adds_then}
+use Rattle.fx_lasting.proofs.Words.{Placed, Taken, ReleasesFile, LookedAfter, LookedUp, adds_then}
 use Rattle.fx_lasting.proofs.Words.{HoldsOn, new_round, LetsChargeGo, Announced, first_visit, heat_in, cond, inl, inr, Opening}
 use Rattle.fx_lasting.proofs.Words.{PassView, IsIdle, IsFileRemoval, Doing, DoesNothing, Holding, Hold, Retired, dite, dec_le, lt-ltb, IsIdleSeatOf}
 use Rattle.fx_lasting.proofs.Words.{HasNoFile, Searching, is_in, account, uncounted, group_of, Covered, groups_in, range_at_start}

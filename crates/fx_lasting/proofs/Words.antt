@@ -35,7 +35,7 @@ pub use Rattle.fx_lasting.specs.nodes.KeepSteps.{Parks, Resumes, SettlesNode}
 pub use Rattle.fx_lasting.specs.life.Layout.{list_place, slot_place, hold_place, node_place, stock_start, stock_for, stock_of}
 pub use Rattle.fx_lasting.specs.life.Layout.{stocks_back, tag_place, number_place}
 pub use Rattle.fx_lasting.specs.life.Layout.{PlacesAreInside, PlacesAreApart, LabelsAreApart, NodesAreInOneLine, IsNoLabel, words_for, nodes_for}
-pub use Rattle.fx_lasting.specs.life.Opens.{word_for, node_for, home_for, first_file, OpensWith}
+pub use Rattle.fx_lasting.specs.life.Opens.{AreNamed, OpensWith}
 pub use Rattle.fx_lasting.specs.slots.Deeds.{Deed, untouched, over, heated, has_acted, has_heated}
 pub use Rattle.fx_lasting.specs.Fields.{heat_unit, count_in, heat_in, IsHot, cold_takes, birth_word, retirement_amount, announced, charge}
 pub use Rattle.fx_lasting.specs.Fields.{IsListedIn, full_name_in, file_node_in, file_word_of, empty_word_of, without_file, name_mask, most_carried}
@@ -108,10 +108,9 @@ pub use Rattle.std.proofs.lemmas.List.FromFn.{length-map-range_with_len, get_or-
 pub use Rattle.std.proofs.lemmas.List.Sums.{sum_by-append, sum_by-cons}
 pub use Rattle.std.specs.Int.{bit_at, w64, trailing_zeros}
 pub use Rattle.std.specs.List.{range_with_len, AllWithin}
-pub use Rattle.fx_lasting.specs.life.Firsts.{AreFirstWords, AreNamed}
 pub use Rattle.fx_table.proofs.FullSlots.{full_all, full_else, full_few, full_here}
-pub use Rattle.fx_table.specs.FullSlots.{first_at, full_in, if_full}
-pub use Rattle.fx_table.specs.Shells.{AreFirstHomes, IsShell, file_in_place}
+pub use Rattle.fx_table.specs.FullSlots.{full_in, if_full}
+pub use Rattle.fx_table.specs.Shells.{IsShell}
 pub use Rattle.fx_lasting.specs.life.Lives.{logs_in, IsNewPass, IsIdleSeatOf, AllAreIdle, Leaves}
 pub use Rattle.std.specs.Mem.Slots.{slots_items, slots_len, IsFull, slots_filled}
 pub use lib.ListN.{get_elem?}

@@ -5,7 +5,6 @@ pub mod Openings
 pub mod Ending
 pub mod Listed
 pub mod HomeComing
-pub mod Starting
 pub mod Sparse
 pub mod Gathered
 pub mod Showing

@@ -1,6 +1,6 @@
 -- Views of passes, and their sums.
 use Rattle.std.specs.Prelude.{◌≡◌, ℕ, ◌%◌, ◌⊎◌, ◌==◌, not, nat_lt, List, [], ◌∷◌, map, Option}
-use Rattle.std.specs.Prelude.{option_map, unwrap_or, replicate, Some, None, length, if◌then◌else◌}
+use Rattle.std.specs.Prelude.{replicate, Some, None, length, if◌then◌else◌}
 use Rattle.std.specs.Prelude.{Bool, true, false}
 use Rattle.atomic_table.specs.Table.{State as TableState, Me}
 use Rattle.fx_base.specs.Identity.{Identity}
@@ -43,8 +43,7 @@ empty_slots size range = record {
 
 -- the slots with which the table was opened
 abbrev pub contents_of : Start → Contents
-contents_of k = unwrap_or (option_map (λ plain. plain.value) k.plain)
-    (empty_slots k.size (k.range_start, k.range_len))
+contents_of k = empty_slots k.size (k.range_start, k.range_len)
 
 -- the state that passes begin with: the file at a slot has the slot's number, and every number
 -- after those of the slots is fresh

@@ -1,7 +1,6 @@
 -- The life of a table: its layout, its opening and its end.
 pub mod Closing
 pub mod Cuts
-pub mod Firsts
 pub mod Layout
 pub mod LifeAgrees
 pub mod Lives

@@ -1,14 +1,11 @@
-use fx_plain::{Event, File, PlainTable};
+use fx_plain::{Event, File};
 use std::collections::LinkedList;
-use std::snapshot::Snapshot;
 use table_range::{Change, Survey};
 
-/// The opening of a lasting table, for contracts alone: the slots with which it was opened, the
-/// number of passes, and the number of those that install files.
+/// The opening of a lasting table, for contracts alone: the number of slots, which were empty, the
+/// allocation range, the number of passes, and the number of those that install files.
 #[derive(Drop)]
 pub struct Start {
-    /// The table that was opened, or `None` if all slots were empty.
-    pub plain: Option<Snapshot<PlainTable>>,
     /// The number of slots.
     pub size: u32,
     /// The first slot of the allocation range.

@@ -1,29 +1,22 @@
 -- A table that is opened keeps the rule.
-use Rattle.fx_lasting.proofs.Words.{contents_of, ◌≡◌, ℕ, zero, suc, ◌+◌, ◌<◌, ◌≤◌, Bool, nat_lt, cond, List, [], ◌∷◌, map, sym, refl, ap, ◌∙◌, subst}
-use Rattle.fx_lasting.proofs.Words.{arith, lt-ltb, le-ltb, Option, Some, None, slice_index, dite, some, some-injective, some-ne-none, dec_le}
-use Rattle.fx_lasting.proofs.Words.{get_elem?, Closed, state_of, State, File, birth_word, full_name_made, file_entry_made, file_takes_made}
-use Rattle.fx_lasting.proofs.Words.{SlotAgrees, NodeAgrees, OwnerAgrees, LogAgrees, ViewAgrees, Agrees, new_logs, word_of, slot_place, count_in}
-use Rattle.fx_lasting.proofs.Words.{slots_of, nodes_of, state_after_all, new_log, Phase, free, seated, Log, Start, View, Idle, Nothing, length-map}
-use Rattle.fx_lasting.proofs.Words.{at_map, first_view, contains_map, once_is, counted_once, range_with_len, one_if, removed_in, owed, ne_eqb, false}
-use Rattle.fx_lasting.proofs.Words.{Contains, eqb, sum_of, word_for, node_for, home_for, OpensWith, first_file, bit_here, node_of_number, bit_of}
-use Rattle.fx_lasting.proofs.Words.{IsListedIn, Labels, written_in, bit_at-zero, not, mod-eq_of_lt, opening, untouched, list_place, numbered_anew}
-use Rattle.fx_lasting.proofs.Words.{◌-◌, ◌*◌, ◌/◌, ◌%◌, Whereabouts, at_slot, in_stock, NamesItsNode, IsStockOf, StockAgrees, name_in, name_made}
-use Rattle.fx_lasting.proofs.Words.{empty_name_made, empty_file_made, empty_takes_made, file_heat_made, stock_start, stock_for, first_stock}
-use Rattle.fx_lasting.proofs.Words.{mul-le-mul_right, length-range_with_len, div-mul-add, mod-mul-add, suc-mul, HasLaws, seats}
+use Rattle.fx_lasting.proofs.Words.{◌≡◌, ℕ, zero, suc, ◌+◌, ◌<◌, ◌≤◌, Bool, nat_lt, cond, List, [], ◌∷◌, map, sym, refl, ap, ◌∙◌, subst, arith}
+use Rattle.fx_lasting.proofs.Words.{lt-ltb, le-ltb, Option, None, slice_index, dite, some, some-injective, some-ne-none, dec_le, get_elem?, Closed}
+use Rattle.fx_lasting.proofs.Words.{File, State, SlotAgrees, NodeAgrees, LogAgrees, ViewAgrees, Agrees, new_logs, word_of, hold_word_of, slot_place}
+use Rattle.fx_lasting.proofs.Words.{count_in, slots_of, nodes_of, state_after_all, new_log, Phase, free, Log, Start, View, Idle, Nothing, length-map}
+use Rattle.fx_lasting.proofs.Words.{at_map, first_view, contains_map, once_is, counted_once, range_with_len, one_if, owed, ne_eqb, false, Contains}
+use Rattle.fx_lasting.proofs.Words.{eqb, sum_of, OpensWith, bit_here, node_of_number, bit_of, IsListedIn, bit_at-zero, not, opening, untouched}
+use Rattle.fx_lasting.proofs.Words.{list_place, ◌-◌, ◌*◌, ◌/◌, ◌%◌, Whereabouts, at_slot, in_stock, NamesItsNode, IsStockOf, StockAgrees, name_in}
+use Rattle.fx_lasting.proofs.Words.{empty_name_made, empty_file_made, empty_takes_made, stock_start, stock_for, first_stock, mul-le-mul_right}
+use Rattle.fx_lasting.proofs.Words.{length-range_with_len, div-mul-add, mod-mul-add, suc-mul, HasLaws, seats, full_in, if_full, file_numbered}
+use Rattle.fx_lasting.proofs.Words.{read_default, range_at_start, group_place, group_start, group_len, question_place}
+use Rattle.fx_plain.specs.Contents.{file_at}
 use Rattle.fx_lasting.proofs.Counts.{tally_none, tally_same}
 use Rattle.table_range.proofs.Counting.{counts_alone}
+use Rattle.table_range.proofs.GroupSlots.{few_groups}
 use Rattle.table_seats.proofs.Together.{opens as seats_open}
 
 pub laws : HasLaws seats
 laws = grind arith
-
--- the phase of a slot's first node
-abbrev phase_for : ℕ → Option File → Phase
-phase_for n None = free
-phase_for n (Some f) = seated n f
-
-abbrev first_phase : Start → ℕ → Phase
-first_phase k n = cond (nat_lt n (slots_of k)) (phase_for n (first_file k n)) free
 
 -- where each node is at first
 abbrev first_where : Start → ℕ → Whereabouts
@@ -74,110 +67,47 @@ module _ (k : Start) (words : List ℕ) (homes : List (Option Closed)) (o : Open
   abbrev s : State
   s = state_after_all k []
 
-  low_phase : {n : ℕ} → n < slots_of k → first_phase k n ≡ phase_for n (first_file k n)
-  low_phase {n} l = ap (λ (b : Bool). cond b (phase_for n (first_file k n)) free) (lt-ltb n (slots_of k) l)
+  abbrev first_phase : ℕ → Phase
+  first_phase n = free
 
-  high_phase : {n : ℕ} → slots_of k ≤ n → first_phase k n ≡ free
-  high_phase {n} g = ap (λ (b : Bool). cond b (phase_for n (first_file k n)) free) (le-ltb n (slots_of k) g)
+  none_at : (slot : ℕ) → s.at slot ≡ None
+  none_at slot = ap (λ (x : Option ℕ). file_numbered (file_at [] x) slot) (read_default k.size slot None)
 
-  -- the file at a slot has the slot's number
-  its_number : (slot : ℕ) (f : File) → first_file k slot ≡ Some f → f.number ≡ slot
-  its_number slot f is = numbered_anew ((state_of (contents_of k)).at slot) slot f is
+  none_full : (off len : ℕ) → full_in s.at off len ≡ 0
+  none_full off zero = refl
+  none_full off (suc len) = let rest = none_full off len in let here = ap if_full (none_at (off + len)) in omega (arith, rest, here)
 
   more_nodes : slots_of k ≤ nodes_of k
   more_nodes = omega arith
 
-  -- its node is the slot's
-  its_node : (slot : ℕ) → slot < slots_of k → (f : File) → first_file k slot ≡ Some f → node_of_number k f.number ≡ slot
-  its_node slot l f is = let e = its_number slot f is in let m = more_nodes in mod-eq_of_lt {n = f.number} {m = nodes_of k} (omega arith) ∙ e
-
   slot_opens : (slot : ℕ) → slot < slots_of k
-      → SlotAgrees k (node_of_number k) (first_phase k) (λ p. untouched) slot (first_file k slot) (slice_index words (slot_place slot))
-  slot_opens slot l = rw (o.slot_words slot l) (go (first_file k slot) refl)
-    where
-      go : (found : Option File) → first_file k slot ≡ found → SlotAgrees k (node_of_number k) (first_phase k) (λ p. untouched) slot found (word_for slot found)
-      go None is = let z = empty_takes_made slot in
-          record { names = empty_file_made slot; seat = tt; takes = omega arith; heat = z.1 ∙ sym (tally_none k.passes) }
-      go (Some f) is = let small = o.entries slot f is in let e = its_number slot f is in let m = more_nodes in
-          let z = file_takes_made f.number f.identity.entry in let on = its_node slot l f is in record {
-            names = (full_name_made f.number f.identity.entry small ∙ ap (λ (n : ℕ). n + 1) (e ∙ sym on), file_entry_made f.number f.identity.entry small);
-            seat = (rw on (omega arith), ap (first_phase k) on ∙ (low_phase l ∙ ap (phase_for slot) is));
-            takes = omega arith;
-            heat = file_heat_made f.number f.identity.entry ∙ sym (tally_none k.passes);
-          }
+      → SlotAgrees k (node_of_number k) first_phase (λ p. untouched) slot (s.at slot) (slice_index words (slot_place slot))
+  slot_opens slot l = let z = empty_takes_made slot in
+      subst (λ (f : Option File). SlotAgrees k (node_of_number k) first_phase (λ p. untouched) slot f (slice_index words (slot_place slot))) (sym (none_at slot))
+      (subst (SlotAgrees k (node_of_number k) first_phase (λ p. untouched) slot None) (sym (o.named slot l))
+      record { names = empty_file_made slot; seat = tt; takes = omega arith; heat = z.1 ∙ sym (tally_none k.passes) })
 
-  abbrev Node : ℕ → Phase → Type 0
-  Node n ph = NodeAgrees s.at (slots_of k) (λ i. count_in (slice_index words (slot_place i))) (node_of_number k) (slots_of k) n (slice_index words (word_of k n))
-      0 (owed (λ p. 0) k.passes n) (get_elem? (map some homes) n) ph
-
-  node_opens : (n : ℕ) → n < nodes_of k → Node n (first_phase k n)
-  node_opens n l = dite (dec_le (suc n) (slots_of k)) (λ low. subst (Node n) (sym (low_phase (omega (arith, low)))) (slot_node (omega (arith, low)) (first_file k n) refl))
-      (λ high. subst (Node n) (sym (high_phase (omega (arith, high)))) record {
-        counts = o.free_words n (omega (arith, high)) l;
-        at_home = at_map some homes n None (o.free_places n (omega (arith, high)) l);
-        untaken = refl;
-        unowed = none_owed k.passes n;
-      })
-    where
-      slot_node : n < slots_of k → (found : Option File) → first_file k n ≡ found → Node n (phase_for n found)
-      slot_node low None is = record {
-        counts = o.node_words n low ∙ ap node_for is;
-        at_home = at_map some homes n None (o.files n low ∙ ap (λ (f : Option File). some (home_for f)) is);
-        untaken = refl;
-        unowed = none_owed k.passes n;
-      }
-      slot_node low (Some f) is = let w : slice_index words (word_of k n) ≡ birth_word = o.node_words n low ∙ ap node_for is in
-          let z = file_takes_made f.number f.identity.entry in let e = o.slot_words n low ∙ ap (word_for n) is in let c = ap count_in e in
-          let q = its_number n f is in record {
-            file = record {
-              at_home = at_map some homes n (Some f.identity) (o.files n low ∙ ap (λ (f : Option File). some (home_for f)) is);
-              its_node = its_node n low f is;
-              used = omega arith;
-            };
-            counts = omega arith;
-            few = omega arith;
-            unowed = none_owed k.passes n;
-            inside = low;
-            there = is;
-          }
-
-  owner_opens : (n : ℕ) → OwnerAgrees (first_view seats k ∷ []) n (first_phase k n)
-  owner_opens n = dite (dec_le (suc n) (slots_of k)) (λ l. subst (OwnerAgrees (first_view seats k ∷ []) n) (sym (low_phase l)) (low (first_file k n)))
-      (λ g. subst (OwnerAgrees (first_view seats k ∷ []) n) (sym (high_phase (omega (arith, g)))) tt)
-    where
-      low : (found : Option File) → OwnerAgrees (first_view seats k ∷ []) n (phase_for n found)
-      low None = tt
-      low (Some f) = tt
-
-  label_opens : (n : ℕ) → Labels k words n (written_in (first_phase k n))
-  label_opens n = dite (dec_le (suc n) (slots_of k))
-      (λ l. subst (λ (ph : Phase). Labels k words n (written_in ph)) (sym (low_phase l)) (low (omega (arith, l)) (first_file k n) refl))
-      (λ g. subst (λ (ph : Phase). Labels k words n (written_in ph)) (sym (high_phase (omega (arith, g)))) tt)
-    where
-      low : n < slots_of k → (found : Option File) → first_file k n ≡ found → Labels k words n (written_in (phase_for n found))
-      low inside None is = tt
-      low inside (Some f) is = o.labels n f inside is
-
-  removed_opens : (number n : ℕ) → None ≡ removed_in number (first_phase k n)
-  removed_opens number n = dite (dec_le (suc n) (slots_of k)) (λ l. subst (λ (ph : Phase). None ≡ removed_in number ph) (sym (low_phase l)) (low (first_file k n)))
-      (λ g. subst (λ (ph : Phase). None ≡ removed_in number ph) (sym (high_phase (omega (arith, g)))) refl)
-    where
-      low : (found : Option File) → None ≡ removed_in number (phase_for n found)
-      low None = refl
-      low (Some f) = refl
+  node_opens : (n : ℕ) → n < nodes_of k → NodeAgrees s.at (slots_of k) (λ i. count_in (slice_index words (slot_place i))) (node_of_number k) (slots_of k) n
+      (slice_index words (word_of k n)) 0 (owed (λ p. 0) k.passes n) (get_elem? (map some homes) n) free
+  node_opens n l = record {
+    counts = o.others (word_of k n) (λ slot inside bad. omega (arith, bad, inside));
+    at_home = at_map some homes n None (o.vacant n l);
+    untaken = refl;
+    unowed = none_owed k.passes n;
+  }
 
   -- the list has no bits
   no_bits : (p : ℕ) → p ≤ 1024 → IsListedIn (slice_index words (list_place p)) p → ⊥
-  no_bits p high is = let z = subst (λ (i : ℕ). IsListedIn i p) (o.list_words p high) is in let a = bit_at-zero (bit_of p) in omega (arith, z, a)
+  no_bits p high is = let z = subst (λ (i : ℕ). IsListedIn i p) (o.others (list_place p) (λ slot inside bad. omega (arith, bad, high))) is in let a = bit_at-zero (bit_of p) in omega (arith, z, a)
 
   -- the view of the seat that opens the table
-  log_opens : (p : ℕ) → 0 < p → p ≤ k.passes → LogAgrees k [] words (first_phase k) (λ q. 0) (λ i q. untouched) Idle Nothing (new_log k p)
+  log_opens : (p : ℕ) → 0 < p → p ≤ k.passes → LogAgrees k [] words first_phase (λ q. 0) (λ i q. untouched) Idle Nothing (new_log k p)
   log_opens p low high = record {
     held = refl;
     allowed = tt;
     list = λ is. absurd (cc is);
     unlisted = λ is. absurd (no_bits p (omega (arith, high, o.passes)) is);
-    hold = (o.hold_words p low high, refl);
+    hold = (o.others (hold_word_of k p) (λ slot inside bad. omega (arith, bad, low, high)), refl);
     guarded = tt;
     sees = tt;
     heats = λ i l is. absurd (cc is);
@@ -194,10 +124,10 @@ module _ (k : Start) (words : List ℕ) (homes : List (Option Closed)) (o : Open
       (z.0, omega (arith, a, b, c, once_is k.passes z.0), omega (arith, a, b, c, once_is k.passes z.0), z.2)
 
   view_opens : (j : ℕ) (v : View) → get_elem? (first_view seats k ∷ []) j ≡ some v
-      → ViewAgrees k [] words (first_phase k) (λ q. 0) (λ i q. untouched) j v
-  view_opens zero v e = subst (ViewAgrees k [] words (first_phase k) (λ q. 0) (λ i q. untouched) 0) (some-injective (first_view seats k) v e) record {
+      → ViewAgrees k [] words first_phase (λ q. 0) (λ i q. untouched) j v
+  view_opens zero v e = subst (ViewAgrees k [] words first_phase (λ q. 0) (λ i q. untouched) 0) (some-injective (first_view seats k) v e) record {
     logs = λ x h. let z = in_order x h in
-        subst (LogAgrees k [] words (first_phase k) (λ q. 0) (λ i q. untouched) Idle Nothing) (sym z.3) (log_opens z.0 z.1 z.2);
+        subst (LogAgrees k [] words first_phase (λ q. 0) (λ i q. untouched) Idle Nothing) (sym z.3) (log_opens z.0 z.1 z.2);
     work = tt;
   }
   view_opens (suc j) v e = absurd (some-ne-none v (sym e))
@@ -205,14 +135,10 @@ module _ (k : Start) (words : List ℕ) (homes : List (Option Closed)) (o : Open
   named_opens : (slot : ℕ) → slot < slots_of k → NamesItsNode k (first_where k) slot (slice_index words (slot_place slot))
   named_opens slot l = let m = more_nodes in record {
     node = slot;
-    named = ap name_in (o.slot_words slot l) ∙ its_name (first_file k slot) refl;
+    named = ap name_in (o.named slot l) ∙ empty_name_made slot;
     inside = omega arith;
     here = slot_where k l;
   }
-    where
-      its_name : (found : Option File) → first_file k slot ≡ found → name_in (word_for slot found) ≡ slot + 1
-      its_name None is = empty_name_made slot
-      its_name (Some f) is = name_made f.number f.identity.entry (o.entries slot f is) ∙ ap (λ (n : ℕ). n + 1) (its_number slot f is)
 
   stocks_open : (j : ℕ) (v : View) (x : Log) → get_elem? (first_view seats k ∷ []) j ≡ some v → Contains v.logs x → StockAgrees k (first_where k) x.number x.stock
   stocks_open zero v x e has = let z = in_order x (subst (λ (y : View). Contains y.logs x) (sym (some-injective (first_view seats k) v e)) has) in
@@ -223,7 +149,7 @@ module _ (k : Start) (words : List ℕ) (homes : List (Option Closed)) (o : Open
   opening_keeps = record {
     shape = let a = length-map homes some in assumption (o, a ∙ o.homes_length);
     history = [];
-    phase = first_phase k;
+    phase = first_phase;
     node_of = node_of_number k;
     numbering = λ number. refl;
     debt = λ q. 0;
@@ -231,10 +157,10 @@ module _ (k : Start) (words : List ℕ) (homes : List (Option Closed)) (o : Open
     nodes = record {
       next_number = slots_of k;
       each = node_opens;
-      owners = λ n l. owner_opens n;
-      labels = λ n l. label_opens n;
-      removed = λ number. removed_opens number (node_of_number k number);
-      unborn = λ n l. let m = more_nodes in high_phase (omega arith);
+      owners = λ n l. tt;
+      labels = λ n l. tt;
+      removed = λ number. refl;
+      unborn = λ n l. refl;
       fresh = λ number l. ap not (le-ltb number (slots_of k) l);
       where_is = first_where k;
       named = named_opens;
@@ -246,6 +172,10 @@ module _ (k : Start) (words : List ℕ) (homes : List (Option Closed)) (o : Open
       files = λ n. refl;
       listed = λ p low high is. absurd (no_bits p high is);
     };
-    range = counts_alone (first_view seats k) refl o.groups o.question;
+    range = counts_alone (first_view seats k) refl
+        (λ group l. let low = few_groups (range_at_start k).1 (omega (arith, o.slots, o.range)) in
+        o.others (group_place group) (λ slot inside bad. omega (arith, bad, l, low))
+        ∙ sym (none_full (group_start (range_at_start k) group) (group_len (range_at_start k).1 group)))
+        (o.others question_place (λ slot inside bad. omega (arith, bad)));
     life = seats_open seats laws k;
   }

@@ -1,5 +1,5 @@
 -- The views of seats, by what all shared tables have.
-use Rattle.std.specs.Prelude.{◌≡◌, List, [], None}
+use Rattle.std.specs.Prelude.{◌≡◌, List, []}
 use Rattle.fx_plain.specs.History.{part_of_pass}
 use Rattle.table_seats.specs.Seats.{Seats}
 use Rattle.fx_table.specs.Opening.{lasting_opening}
@@ -14,7 +14,6 @@ use Rattle.fx_lasting.specs.declared.view.Work.TheVariants.{Idle}
 -- the start of a seat whose passes went to another
 abbrev pub no_start : Start
 no_start = record {
-  plain = None;
   size = 0;
   range_start = 0;
   range_len = 0;

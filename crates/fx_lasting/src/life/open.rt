@@ -5,7 +5,7 @@ ghost use Rattle.fx_plain.specs.State.{vacant};
 ghost use Rattle.fx_plain.specs.Contents.{state_of};
 ghost use Rattle.fx_table.specs.Opening.{lasting_opening, size_of};
 ghost use Rattle.fx_table.specs.Pass.{IsIdle};
-ghost use Rattle.fx_lasting.specs.life.Firsts.{AreNamed};
+ghost use Rattle.fx_lasting.specs.life.Opens.{AreNamed};
 ghost use Rattle.fx_lasting.specs.life.Layout.{slot_place, stock_of, stocks_back};
 ghost use Rattle.fx_lasting.specs.life.Lives.{ArePasses, HasAllPasses, IsNewPass};
 ghost use Rattle.fx_lasting.specs.Passes.{empty_slots};
@@ -89,7 +89,6 @@ impl LastingTable {
     {
         let (range_start, range_len) = range;
         let key = Start {
-            plain: None,
             size,
             range_start,
             range_len,
