@@ -1,5 +1,5 @@
 -- A look-up that follows a put that was shown.
-use Rattle.std.proofs.Common.{◌≡◌, ◌≢◌, ℕ, List, [], ◌∷◌, ◌++◌, sym, refl, ap, ◌∙◌, subst, arith, cond, eqb, true, false, map, append_assoc, Contains, ⊎_elim}
+use Rattle.std.proofs.Common.{◌≡◌, ◌≢◌, ℕ, List, [], ◌∷◌, ◌++◌, sym, refl, ap, ◌∙◌, subst, cond, eqb, true, false, map, append_assoc, Contains, ⊎_elim}
 use Rattle.std.specs.Prelude.{Option, Some, None, Result, Ok, Err}
 use Rattle.fx_base.specs.Identity.{Identity}
 use Rattle.fx_plain.specs.History.{IsSeenBy, AllReleaseTheirOwn, AllowsAll, action_of, part_of_pass, ◌▷◌, ◌▷▷◌}

@@ -2,7 +2,6 @@
 //! the slot up once the first thread is done. By the clause `found` of `hand_over` the other thread
 //! finds that file, unless an action between the two changed the slot.
 ghost use Rattle.std.specs.Prelude.{◌≡◌, ◌<◌, ◌≤◌, ◌+◌, length, All};
-ghost use Rattle.std.specs.Thread.{IsSync};
 ghost use Rattle.fx_lasting.specs.Tables.{IsPassOfTable, opening_of_table, view_of};
 ghost use Rattle.fx_lasting.specs.life.Showing.{IsSeenOf, shown_of};
 ghost use Rattle.fx_table.specs.Opening.{size_of};
@@ -96,7 +95,7 @@ pub fn hand_over<R: Threads + Wait + Sync>(
     let ((seen, replaced), ()) = join_mut(
         rt,
         &mut || -> (LastingSeen, Option<OpenFile>)
-            requires { IsSync R.row × IsPassOfTable table.now first.now × IsIdle (view_of first.now)
+            requires { IsPassOfTable table.now first.now × IsIdle (view_of first.now)
                 × (slot < size_of (opening_of_table table.now)) × (entry < length catalogue.now)
                 × (0 < (view_of first.now).numbers_left) }
             ensures { IsPassOfTable table.entry.now first.exit.now × IsIdle (view_of first.exit.now)
@@ -108,7 +107,30 @@ pub fn hand_over<R: Threads + Wait + Sync>(
     find(table, second, slot, entry, &seen, closes)
 }
 
-// Hands entry 1 over at slot 0 between the two passes of a list, if the first may install files.
+// Hands entry 1 over at slot 0, if the first pass may install files.
+fn try_hand_over<R: Threads + Wait + Sync>(
+    rt: &R,
+    catalogue: &Catalogue,
+    table: &LastingTable,
+    first: &mut LastingPass,
+    second: &mut LastingPass,
+    closes: &mut CloseList,
+) -> Option<u8>
+    requires first { IsPassOfTable table.now first.old × IsIdle (view_of first.old) }
+    requires second { IsPassOfTable table.now second.old × IsIdle (view_of second.old) }
+    requires slot { 0 < size_of (opening_of_table table.now) }
+    requires entry { 1 < length catalogue.now }
+    requires room { 3 ≤ closes.old.room }
+    ensures first { IsPassOfTable table.now first.new × IsIdle (view_of first.new) }
+    ensures second { IsPassOfTable table.now second.new × IsIdle (view_of second.new) }
+{
+    if table.numbers_left(first) == 0 {
+        return None;
+    }
+    hand_over(rt, catalogue, table, first, second, 0, 1, closes)
+}
+
+// Hands entry 1 over between the two passes of a list.
 fn hand_over_between<R: Threads + Wait + Sync>(
     rt: &R,
     catalogue: &Catalogue,
@@ -126,11 +148,7 @@ fn hand_over_between<R: Threads + Wait + Sync>(
 {
     let mut second = passes.pop().unwrap();
     let mut first = passes.pop().unwrap();
-    let mut found = None;
-    if table.numbers_left(&first) > 0 {
-        let (one, other) = (&mut first, &mut second);
-        found = hand_over(rt, catalogue, table, one, other, 0, 1, closes);
-    }
+    let found = try_hand_over(rt, catalogue, table, &mut first, &mut second, closes);
     passes.push_reserved(first);
     passes.push_reserved(second);
     found
