@@ -27,7 +27,7 @@ pub use Rattle.fx_lasting.specs.Laws.{ConfirmsKeep, WithdrawsKeep, TakesOnceKeep
 pub use Rattle.fx_lasting.specs.Laws.{ChecksKeep, BreaksKeep, BeginsKeep, CountsKeep, DecidesKeep, IsGroup, PeeksKeep, InstallsKeep, StepsDownKeep}
 pub use Rattle.fx_lasting.specs.Laws.{LettingGoKeeps, SeeksKeep, BirthsKeep, RestsKeep, VisitsKeep, ChargesKeep, ParksKeep, ResumesKeep, SettlesKeep}
 pub use Rattle.fx_lasting.specs.Laws.{HasItsPlace, RecallsTagKeep, TagsKeep, NumbersKeep, ReadsTagKeep, ReadsNumberKeep, RetiresKeep, IsInRange, ListsKeep, SkimsKeep}
-pub use Rattle.fx_lasting.specs.Laws.{IsPassed, SeesKeep, TakesIfKeep, SwapsIfKeep, ReplacesKeep, FinishesKeep, SwapsOutKeep}
+pub use Rattle.fx_lasting.specs.Laws.{IsPassed, SeesKeep, FinishesKeep, SwapsOutKeep}
 pub use Rattle.fx_lasting.specs.Laws.{MayAnnounce, EndsItsHoldKeep, SwapsHeldKeep, TakesHeldKeep}
 pub use Rattle.fx_lasting.specs.nodes.LabelSteps.{RecallsTag, Tags, Numbers, ReadsTag, ReadsNumber}
 pub use Rattle.fx_lasting.specs.nodes.Labels.{number_of_mark, label_of, as_written, HasWritten}
@@ -61,7 +61,7 @@ pub use Rattle.fx_lasting.specs.Effects.{TakesAs, At, rested, Lists, Skims, IsOn
 pub use Rattle.fx_lasting.specs.Effects.{Withdraws, glance_after, Takes, HeatsSlot, StepsDown, TakesOut, slot_of, pass_at, pass_event, pass_in}
 pub use Rattle.fx_lasting.specs.Effects.{IsInside, Stepped, Goes, Glances, Exchanges, LettingGo, Seeks, Births, Rests, Visits, Charges, Retires}
 pub use Rattle.fx_lasting.specs.Effects.{first_visit, retiring_work, Found, Installs, Removes, Turns, Asks, Peeks, as_asked, as_stocked}
-pub use Rattle.fx_lasting.specs.Effects.{IsWatching, MeetsOne, FindsChange, changes_in, IsOvertaken, HasGap, as_swapped, NamesANode, Lowers, Checks, Breaks, Raises, Begins, Counts, Decides, Sees, TakesIf, Replaces}
+pub use Rattle.fx_lasting.specs.Effects.{IsWatching, MeetsOne, FindsChange, changes_in, IsOvertaken, HasGap, as_swapped, NamesANode, Lowers, Checks, Breaks, Raises, Begins, Counts, Decides, Sees}
 pub use Rattle.fx_lasting.specs.Effects.{HasAnnounced, HasItsHold, EndsItsHold, announcing, guarded_round, guarding, leaving_work, removal_work}
 pub use Rattle.fx_lasting.specs.holds.Visits.{HasVisited, round_to}
 pub use Rattle.fx_lasting.specs.nodes.Searches.{next_of}
@@ -127,9 +127,8 @@ pub use Rattle.fx_table.specs.Showing.{Learns}
 pub use Rattle.fx_table.specs.declared.values.Doing.{Doing}
 pub use Rattle.fx_table.specs.declared.values.Doing.TheVariants.{Holding, Idle as DoesNothing}
 pub use Rattle.fx_table.specs.declared.values.Hold.{Hold}
-pub use Rattle.fx_lasting.specs.holds.HeldFiles.{IsOneOnItsNode}
-pub use Rattle.fx_lasting.specs.slots.ByNode.{IsOn, HasMissed, HasTakenIf, HasPutIf, FitsMiss, WasSo, WasIn, SaysIf, SawIf, FailedIf, HasTriedIf, TriesTake, TriesPut}
-pub use Rattle.fx_lasting.specs.slots.ByNode.{TriedReplace, TriedOut, HasMet, WasOvertaken, WasOvertakenIn}
+pub use Rattle.fx_lasting.specs.slots.ByNode.{FitsMiss, WasSo, WasIn, SaysIf, SawIf, FailedIf, HasTriedIf}
+pub use Rattle.fx_lasting.specs.slots.ByNode.{WasOvertaken, WasOvertakenIn}
 pub use Rattle.fx_lasting.specs.slots.ByKey.{LookedByKey, HeldByKey, fault_for}
 pub use Rattle.fx_lasting.specs.slots.ByKey.{TriesKey}
 pub use Rattle.fx_lasting.specs.slots.ByKey.{KeysAreOfOneFile, KeysComeBack, HasShortNumber, key_of_bits}
@@ -139,7 +138,7 @@ pub use Rattle.fx_table.specs.declared.values.Retired.{Retired}
 pub use Rattle.fx_lasting.specs.declared.life.layout.TheConstants.{MOST_NODES, MOST_SLOTS, MOST_PASSES, MOST_INSTALLING}
 pub use Rattle.std.proofs.lemmas.Bool.{eqb-true, not-false, not-true}
 pub use Rattle.fx_lasting.specs.range.Questions.{HasAsked, AsksSo, DecidesIf}
-pub use Rattle.fx_lasting.specs.slots.AtEmpty.{FitsSight, SeesFile, AnswersFull, HasPutEmpty, WasLost, HadGap, FellShort, FallsShort, FailsToFill, GivesUpFor, LooksFor, HasSearched}
+pub use Rattle.fx_lasting.specs.slots.AtEmpty.{FitsSight, SeesFile, WasLost, HadGap, FellShort, FallsShort, FailsToFill, LooksFor}
 pub use Rattle.fx_plain.proofs.Prepared.{inside_behind, opens_inside, numbered_anew, opening_is_start}
 pub use Rattle.fx_lasting.specs.holds.FinishSteps.{Finishes}
 pub use mathlib.Core.List.{map-append}
@@ -156,7 +155,7 @@ pub use Rattle.std.proofs.lemmas.Nat.Bits.{bit_at_or, bit_at-lt, bit_at-pow_same
 pub use Rattle.std.proofs.lemmas.Nat.Bits.{bit_at_above}
 pub use Rattle.std.proofs.lemmas.Nat.{pow_below, div-mul-add, mod-mul-add, shr-shr}
 pub use Rattle.fx_lasting.specs.slots.PutSteps.{Aims, TakesBeside, ReplacesHeld}
-pub use Rattle.fx_lasting.specs.slots.SwapSteps.{SwapsOut, HasEmptied, SwapsIf, SwapsHeld, TakesHeld}
+pub use Rattle.fx_lasting.specs.slots.SwapSteps.{SwapsOut, HasEmptied, SwapsHeld, TakesHeld}
 pub use prog.Atomic.{either}
 pub use Rattle.fx_lasting.specs.range.Tries.{IsPlacing, HasAllocated, StillPlaces, group_steps}
 pub use Rattle.std.specs.Mem.Slots.Ownership.{Filled}

@@ -15,4 +15,3 @@ pub mod Visiting
 pub mod Skimming
 pub mod Rounds
 pub mod Holds
-pub mod HeldFiles

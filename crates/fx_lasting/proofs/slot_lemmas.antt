@@ -9,7 +9,6 @@ pub mod Installing
 pub mod SlotLaws
 pub mod SwapsOut
 pub mod Seeing
-pub mod SwapsIf
 pub mod HeldSlots
 pub mod SwapsHeld
 pub mod Renewals

@@ -12,10 +12,9 @@ use Rattle.fx_plain.specs.declared.event.File.{File}
 use Rattle.fx_plain.specs.declared.event.Event.{Event}
 use Rattle.fx_plain.specs.declared.event.Action.{Action}
 use Rattle.fx_plain.specs.declared.event.Action.TheVariants.{Look, Release, Put, Allocate, Full}
-use Rattle.fx_plain.specs.declared.event.Action.TheVariants.{Close, Take}
+use Rattle.fx_plain.specs.declared.event.Action.TheVariants.{Close}
 use Rattle.fx_words.specs.Words.{entry_in, name_in}
 use Rattle.fx_lasting.specs.slots.SlotAgrees.{Names}
-use Rattle.fx_lasting.specs.holds.HeldFiles.{IsOneOnItsNode}
 use Rattle.fx_lasting.specs.nodes.Labels.{label_of, as_written}
 use Rattle.fx_lasting.specs.life.Layout.{slot_lines, list_place}
 use Rattle.fx_lasting.specs.Fields.{full_name_in, heat_in, IsHot, count_in, cold_takes, announced}
@@ -522,29 +521,4 @@ pub record Exchanges (st : At) (m : Sat) (found : ℕ) (m' : Sat) : Type 0 where
       ([] ▷ Allocate (slot_of st.word) (numbered number file)) Idle m.0.glance
       (Inside (group_of (range_at_start m.0.start) (slot_of st.word))) m'
       × (m'.1 ≡ rest m.1)
-  pub loses : found ≢ st.first → Sees st m found m'
-
--- Take, if the slot's word is the one that the pass saw: the slot is empty then; or nothing changed
-pub record TakesIf (st : At) (m : Sat) (found : ℕ) (m' : Sat) : Type 0 where
-  pub wins : found ≡ st.first
-      → (file : Option File) × Names (node_of_number m.0.start) found file
-      × Stepped m ([] ▷ Take (slot_of st.word) file) (retiring_work m.0.start found file)
-      m.0.glance (account (range_at_start m.0.start) (slot_of st.word) file) m' × (m'.1 ≡ m.1)
-      × IsOneOnItsNode m.0.start file (pass_in m').front
-  pub loses : found ≢ st.first → Sees st m found m'
-
--- Replace, if the slot's word is the one that the pass saw: the file that the pass places is at the
--- slot then; or nothing changed
-pub record Replaces (st : At) (m : Sat) (found : ℕ) (m' : Sat) : Type 0 where
-  pub wins : (n lost entry : ℕ) (file : Identity)
-      → m.0.work ≡ Placing n (as_written lost (label_of file))
-      → m.1 ≡ (n, Some file) ∷ []
-      → get_elem? (pass_in m).stock entry ≡ some n → found ≡ st.first
-      → (replaced : Option File) × (number : ℕ) × Names (node_of_number m.0.start) found replaced
-      × (node_of_number m.0.start number ≡ n) × NamesANode m.0.start found
-      × Stepped (as_swapped entry (name_in found - 1) m)
-      ([] ▷ Put (slot_of st.word) (numbered number file) replaced)
-      (retiring_work m.0.start found replaced) m.0.glance
-      (account (range_at_start m.0.start) (slot_of st.word) replaced) m' × (m'.1 ≡ rest m.1)
-      × IsOneOnItsNode m.0.start replaced (pass_in m').front
   pub loses : found ≢ st.first → Sees st m found m'

@@ -382,23 +382,6 @@ SeesKeep tells = (k : Start) (slots id i slot : ℕ) (m : Sat) (x : Log) → Has
     → slot < slots_of k → i ≡ slot_place slot
     → Allows (Agrees k) slots id m i (λ word. word) (tells (step slots i 0 0 none) m)
 
--- an idle pass exchanges the word of a slot that it saw for its name alone
-abbrev pub TakesIfKeep : Kind → Type 0
-TakesIfKeep tells = (k : Start) (slots id i slot old new : ℕ) (m : Sat) (x : Log) → HasPass k m x
-    → HasNoFile m.0.work → slot < slots_of k → IsOffCount k slot m.0.change → i ≡ slot_place slot
-    → new ≡ without_file old
-    → Allows (Agrees k) slots id m i (λ word. either (word == old) new word)
-    (tells (step slots i old new none) m)
-
--- an idle pass exchanges the word of a slot that it saw for the word of an empty slot that names a
--- node of its stock
-abbrev pub SwapsIfKeep : Kind → Type 0
-SwapsIfKeep tells = (k : Start) (slots id i slot n old new : ℕ) (m : Sat) (x : Log) → HasPass k m x
-    → HasNoFile m.0.work → slot < slots_of k → IsOffCount k slot m.0.change → IsInStock x.stock n
-    → i ≡ slot_place slot → new ≡ empty_word_of n
-    → Allows (Agrees k) slots id m i (λ word. either (word == old) new word)
-    (tells (step slots i old new none) m)
-
 -- a pass that holds the file of a node exchanges the word of a slot that it saw, which names the
 -- node, for the word of an empty slot that names a node of its stock
 abbrev pub SwapsHeldKeep : Kind → Type 0
@@ -415,15 +398,6 @@ TakesHeldKeep tells = (k : Start) (slots id i slot old new node : ℕ) (f : File
     (x : Log) → HasPass k m x → HoldsAlone m.0.work f node → full_name_in old ≡ node + 1
     → slot < slots_of k → IsOffCount k slot m.0.change → i ≡ slot_place slot
     → new ≡ without_file old
-    → Allows (Agrees k) slots id m i (λ word. either (word == old) new word)
-    (tells (step slots i old new none) m)
-
--- a pass exchanges the word of a slot that it saw for the word of the file that it places
-abbrev pub ReplacesKeep : Kind → Type 0
-ReplacesKeep tells = (k : Start) (slots id i slot n lost old new : ℕ) (file : Identity) (m : Sat)
-    (x : Log) → HasPass k m x → m.0.work ≡ Placing n (as_written lost (label_of file))
-    → m.1 ≡ (n, Some file) ∷ [] → file.entry < 2 ^ 8 → slot < slots_of k → m.0.change ≡ Outside
-    → i ≡ slot_place slot → new ≡ file_word_of n file.entry + lost
     → Allows (Agrees k) slots id m i (λ word. either (word == old) new word)
     (tells (step slots i old new none) m)
 

@@ -1,9 +1,9 @@
-//! The results of the calls that change a slot if its file is on a node, or if it is empty, and of
-//! the search for an empty slot.
+//! The results of the exchanges that change a slot if its file is on a node, of the call that fills
+//! an empty slot, and of the search for one.
 use fx_base::OpenFile;
 use fx_table::Retired;
 
-/// The reason why a slot was left as it was, by a call that empties or replaces it if its file is
+/// The reason why a slot was left as it was, by exchanges that empty or replace it if its file is
 /// on a node.
 #[derive(Clone, Copy)]
 pub enum Miss {
@@ -15,22 +15,13 @@ pub enum Miss {
     Again,
 }
 
-/// The result of a call that empties a slot if its file is on a node. It must be consumed: the
+/// The result of exchanges that empty a slot if its file is on a node. It must be consumed: the
 /// compiler rejects a program that drops one.
 pub enum TakenIf {
     /// The file was removed, and is to be retired.
     Removed(Retired),
     /// Nothing was changed.
     Missed(Miss),
-}
-
-/// The result of a call that replaces the file of a slot if it is on a node. It must be consumed:
-/// the compiler rejects a program that drops one.
-pub enum PutIf {
-    /// The slot has the new file. The file that it had is to be retired.
-    Replaced(Retired),
-    /// Nothing was changed. The new file comes back.
-    Missed(Miss, OpenFile),
 }
 
 /// The result of a call that installs a file at a slot if it is empty. It must be consumed: the

@@ -6,13 +6,13 @@ ghost use Rattle.fx_lasting.specs.life.Cuts.{seats as views};
 ghost use Rattle.fx_lasting.specs.Effects.{Glances, Lists, Announces, Confirms, Withdraws, Takes};
 ghost use Rattle.fx_lasting.specs.Effects.{HeatsSlot, StepsDown, LettingGo, Seeks, Births, Rests};
 ghost use Rattle.fx_lasting.specs.Effects.{EndsItsHold, Skims, Visits, Charges, Retires, Installs};
-ghost use Rattle.fx_lasting.specs.Effects.{Exchanges, Removes, Peeks, Sees, TakesIf, Replaces, Lowers};
+ghost use Rattle.fx_lasting.specs.Effects.{Exchanges, Removes, Peeks, Sees, Lowers};
 ghost use Rattle.fx_lasting.specs.Effects.{Checks, Breaks, Raises, Begins, Asks, Counts, Decides};
 ghost use Rattle.fx_lasting.specs.nodes.LabelSteps.{RecallsTag, Tags, Numbers, ReadsTag};
 ghost use Rattle.fx_lasting.specs.nodes.LabelSteps.{ReadsNumber};
 ghost use Rattle.fx_lasting.specs.nodes.KeepSteps.{Parks, Resumes, SettlesNode};
 ghost use Rattle.fx_lasting.specs.holds.FinishSteps.{Finishes};
-ghost use Rattle.fx_lasting.specs.slots.SwapSteps.{SwapsIf, SwapsHeld, SwapsOut, TakesHeld};
+ghost use Rattle.fx_lasting.specs.slots.SwapSteps.{SwapsHeld, SwapsOut, TakesHeld};
 ghost use Rattle.fx_lasting.specs.slots.PutSteps.{Aims, TakesBeside, ReplacesHeld};
 ghost use Rattle.fx_lasting.specs.life.Showing.{HasLearned};
 
@@ -251,24 +251,8 @@ impl Play<Option<OpenFile>, View> for Seeing {
     ghost then = { Sees };
 }
 
-/// Take, if the slot still has the word that the pass saw: a pass without a stock empties the slot
-/// for a close. Its word names the node still.
-pub struct TakingIf;
-
-impl Play<Option<OpenFile>, View> for TakingIf {
-    ghost then = { TakesIf };
-}
-
-/// Swap, if the slot still has the word that the pass saw: the slot is emptied for a close. Its
-/// word names a node of the pass's stock, and the node that it named takes that node's place.
-pub struct SwappingIf;
-
-impl Play<Option<OpenFile>, View> for SwappingIf {
-    ghost then = { SwapsIf };
-}
-
 /// Swap, if the slot still has the word that the pass saw, by a pass that holds the slot's file:
-/// the slot is emptied for a close as by [`SwappingIf`], and the hold ends with the step.
+/// the slot is emptied for a close as by [`Swapping`], and the hold ends with the step.
 pub struct SwappingHeld;
 
 impl Play<Option<OpenFile>, View> for SwappingHeld {
@@ -290,7 +274,7 @@ impl Play<Option<OpenFile>, View> for TakingBeside {
 }
 
 /// Replace, if the slot still has the word that the pass saw, by a pass that holds the slot's file:
-/// the slot gets the file that the pass places, as by [`Replacing`], and the hold ends with the
+/// the slot gets the file that the pass places, as by [`Installing`], and the hold ends with the
 /// step.
 pub struct ReplacingHeld;
 
@@ -299,20 +283,12 @@ impl Play<Option<OpenFile>, View> for ReplacingHeld {
 }
 
 /// Take, if the slot still has the word that the pass saw, by a pass without a stock that holds the
-/// slot's file: the slot is emptied for a close as by [`TakingIf`], and the hold ends with the
+/// slot's file: the slot is emptied for a close as by [`Clearing`], and the hold ends with the
 /// step.
 pub struct TakingHeld;
 
 impl Play<Option<OpenFile>, View> for TakingHeld {
     ghost then = { TakesHeld };
-}
-
-/// Replace, if the slot still has the word that the pass saw: the file that the pass places goes to
-/// the slot.
-pub struct Replacing;
-
-impl Play<Option<OpenFile>, View> for Replacing {
-    ghost then = { Replaces };
 }
 
 /// And: a pass without a stock empties a slot. Its word names the node still.

@@ -18,17 +18,17 @@ ghost use Rattle.fx_lasting.specs.Laws.{ChargesKeep, FinishesKeep, RetiresKeep, 
 ghost use Rattle.fx_lasting.specs.Laws.{ChecksKeep, BreaksKeep, RaisesKeep, BeginsKeep, AsksKeep};
 ghost use Rattle.fx_lasting.specs.Laws.{CountsKeep, DecidesKeep, PeeksKeep, SplitsKeep, JoinsKeep};
 ghost use Rattle.fx_lasting.specs.Laws.{TakesOutKeep, SwapsOutKeep, InstallsKeep};
-ghost use Rattle.fx_lasting.specs.Laws.{ExchangesKeep, SeesKeep, TakesIfKeep, SwapsIfKeep};
-ghost use Rattle.fx_lasting.specs.Laws.{SwapsHeldKeep, TakesHeldKeep, ReplacesKeep, AimsKeep};
+ghost use Rattle.fx_lasting.specs.Laws.{ExchangesKeep, SeesKeep};
+ghost use Rattle.fx_lasting.specs.Laws.{SwapsHeldKeep, TakesHeldKeep, AimsKeep};
 ghost use Rattle.fx_lasting.specs.Laws.{TakesBesideKeep, ReplacesHeldKeep, EndsItsHoldKeep};
 
 use crate::kinds::{
     Aiming, Announcing, Asking, Beginning, Birth, Breaking, Charging, Checking, Clearing,
     Confirming, Counting, Deciding, EndingHold, Exchanging, Finishing, Glancing, HeatingUp,
     Installing, Letting, Listing, Lowering, Numbering, OneHistory, Parking, Peeking, Raising,
-    ReadingNumber, ReadingTag, RecallingTag, Replacing, ReplacingHeld, Resting, Resuming, Retire,
-    Seeing, Seeking, Settling, Skimming, SteppingDown, Swapping, SwappingHeld, SwappingIf, Tagging,
-    Taking, TakingBeside, TakingHeld, TakingIf, Visiting, Withdrawing,
+    ReadingNumber, ReadingTag, RecallingTag, ReplacingHeld, Resting, Resuming, Retire, Seeing,
+    Seeking, Settling, Skimming, SteppingDown, Swapping, SwappingHeld, Tagging, Taking,
+    TakingBeside, TakingHeld, Visiting, Withdrawing,
 };
 use crate::view::{Start, View};
 use atomic_table::{Join, Play, Split, TableRule};
@@ -294,19 +294,6 @@ pub fn see_keeps_rule()
     ensures { SeesKeep ⟦<Seeing as Play<Option<OpenFile>, View>>⟧.then }
 {}
 
-/// An idle pass that exchanges the word of a slot that it saw for its name alone keeps the rule,
-/// and has the file that was there to retire.
-pub fn take_if_keeps_rule()
-    ensures { TakesIfKeep ⟦<TakingIf as Play<Option<OpenFile>, View>>⟧.then }
-{}
-
-/// An idle pass that exchanges the word of a slot that it saw for that of an empty slot that names
-/// a node of its stock keeps the rule, and has the file that was there to retire. The node that the
-/// slot named goes into its stock.
-pub fn swap_if_keeps_rule()
-    ensures { SwapsIfKeep ⟦<SwappingIf as Play<Option<OpenFile>, View>>⟧.then }
-{}
-
 /// A pass that holds the file of a node, and exchanges the word of a slot that names the node for
 /// that of an empty slot that names a node of its stock, keeps the rule. Its hold ends. It has the
 /// file to retire, without its own take. The node that the slot named goes into its stock.
@@ -339,12 +326,6 @@ pub fn take_held_keeps_rule()
     ensures { TakesHeldKeep ⟦<TakingHeld as Play<Option<OpenFile>, View>>⟧.then }
 {}
 
-/// A pass that exchanges the word of a slot that it saw for that of the file that it places keeps
-/// the rule, and has the file that was there to retire.
-pub fn replace_keeps_rule()
-    ensures { ReplacesKeep ⟦<Replacing as Play<Option<OpenFile>, View>>⟧.then }
-{}
-
 /// While the rule holds, no word overflows, and no part of a slot's word carries into the next. A
 /// slot has at most the takes of a cold one, and one more for each pass, in 20 bits; its heat is at
 /// most the number of passes, in 11 bits. The word of a node is above 2 until its file is retired,
@@ -364,8 +345,7 @@ pub fn nodes_are_of_one_file()
 
 /// While the rule holds and a pass holds a file, no other file is on the hold's node: the file of a
 /// slot that is on the node is the held one, and so is a file of the node that another pass has to
-/// retire. So `LastingTable::take_if` and `put_if` with that node, while the file is held, remove
-/// the held file or nothing.
+/// retire. So a removal or a replacement by key removes the held file or nothing.
 #[tactic(auto, using(crate::proofs::hold_lemmas::Holds::held_nodes_name_files))]
 pub fn held_nodes_name_files()
     ensures { HeldNodesNameFiles }

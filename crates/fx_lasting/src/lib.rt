@@ -25,7 +25,7 @@ mod table;
 mod tried;
 mod view;
 
-pub use answers::{FoundSlot, Miss, PutEmpty, PutIf, TakenIf};
+pub use answers::{FoundSlot, PutEmpty};
 pub use key::Key;
 pub use key_answers::{KeyFault, KeyLook, KeyPut, KeyTaken, PutOverKey};
 pub use life::layout::{MOST_INSTALLING, MOST_PASSES, MOST_SLOTS};

@@ -20,7 +20,6 @@ mod opening;
 pub mod outcomes;
 mod placing;
 mod putting;
-mod seeing;
 mod shared;
 mod worker;
 

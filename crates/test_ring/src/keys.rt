@@ -45,11 +45,15 @@ fn put<H: Host>(rt: &H, table: &LastingTable, pass: &mut LastingPass, i: u32) ->
     ensures { IsPassOfTable table.now pass.new }
 {
     assert!(rt; table.is_idle(pass) && 0 < table.size() && 0 < table.numbers_left(pass));
-    let (key, replaced) = table.put_key(pass, 0, file_of(i));
-    let None = replaced else {
+    let None = table.put(pass, 0, file_of(i)) else {
         panic!(rt; "an empty slot")
     };
-    key
+    key_of(i)
+}
+
+// The key of the file that these numbers name.
+fn key_of(i: u32) -> Key {
+    Key::new(0, Mark::Registered { k: 1, i })
 }
 
 // Removes the file of a key by one pass. The file comes out at its retirement.
@@ -149,8 +153,8 @@ fn change_some<H: Host>(
     let third = put(rt, table, pass, 3);
     assert!(rt; take(rt, table, pass, third) == Outcome::Removed);
     let first = put(rt, table, pass, 4);
-    let second = Key::new(0, Mark::Registered { k: 1, i: 5 });
-    let third = Key::new(0, Mark::Registered { k: 1, i: 6 });
+    let second = key_of(5);
+    let third = key_of(6);
     assert!(rt; replace(rt, table, pass, second, 5) == Outcome::Missed(KeyFault::Other));
     assert!(rt; replace(rt, table, pass, first, 5) == Outcome::Replaced);
     assert!(rt; replace(rt, table, pass, first, 6) == Outcome::Missed(KeyFault::Other));
@@ -159,7 +163,7 @@ fn change_some<H: Host>(
     assert!(rt; replace(rt, table, pass, second, 6) == Outcome::Replaced);
     heat(rt, table, reader);
     assert!(rt; replace(rt, table, pass, third, 7) == Outcome::Replaced);
-    let last = Key::new(0, Mark::Registered { k: 1, i: 7 });
+    let last = key_of(7);
     assert!(rt; take(rt, table, pass, last) == Outcome::Removed);
     assert!(rt; replace(rt, table, pass, last, 8) == Outcome::Missed(KeyFault::Empty));
     assert!(rt; table.is_idle(reader) && table.is_idle(pass));

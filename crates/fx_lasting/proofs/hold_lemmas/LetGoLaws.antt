@@ -26,9 +26,6 @@ module _ {turn : Turn} {n : ℕ} {f : File} {h₁ : List Event} {debt' : ℕ →
   abbrev less : ℕ
   less = (found + (2 ^ 64 - 1)) % 2 ^ 64
 
-  abbrev total : ℕ
-  total = sum_by (taken_of n) st.views
-
   -- the outcome of the step: the file stays open, or it is closed and comes out
   abbrev Outcome : Type 0
   Outcome = ((found ≢ 2) × (ph : Phase) × Agrees v.start (end turn (open_after g carried less ph))

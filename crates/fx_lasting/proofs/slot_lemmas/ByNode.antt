@@ -1,23 +1,19 @@
--- The calls that name a node: what their steps leave, one after another.
-use Rattle.fx_lasting.proofs.Words.{◌-◌, ◌<◌, List, get_elem?, some, rest, as_swapped, IsInStock, NamesANode, name_in, name_of_file, nodes_of}
+-- The exchanges while a slot names a node: what their steps leave, one after another.
+use Rattle.fx_lasting.proofs.Words.{◌-◌, ◌<◌, List, as_swapped, NamesANode, name_in, name_of_file, nodes_of}
 use Rattle.fx_lasting.proofs.Words.{IsAtWork, IsStockOf, as_stocked, set, ◌≡◌, ◌≢◌, ℕ, ◌+◌, ◌≤◌, [], sym, refl, ap, ◌∙◌, subst, arith, Option, Some}
-use Rattle.fx_lasting.proofs.Words.{None, Bool, true, false, File, Event, IsSeenBy, Closed, Action, ◌▷◌, ◌▷▷◌, Take, Put, numbered, full_name_in}
-use Rattle.fx_lasting.proofs.Words.{entry_in, count_in, Names, Start, Sat, At, Work, Glance, Change, Outside, Runs, Stepped, Sees, retiring_work}
-use Rattle.fx_lasting.proofs.Words.{retired_at, slot_of, pass_in, state_after_all, node_of_number, account, uncounted, range_at_start, is_in}
+use Rattle.fx_lasting.proofs.Words.{None, Bool, true, false, File, Event, IsSeenBy, Action, ◌▷▷◌, full_name_in}
+use Rattle.fx_lasting.proofs.Words.{entry_in, count_in, Names, Start, Sat, At, Work, Glance, Change, Outside, Runs, Stepped, Sees}
+use Rattle.fx_lasting.proofs.Words.{retired_at, slot_of, pass_in, state_after_all, node_of_number, account, uncounted, is_in}
 use Rattle.fx_lasting.proofs.Words.{group_of, TableId, LastingPass, IsPassOf, opening_of, view_of, pass_of, Result, Ok, Err, seen_further, Adds}
-use Rattle.fx_lasting.proofs.Words.{no_use, IsIdle, IsFileRemoval, Doing, DoesNothing, Retired, IsOneOnItsNode, IsOn, FitsMiss, WasSo, WasIn, SaysIf}
-use Rattle.fx_lasting.proofs.Words.{SawIf, FailedIf, HasTriedIf, TriedReplace, TriedOut, Miss, meetings, changes_at, changes_in, TakesIf, Replaces, empty_word_of}
+use Rattle.fx_lasting.proofs.Words.{no_use, IsIdle, IsFileRemoval, Doing, DoesNothing, Retired, FitsMiss, WasSo, WasIn, SaysIf}
+use Rattle.fx_lasting.proofs.Words.{SawIf, FailedIf, HasTriedIf, Miss, meetings, changes_at, changes_in}
 use Rattle.fx_lasting.proofs.slot_lemmas.Overtaking.{overtaken_by}
-use Rattle.fx_lasting.proofs.Running.{swapped_then, at_swapped, number_is, own_stock, stock_is, still_at_work, runs_one, runs_then, runs_goes}
+use Rattle.fx_lasting.proofs.Running.{swapped_then, at_swapped, number_is, stock_is, still_at_work, runs_one, runs_then, runs_goes}
 use Rattle.fx_lasting.proofs.Running.{runs_within, does_then}
 use Rattle.fx_lasting.specs.Ends.{Does}
-use Rattle.fx_lasting.specs.range.Tries.{IsPlacing}
-use Rattle.fx_lasting.specs.slots.ByNode.{MayEmpty, TriedEmptying, TriedExchange}
+use Rattle.fx_lasting.specs.slots.ByNode.{TriedEmptying, TriedExchange}
 use Rattle.fx_lasting.specs.Laws.{Kind}
-use Rattle.fx_lasting.proofs.Words.{HasNoFile, IsOffCount, slots_of, ⊎_elim, inl}
-use Rattle.fx_lasting.proofs.slot_lemmas.Seeing.{takes_if_keep}
-use Rattle.fx_lasting.proofs.slot_lemmas.SwapsIf.{swaps_if_keep}
-use Rattle.fx_lasting.specs.slots.SwapSteps.{SwapsIf}
+use Rattle.fx_lasting.proofs.Words.{inl}
 use Rattle.fx_lasting.specs.declared.answers.Miss.TheVariants.{Empty, Other, Again}
 use Rattle.fx_lasting.proofs.Passing.{adds_so}
 
@@ -127,79 +123,8 @@ tried_so k slot node p p' m₁ m₂ number start before few fewer after more fou
     overtaken_by k slot p p' m₁ m₂ number start before few fewer after more found failed
 tried_so k slot node p p' m₁ m₂ number start before few fewer after more found _ failed = tt
 
--- what a pass did that put its file there, from this entry of its stock
-abbrev Replaced : (m₁ m₂ : Sat) (at found own : ℕ) → Closed → ℕ → Type 0
-Replaced m₁ m₂ at found own file e = (old : Option File) × (number : ℕ) × Names (node_of_number m₁.0.start) found old
-    × (node_of_number m₁.0.start number ≡ own) × NamesANode m₁.0.start found
-    × Stepped (as_swapped e (name_in found - 1) m₁) ([] ▷ Put at (numbered number file) old) (retiring_work m₁.0.start found old) m₁.0.glance
-    (account (range_at_start m₁.0.start) at old) m₂ × (m₂.1 ≡ rest m₁.1) × IsOneOnItsNode m₁.0.start old (pass_in m₂).front
-
--- what a pass did that emptied the slot by an exchange of names, from this entry of its stock
-abbrev Swapped : (m₁ m₂ : Sat) (at found : ℕ) → ℕ → Type 0
-Swapped m₁ m₂ at found e = (file : Option File) × Names (node_of_number m₁.0.start) found file × NamesANode m₁.0.start found
-    × Stepped (as_swapped e (name_in found - 1) m₁) ([] ▷ Take at file) (retiring_work m₁.0.start found file) m₁.0.glance
-    (account (range_at_start m₁.0.start) at file) m₂ × (m₂.1 ≡ m₁.1) × IsOneOnItsNode m₁.0.start file (pass_in m₂).front
-
 pub its_own : (found node : ℕ) → full_name_in found ≡ node + 1 → name_in found - 1 ≡ node
 its_own found node is = let a = name_of_file found node is in omega arith
-
--- what a pass did that removed the file of the slot, in some steps from the first seat
-abbrev Emptied : Start → (slot found : ℕ) → Glance → Sat → Sat → Type 0
-Emptied k slot found g s t = (f : File) × Names (node_of_number k) found (Some f)
-    × Runs s ([] ▷ Take slot (Some f)) (retiring_work k found (Some f)) g Outside 4 t × IsOneOnItsNode k (Some f) (pass_in t).front
-
--- The last of some tries
-module _ {k : Start} {slot at : ℕ} (node found : ℕ) {m m₁ m₂ : Sat} {n : ℕ} (start : m₁.0.start ≡ k) (here : at ≡ slot)
-    (still : Does m [] m.0.work n m₁) (few : n + 1 ≤ 4) where
-  module _ (is : full_name_in found ≡ node + 1) where
-    took_so : (file : Option File) → Names (node_of_number m₁.0.start) found file
-        → Stepped m₁ ([] ▷ Take at file) (retiring_work m₁.0.start found file) m₁.0.glance (account (range_at_start m₁.0.start) at file) m₂
-        → IsOneOnItsNode m₁.0.start file (pass_in m₂).front → Emptied k slot found m.0.glance m m₂
-    took_so None names s one = absurd (not_named _ _ is names)
-    took_so (Some f) names s one = (
-      f,
-      subst (λ (z : Start). Names (node_of_number z) found (Some f)) start names,
-      runs_within few (acts_then still (subst (λ (z : Start × ℕ). Runs m₁ ([] ▷ Take z.1 (Some f)) (retiring_work z.0 found (Some f))
-          m₁.0.glance Outside 1 m₂) (λ i. (start i, here i)) (at_once (range_at_start m₁.0.start) at f s))),
-      subst (λ (z : Start). IsOneOnItsNode z (Some f) (pass_in m₂).front) start one,
-    )
-
-    replaced_so : (own : ℕ) (file : Closed) (e : ℕ) → Replaced m₁ m₂ at found own file e → (number : ℕ) × (f : File) × (node_of_number k number ≡ own)
-        × Names (node_of_number k) found (Some f)
-        × Runs (as_swapped e node m) ([] ▷ Put slot (numbered number file) (Some f)) (retiring_work k found (Some f)) m.0.glance Outside 4 m₂
-        × IsOneOnItsNode k (Some f) (pass_in m₂).front
-    replaced_so own file e (None, number, names, on, a_node, s, home, one) = absurd (not_named _ _ is names)
-    replaced_so own file e (Some f, number, names, on, a_node, s, home, one) = (
-      number,
-      f,
-      subst (λ (z : Start). node_of_number z number ≡ own) start on,
-      subst (λ (z : Start). Names (node_of_number z) found (Some f)) start names,
-      runs_within few (swapped_then e node still (subst (λ (z : Start × ℕ × Glance × ℕ). Runs (as_swapped e z.3 m₁) ([] ▷ Put z.1 (numbered number file) (Some f))
-          (retiring_work z.0 found (Some f)) z.2 Outside 1 m₂) (λ i. (start i, here i, still.glance i, its_own found node is i)) (at_once (range_at_start m₁.0.start) at f s))),
-      subst (λ (z : Start). IsOneOnItsNode z (Some f) (pass_in m₂).front) start one,
-    )
-
-    pub won_replace : (own : ℕ) (file : Closed) → IsInStock (pass_in m).stock own → ((e : ℕ) → get_elem? (pass_in m₁).stock e ≡ some own → Replaced m₁ m₂ at found own file e)
-        → rest m₁.1 ≡ [] → TriedReplace k slot node own file m (Ok found) m₂
-    won_replace own file stocked wins empty = let z = wins stocked.0 (there stocked.0 stocked.1) in (
-      is,
-      z.6 ∙ empty,
-      subst (λ (y : ℕ). y < nodes_of k) (its_own found node is) (subst (λ (y : Start). name_in found - 1 < nodes_of y) start z.4.1),
-      λ e its. replaced_so own file e (wins e (there e its)),
-    )
-      where
-        there : (e : ℕ) → get_elem? (pass_in m).stock e ≡ some own → get_elem? (pass_in m₁).stock e ≡ some own
-        there e its = ap (λ (l : List ℕ). get_elem? l e) still.stock ∙ its
-
-    swapped_so : (e : ℕ) → Swapped m₁ m₂ at found e → Emptied k slot found m.0.glance (as_swapped e node m) m₂
-    swapped_so e (None, names, a_node, s, home, one) = absurd (not_named _ _ is names)
-    swapped_so e (Some f, names, a_node, s, home, one) = (
-      f,
-      subst (λ (z : Start). Names (node_of_number z) found (Some f)) start names,
-      runs_within few (swapped_then e node still (subst (λ (z : Start × ℕ × Glance × ℕ). Runs (as_swapped e z.3 m₁) ([] ▷ Take z.1 (Some f))
-          (retiring_work z.0 found (Some f)) z.2 Outside 1 m₂) (λ i. (start i, here i, still.glance i, its_own found node is i)) (at_once (range_at_start m₁.0.start) at f s))),
-      subst (λ (z : Start). IsOneOnItsNode z (Some f) (pass_in m₂).front) start one,
-    )
 
 -- The exchanges that a pass tried while a slot's word named the node
 pub begun_at : {k : Start} {p : ℕ} {m b : Sat} → IsAtWork k p m → Does m [] m.0.work 3 b → b.0.start ≡ k
@@ -221,72 +146,6 @@ pub with_stock : {m m' : Sat} {l : List ℕ} {xs : List Action} {w : Work} {g : 
     → Runs (as_stocked l m) xs w g c n m'
 with_stock {m} {m'} {l} {xs} {w} {g} {c} {n} its r = let same : Runs (as_stocked (pass_in m).stock m) xs w g c n m' = assumption r in
     subst (λ (z : List ℕ). Runs (as_stocked z m) xs w g c n m') (sym its) same
-
--- to put its file there
-module _ {k : Start} {p : ℕ} {m : Sat} (at : IsAtWork k p m) (slot node : ℕ) where
-  pub replaced_it : (own lost new : ℕ) (file : Closed) → IsPlacing own lost file m → (r : Result ℕ Miss) (m' : Sat)
-      → TriedExchange Replaces k slot node (Some new) m r m' → TriedReplace k slot node own file m r m'
-  replaced_it own lost new file placing (Ok word) m' w =
-      won_replace node word (begun_at at w.still) w.here w.still (omega arith) w.named own file placing.stocked
-      (λ e there. w.last.wins own lost e file (w.still.work ∙ placing.work) (w.places ∙ placing.place) there w.first) (ap rest (w.places ∙ placing.place))
-  replaced_it own lost new file placing (Err miss) m' it = it
-
--- to empty the slot, with this stock
-module _ {k : Start} {p : ℕ} {m : Sat} (at : IsAtWork k p m) (stock : List ℕ) (its : stock ≡ (pass_in m).stock) (slot node : ℕ) where
-  -- it left the name
-  pub left_name : (word : ℕ) (m' : Sat) → TriedExchange TakesIf k slot node None m (Ok word) m' → TriedOut k slot node stock m (Ok word) m' × (m'.1 ≡ m.1)
-  left_name word m' w =
-      let t = w.last.wins w.first in
-      let z = took_so node word (begun_at at w.still) w.here w.still (omega arith) w.named t.0 t.1 t.2 t.4 in (
-        (
-          z.0,
-          w.named,
-          z.1,
-          subst (λ (y : ℕ × List ℕ). IsStockOf k y.0 y.1) (λ i. (sym (number_is at) i, sym its i)) (own_stock at),
-          with_stock its z.2,
-          z.3,
-        ),
-        t.3 ∙ w.places,
-      )
-
-  -- it exchanged names
-  pub moved_name : (own new entry word : ℕ) (m' : Sat) → get_elem? stock entry ≡ some own → new ≡ empty_word_of own
-      → TriedExchange SwapsIf k slot node (Some new) m (Ok word) m' → TriedOut k slot node (set stock entry node) m (Ok word) m' × (m'.1 ≡ m.1)
-  moved_name own new entry word m' there is w =
-      let start = begun_at at w.still in
-      let won = w.last.wins own entry (ap (λ (l : List ℕ). get_elem? l entry) (w.still.stock ∙ sym its) ∙ there) (w.second ∙ is) w.first in
-      let z = swapped_so node word start w.here w.still (omega arith) w.named entry won in
-      let same : set (pass_in m).stock entry node ≡ set stock entry node = λ i. set (sym its i) entry node in (
-        (
-          z.0,
-          w.named,
-          z.1,
-          stock_moved at entry node (names_inside word node w.before start w.named won.2) same,
-          subst (λ (l : List ℕ). Runs (as_stocked l m) ([] ▷ Take slot (Some z.0)) (retiring_work k word (Some z.0)) m.0.glance Outside 4 m') same z.2,
-          z.3,
-        ),
-        won.4 ∙ w.places,
-      )
-
-  -- it did one of the two
-  pub emptied_so : (r : Result ℕ Miss) (now : List ℕ) (m' : Sat) → TriedEmptying TakesIf SwapsIf k slot node stock now m r m'
-      → TriedOut k slot node now m r m' × (m'.1 ≡ m.1)
-  emptied_so (Ok word) now m' tried = ⊎_elim
-      (λ w. subst (λ (l : List ℕ). TriedOut k slot node l m (Ok word) m' × (m'.1 ≡ m.1)) (sym w.0) (left_name word m' w.1))
-      (λ w. subst (λ (l : List ℕ). TriedOut k slot node l m (Ok word) m' × (m'.1 ≡ m.1)) (sym w.3)
-      (moved_name w.0 (empty_word_of w.0) w.1 word m' w.2 refl w.4)) tried
-  emptied_so (Err miss) now m' it = ((it.0, it.1, it.2 ∙ its), it.3)
-
--- an idle pass may empty the slot so
-pub may_empty : {k : Start} {p : ℕ} {m : Sat} → IsAtWork k p m → HasNoFile m.0.work → (slot node : ℕ) → slot < slots_of k → IsOffCount k slot m.0.change
-    → MayEmpty TakesIf SwapsIf k slot node m
-may_empty at idle slot node inside off = record {
-  left = λ slots id old tries m' still places named. takes_if_keep _ slots id _ slot old _ m' _ (still_at_work at still).pass
-      (rw still.work idle) inside (still.change ∙ off) refl refl;
-  swapped = λ own has slots id old tries m' still places named. let now = still_at_work at still in
-      swaps_if_keep _ slots id _ slot own old _ m' _ now.pass (rw still.work idle) inside (still.change ∙ off)
-      (has.0, ap (λ (l : List ℕ). get_elem? l has.0) (sym (stock_is now) ∙ still.stock) ∙ has.1) refl refl;
-}
 
 -- exchanges that left the name at the slot
 pub left_so : (leaves swaps : Kind) (k : Start) (slot node : ℕ) (stock : List ℕ) (m m' : Sat) (r : Result ℕ Miss)
@@ -322,9 +181,6 @@ module _ {node : ℕ} (found : ℕ) (x : Retired) (at : x.node ≡ node) (entry 
 
   pub removal_so : (k : Start) → entry_in found ≡ f.identity.entry → IsFileRemoval (opening_of k) f x
   removal_so k same = record { entry = entry ∙ same; same = λ e. absurd (cc e) }
-
-  pub is_on : (k : Start) → full_name_in found ≡ node_of_number k f.number + 1 → IsOn k node f
-  is_on k names = same_node _ _ (sym names ∙ is)
 
 -- an idle pass that has done nothing but look
 pub adds_none : {id : TableId} {k : Start} {p : LastingPass} → IsPassOf id k p → IsIdle (view_of p) → {m' : Sat} {g : Glance} {c : Change} {n : ℕ}

@@ -1,10 +1,8 @@
 -- The calls of a caller that looks for an empty slot by itself: what their steps leave.
-use Rattle.fx_lasting.proofs.Words.{◌≡◌, ℕ, [], ◌▷◌, refl, subst, arith, Option, Some, None, Bool, true, false, File, Full, Start, Sat, At, Sees}
-use Rattle.fx_lasting.proofs.Words.{Names, slot_of, pass_in, state_after_all, node_of_number, file_node_in, LastingTable, LastingPass, opening_of}
-use Rattle.fx_lasting.proofs.Words.{view_of, is_some, adds_then, Adds, no_use, DoesNothing, HasAsked, FitsSight, SeesFile, AnswersFull}
-use Rattle.fx_lasting.proofs.Words.{◌≢◌, ◌≤◌, full_name_in, WasSo, meetings, FellShort}
-use Rattle.fx_lasting.proofs.slot_lemmas.Overtaking.{short_by}
-use Rattle.fx_lasting.proofs.range_lemmas.Questions.{asked_so}
+use Rattle.fx_lasting.proofs.Words.{◌≡◌, ℕ, [], refl, subst, arith, Option, Some, None, true, File, Start, Sat, At, Sees}
+use Rattle.fx_lasting.proofs.Words.{Names, slot_of, pass_in, state_after_all, node_of_number, file_node_in}
+use Rattle.fx_lasting.proofs.Words.{is_some, FitsSight, SeesFile}
+use Rattle.fx_lasting.proofs.Words.{◌≢◌, full_name_in, WasSo}
 use Rattle.fx_lasting.proofs.Running.{no_name, its_name, runs_goes}
 
 -- a slot's word names a node if the slot has a file
@@ -47,15 +45,3 @@ module _ {k : Start} {slot : ℕ} {st : At} {m m' : Sat} {found : ℕ} (start : 
     seen = ([], refl);
     there = full_sight k found ((state_after_all k (pass_in m').front).at slot) (names_there start here saw) some_named;
   }
-
--- a pass that had added nothing has asked
-pub tells_so : (t : LastingTable) {n : ℕ} (u p p' : LastingPass) (full : Bool)
-    → Adds (opening_of t.table.shared.key) (view_of u) [] DoesNothing no_use (view_of p) → meetings u ≤ meetings p → HasAsked t n p full p'
-    → (full ≡ false → FellShort t.table.shared.key p p') → AnswersFull t.table.shared.key u full p'
-tells_so t u p p' true before few asked short = adds_then (opening_of t.table.shared.key) (view_of u) (view_of p) (view_of p') [] ([] ▷ Full) DoesNothing
-    DoesNothing no_use no_use before (asked_so asked before.now)
-tells_so t u p p' false before few asked short = (
-  adds_then (opening_of t.table.shared.key) (view_of u) (view_of p) (view_of p') [] [] DoesNothing
-      DoesNothing no_use no_use before (asked_so asked before.now),
-  short_by t.table.shared.key u p p' before.seen few (short refl),
-)

@@ -1,5 +1,5 @@
 -- A removal by a pass that holds the file: what its steps leave.
-use Rattle.fx_lasting.proofs.Words.{◌≡◌, ℕ, ◌<◌, ◌≤◌, List, [], sym, ap, ◌∙◌, subst, arith, Option, Some, None, set, get_elem?, some, inr, false}
+use Rattle.fx_lasting.proofs.Words.{◌≡◌, ℕ, ◌<◌, List, [], sym, ap, ◌∙◌, subst, arith, Option, Some, None, set, get_elem?, some, inr, false}
 use Rattle.fx_lasting.proofs.Words.{File, Release, Take, Close, ◌▷◌, Start, Sat, Work, Glance, Outside, Counted, Runs, Names, IsStockOf, as_stocked}
 use Rattle.fx_lasting.proofs.Words.{as_swapped, pass_in, node_of_number, range_at_start, IsAtWork, Ok, Closed, Adds, adds_then, no_use, DoesNothing}
 use Rattle.fx_lasting.proofs.Words.{ReleasesFile, Released, LookedUp, Opening, PassView, Holding, Hold, TableId, LastingPass, IsPassOf}

@@ -147,17 +147,6 @@ short_in k m m₁ m₂ m₃ start before few after_them more short = ⊎_elim
 pub fell_short : (k : Start) (p p' : LastingPass) → p.seat.me.0.start ≡ k → FallsShort k p.seat.me p'.seat.me → FellShort k p p'
 fell_short k p p' begun short = ⊎_elim (λ had. inl had) (λ met. inr (met.0, subst (λ (k : Start). 1 < k.passes) begun met.1)) short
 
--- and in some calls of others
-pub short_by : (k : Start) (u p p' : LastingPass) → IsSeenBy (view_of u).front (view_of p).front → meetings u ≤ meetings p → FellShort k p p' → FellShort k u p'
-short_by k u p p' before few short = ⊎_elim
-    (λ had. inl (record {
-      history = had.history;
-      later = seen_further (view_of u).front (view_of p).front had.history before had.later;
-      seen = had.seen;
-      gap = had.gap;
-    }))
-    (λ met. inr (omega (arith, met.0, few), met.1)) short
-
 -- a file that didn't get an empty slot: the slot has another one, or was changed
 pub was_lost : (k : Start) (slot : ℕ) (p p' : LastingPass) (m₁ m₂ m₃ : Sat) {xs : List Action} {w : Work} {g : Glance} {c : Change} {n : ℕ}
     → p.seat.me.0.start ≡ k → Runs p.seat.me xs w g c n m₂ → part_of_pass (view_of p).number (view_of p').front ≡ part_of_pass (view_of p).number (view_of p).front

@@ -1,5 +1,5 @@
 -- The ends of a replacement by key by one pass: what the pass adds to its view.
-use Rattle.fx_lasting.proofs.Words.{◌≡◌, ◌≢◌, ℕ, ◌+◌, ◌<◌, ◌≤◌, List, [], sym, refl, ap, ◌∙◌, subst, arith, Option, Some, None, Ok, Err, get_elem?, some, inl, inr, ⊎_elim}
+use Rattle.fx_lasting.proofs.Words.{◌≡◌, ◌≢◌, ℕ, ◌+◌, ◌<◌, List, [], sym, refl, ap, ◌∙◌, subst, arith, Option, Some, None, Ok, Err, get_elem?, some, inl, inr, ⊎_elim}
 use Rattle.fx_lasting.proofs.Words.{Idle, HasActed, File, Look, Release, Put, Action, numbered, ◌▷◌, Start, Sat, Glance, Nothing, Outside, Runs, Placing, Placement, Closed}
 use Rattle.fx_lasting.proofs.Words.{Names, as_swapped, entry_in, count_in, pass_in, node_of_number, retiring_work, held_in, doing_in, hold_at, slots_of}
 use Rattle.fx_lasting.proofs.Words.{TableId, LastingPass, IsSeatOf, opening_of, view_of, pass_of, PassView, Hold, Adds, no_use, one_look, one_number, ReleasesFile, LetsFileGo}

@@ -1,6 +1,6 @@
 -- The words that a pass watches, after a step of its own or of another pass.
 use Rattle.fx_lasting.proofs.Words.{◌≡◌, ◌≢◌, ℕ, ◌<◌, ◌≤◌, ◌⊎◌, List, [], sym, refl, ◌∙◌, subst, arith, get_or, Event, IsSeenBy}
-use Rattle.fx_lasting.proofs.Words.{⊎_elim, inl, inr, true, heat_in, slot_place, question_place, slots_of, Start, Watch, HasActed}
+use Rattle.fx_lasting.proofs.Words.{⊎_elim, inl, inr, true, heat_in, slot_place, question_place, slots_of, Start, Watch}
 use Rattle.fx_lasting.proofs.Words.{ActsAt, IsAsSeen, WatchAgrees, HasQuestionOf, seen_further, MOST_SLOTS, without_slot, ◌▷◌, Bool, Action, AnotherDid}
 
 -- the pass of this number acted at the slot between two histories

@@ -1,5 +1,4 @@
--- The call that installs a file at a slot if it is empty, and the one that checks whether all are
--- full.
+-- The call that installs a file at a slot if it is empty, and the search for one.
 use Rattle.std.specs.Prelude.{◌≡◌, ℕ, ◌≤◌, ◌⊎◌, Bool, true, false, List, [], Option, Some, None}
 use Rattle.fx_base.specs.Identity.{Identity}
 use Rattle.fx_plain.specs.History.{◌▷◌, IsSeenBy}
@@ -91,13 +90,6 @@ LostSlot k p p' = (slot : ℕ) × IsInRange k slot
 abbrev pub GivesUp : Start → LastingPass → LastingPass → Type 0
 GivesUp k p p' = SawEmptying k p p' ⊎ LostSlot k p p'
 
--- every slot of the range had a file at a step of the call, or nothing was done
-abbrev pub AnswersFull : Start → LastingPass → Bool → LastingPass → Type 0
-AnswersFull k p true p' =
-    Adds (opening_of k) (view_of p) ([] ▷ Full) DoesNothing no_use (view_of p')
-AnswersFull k p false p' =
-    Adds (opening_of k) (view_of p) [] DoesNothing no_use (view_of p') × FellShort k p p'
-
 -- some steps after which the range wasn't seen to be full
 abbrev pub FallsShort : Start → Sat → Sat → Type 0
 FallsShort k m m' = HadGap k (pass_in m).front (pass_in m').front ⊎ MeetsOne m m'
@@ -125,6 +117,7 @@ LooksFor k most m None m' = Does m [] m.0.work most m'
 abbrev pub HasSearched : Start → LastingPass → FoundSlot → LastingPass → Type 0
 HasSearched k p (found.At slot) p' =
     IsInRange k slot × PutsNothing k (view_of p) slot false (view_of p')
-HasSearched k p found.Full p' = AnswersFull k p true p'
+HasSearched k p found.Full p' =
+    Adds (opening_of k) (view_of p) ([] ▷ Full) DoesNothing no_use (view_of p')
 HasSearched k p found.Again p' =
     Adds (opening_of k) (view_of p) [] DoesNothing no_use (view_of p') × SawEmptying k p p'

@@ -110,7 +110,7 @@ pub record HeldByKey (k : Start) (v : PassView) (key : Key) (hold : Hold)
   pub held : HoldsAtKey k v key file hold freed between
   pub releases : ReleasesFile (opening_of k) between file released w
 
--- the reason why a call by key changed nothing, from that of the call by node
+-- the reason why a call by key changed nothing, from that of its exchanges
 abbrev pub fault_for : Miss → KeyFault
 fault_for miss.Empty = Empty
 fault_for miss.Other = Other

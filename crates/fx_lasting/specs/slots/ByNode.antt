@@ -1,42 +1,29 @@
--- The calls that empty or replace a slot if its file is on a node that the caller names.
+-- The exchanges that empty or replace a slot while its word names the node of a held file.
 use Rattle.std.specs.Prelude.{◌≡◌, ◌≢◌, ℕ, ◌+◌, ◌<◌, List, [], Option, Some, None, Result}
 use Rattle.std.specs.Prelude.{Ok, Err, ◌⊎◌, ◌==◌, slice_set}
 use mathlib.Core.Option.{some, none}
 use prog.Atomic.{either}
 use Rattle.atomic_table.specs.Table.{step, Allows}
 use lib.ListN.{get_elem?}
-use Rattle.fx_base.specs.Identity.{Identity}
-use Rattle.fx_plain.specs.History.{◌▷◌, IsSeenBy}
-use Rattle.fx_plain.specs.declared.event.Action.TheVariants.{Put, Take}
+use Rattle.fx_plain.specs.History.{IsSeenBy}
 use Rattle.fx_plain.specs.declared.event.Event.{Event}
 use Rattle.fx_plain.specs.declared.event.File.{File}
-use Rattle.fx_plain.specs.Table.{numbered}
-use Rattle.fx_table.specs.Calls.{Adds, IsNewFile, no_use, one_number}
-use Rattle.fx_table.specs.Pass.{PassView, IsFileRemoval}
-use Rattle.fx_table.specs.declared.values.Doing.TheVariants.{Idle as DoesNothing}
-use Rattle.fx_table.specs.declared.values.Doing.TheVariants.{Retiring as Retires}
-use Rattle.fx_lasting.specs.slots.SlotAgrees.{Names}
 use Rattle.fx_lasting.specs.Ends.{Does}
-use Rattle.fx_lasting.specs.holds.HeldFiles.{IsOneOnItsNode}
 use Rattle.fx_lasting.specs.Fields.{empty_word_of, full_name_in, without_file}
 use Rattle.fx_lasting.specs.Agrees.{Agrees}
 use Rattle.fx_lasting.specs.Laws.{Kind}
 use Rattle.fx_lasting.specs.life.Layout.{slot_place}
-use Rattle.fx_lasting.specs.Passes.{Sat, nodes_of, node_of_number, state_after_all}
-use Rattle.fx_lasting.specs.Runs.{Runs}
-use Rattle.fx_lasting.specs.Tables.{opening_of, view_of, changes_at, meetings}
-use Rattle.fx_lasting.specs.nodes.Stocks.{IsInStock, IsStockOf}
-use Rattle.fx_lasting.specs.Effects.{At, Sees, as_stocked, as_swapped, pass_in, retiring_work}
+use Rattle.fx_lasting.specs.Passes.{Sat, node_of_number, state_after_all}
+use Rattle.fx_lasting.specs.Tables.{view_of, changes_at, meetings}
+use Rattle.fx_lasting.specs.nodes.Stocks.{IsInStock}
+use Rattle.fx_lasting.specs.Effects.{At, Sees, pass_in}
 use Rattle.fx_lasting.specs.Effects.{FindsChange, MeetsOne, slot_of}
 use Rattle.fx_lasting.specs.slots.Watches.{HasActed}
 use Rattle.fx_lasting.specs.declared.pass.LastingPass.{LastingPass}
 use Rattle.fx_lasting.specs.declared.answers.Miss.{Miss}
 use Rattle.fx_lasting.specs.declared.answers.Miss.TheVariants.{Empty, Other, Again}
-use Rattle.fx_lasting.specs.declared.answers.PutIf.{PutIf}
-use Rattle.fx_lasting.specs.declared.answers.PutIf.TheVariants as put
 use Rattle.fx_lasting.specs.declared.answers.TakenIf.{TakenIf}
 use Rattle.fx_lasting.specs.declared.answers.TakenIf.TheVariants.{Removed, Missed}
-use Rattle.table_range.specs.declared.views.Change.TheVariants.{Outside}
 use Rattle.fx_lasting.specs.declared.view.Start.{Start}
 
 -- the file is on the node
@@ -57,29 +44,6 @@ pub record WasSo (k : Start) (slot : ℕ) (is : Option File → Type 0)
   pub seen : IsSeenBy history after
   pub there : is ((state_after_all k history).at slot)
 
--- nothing was done, since the slot fitted the reason at a moment of the call
-pub record HasMissed (k : Start) (v : PassView) (slot node : ℕ) (miss : Miss)
-    (w : PassView) : Type 0 where
-  pub was : WasSo k slot (FitsMiss k node miss) v.front w.front
-  pub adds : Adds (opening_of k) v [] DoesNothing no_use w
-
--- the file of a slot was removed if it was on the node
-abbrev pub HasTakenIf : Start → PassView → ℕ → ℕ → TakenIf → PassView → Type 0
-HasTakenIf k v slot node (Removed x) w = (f : File) × (x.node ≡ node) × IsOn k node f
-    × IsFileRemoval (opening_of k) f x
-    × Adds (opening_of k) v ([] ▷ Take slot (Some f)) (Retires f x) no_use w
-    × IsOneOnItsNode k (Some f) w.front
-HasTakenIf k v slot node (Missed miss) w = HasMissed k v slot node miss w
-
--- the file of a slot was replaced if it was on the node, or the new file comes back
-abbrev pub HasPutIf : Start → PassView → ℕ → ℕ → Identity → PutIf → PassView → Type 0
-HasPutIf k v slot node file (put.Replaced x) w = (new : File) × (f : File) × (x.node ≡ node)
-    × IsOn k node f × IsNewFile (opening_of k) v file new × IsFileRemoval (opening_of k) f x
-    × Adds (opening_of k) v ([] ▷ Put slot new (Some f)) (Retires f x) one_number w
-    × IsOneOnItsNode k (Some f) w.front
-HasPutIf k v slot node file (put.Missed miss back) w =
-    (back ≡ file) × HasMissed k v slot node miss w
-
 -- during a call the pass met another one in the middle of a call
 abbrev pub HasMet : Start → LastingPass → LastingPass → Type 0
 HasMet k p p' = (meetings p < meetings p') × (1 < k.passes)
@@ -98,10 +62,6 @@ HasTriedIf k slot Other p p' = Unit {0}
 abbrev pub TriesTake : Start → ℕ → TakenIf → LastingPass → LastingPass → Type 0
 TriesTake k slot (Removed x) p p' = Unit {0}
 TriesTake k slot (Missed miss) p p' = HasTriedIf k slot miss p p'
-
-abbrev pub TriesPut : Start → ℕ → PutIf → LastingPass → LastingPass → Type 0
-TriesPut k slot (put.Replaced x) p p' = Unit {0}
-TriesPut k slot (put.Missed miss back) p p' = HasTriedIf k slot miss p p'
 
 -- a slot's word names the node, or says why the slot is left as it is
 abbrev pub SaysIf : ℕ → ℕ → Result ℕ Miss → Type 0
@@ -188,25 +148,3 @@ TriedEmptying leaves swaps k slot node before stock m (Ok word) m' =
     × TriedExchange swaps k slot node (Some (empty_word_of own)) m (Ok word) m')
 TriedEmptying leaves swaps k slot node before stock m (Err miss) m' =
     FailedIf k slot node miss m m' × Does m [] m.0.work 4 m' × (stock ≡ before) × (m'.1 ≡ m.1)
-
--- a pass that tried to empty a slot, whose word named the node, and has this stock now
-abbrev pub TriedOut : Start → (slot node : ℕ) → List ℕ → Sat → Result ℕ Miss → Sat → Type 0
-TriedOut k slot node stock m (Ok word) m' = (f : File) × (full_name_in word ≡ node + 1)
-    × Names (node_of_number k) word (Some f) × IsStockOf k (pass_in m).number stock
-    × Runs (as_stocked stock m) ([] ▷ Take slot (Some f)) (retiring_work k word (Some f))
-    m.0.glance Outside 4 m'
-    × IsOneOnItsNode k (Some f) (pass_in m').front
-TriedOut k slot node stock m (Err miss) m' = FailedIf k slot node miss m m'
-    × Does m [] m.0.work 4 m' × (stock ≡ (pass_in m).stock)
-
--- a pass that tried to put the file that it places at such a slot, on the node of the place
-abbrev pub TriedReplace : Start → ℕ → ℕ → ℕ → Identity → Sat → Result ℕ Miss → Sat → Type 0
-TriedReplace k slot node own file m (Ok word) m' = (full_name_in word ≡ node + 1) × (m'.1 ≡ [])
-    × (node < nodes_of k) × ((entry : ℕ) → get_elem? (pass_in m).stock entry ≡ some own
-    → (number : ℕ) × (f : File) × (node_of_number k number ≡ own)
-    × Names (node_of_number k) word (Some f)
-    × Runs (as_swapped entry node m) ([] ▷ Put slot (numbered number file) (Some f))
-    (retiring_work k word (Some f)) m.0.glance Outside 4 m'
-    × IsOneOnItsNode k (Some f) (pass_in m').front)
-TriedReplace k slot node own file m (Err miss) m' =
-    FailedIf k slot node miss m m' × Does m [] m.0.work 4 m' × (m'.1 ≡ m.1)

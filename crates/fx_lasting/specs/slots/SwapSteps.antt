@@ -16,7 +16,6 @@ use Rattle.fx_table.specs.declared.values.Retired.{Retired}
 use Rattle.fx_words.specs.Words.{name_in}
 use Rattle.fx_lasting.specs.slots.SlotAgrees.{Names}
 use Rattle.table_range.specs.Counts.{account}
-use Rattle.fx_lasting.specs.holds.HeldFiles.{IsOneOnItsNode}
 use Rattle.fx_lasting.specs.Fields.{empty_word_of}
 use Rattle.fx_lasting.specs.Passes.{Sat, HoldsAlone, is_guarding, node_of_number, range_at_start}
 use Rattle.fx_lasting.specs.Runs.{Runs}
@@ -38,21 +37,9 @@ pub record SwapsOut (action : ℕ → Option File → Action)
       (account (range_at_start m.0.start) (slot_of st.word) file) m'
   pub carried : m'.1 ≡ m.1
 
--- Swap, if the slot's word is the one that the pass saw, to the word of an empty slot that names a
--- node of the stock, by a take; or nothing changed
-pub record SwapsIf (st : At) (m : Sat) (found : ℕ) (m' : Sat) : Type 0 where
-  pub wins : (n entry : ℕ) → get_elem? (pass_in m).stock entry ≡ some n
-      → st.second ≡ empty_word_of n → found ≡ st.first
-      → (file : Option File) × Names (node_of_number m.0.start) found file
-      × NamesANode m.0.start found
-      × Stepped (as_swapped entry (name_in found - 1) m) ([] ▷ Take (slot_of st.word) file)
-      (retiring_work m.0.start found file) m.0.glance
-      (account (range_at_start m.0.start) (slot_of st.word) file) m' × (m'.1 ≡ m.1)
-      × IsOneOnItsNode m.0.start file (pass_in m').front
-  pub loses : found ≢ st.first → Sees st m found m'
-
--- Swap, as by `SwapsIf`, by a pass that holds the slot's file: the hold ends with the step, and the
--- removal doesn't count the pass's own take; or nothing changed
+-- Swap, as by `SwapsOut` for a close, if the slot's word is the one that the pass saw, by a pass that
+-- holds the slot's file: the hold ends with the step, and the removal doesn't count the pass's own
+-- take; or nothing changed
 pub record SwapsHeld (st : At) (m : Sat) (found : ℕ) (m' : Sat) : Type 0 where
   pub wins : (f : File) (node n entry : ℕ) → HoldsAlone m.0.work f node
       → get_elem? (pass_in m).stock entry ≡ some n → st.second ≡ empty_word_of n → found ≡ st.first
@@ -64,8 +51,9 @@ pub record SwapsHeld (st : At) (m : Sat) (found : ℕ) (m' : Sat) : Type 0 where
       (account (range_at_start m.0.start) (slot_of st.word) (Some f)) m' × (m'.1 ≡ m.1)
   pub loses : found ≢ st.first → Sees st m found m'
 
--- Take, as by `TakesIf`, by a pass that holds the slot's file: the hold ends with the step, and the
--- removal doesn't count the pass's own take; or nothing changed
+-- And, as by `Removes` for a close, if the slot's word is the one that the pass saw, by a pass that
+-- holds the slot's file: the hold ends with the step, and the removal doesn't count the pass's own
+-- take; or nothing changed
 pub record TakesHeld (st : At) (m : Sat) (found : ℕ) (m' : Sat) : Type 0 where
   pub wins : (f : File) (node : ℕ) → HoldsAlone m.0.work f node → found ≡ st.first
       → HasItsHold (is_guarding m.0.work) found × Names (node_of_number m.0.start) found (Some f)

@@ -1,12 +1,11 @@
-//! The calls for a caller that looks for an empty slot by itself. `put_empty` installs a file at a
-//! slot of the allocation range if it is empty, and `is_range_full` checks whether none is.
+//! The call for a caller that looks for an empty slot by itself: `put_empty` installs a file at a
+//! slot of the allocation range if it is empty.
 ghost use Rattle.std.specs.Prelude.{◌≡◌, ℕ, ◌+◌, ◌<◌, ◌≤◌, true, false};
 ghost use Rattle.fx_table.specs.Pass.{IsIdle};
 ghost use Rattle.fx_lasting.specs.AtWork.{IsAtWork};
 ghost use Rattle.fx_lasting.specs.Laws.{IsInRange};
-ghost use Rattle.table_range.specs.Groups.{groups_in};
 ghost use Rattle.fx_lasting.specs.Tables.{view_of, steps_taken, IsPassOfTable};
-ghost use Rattle.fx_lasting.specs.slots.AtEmpty.{HasPutEmpty, SeesFile, AnswersFull};
+ghost use Rattle.fx_lasting.specs.slots.AtEmpty.{HasPutEmpty, SeesFile};
 
 use crate::answers::PutEmpty;
 use crate::fields::file_node_of;
@@ -58,26 +57,6 @@ impl LastingTable {
             return PutEmpty::Installed;
         }
         PutEmpty::Lost(self.take_out(&mut pass.seat, node))
-    }
-
-    /// Checks whether every slot of the allocation range has a file, for an idle pass (`is_idle`)
-    /// that installs files (`numbers_left`), in at most four atomic steps more than the range has
-    /// groups. `true`: at one step of the call every slot had one (ENFILE). `false`: at a moment of
-    /// the call a slot was empty, or another pass was in the middle of a call that changes the
-    /// range. In a table with one pass a slot was empty. Nothing changes.
-    pub fn is_range_full(&self, pass: &mut LastingPass) -> bool
-        requires fits { IsPassOfTable self.now pass.old }
-        requires idle { IsIdle (view_of pass.old) }
-        requires numbers { 0 < (view_of pass.old).numbers_left }
-        ensures fits { IsPassOfTable self.now pass.new }
-        ensures told { AnswersFull self.now.table.shared.key pass.old result pass.new }
-        ensures steps { let groups = groups_in self.now.range_len in
-            steps_taken pass.new ≤ steps_taken pass.old + (groups + 4) }
-    {
-        if self.is_still_full(pass) {
-            return true;
-        }
-        self.is_all_full(pass)
     }
 
     // Reads whether the slot has a file, in one step.

@@ -1,19 +1,15 @@
-//! The look-up by key, which compares the number of the file that it holds, and the installation
-//! that returns a key.
+//! The look-up by key, which compares the number of the file that it holds.
 ghost use Rattle.std.specs.Prelude.{◌≡◌, ◌+◌, ◌<◌, ◌≤◌};
-ghost use Rattle.fx_table.specs.Calls.{Placed};
-ghost use Rattle.fx_table.specs.Opening.{size_of};
 ghost use Rattle.fx_table.specs.Pass.{IsIdle};
-ghost use Rattle.fx_lasting.specs.slots.ByKey.{LookedByKey, fault_for, key_at};
-ghost use Rattle.fx_lasting.specs.Tables.{view_of, MeetsMore, steps_taken, opening_of_table, IsPassOfTable};
+ghost use Rattle.fx_lasting.specs.slots.ByKey.{LookedByKey, fault_for};
+ghost use Rattle.fx_lasting.specs.Tables.{view_of, MeetsMore, steps_taken, IsPassOfTable};
 
 use crate::answers::Miss;
 use crate::key::Key;
 use crate::key_answers::{KeyFault, KeyLook};
 use crate::pass::LastingPass;
 use crate::table::LastingTable;
-use fx_base::OpenFile;
-use fx_table::{LookUp, Retired};
+use fx_table::LookUp;
 
 impl LastingTable {
     /// Looks up the file of a key, for an idle pass (`is_idle`), in at most thirteen atomic steps
@@ -62,33 +58,9 @@ impl LastingTable {
             released,
         }
     }
-
-    /// Installs a file as [`LastingTable::put`] does, in as many steps. Returns the key of the
-    /// file, and the file that it replaced, to be retired.
-    #[inline(always)]
-    pub fn put_key(
-        &self,
-        pass: &mut LastingPass,
-        slot: u32,
-        file: OpenFile,
-    ) -> (Key, Option<Retired>)
-        requires fits { IsPassOfTable self.now pass.old }
-        requires idle { IsIdle (view_of pass.old) }
-        requires slot { slot < size_of (opening_of_table self.now) }
-        requires numbers { 0 < (view_of pass.old).numbers_left }
-        ensures fits { IsPassOfTable self.now pass.new }
-        ensures placed { Placed (opening_of_table self.now) (view_of pass.old) slot file result.1
-            (view_of pass.new) }
-        ensures key { result.0 ≡ key_at slot file.mark }
-        ensures steps { let passes = self.now.passes in
-            steps_taken pass.new ≤ steps_taken pass.old + (passes + 5) }
-    {
-        let key = Key::new(slot, file.mark());
-        (key, self.put(pass, slot, file))
-    }
 }
 
-// Returns the reason of a call by key for that of a call by node.
+// Returns the reason of a call by key for that of its exchanges.
 pub(crate) fn fault_of(miss: Miss) -> KeyFault
     ensures { result ≡ fault_for miss }
 {

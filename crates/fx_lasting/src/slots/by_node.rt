@@ -1,29 +1,24 @@
-//! The calls that change a slot only if its file is on a node that the caller names. A file that is
-//! held keeps its node (`held_nodes_name_files`): so a caller that holds the file of that node by
-//! another pass removes that file, and never one that took its place.
+//! The steps that change a slot only while its word names the node of the file that the pass holds.
+//! A file that is held keeps its node (`held_nodes_name_files`): so they change the slot of that
+//! file, and never that of one that took its place.
 //!
-//! A call loads the slot's word. If the word names the node, the call exchanges it for another one.
-//! A look-up in between changes the word: the call tries again with the word that it found, four
-//! times in all. It returns `Again` only if the slot's word changed during the call.
+//! The pass loads the slot's word. If the word names the node, the pass exchanges it for another
+//! one. A look-up in between changes the word: the pass tries again with the word that it found,
+//! four times in all. It returns `Again` only if the slot's word changed meanwhile.
 //! While a file stays at its slot, look-ups change the word at most 16 times, and twice for each
 //! pass (`words_are_bounded`).
 ghost use Rattle.std.specs.Prelude.{◌≡◌, ℕ, ◌+◌, ◌<◌, ◌≤◌};
-ghost use Rattle.fx_table.specs.Opening.{size_of};
-ghost use Rattle.fx_table.specs.Pass.{IsIdle};
 ghost use Rattle.fx_words.specs.Words.{entry_in};
 ghost use Rattle.fx_lasting.specs.AtWork.{IsAtWork};
-ghost use Rattle.fx_lasting.specs.slots.ByNode.{HasPutIf, HasTakenIf, SawIf, SaysIf};
-ghost use Rattle.fx_lasting.specs.slots.ByNode.{TriesPut, TriesTake};
+ghost use Rattle.fx_lasting.specs.slots.ByNode.{SawIf, SaysIf};
 ghost use Rattle.fx_lasting.specs.slots.ByNode.{MayEmpty, MayExchange, TriedEmptying, SeesIfLost, TriedExchange, word_put};
 ghost use Rattle.fx_lasting.specs.Fields.{count_in, full_name_in};
 ghost use Rattle.fx_lasting.specs.Effects.{pass_in};
-ghost use Rattle.fx_lasting.specs.Tables.{view_of, steps_taken, opening_of_table, IsPassOfTable};
 
-use crate::answers::{Miss, PutIf, TakenIf};
-use crate::fields::{count_of, empty_word, file_node_of, file_word, without_file};
-use crate::kinds::{Replacing, Seeing, SwappingIf, TakingIf};
+use crate::answers::Miss;
+use crate::fields::{count_of, empty_word, file_node_of, without_file};
+use crate::kinds::Seeing;
 use crate::life::layout::slot_place;
-use crate::pass::LastingPass;
 use crate::table::LastingTable;
 use crate::view::View;
 use atomic_table::{Play, Seat};
@@ -32,84 +27,6 @@ use fx_table::Retired;
 use fx_words::entry_of;
 
 impl LastingTable {
-    /// Empties a slot below `size` for a close, if its file is on this node, for an idle pass
-    /// (`is_idle`), in at most ten atomic steps (io_uring_prep_close(3),
-    /// `io_uring_prep_close_direct`). The file that was there is to be retired. Otherwise nothing
-    /// changes.
-    pub fn take_if(&self, pass: &mut LastingPass, slot: u32, node: u32) -> TakenIf
-        requires fits { IsPassOfTable self.now pass.old }
-        requires idle { IsIdle (view_of pass.old) }
-        requires slot { slot < size_of (opening_of_table self.now) }
-        ensures fits { IsPassOfTable self.now pass.new }
-        ensures taken { HasTakenIf self.now.table.shared.key (view_of pass.old) slot node result
-            (view_of pass.new) }
-        ensures tries { TriesTake self.now.table.shared.key slot result pass.old pass.new }
-        ensures steps { steps_taken pass.new ≤ steps_taken pass.old + 10 }
-    {
-        self.settle(pass);
-        let word = match self.see(&mut pass.seat, slot, node) {
-            Ok(word) => word,
-            Err(miss) => return TakenIf::Missed(miss),
-        };
-        let inside = self.is_in_range(slot);
-        self.lower(&mut pass.seat, slot, inside);
-        let entry = pass.next_entry;
-        let seat = &mut pass.seat;
-        let stock = &mut pass.stock;
-        match self.try_out::<TakingIf, SwappingIf>(seat, stock, entry, slot, node, word) {
-            Ok(found) => {
-                pass.next_visit = self.first_visit(found);
-                pass.idle = false;
-                pass.emptied.keep(slot, inside, false);
-                TakenIf::Removed(removed_by(found, node))
-            }
-            Err(miss) => {
-                self.raise(&mut pass.seat, slot, inside, true);
-                TakenIf::Missed(miss)
-            }
-        }
-    }
-
-    /// Installs a file at a slot below `size`, in place of a file that is on this node, under a
-    /// number that no file has had, for an idle pass (`is_idle`) that installs files
-    /// (`numbers_left`). It makes at most nine atomic steps more than the table has passes
-    /// (io_uring_prep_openat(3), `io_uring_prep_openat_direct`). The file that was there is to be
-    /// retired. Otherwise nothing changes, and the new file comes back.
-    pub fn put_if(&self, pass: &mut LastingPass, slot: u32, node: u32, file: OpenFile) -> PutIf
-        requires fits { IsPassOfTable self.now pass.old }
-        requires idle { IsIdle (view_of pass.old) }
-        requires slot { slot < size_of (opening_of_table self.now) }
-        requires numbers { 0 < (view_of pass.old).numbers_left }
-        ensures fits { IsPassOfTable self.now pass.new }
-        ensures placed { HasPutIf self.now.table.shared.key (view_of pass.old) slot node file result
-            (view_of pass.new) }
-        ensures tries { TriesPut self.now.table.shared.key slot result pass.old pass.new }
-        ensures steps { let passes = self.now.passes in
-            steps_taken pass.new ≤ steps_taken pass.old + (passes + 9) }
-    {
-        let word = match self.see(&mut pass.seat, slot, node) {
-            Ok(word) => word,
-            Err(miss) => return PutIf::Missed(miss, file),
-        };
-        let stock = pass.stock.as_slice();
-        let start = pass.next_entry;
-        let identity = file.identity();
-        let seat = &mut pass.seat;
-        let (entry, own, lost) = self.place(seat, pass.number, stock, start, pass.keeps, file);
-        pass.next_entry = entry;
-        pass.keeps = false;
-        let new = Some(file_word(own, identity.entry) + lost);
-        match self.try_exchange::<Replacing>(&mut pass.seat, slot, node, word, new) {
-            Ok(found) => {
-                pass.stock[entry as usize] = node;
-                pass.next_visit = self.first_visit(found);
-                pass.idle = false;
-                PutIf::Replaced(removed_by(found, node))
-            }
-            Err(miss) => PutIf::Missed(miss, self.take_out(&mut pass.seat, own)),
-        }
-    }
-
     // Reads which file is at the slot, in one step. Returns the slot's word if that file is on the
     // node.
     #[inline(always)]

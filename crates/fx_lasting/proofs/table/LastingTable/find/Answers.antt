@@ -1,9 +1,8 @@
-use Rattle.fx_lasting.proofs.Words.{refl, arith, [], ◌∙◌, true, false, HasAsked, opening_of, view_of, adds_then, no_use, DoesNothing, LastingPass, MeetsMore}
+use Rattle.fx_lasting.proofs.Words.{refl, [], ◌∙◌, ◌▷◌, Full, true, false, HasAsked, opening_of, view_of, adds_then, no_use, DoesNothing, LastingPass, MeetsMore}
 use Rattle.fx_lasting.proofs.Words.{ℕ, ◌+◌, LastingTable, IsIdle, Adds, groups_in}
 use Rattle.fx_lasting.proofs.range_lemmas.Scanning.{follows, saw_emptying}
 use Rattle.fx_lasting.specs.Ends.{Does}
 use Rattle.fx_lasting.proofs.slot_lemmas.ByNode.{adds_none, was_before}
-use Rattle.fx_lasting.proofs.slot_lemmas.EmptySlots.{tells_so}
 use Rattle.fx_lasting.proofs.Passing.{at_rest, meets_then, still_pass}
 use Rattle.fx_lasting.proofs.range_lemmas.Questions.{asked_so}
 use Rattle.fx_lasting.proofs.table.LastingTable.find.Goals as goal
@@ -47,8 +46,10 @@ returns-then-is_all_full-clause-found c =
     let h : HasAsked c.args.self.now 1 c.args.pass.now false c.is_still_full.new.pass = rw c.if-is_still_full.false at c.is_still_full.ensures in
     let looks = c.in_default.ensures.looks in
     let p : LastingPass = record c.is_still_full.new.pass { seat = c.look_for.new.seat; emptied = c.take_last-from.new.self } in
-    tells_so c.args.self.now c.args.pass.now p c.is_all_full.new.pass true (looks_on c.args.self.now p h c.requires.idle looks) (omega (arith, h.met.0, looks.met))
-    (rw c.if-is_all_full.true at c.is_all_full.ensures.asked) (λ bad. absurd (cc bad))
+    let before = looks_on c.args.self.now p h c.requires.idle looks in
+    let asked : HasAsked c.args.self.now (groups_in c.args.self.now.range_len + 3) p true c.is_all_full.new.pass = rw c.if-is_all_full.true at c.is_all_full.ensures.asked in
+    adds_then (opening_of c.args.self.now.table.shared.key) (view_of c.args.pass.now) (view_of p) (view_of c.is_all_full.new.pass) [] ([] ▷ Full) DoesNothing
+    DoesNothing no_use no_use before (asked_so asked before.now)
 
 pub returns-else-is_all_full-clause-found : goal.returns-else-is_all_full-clause-found
 returns-else-is_all_full-clause-found c =

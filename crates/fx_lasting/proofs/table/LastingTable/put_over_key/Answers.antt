@@ -1,4 +1,4 @@
-use Rattle.fx_lasting.proofs.Words.{◌≤◌, [], ◌▷◌, refl, ◌∙◌, subst, arith, inl, Start, Doing, DoesNothing, Adds, no_use, one_look, opening_of, view_of, pass_of, Look, None, adds_then}
+use Rattle.fx_lasting.proofs.Words.{[], ◌▷◌, refl, ◌∙◌, subst, arith, inl, Start, Doing, DoesNothing, Adds, no_use, one_look, opening_of, view_of, pass_of, Look, None, adds_then}
 use Rattle.fx_lasting.proofs.Words.{◌<◌, Closed, Glance, LastingPass, Option, Runs, Sat, TableId, MeetsMore, sym}
 use Rattle.fx_lasting.proofs.Calling.{slot_low}
 use Rattle.fx_lasting.proofs.Passing.{adds_so, at_ease, still_pass}
