@@ -37,9 +37,9 @@ pub record SwapsOut (action : ℕ → Option File → Action)
       (account (range_at_start m.0.start) (slot_of st.word) file) m'
   pub carried : m'.1 ≡ m.1
 
--- Swap, as by `SwapsOut` for a close, if the slot's word is the one that the pass saw, by a pass that
--- holds the slot's file: the hold ends with the step, and the removal doesn't count the pass's own
--- take; or nothing changed
+-- Swap, as by `SwapsOut` for a close, by a pass that holds the slot's file, if the slot's word is
+-- the one that the pass saw: the hold ends with the step, and the removal doesn't count the pass's
+-- own take; or nothing changed
 pub record SwapsHeld (st : At) (m : Sat) (found : ℕ) (m' : Sat) : Type 0 where
   pub wins : (f : File) (node n entry : ℕ) → HoldsAlone m.0.work f node
       → get_elem? (pass_in m).stock entry ≡ some n → st.second ≡ empty_word_of n → found ≡ st.first
@@ -51,8 +51,8 @@ pub record SwapsHeld (st : At) (m : Sat) (found : ℕ) (m' : Sat) : Type 0 where
       (account (range_at_start m.0.start) (slot_of st.word) (Some f)) m' × (m'.1 ≡ m.1)
   pub loses : found ≢ st.first → Sees st m found m'
 
--- And, as by `Removes` for a close, if the slot's word is the one that the pass saw, by a pass that
--- holds the slot's file: the hold ends with the step, and the removal doesn't count the pass's own
+-- And, as by `Removes` for a close, by a pass that holds the slot's file, if the slot's word is the
+-- one that the pass saw: the hold ends with the step, and the removal doesn't count the pass's own
 -- take; or nothing changed
 pub record TakesHeld (st : At) (m : Sat) (found : ℕ) (m' : Sat) : Type 0 where
   pub wins : (f : File) (node : ℕ) → HoldsAlone m.0.work f node → found ≡ st.first
