@@ -1,19 +1,17 @@
 -- A call by key of the table is one of the worker.
-use Rattle.std.proofs.Common.{◌≡◌, ℕ, Option, Result, Ok, Err, sym, subst}
+use Rattle.std.proofs.Common.{◌≡◌, ℕ, Option, Result, Ok, sym, subst}
 use Rattle.fx_base.specs.Identity.{Identity}
 use Rattle.fx_table.specs.Pass.{PassView}
 use Rattle.fx_table.specs.declared.values.Hold.{Hold}
 use Rattle.fx_lasting.specs.slots.ByKey.{LookedByKey}
 use Rattle.fx_lasting.specs.declared.key.Key.{Key}
-use Rattle.fx_lasting.specs.declared.key_answers.KeyFault.{KeyFault}
-use Rattle.fx_lasting.specs.declared.key_answers.KeyFault.TheVariants.{NoSlot}
-use Rattle.fx_server.specs.ByKey.{FindsByKey, KeepsAlone, LeavesAlone, RemovesByKey, ReplacesByKey, key_refusal}
+use Rattle.fx_server.specs.ByKey.{FindsByKey, ReplacesByKey}
 use Rattle.fx_server.specs.Workers.{Notes, its_pass, its_start, tag_in}
 use Rattle.fx_server.specs.declared.answers.FoundFile.{FoundFile}
 use Rattle.fx_server.specs.declared.answers.Removal.{Removal}
 use Rattle.fx_server.specs.declared.answers.ServerRefusal.{ServerRefusal}
 use Rattle.fx_server.specs.declared.file_numbers.FileNumbers.{FileNumbers}
-use Rattle.fx_server.specs.declared.worker.TableWorker.{TableWorker}
+use Rattle.fx_server.specs.Worker.{TableWorker}
 
 pub finds : (w w' : TableWorker) (key : Key) (hold : Hold) (out back : Option Identity) (result : Result FoundFile ServerRefusal) (freed released : Option ℕ)
     (v : PassView) → its_pass w' ≡ v → Notes v (Ok hold) result w'.held → freed ≡ tag_in out → released ≡ tag_in back
@@ -27,19 +25,6 @@ finds w w' key hold out back result freed released v same notes its_freed its_re
       record { out = out; back = back; tags = record { its_freed = its_freed; its_released = its_released }; looked = l },
       n.3,
     )
-
-module _ (w w' : TableWorker) (key : Key) (freed released : Option ℕ) where
-  -- a slot that the pass alone left as it was
-  pub leaves_alone : (why : KeyFault) (refusal : ServerRefusal) → refusal ≡ key_refusal why → LeavesAlone w key why freed released w'
-      → RemovesByKey w key (Err refusal) freed released w'
-  leaves_alone NoSlot refusal is leaves = rw is leaves
-  leaves_alone _ refusal is leaves = rw is leaves
-
-  -- a slot that the pass alone left as it was
-  pub keeps_alone : (tag number : ℕ) (why : KeyFault) (refusal : ServerRefusal) → refusal ≡ key_refusal why → KeepsAlone w key tag number why freed released w'
-      → ReplacesByKey w key tag number (Err refusal) freed released w'
-  keeps_alone tag number NoSlot refusal is keeps = rw is keeps
-  keeps_alone tag number _ refusal is keeps = rw is keeps
 
 -- a worker that drew a number after its replacement
 pub replaced_drawn : (w w' : TableWorker) (key : Key) (freed released : Option ℕ) (tag number drawn : ℕ) (removal : Removal) (numbers : FileNumbers) → drawn ≡ number

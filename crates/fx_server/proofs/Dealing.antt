@@ -3,22 +3,19 @@ use Rattle.std.proofs.Common.{◌≡◌, ℕ, ◌+◌, arith, length-append, Lis
 use Rattle.std.proofs.lemmas.List.{map-append, append_assoc, reverse-append, length-map}
 use Rattle.std.proofs.lemmas.List.FromFn.{map-range_with_len_more}
 use Rattle.std.proofs.lemmas.List.Elements.{All-cons, All-head, All-nil, All-push, All-same, All-tail, All-weaker}
-use Rattle.std.specs.Arc.{arc_value}
 use Rattle.std.specs.Global.{Box}
 use Rattle.fx_plain.specs.Contents.{Contents, state_of}
 use Rattle.fx_plain.specs.State.{vacant}
 use Rattle.fx_table.specs.Opening.{lasting_opening}
-use Rattle.fx_table.specs.Pass.{IsIdle}
-use Rattle.fx_lasting.specs.Tables.{IsPassOfTable, first_passes, opening_of_table, view_of}
+use Rattle.fx_lasting.specs.Tables.{first_passes, opening_of_table, view_of}
 use Rattle.fx_lasting.specs.declared.pass.LastingPass.{LastingPass}
 use Rattle.fx_lasting.specs.declared.table.LastingTable.{LastingTable}
 use Rattle.std.specs.List.{range_with_len}
 use Rattle.fx_server.specs.FileNumbers.{numbers_of_all}
 use Rattle.fx_server.specs.Opened.{AreDealt, AreOpened, workers_in}
-use Rattle.fx_server.specs.Workers.{DoesAsHeld, IsGood, its_pass, its_table}
+use Rattle.fx_server.specs.Workers.{its_pass, its_table}
 use Rattle.fx_server.specs.declared.shared.Shared.{Shared}
-use Rattle.fx_server.specs.declared.worker.Held.{Held}
-use Rattle.fx_server.specs.declared.worker.TableWorker.{TableWorker}
+use Rattle.fx_server.specs.Worker.{TableWorker}
 
 workers_push : (xs : List (Box TableWorker)) (b : Box TableWorker) → workers_in (xs ++ b ∷ []) ≡ workers_in xs ++ b.value ∷ []
 workers_push xs b = map-append (λ (it : Box TableWorker). it.value) xs (b ∷ [])
@@ -70,7 +67,7 @@ opened_of shared contents passes list slots workers installing d opening empty c
         contents = contents;
         opening = opening;
         empty = empty;
-        shares = All-weaker (λ (w : TableWorker). arc_value w.shared ≡ shared) (λ (w : TableWorker). its_table w ≡ shared.table) (λ w same. ap (λ (it : Shared). it.table) same) list d.shares;
+        shares = All-weaker (λ (w : TableWorker). w.shared ≡ shared) (λ (w : TableWorker). its_table w ≡ shared.table) (λ w same. ap (λ (it : Shared). it.table) same) list d.shares;
         idle = d.idle;
         passes = views list ∙ ap (map view_of) d.order ∙ new;
         numbers = d.numbers ∙ ap (numbers_of_all installing) of_list;
@@ -82,17 +79,3 @@ opened_of shared contents passes list slots workers installing d opening empty c
 pub unmapped : {A B : Type 0} (P : B → Type 0) (its : A → B) (list : List A) → All P (map its list) → All (λ (a : A). P (its a)) list
 unmapped P its [] all = All-nil (λ a. P (its a))
 unmapped P its (a ∷ list) all = All-cons (λ b. P (its b)) a list (All-head P (its a) (map its list) all) (unmapped P its list (All-tail P (its a) (map its list) all))
-
-abbrev IsReady : LastingTable → LastingPass → Type 0
-IsReady t p = IsPassOfTable t p × IsIdle (view_of p)
-
-pub good_of : (shared : Shared) (passes : List LastingPass) (installing : ℕ) (list : List TableWorker) → AreDealt shared passes installing list
-    → All (λ p. IsPassOfTable shared.table p × IsIdle (view_of p)) passes → All IsGood list
-good_of shared passes installing list d ready k other low =
-    let t = shared.table in
-    let of : All (λ (w : TableWorker). IsReady t w.pass) list = unmapped (IsReady t) (λ (w : TableWorker). w.pass) list (All-same (IsReady t) (passes_of list) passes d.order ready) in
-    let w : TableWorker = slice_index_or list k other in
-    record {
-      fits = subst (λ (it : Shared). IsPassOfTable it.table w.pass) (sym (d.shares k other low)) (of k other low).0;
-      does = subst (λ (it : Option Held). DoesAsHeld (view_of w.pass) it) (sym (d.idle k other low)) (of k other low).1;
-    }

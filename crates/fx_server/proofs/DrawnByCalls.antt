@@ -30,7 +30,7 @@ use Rattle.fx_server.specs.Workers.{RetiresAs, its_pass}
 use Rattle.fx_server.specs.declared.answers.Removal.{Removal}
 use Rattle.fx_server.specs.declared.answers.Removal.TheVariants.{Closed, InUse, Nothing}
 use Rattle.fx_server.specs.declared.file_numbers.FileNumbers.{FileNumbers}
-use Rattle.fx_server.specs.declared.worker.TableWorker.{TableWorker}
+use Rattle.fx_server.specs.Worker.{TableWorker}
 use Rattle.fx_server.proofs.FilesNumbers.{one_draw}
 
 -- the events of a pass go on

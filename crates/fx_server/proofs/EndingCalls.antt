@@ -18,7 +18,7 @@ use Rattle.fx_server.specs.EndsOfKeys.{DoneRemovalsEndKeys, DoneReplacementsEndK
 use Rattle.fx_server.specs.Workers.{RetiresAs, its_opening, its_pass, its_start}
 use Rattle.fx_server.specs.declared.answers.Removal.{Removal}
 use Rattle.fx_server.specs.declared.answers.Removal.TheVariants.{Closed, InUse, Nothing}
-use Rattle.fx_server.specs.declared.worker.TableWorker.{TableWorker}
+use Rattle.fx_server.specs.Worker.{TableWorker}
 
 -- what a retirement adds to the pass's events
 record Adds (v v' : PassView) : Type 0 where

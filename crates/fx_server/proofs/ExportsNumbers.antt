@@ -1,5 +1,5 @@
 -- Each export keeps the numbers of its worker's files.
-use Rattle.std.proofs.Common.{◌≡◌, inl, inr, ℕ, Option, Some, None, Result, Ok, Err, refl, ap, ◌∙◌}
+use Rattle.std.proofs.Common.{ℤ, ◌≡◌, inl, inr, ℕ, Option, Some, None, Result, Ok, Err, refl, ap, ◌∙◌}
 use Rattle.fx_base.specs.Identity.{Identity}
 use Rattle.fx_plain.specs.declared.event.Action.TheVariants.{Allocate, Put}
 use Rattle.fx_plain.specs.declared.event.File.{File}
@@ -12,23 +12,24 @@ use Rattle.fx_table.specs.declared.values.Retired.{Retired}
 use Rattle.fx_lasting.specs.Tables.{opening_of, view_of}
 use Rattle.fx_lasting.specs.declared.key.Key.{Key}
 use Rattle.fx_lasting.specs.declared.key_answers.KeyFault.{KeyFault}
-use Rattle.fx_lasting.specs.declared.key_answers.KeyFault.TheVariants as fault
 use Rattle.fx_lasting.specs.slots.Alone.{TakesAlone}
 use Rattle.fx_lasting.specs.declared.pass.LastingPass.{LastingPass}
 use Rattle.fx_lasting.specs.declared.view.Start.{Start}
-use Rattle.fx_server.specs.ByKey.{FindsByKey, KeepsAlone, LeavesAlone, LooksKey, RemovesByKey, RemovesByOne, ReplacesByKey, ReplacesByKeyNext}
-use Rattle.fx_server.specs.FilesNumbers.{ExportsKeepNumbers, KeepsItsNumbers, number_of_file}
+use Rattle.fx_server.specs.Answers.{ReleasesAs}
+use Rattle.fx_server.specs.ByKey.{FindsByKey, IsRefused, LooksKey, RemovesByKey, RemovesByOne, ReplacesByKey, ReplacesByKeyNext}
+use Rattle.fx_server.specs.FileNumbers.{after_keep, without_kept}
+use Rattle.fx_server.specs.FilesNumbers.{KeepsItsNumbers}
 use Rattle.fx_server.specs.Installing.{UsesNumber, FindsNext, PutsAnyNext, PutsEmptyKept, PutsNext, having_spent}
-use Rattle.fx_server.specs.Workers.{Finds, FindsSlot, PutsAny, PutsEmpty, Puts, ReleasesHeld, RemovesFrom, RetiresAny, hold_in, its_opening, its_pass, its_start}
+use Rattle.fx_server.specs.Workers.{Finds, FindsSlot, PutsAny, PutsEmpty, Puts, RemovesFrom, RetiresAny, hold_in, its_opening, its_pass, its_start}
 use Rattle.fx_server.specs.declared.answers.FoundFile.{FoundFile}
 use Rattle.fx_server.specs.declared.answers.Placed.{Placed}
 use Rattle.fx_server.specs.declared.answers.PlacedAt.{PlacedAt}
 use Rattle.fx_server.specs.declared.answers.Removal.{Removal}
 use Rattle.fx_server.specs.declared.answers.ServerRefusal.{ServerRefusal}
-use Rattle.fx_server.specs.declared.answers.ServerRefusal.TheVariants.{Again, Busy, Empty, Full as NoFree, Idle, NoSlot, Stale}
-use Rattle.fx_server.specs.declared.worker.TableWorker.{TableWorker}
+use Rattle.fx_server.specs.declared.answers.ServerRefusal.TheVariants.{Again, Busy, Empty, Full as NoFree, Stale}
+use Rattle.fx_server.specs.Worker.{TableWorker}
 use Rattle.fx_server.specs.Files.{file_with}
-use Rattle.fx_server.specs.KeysFindFiles.{IsExportCall, get_at, get, release, insert, replace_at, replace, remove_at, remove, find, put_empty}
+use Rattle.fx_server.specs.KeysFindFiles.{ExportsKeepNumbers, IsExportCall, get_at, get, release, insert, replace_at, replace, remove_at, remove, find, put_empty}
 use Rattle.fx_server.proofs.DrawnByCalls.{AddsNone, AddsOne, Grows, added_after, added_none, added_one, none_then, both_none, held_none, installs, installs_kept, keeps, key_none, looked_none, number_of_new, one_then, released_none, retired_none, same_none, spends, stays}
 
 same : (w w' : TableWorker) → w' ≡ w → AddsNone (its_pass w) (its_pass w')
@@ -44,13 +45,14 @@ by_key_none w w' key found freed released it = key_none (its_start w) (its_pass 
 
 finds_key_none : (w w' : TableWorker) (key : Key) (found : Result FoundFile ServerRefusal) (freed released : Option ℕ) → FindsByKey w key found freed released w' → AddsNone (its_pass w) (its_pass w')
 finds_key_none w w' key (Ok found) freed released it = by_key_none w w' key (Ok (hold_in it.0)) freed released it.2
-finds_key_none w w' key (Err NoSlot) freed released it = by_key_none w w' key (Err fault.NoSlot) freed released it.1
-finds_key_none w w' key (Err _) freed released it = search (by_key_none, same)
+finds_key_none w w' key (Err reason) freed released (inl none) = by_key_none w w' key (Err none.why) freed released none.looks
+finds_key_none w w' key (Err reason) freed released (inr busy) = same w w' busy.3.1
 
-release_none : (w w' : TableWorker) (result : Result (Option ℕ) ServerRefusal) → ReleasesHeld w result w' → AddsNone (its_pass w) (its_pass w')
-release_none w w' (Ok tag) it = released_none (its_opening w) (its_pass w) it.5.0 it.1 (its_pass w') it.5.2
-release_none w w' (Err Idle) it = same w w' it.1
-release_none w w' (Err _) it = absurd it
+release_none : (w w' : TableWorker) (answer : ℤ) (dropped : ℕ) → ReleasesAs w answer dropped w' → AddsNone (its_pass w) (its_pass w')
+release_none w w' answer dropped it = elim it.released [
+  | inl out ↦ released_none (its_opening w) (its_pass w) out.6.0 out.1 (its_pass w') out.6.2
+  | inr idle ↦ same w w' idle.3
+]
 
 -- installations
 
@@ -84,23 +86,21 @@ one_removes w w' key removal freed released it =
     (both_none r.between (view_of it.between) (its_pass w') (added_none (opening_of (its_start w)) r.between _ _ _ (view_of it.between) r.adds (refl, (refl, tt)))
     (retired_none (its_opening w) (view_of it.between) it.retired removal (its_pass w') it.retires))
 
-none_removed : (w w' : TableWorker) (key : Key) (why : KeyFault) (freed released : Option ℕ) → LeavesAlone w key why freed released w' → AddsNone (its_pass w) (its_pass w')
-none_removed w w' key why freed released it =
-    alone_none (its_start w) w.pass key why it.takes.out it.takes.back w'.pass it.takes.takes
+refused_none : (w w' : TableWorker) (reason : ServerRefusal) (freed released : Option ℕ) → IsRefused w reason freed released w' → AddsNone (its_pass w) (its_pass w')
+refused_none w w' reason freed released it = elim it.2 [
+  | inl busy ↦ same w w' busy.1.1
+  | inr reader ↦ same w w' reader.1.1
+]
 
 remove_none : (w w' : TableWorker) (key : Key) (result : Result Removal ServerRefusal) (freed released : Option ℕ) → RemovesByKey w key result freed released w' → AddsNone (its_pass w) (its_pass w')
 remove_none w w' key (Ok removal) freed released it = one_removes w w' key removal freed released it
-remove_none w w' key (Err NoSlot) freed released it = none_removed w w' key fault.NoSlot freed released it
-remove_none w w' key (Err _) freed released it = search (none_removed, same)
-
-none_replaced : (w w' : TableWorker) (key : Key) (tag number : ℕ) (why : KeyFault) (freed released : Option ℕ) → KeepsAlone w key tag number why freed released w' → AddsNone (its_pass w) (its_pass w')
-none_replaced w w' key tag number why freed released it =
-    alone_none (its_start w) w.pass key why it.puts.out it.puts.back w'.pass it.puts.puts.1
+remove_none w w' key (Err reason) freed released (inl left) = alone_none (its_start w) w.pass key left.why left.takes.out left.takes.back w'.pass left.takes.takes
+remove_none w w' key (Err reason) freed released (inr it) = refused_none w w' reason freed released it
 
 replace_none : (w w' : TableWorker) (key : Key) (tag number : ℕ) (reason : ServerRefusal) (freed released : Option ℕ) → ReplacesByKey w key tag number (Err reason) freed released w'
     → AddsNone (its_pass w) (its_pass w')
-replace_none w w' key tag number NoSlot freed released it = none_replaced w w' key tag number fault.NoSlot freed released it
-replace_none w w' key tag number _ freed released it = search (none_replaced, same)
+replace_none w w' key tag number reason freed released (inl kept) = alone_none (its_start w) w.pass key kept.why kept.puts.out kept.puts.back w'.pass kept.puts.puts.1
+replace_none w w' key tag number reason freed released (inr it) = refused_none w w' reason freed released it
 
 -- a call installed one file, with this tag and number
 pub record Makes (w w' : TableWorker) (tag number : ℕ) : Type 0 where
@@ -158,105 +158,65 @@ put_in_empty w w' slot tag done it = let new = it.1.0 in record {
   identity = it.1.1.identity;
 }
 
--- a file with the next number
-installs_next : (w w' : TableWorker) (tag number : ℕ) → Makes w w' tag number → UsesNumber w number w' → KeepsItsNumbers w w'
-installs_next w w' tag number made uses installing place some low d =
+-- the files that a call of an export adds to its pass's events, and the numbers that it draws
+data Changes (w w' : TableWorker) : Type 0 where
+  adds_none : AddsNone (its_pass w) (its_pass w') → w'.numbers ≡ w.numbers → Changes w w'
+  keeps_one : AddsNone (its_pass w) (its_pass w') → w'.numbers ≡ after_keep w.numbers → Changes w w'
+  spends_one : AddsNone (its_pass w) (its_pass w') → w'.numbers ≡ without_kept w.numbers → Changes w w'
+  adds_next : (tag number : ℕ) → Makes w w' tag number → UsesNumber w number w' → Changes w w'
+  adds_kept : (tag : ℕ) → Makes w w' tag w.numbers.kept → w'.numbers ≡ without_kept w.numbers → Changes w w'
+
+inserts : (w w' : TableWorker) (tag : ℕ) (result : Result PlacedAt ServerRefusal) → PutsAnyNext w tag result w' → Changes w w'
+inserts w w' tag (Ok placed) it = adds_next tag placed.number (inserted w w' tag placed it) it.0
+inserts w w' tag (Err reason) it = adds_none (insert_none w w' tag w.numbers.next reason it.1) it.0
+
+replaces_at : (w w' : TableWorker) (slot tag : ℕ) (result : Result Placed ServerRefusal) → PutsNext w slot tag result w' → Changes w w'
+replaces_at w w' slot tag (Ok placed) it = adds_next tag placed.number (replaced_at w w' slot tag placed it) it.0
+replaces_at w w' slot tag (Err reason) it = adds_none (replace_at_none w w' slot tag w.numbers.next reason it.1) it.0
+
+replaces : (w w' : TableWorker) (key : Key) (tag : ℕ) (result : Result Placed ServerRefusal) (freed released : Option ℕ) → ReplacesByKeyNext w key tag result freed released w' → Changes w w'
+replaces w w' key tag (Ok placed) freed released it = adds_next tag placed.number (renewed w w' key tag placed.number placed.removal freed released it.1) it.0
+replaces w w' key tag (Err reason) freed released it = adds_none (replace_none w w' key tag w.numbers.next reason freed released it.1) it.0
+
+finds_next : (w w' : TableWorker) (result : Result PlacedAt ServerRefusal) → FindsNext w result w' → Changes w w'
+finds_next w w' (Ok placed) it = keeps_one (find_none w w' (Ok placed.slot) it.2) it.1
+finds_next w w' (Err reason) it = adds_none (find_none w w' (Err reason) it.1) it.0
+
+puts_empty : (w w' : TableWorker) (slot tag : ℕ) (result : Result (Unit {0}) ServerRefusal) → PutsEmptyKept w slot tag result w' → Changes w w'
+puts_empty w w' slot tag (Ok done) it = adds_kept tag (put_in_empty w w' slot tag done it) it.0
+puts_empty w w' slot tag (Err reason) it = spends_one (put_empty_none (having_spent w) w' slot tag w.numbers.kept reason it.1) it.0
+
+changes : (w w' : TableWorker) → IsExportCall w w' → Changes w w'
+changes w w' (get_at slot answer out it) = adds_none (finds_none w w' slot it.call.result it.call.freed it.looked.0) it.numbers
+changes w w' (get key answer out it) = adds_none (finds_key_none w w' key it.call.result it.call.freed it.call.released it.found) it.numbers
+changes w w' (release answer dropped it) = adds_none (release_none w w' answer dropped it) it.numbers
+changes w w' (insert tag answer number it) = inserts w w' tag it.result it.allocated
+changes w w' (replace_at slot tag answer out it) = replaces_at w w' slot tag it.call.result it.placed
+changes w w' (replace key tag answer out it) = replaces w w' key tag it.call.result it.call.freed it.call.released it.placed
+changes w w' (remove_at slot answer out it) = adds_none (remove_at_none w w' slot it.call.result it.removed) it.numbers
+changes w w' (remove key answer out it) = adds_none (remove_none w w' key it.call.result it.call.freed it.call.released it.removed) it.numbers
+changes w w' (find answer number it) = finds_next w w' it.result it.found
+changes w w' (put_empty slot tag answer it) = puts_empty w w' slot tag it.result it.placed
+
+grows_so : (w w' : TableWorker) → Changes w w' → Grows (its_pass w) (its_pass w')
+grows_so w w' (adds_none none numbers) = none.grows
+grows_so w w' (keeps_one none numbers) = none.grows
+grows_so w w' (spends_one none numbers) = none.grows
+grows_so w w' (adds_next tag number made uses) = made.one.grows
+grows_so w w' (adds_kept tag made numbers) = made.one.grows
+
+keeps_so : (w w' : TableWorker) → Changes w w' → KeepsItsNumbers w w'
+keeps_so w w' (adds_none none numbers) installing place some low d = stays installing place some low w w' d none numbers
+keeps_so w w' (keeps_one none numbers) installing place some low d = keeps installing place some low w w' d none numbers
+keeps_so w w' (spends_one none numbers) installing place some low d = spends installing place some low w w' d none numbers
+keeps_so w w' (adds_next tag number made uses) installing place some low d =
     installs installing place some low w w' d made.new made.one (number_of_new made.new tag number made.identity ∙ uses.0) uses.1
+keeps_so w w' (adds_kept tag made numbers) installing place some low d =
+    installs_kept installing place some low w w' d made.new made.one (number_of_new made.new tag w.numbers.kept made.identity) numbers
 
-inserts : (w w' : TableWorker) (tag : ℕ) (result : Result PlacedAt ServerRefusal) → PutsAnyNext w tag result w' → KeepsItsNumbers w w'
-inserts w w' tag (Ok placed) it installing place some low d =
-    installs_next w w' tag placed.number (inserted w w' tag placed it) it.0 installing place some low d
-inserts w w' tag (Err reason) it installing place some low d =
-    stays installing place some low w w' d (insert_none w w' tag w.numbers.next reason it.1) it.0
-
-replaces_at : (w w' : TableWorker) (slot tag : ℕ) (result : Result Placed ServerRefusal) → PutsNext w slot tag result w' → KeepsItsNumbers w w'
-replaces_at w w' slot tag (Ok placed) it installing place some low d =
-    installs_next w w' tag placed.number (replaced_at w w' slot tag placed it) it.0 installing place some low d
-replaces_at w w' slot tag (Err reason) it installing place some low d =
-    stays installing place some low w w' d (replace_at_none w w' slot tag w.numbers.next reason it.1) it.0
-
-replaces : (w w' : TableWorker) (key : Key) (tag : ℕ) (result : Result Placed ServerRefusal) (freed released : Option ℕ) → ReplacesByKeyNext w key tag result freed released w' → KeepsItsNumbers w w'
-replaces w w' key tag (Ok placed) freed released it installing place some low d =
-    installs_next w w' tag placed.number (renewed w w' key tag placed.number placed.removal freed released it.1) it.0 installing place some low d
-replaces w w' key tag (Err reason) freed released it installing place some low d =
-    let none = replace_none w w' key tag w.numbers.next reason freed released it.1 in
-    stays installing place some low w w' d none it.0
-
-finds_next : (w w' : TableWorker) (result : Result PlacedAt ServerRefusal) → FindsNext w result w' → KeepsItsNumbers w w'
-finds_next w w' (Ok placed) it installing place some low d =
-    keeps installing place some low w w' d (find_none w w' (Ok placed.slot) it.2) it.1
-finds_next w w' (Err reason) it installing place some low d =
-    stays installing place some low w w' d (find_none w w' (Err reason) it.1) it.0
-
-puts_empty : (w w' : TableWorker) (slot tag : ℕ) (result : Result (Unit {0}) ServerRefusal) → PutsEmptyKept w slot tag result w' → KeepsItsNumbers w w'
-puts_empty w w' slot tag (Ok done) it installing place some low d =
-    let made = put_in_empty w w' slot tag done it in
-    installs_kept installing place some low w w' d made.new made.one (number_of_new made.new tag w.numbers.kept made.identity) it.0
-puts_empty w w' slot tag (Err reason) it installing place some low d =
-    spends installing place some low w w' d (put_empty_none (having_spent w) w' slot tag w.numbers.kept reason it.1) it.0
+-- an export's events are some more of its pass
+pub call_grows : (w w' : TableWorker) → IsExportCall w w' → Grows (its_pass w) (its_pass w')
+call_grows w w' call = grows_so w w' (changes w w' call)
 
 pub exports_keep : ExportsKeepNumbers
-exports_keep = record {
-  get_at = λ w w' slot answer out it installing place some low d.
-      stays installing place some low w w' d (finds_none w w' slot it.call.found it.call.freed it.looked.0) it.numbers;
-  get = λ w w' key answer out it installing place some low d.
-      stays installing place some low w w' d (finds_key_none w w' key it.call.found it.call.freed it.call.released it.found) it.numbers;
-  release = λ w w' answer dropped it installing place some low d.
-      stays installing place some low w w' d (release_none w w' it.result it.released) it.numbers;
-  insert = λ w w' tag answer number it. inserts w w' tag it.result it.allocated;
-  replace_at = λ w w' slot tag answer out it. replaces_at w w' slot tag it.call.placed it.placed;
-  replace = λ w w' key tag answer out it. replaces w w' key tag it.call.placed it.call.freed it.call.released it.placed;
-  remove_at = λ w w' slot answer out it installing place some low d.
-      stays installing place some low w w' d (remove_at_none w w' slot it.call.removal it.removed) it.numbers;
-  remove = λ w w' key answer out it installing place some low d.
-      let none = remove_none w w' key it.call.removal it.call.freed it.call.released it.removed in
-      stays installing place some low w w' d none it.numbers;
-  find = λ w w' answer number it. finds_next w w' it.result it.found;
-  put_empty = λ w w' slot tag answer it. puts_empty w w' slot tag it.result it.placed;
-}
-
--- each export's events are some more of its pass
-inserts_grow : (w w' : TableWorker) (tag : ℕ) (result : Result PlacedAt ServerRefusal) → PutsAnyNext w tag result w' → Grows (its_pass w) (its_pass w')
-inserts_grow w w' tag (Ok placed) it = (inserted w w' tag placed it).one.grows
-inserts_grow w w' tag (Err reason) it = (insert_none w w' tag w.numbers.next reason it.1).grows
-
-replaces_at_grow : (w w' : TableWorker) (slot tag : ℕ) (result : Result Placed ServerRefusal) → PutsNext w slot tag result w' → Grows (its_pass w) (its_pass w')
-replaces_at_grow w w' slot tag (Ok placed) it = (replaced_at w w' slot tag placed it).one.grows
-replaces_at_grow w w' slot tag (Err reason) it = (replace_at_none w w' slot tag w.numbers.next reason it.1).grows
-
-replaces_grow : (w w' : TableWorker) (key : Key) (tag : ℕ) (result : Result Placed ServerRefusal) (freed released : Option ℕ) → ReplacesByKeyNext w key tag result freed released w'
-    → Grows (its_pass w) (its_pass w')
-replaces_grow w w' key tag (Ok placed) freed released it = (renewed w w' key tag placed.number placed.removal freed released it.1).one.grows
-replaces_grow w w' key tag (Err reason) freed released it = (replace_none w w' key tag w.numbers.next reason freed released it.1).grows
-
-finds_grow : (w w' : TableWorker) (result : Result PlacedAt ServerRefusal) → FindsNext w result w' → Grows (its_pass w) (its_pass w')
-finds_grow w w' (Ok placed) it = (find_none w w' (Ok placed.slot) it.2).grows
-finds_grow w w' (Err reason) it = (find_none w w' (Err reason) it.1).grows
-
-puts_empty_grow : (w w' : TableWorker) (slot tag : ℕ) (result : Result (Unit {0}) ServerRefusal) → PutsEmptyKept w slot tag result w' → Grows (its_pass w) (its_pass w')
-puts_empty_grow w w' slot tag (Ok done) it = (put_in_empty w w' slot tag done it).one.grows
-puts_empty_grow w w' slot tag (Err reason) it = (put_empty_none (having_spent w) w' slot tag w.numbers.kept reason it.1).grows
-
-pub call_grows : (w w' : TableWorker) → IsExportCall w w' → Grows (its_pass w) (its_pass w')
-call_grows w w' (get_at slot answer out it) = (finds_none w w' slot it.call.found it.call.freed it.looked.0).grows
-call_grows w w' (get key answer out it) = (finds_key_none w w' key it.call.found it.call.freed it.call.released it.found).grows
-call_grows w w' (release answer dropped it) = (release_none w w' it.result it.released).grows
-call_grows w w' (insert tag answer number it) = inserts_grow w w' tag it.result it.allocated
-call_grows w w' (replace_at slot tag answer out it) = replaces_at_grow w w' slot tag it.call.placed it.placed
-call_grows w w' (replace key tag answer out it) = replaces_grow w w' key tag it.call.placed it.call.freed it.call.released it.placed
-call_grows w w' (remove_at slot answer out it) = (remove_at_none w w' slot it.call.removal it.removed).grows
-call_grows w w' (remove key answer out it) = (remove_none w w' key it.call.removal it.call.freed it.call.released it.removed).grows
-call_grows w w' (find answer number it) = finds_grow w w' it.result it.found
-call_grows w w' (put_empty slot tag answer it) = puts_empty_grow w w' slot tag it.result it.placed
-
-pub call_keeps : (w w' : TableWorker) → IsExportCall w w' → KeepsItsNumbers w w'
-call_keeps w w' (get_at slot answer out it) = exports_keep.get_at w w' slot answer out it
-call_keeps w w' (get key answer out it) = exports_keep.get w w' key answer out it
-call_keeps w w' (release answer dropped it) = exports_keep.release w w' answer dropped it
-call_keeps w w' (insert tag answer number it) = exports_keep.insert w w' tag answer number it
-call_keeps w w' (replace_at slot tag answer out it) = exports_keep.replace_at w w' slot tag answer out it
-call_keeps w w' (replace key tag answer out it) = exports_keep.replace w w' key tag answer out it
-call_keeps w w' (remove_at slot answer out it) = exports_keep.remove_at w w' slot answer out it
-call_keeps w w' (remove key answer out it) = exports_keep.remove w w' key answer out it
-call_keeps w w' (find answer number it) = exports_keep.find w w' answer number it
-call_keeps w w' (put_empty slot tag answer it) = exports_keep.put_empty w w' slot tag answer it
+exports_keep w w' call = keeps_so w w' (changes w w' call)

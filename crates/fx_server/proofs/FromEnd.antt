@@ -5,7 +5,7 @@ use Rattle.std.specs.Global.{Box}
 use Rattle.fx_server.specs.Opened.{workers_in}
 use Rattle.fx_server.specs.Places.{workers_at}
 use Rattle.fx_server.specs.declared.handle.WorkerPlace.{WorkerPlace}
-use Rattle.fx_server.specs.declared.worker.TableWorker.{TableWorker}
+use Rattle.fx_server.specs.Worker.{TableWorker}
 
 -- the worker that is popped is the next one from the end
 pub from_end : (all items less : List (Box TableWorker)) (b : Box TableWorker) → items ≡ take (length items) all → items ≡ less ++ b ∷ [] → all ≡ less ++ b ∷ drop (length items) all

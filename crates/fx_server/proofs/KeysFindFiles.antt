@@ -24,12 +24,12 @@ use Rattle.fx_server.specs.KeysFindFiles.{AKeyFindsItsFile, FilesInUseHaveTheirN
 use Rattle.fx_server.specs.Outcomes.{found_outcome}
 use Rattle.fx_server.specs.Workers.{hold_in, its_pass, its_start}
 use Rattle.fx_server.specs.declared.answers.CoreOutcome.{CoreOutcome}
+use Rattle.fx_server.specs.declared.answers.CallAnswer.{CallAnswer}
 use Rattle.fx_server.specs.declared.answers.FoundFile.{FoundFile}
-use Rattle.fx_server.specs.declared.answers.LookAnswer.{LookAnswer}
-use Rattle.fx_server.specs.declared.worker.TableWorker.{TableWorker}
+use Rattle.fx_server.specs.Worker.{TableWorker}
 use Rattle.fx_server.proofs.DrawnByCalls.{Grows, grows_then, installed_earlier, installed_later, number_of_new}
 use Rattle.fx_server.proofs.EndsOfKeys.{installed_at}
-use Rattle.fx_server.proofs.ExportsNumbers.{Makes, call_grows, call_keeps, inserted, put_in_empty, renewed, replaced_at}
+use Rattle.fx_server.proofs.ExportsNumbers.{Makes, call_grows, exports_keep, inserted, put_in_empty, renewed, replaced_at}
 use Rattle.fx_server.proofs.FilesNumbers.{own_numbers}
 use Rattle.fx_server.proofs.OpenedNumbers.{opened_draw, opened_pass}
 
@@ -44,7 +44,7 @@ grows_by (next ∷ more) first last calls = grows_then (call_grows first next ca
 keeps_by : (between : List TableWorker) (first last : TableWorker) → AreExportCalls first between last → KeepsItsNumbers first last
 keeps_by [] first last is installing place some low d = subst (DrawsItsNumbers installing place) (sym is) d
 keeps_by (next ∷ more) first last calls installing place some low d =
-    keeps_by more next last calls.1 installing place some low (call_keeps first next calls.0 installing place some low d)
+    keeps_by more next last calls.1 installing place some low (exports_keep first next calls.0 installing place some low d)
 
 module _ (slots installing : ℕ) (opened : List TableWorker) (now : ℕ → TableWorker) (h : List Event) (use' : IsInUse slots installing opened now h) where
   its_number : (place : ℕ) → place < length opened → (its_pass (now place)).number ≡ suc place
@@ -125,7 +125,7 @@ key_makes w w' tag key (replaces old answer out done placed is its) = let next =
 key_makes w w' tag key (puts_empty answer done is its) = subst (Makes w w' tag) its (put_in_empty w w' key.slot tag tt (rw is at done.placed))
 
 -- the tag that a look-up returned
-found_tag : (call : LookAnswer) (found : FoundFile) → call.found ≡ Ok found → (found_outcome call).tag ≡ found.tag
+found_tag : (call : CallAnswer FoundFile) (found : FoundFile) → call.result ≡ Ok found → (found_outcome call).tag ≡ found.tag
 found_tag call found is = rw is refl
 
 pub finds_its_file : AKeyFindsItsFile

@@ -11,7 +11,7 @@ use Rattle.fx_server.specs.Workers.{DoesAsHeld, Finds, Notes, its_opening, its_p
 use Rattle.fx_server.specs.declared.answers.FoundFile.{FoundFile}
 use Rattle.fx_server.specs.declared.answers.ServerRefusal.{ServerRefusal}
 use Rattle.fx_server.specs.declared.worker.Held.{Held}
-use Rattle.fx_server.specs.declared.worker.TableWorker.{TableWorker}
+use Rattle.fx_server.specs.Worker.{TableWorker}
 
 pub looks : (w w' : TableWorker) (slot : ℕ) (found : Result Hold TableFault) (out : Option Identity) (result : Result FoundFile ServerRefusal) (tag : Option ℕ)
     (v : PassView) → its_pass w' ≡ v → Notes v found result w'.held → found ≢ Err Spent → tag ≡ tag_in out

@@ -14,7 +14,7 @@ use Rattle.fx_server.specs.FilesNumbers.{OpenedWorkersDrawTheirNumbers}
 use Rattle.fx_server.specs.Opened.{AreOpened}
 use Rattle.fx_server.specs.Workers.{its_pass}
 use Rattle.fx_server.specs.declared.file_numbers.FileNumbers.{FileNumbers}
-use Rattle.fx_server.specs.declared.worker.TableWorker.{TableWorker}
+use Rattle.fx_server.specs.Worker.{TableWorker}
 use Rattle.fx_server.proofs.Dealing.{unmapped}
 
 -- the pass has made no event

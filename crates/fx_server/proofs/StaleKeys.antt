@@ -23,12 +23,15 @@ use Rattle.fx_lasting.specs.Tables.{opening_of}
 use Rattle.fx_lasting.specs.declared.answers.Miss.{Miss}
 use Rattle.fx_lasting.specs.declared.answers.Miss.TheVariants as miss
 use Rattle.fx_lasting.specs.declared.key.Key.{Key}
+use Rattle.fx_lasting.specs.declared.key_answers.KeyFault.{KeyFault}
 use Rattle.fx_lasting.specs.declared.key_answers.KeyFault.TheVariants.{Other}
 use Rattle.fx_lasting.specs.declared.view.Start.{Start}
 use Rattle.fx_lasting.specs.slots.Alone.{TakesAlone}
+use Rattle.fx_server.specs.ByKey.{IsRefused, key_refusal}
+use Rattle.fx_server.specs.declared.answers.ServerRefusal.TheVariants.{Stale}
 use Rattle.fx_server.specs.StaleKeys.{HadAnother, IsAnother, StaleKeysHadAnother}
 use Rattle.fx_server.specs.Workers.{IsGood, its_pass, its_start}
-use Rattle.fx_server.specs.declared.worker.TableWorker.{TableWorker}
+use Rattle.fx_server.specs.Worker.{TableWorker}
 
 -- a history, split at its last event of a pass
 record SplitAt (since : List Event) (e : Event) : Type 0 where
@@ -129,15 +132,32 @@ module _ (w w' : TableWorker) (key : Key) (good : IsGood w) where
         (left_other (its_start w) key (its_pass w) left.holder.between (its_pass w') left.hold.node left.miss left.same left.was);
   }
 
+other_of : (why : KeyFault) → Stale ≡ key_refusal why → why ≡ Other
+other_of Other is = refl
+other_of _ is = absurd (cc is)
+
+-- a call that the worker refused says another reason
+not_refused : (w w' : TableWorker) (freed released : Option ℕ) → IsRefused w Stale freed released w' → ⊥
+not_refused w w' freed released it = elim it.2 [
+  | inl busy ↦ cc busy.0
+  | inr reader ↦ cc reader.0
+]
+
 pub stale_keys : StaleKeysHadAnother
 stale_keys = record {
-  gets = λ w w' key answer out done good is.
-      let found = rw is at done.found in
-      by_pass w w' key good found.1.out found.1.back found.1.looked;
-  removes = λ w w' key answer out done good is.
-      let removed = rw is at done.removed in
-      by_alone w w' key good removed.takes.out removed.takes.back removed.takes.takes;
-  replaces = λ w w' key tag answer out done good is.
-      let placed = rw is at done.placed in
-      by_alone w w' key good placed.1.puts.out placed.1.puts.back placed.1.puts.puts.1;
+  gets = λ w w' key answer out done is. elim (rw is at done.found) [
+    | inl none ↦ by_pass w w' key done.good none.looks.out none.looks.back
+        (subst (λ (why : KeyFault). LookedByKey (its_start w) (its_pass w) key (Err why) none.looks.out none.looks.back (its_pass w')) (other_of none.why none.its_reason) none.looks.looked)
+    | inr busy ↦ absurd (cc busy.0)
+  ];
+  removes = λ w w' key answer out done is. elim (rw is at done.removed) [
+    | inl left ↦ by_alone w w' key done.good left.takes.out left.takes.back
+        (subst (λ (why : KeyFault). TakesAlone (its_start w) w.pass key (Err why) left.takes.out left.takes.back w'.pass) (other_of left.why left.its_reason) left.takes.takes)
+    | inr it ↦ absurd (not_refused w w' done.call.freed done.call.released it)
+  ];
+  replaces = λ w w' key tag answer out done is. elim (rw is at done.placed).1 [
+    | inl kept ↦ by_alone w w' key done.good kept.puts.out kept.puts.back
+        (subst (λ (why : KeyFault). TakesAlone (its_start w) w.pass key (Err why) kept.puts.out kept.puts.back w'.pass) (other_of kept.why kept.its_reason) kept.puts.puts.1)
+    | inr it ↦ absurd (not_refused w w' done.call.freed done.call.released it)
+  ];
 }

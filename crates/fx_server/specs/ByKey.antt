@@ -1,5 +1,5 @@
 -- The calls of a worker by key: the slot of a file and its number.
-use Rattle.std.specs.Prelude.{◌≡◌, ℕ, Option, Some, None, Result, Ok, Err}
+use Rattle.std.specs.Prelude.{◌≡◌, ◌⊎◌, ℕ, Option, Some, None, Result, Ok, Err}
 use Rattle.fx_base.specs.Identity.{Identity}
 use Rattle.fx_table.specs.declared.values.Hold.{Hold}
 use Rattle.fx_table.specs.declared.values.Retired.{Retired}
@@ -24,7 +24,7 @@ use Rattle.fx_server.specs.declared.answers.ServerRefusal.{ServerRefusal}
 use Rattle.fx_server.specs.declared.answers.ServerRefusal.TheVariants.{Again, Busy, Empty, NoSlot}
 use Rattle.fx_server.specs.declared.answers.ServerRefusal.TheVariants.{Reader, Stale}
 use Rattle.fx_server.specs.declared.worker.Held.{Held}
-use Rattle.fx_server.specs.declared.worker.TableWorker.{TableWorker}
+use Rattle.fx_server.specs.Worker.{TableWorker}
 
 -- the key of a slot and a number
 abbrev pub key_of : (slot number : ℕ) → Key
@@ -51,11 +51,13 @@ pub record LooksKey (w : TableWorker) (key : Key) (found : Result Hold KeyFault)
   pub tags : LastUses freed released out back
   pub looked : LookedByKey (its_start w) (its_pass w) key found out back (its_pass w')
 
--- the worker holds nothing, and found no file of the key, for this reason
-abbrev pub FindsNoKey : TableWorker → Key → KeyFault → (freed released : Option ℕ) → TableWorker
-    → Type 0
-FindsNoKey w key why freed released w' =
-    (w'.held ≡ None) × LooksKey w key (Err why) freed released w'
+-- the worker holds nothing, and found no file of the key
+pub record FindsNoKey (w : TableWorker) (key : Key) (reason : ServerRefusal)
+    (freed released : Option ℕ) (w' : TableWorker) : Type 0 where
+  pub why : KeyFault
+  pub its_reason : reason ≡ key_refusal why
+  pub idle : w'.held ≡ None
+  pub looks : LooksKey w key (Err why) freed released w'
 
 -- a look-up by key: the worker holds the file of the key, whose tag and number are returned
 abbrev pub FindsByKey : TableWorker → Key → Result FoundFile ServerRefusal
@@ -63,11 +65,8 @@ abbrev pub FindsByKey : TableWorker → Key → Result FoundFile ServerRefusal
 FindsByKey w key (Ok found) freed released w' = (held : Held) × (w'.held ≡ Some held)
     × LooksKey w key (Ok (hold_in held)) freed released w'
     × HasLabel (its_pass w') (hold_in held) found
-FindsByKey w key (Err NoSlot) freed released w' = FindsNoKey w key fault.NoSlot freed released w'
-FindsByKey w key (Err Empty) freed released w' = FindsNoKey w key fault.Empty freed released w'
-FindsByKey w key (Err Stale) freed released w' = FindsNoKey w key fault.Other freed released w'
-FindsByKey w key (Err Busy) freed released w' = (freed ≡ None) × (released ≡ None) × IsBusy w w'
-FindsByKey w key (Err _) freed released w' = ⊥
+FindsByKey w key (Err reason) freed released w' = FindsNoKey w key reason freed released w'
+    ⊎ ((reason ≡ Busy) × (freed ≡ None) × (released ≡ None) × IsBusy w w')
 
 -- a removal by key by the worker's pass alone, which is `p` afterwards
 pub record TakesKeyAlone (w : TableWorker) (key : Key) (taken : Result Retired KeyFault)
@@ -85,25 +84,25 @@ pub record RemovesByOne (w : TableWorker) (key : Key) (removal : Removal)
   pub takes : TakesKeyAlone w key (Ok retired) freed released between
   pub retires : RetiresAs (its_opening w) (view_of between) retired removal (its_pass w')
 
--- the slot was left as it was, for this reason: `Again` only if the slot's word changed during the
--- call
-pub record LeavesAlone (w : TableWorker) (key : Key) (why : KeyFault) (freed released : Option ℕ)
-    (w' : TableWorker) : Type 0 where
+-- the slot was left as it was: `Again` only if the slot's word changed during the call
+pub record LeavesAlone (w : TableWorker) (key : Key) (reason : ServerRefusal)
+    (freed released : Option ℕ) (w' : TableWorker) : Type 0 where
+  pub why : KeyFault
+  pub its_reason : reason ≡ key_refusal why
   pub takes : TakesKeyAlone w key (Err why) freed released w'.pass
+
+-- nothing was done, since the worker holds a file or doesn't install files
+abbrev pub IsRefused : TableWorker → ServerRefusal → (freed released : Option ℕ) → TableWorker
+    → Type 0
+IsRefused w reason freed released w' = (freed ≡ None) × (released ≡ None)
+    × (((reason ≡ Busy) × IsBusy w w') ⊎ ((reason ≡ Reader) × IsReader w w'))
 
 -- a removal by key
 abbrev pub RemovesByKey : TableWorker → Key → Result Removal ServerRefusal
     → (freed released : Option ℕ) → TableWorker → Type 0
 RemovesByKey w key (Ok removal) freed released w' = RemovesByOne w key removal freed released w'
-RemovesByKey w key (Err NoSlot) freed released w' =
-    LeavesAlone w key fault.NoSlot freed released w'
-RemovesByKey w key (Err Empty) freed released w' = LeavesAlone w key fault.Empty freed released w'
-RemovesByKey w key (Err Stale) freed released w' = LeavesAlone w key fault.Other freed released w'
-RemovesByKey w key (Err Again) freed released w' = LeavesAlone w key fault.Again freed released w'
-RemovesByKey w key (Err Busy) freed released w' = (freed ≡ None) × (released ≡ None) × IsBusy w w'
-RemovesByKey w key (Err Reader) freed released w' =
-    (freed ≡ None) × (released ≡ None) × IsReader w w'
-RemovesByKey w key (Err _) freed released w' = ⊥
+RemovesByKey w key (Err reason) freed released w' =
+    LeavesAlone w key reason freed released w' ⊎ IsRefused w reason freed released w'
 
 -- a replacement by key by the worker's pass alone, which is `p` afterwards
 pub record PutsKeyAlone (w : TableWorker) (key : Key) (file : Identity) (put : PutOverKey)
@@ -122,10 +121,11 @@ pub record ReplacesByOne (w : TableWorker) (key : Key) (tag number : ℕ) (remov
   pub puts : PutsKeyAlone w key (file_with tag number) (Replaced retired) freed released between
   pub retires : RetiresAs (its_opening w) (view_of between) retired removal (its_pass w')
 
--- the slot was left as it was, for this reason: `Again` only if the slot's word changed during the
--- call
-pub record KeepsAlone (w : TableWorker) (key : Key) (tag number : ℕ) (why : KeyFault)
+-- the slot was left as it was: `Again` only if the slot's word changed during the call
+pub record KeepsAlone (w : TableWorker) (key : Key) (tag number : ℕ) (reason : ServerRefusal)
     (freed released : Option ℕ) (w' : TableWorker) : Type 0 where
+  pub why : KeyFault
+  pub its_reason : reason ≡ key_refusal why
   pub puts : PutsKeyAlone w key (file_with tag number) (Missed why (file_with tag number)) freed
       released w'.pass
 
@@ -134,19 +134,8 @@ abbrev pub ReplacesByKey : TableWorker → Key → (tag number : ℕ) → Result
     → (freed released : Option ℕ) → TableWorker → Type 0
 ReplacesByKey w key tag number (Ok removal) freed released w' =
     ReplacesByOne w key tag number removal freed released w'
-ReplacesByKey w key tag number (Err NoSlot) freed released w' =
-    KeepsAlone w key tag number fault.NoSlot freed released w'
-ReplacesByKey w key tag number (Err Empty) freed released w' =
-    KeepsAlone w key tag number fault.Empty freed released w'
-ReplacesByKey w key tag number (Err Stale) freed released w' =
-    KeepsAlone w key tag number fault.Other freed released w'
-ReplacesByKey w key tag number (Err Again) freed released w' =
-    KeepsAlone w key tag number fault.Again freed released w'
-ReplacesByKey w key tag number (Err Busy) freed released w' =
-    (freed ≡ None) × (released ≡ None) × IsBusy w w'
-ReplacesByKey w key tag number (Err Reader) freed released w' =
-    (freed ≡ None) × (released ≡ None) × IsReader w w'
-ReplacesByKey w key tag number (Err _) freed released w' = ⊥
+ReplacesByKey w key tag number (Err reason) freed released w' =
+    KeepsAlone w key tag number reason freed released w' ⊎ IsRefused w reason freed released w'
 
 -- the same with the next number of the worker, which only a file that is installed uses up
 abbrev pub ReplacesByKeyNext : TableWorker → Key → (tag : ℕ) → Result Placed ServerRefusal

@@ -15,7 +15,7 @@ use Rattle.fx_server.specs.Workers.{its_pass}
 use Rattle.fx_server.specs.declared.answers.CoreOutcome.{CoreOutcome}
 use Rattle.fx_server.specs.declared.answers.Placed.{Placed}
 use Rattle.fx_server.specs.declared.answers.Removal.{Removal}
-use Rattle.fx_server.specs.declared.worker.TableWorker.{TableWorker}
+use Rattle.fx_server.specs.Worker.{TableWorker}
 
 -- the file that an action removes from its slot
 abbrev pub file_leaving : Action → Option File
@@ -58,9 +58,9 @@ pub record HasEnded (key : Key) (w w' : TableWorker) : Type 0 where
 abbrev pub DoneRemovalsEndKeys : Type 0
 DoneRemovalsEndKeys = (w w' : TableWorker) (key : Key) (answer : ℤ) (out : CoreOutcome)
     (removal : Removal) (done : RemovesAs w key answer out w')
-    → done.call.removal ≡ Ok removal → HasEnded key w w'
+    → done.call.result ≡ Ok removal → HasEnded key w w'
 
 abbrev pub DoneReplacementsEndKeys : Type 0
 DoneReplacementsEndKeys = (w w' : TableWorker) (key : Key) (tag : ℕ) (answer : ℤ)
     (out : CoreOutcome) (placed : Placed) (done : ReplacesAs w key tag answer out w')
-    → done.call.placed ≡ Ok placed → HasEnded key w w'
+    → done.call.result ≡ Ok placed → HasEnded key w w'

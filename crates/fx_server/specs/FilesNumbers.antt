@@ -1,20 +1,16 @@
 -- The numbers of the files that workers install: no two files of a history have one.
-use Rattle.std.specs.Prelude.{◌≡◌, ◌≢◌, ◌⊎◌, ℕ, ℤ, ◌+◌, ◌<◌, ◌≤◌, List, length, slice_index_or}
+use Rattle.std.specs.Prelude.{◌≡◌, ◌≢◌, ◌⊎◌, ℕ, ◌+◌, ◌<◌, ◌≤◌, List, length, slice_index_or}
 use Rattle.fx_plain.specs.History.{part_of_pass}
 use Rattle.fx_plain.specs.Laws.{IsInstalled}
 use Rattle.fx_plain.specs.declared.event.Event.{Event}
 use Rattle.fx_plain.specs.declared.event.File.{File}
 use Rattle.fx_lasting.specs.nodes.Labels.{number_of_mark}
-use Rattle.fx_lasting.specs.declared.key.Key.{Key}
 use Rattle.fx_lasting.specs.declared.life.layout.TheConstants.{MOST_INSTALLING}
-use Rattle.fx_server.specs.Answers.{FindsAs, GetsAs, GetsAtAs, InsertsAs, PutsEmptyAs, ReleasesAs}
-use Rattle.fx_server.specs.Answers.{RemovesAs, RemovesAtAs, ReplacesAs, ReplacesAtAs}
 use Rattle.fx_server.specs.EndsOfKeys.{HaveTheirOwnKeys}
 use Rattle.fx_server.specs.FileNumbers.{after_draws, first_numbers, number_drawn, without_kept}
 use Rattle.fx_server.specs.Opened.{AreOpened}
 use Rattle.fx_server.specs.Workers.{its_pass}
-use Rattle.fx_server.specs.declared.answers.CoreOutcome.{CoreOutcome}
-use Rattle.fx_server.specs.declared.worker.TableWorker.{TableWorker}
+use Rattle.fx_server.specs.Worker.{TableWorker}
 
 abbrev pub number_of_file : File → ℕ
 number_of_file f = number_of_mark f.identity.mark
@@ -52,29 +48,6 @@ pub record DrawsItsNumbers (installing place : ℕ) (w : TableWorker) : Type 0 w
 abbrev pub KeepsItsNumbers : TableWorker → TableWorker → Type 0
 KeepsItsNumbers w w' = (installing place : ℕ) → installing ≤ MOST_INSTALLING → 1 ≤ place
     → DrawsItsNumbers installing place w → DrawsItsNumbers installing place w'
-
--- each export does
-pub record ExportsKeepNumbers : Type 0 where
-  pub get_at : (w w' : TableWorker) (slot : ℕ) (answer : ℤ) (out : CoreOutcome)
-      → GetsAtAs w slot answer out w' → KeepsItsNumbers w w'
-  pub get : (w w' : TableWorker) (key : Key) (answer : ℤ) (out : CoreOutcome)
-      → GetsAs w key answer out w' → KeepsItsNumbers w w'
-  pub release : (w w' : TableWorker) (answer : ℤ) (dropped : ℕ)
-      → ReleasesAs w answer dropped w' → KeepsItsNumbers w w'
-  pub insert : (w w' : TableWorker) (tag : ℕ) (answer : ℤ) (number : ℕ)
-      → InsertsAs w tag answer number w' → KeepsItsNumbers w w'
-  pub replace_at : (w w' : TableWorker) (slot tag : ℕ) (answer : ℤ) (out : CoreOutcome)
-      → ReplacesAtAs w slot tag answer out w' → KeepsItsNumbers w w'
-  pub replace : (w w' : TableWorker) (key : Key) (tag : ℕ) (answer : ℤ) (out : CoreOutcome)
-      → ReplacesAs w key tag answer out w' → KeepsItsNumbers w w'
-  pub remove_at : (w w' : TableWorker) (slot : ℕ) (answer : ℤ) (out : CoreOutcome)
-      → RemovesAtAs w slot answer out w' → KeepsItsNumbers w w'
-  pub remove : (w w' : TableWorker) (key : Key) (answer : ℤ) (out : CoreOutcome)
-      → RemovesAs w key answer out w' → KeepsItsNumbers w w'
-  pub find : (w w' : TableWorker) (answer : ℤ) (number : ℕ)
-      → FindsAs w answer number w' → KeepsItsNumbers w w'
-  pub put_empty : (w w' : TableWorker) (slot tag : ℕ) (answer : ℤ)
-      → PutsEmptyAs w slot tag answer w' → KeepsItsNumbers w w'
 
 -- a worker of a table that was just opened has installed nothing, and keeps no number
 abbrev pub OpenedWorkersDrawTheirNumbers : Type 0

@@ -5,7 +5,7 @@ use Rattle.fx_server.specs.Workers.{FindsSlot, Puts, PutsAny, PutsEmpty}
 use Rattle.fx_server.specs.declared.answers.Placed.{Placed}
 use Rattle.fx_server.specs.declared.answers.PlacedAt.{PlacedAt}
 use Rattle.fx_server.specs.declared.answers.ServerRefusal.{ServerRefusal}
-use Rattle.fx_server.specs.declared.worker.TableWorker.{TableWorker}
+use Rattle.fx_server.specs.Worker.{TableWorker}
 
 -- the worker has drawn this number, its next one, and nothing else
 abbrev pub UsesNumber : TableWorker → ℕ → TableWorker → Type 0

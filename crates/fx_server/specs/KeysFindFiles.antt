@@ -15,12 +15,13 @@ use Rattle.fx_server.specs.Answers.{FindsAs, GetsAs, GetsAtAs, InsertsAs, PutsEm
 use Rattle.fx_server.specs.Answers.{RemovesAs, RemovesAtAs, ReplacesAs, ReplacesAtAs}
 use Rattle.fx_server.specs.ByKey.{key_of}
 use Rattle.fx_server.specs.EndsOfKeys.{HaveTheirOwnKeys}
+use Rattle.fx_server.specs.FilesNumbers.{KeepsItsNumbers}
 use Rattle.fx_server.specs.Opened.{AreOpened}
 use Rattle.fx_server.specs.Workers.{its_pass}
 use Rattle.fx_server.specs.declared.answers.CoreOutcome.{CoreOutcome}
 use Rattle.fx_server.specs.declared.answers.FoundFile.{FoundFile}
 use Rattle.fx_server.specs.declared.answers.Placed.{Placed}
-use Rattle.fx_server.specs.declared.worker.TableWorker.{TableWorker}
+use Rattle.fx_server.specs.Worker.{TableWorker}
 
 -- a call of one of the exports, by a worker that is `w` before it and `w'` after it
 pub data IsExportCall (w w' : TableWorker) : Type 0 where
@@ -41,6 +42,10 @@ pub data IsExportCall (w w' : TableWorker) : Type 0 where
       → IsExportCall w w'
   find : (answer : ℤ) (number : ℕ) → FindsAs w answer number w' → IsExportCall w w'
   put_empty : (slot tag : ℕ) (answer : ℤ) → PutsEmptyAs w slot tag answer w' → IsExportCall w w'
+
+-- each export keeps the numbers of its worker's files
+abbrev pub ExportsKeepNumbers : Type 0
+ExportsKeepNumbers = (w w' : TableWorker) → IsExportCall w w' → KeepsItsNumbers w w'
 
 -- calls of one worker, one after another
 abbrev pub AreExportCalls : TableWorker → List TableWorker → TableWorker → Type 0
@@ -87,10 +92,10 @@ pub data ReturnsKey (w : TableWorker) (tag : ℕ) (key : Key) (w' : TableWorker)
       → ReturnsKey w tag key w'
   replaces_at : (answer : ℤ) (out : CoreOutcome)
       (done : ReplacesAtAs w key.slot tag answer out w') (placed : Placed)
-      → done.call.placed ≡ Ok placed → placed.number ≡ key.number → ReturnsKey w tag key w'
+      → done.call.result ≡ Ok placed → placed.number ≡ key.number → ReturnsKey w tag key w'
   replaces : (old : ℕ) (answer : ℤ) (out : CoreOutcome)
       (done : ReplacesAs w (key_of key.slot old) tag answer out w') (placed : Placed)
-      → done.call.placed ≡ Ok placed → placed.number ≡ key.number → ReturnsKey w tag key w'
+      → done.call.result ≡ Ok placed → placed.number ≡ key.number → ReturnsKey w tag key w'
   puts_empty : (answer : ℤ) (done : PutsEmptyAs w key.slot tag answer w')
       → done.result ≡ Ok tt → w.numbers.kept ≡ key.number → ReturnsKey w tag key w'
 
@@ -117,5 +122,5 @@ AKeyFindsItsFile = (slots installing : ℕ) (opened : List TableWorker) (now : �
     (out : CoreOutcome) (got : GetsAs u key answer out u') (found : FoundFile)
     → IsInUse slots installing opened now h
     → HasMade opened now w w' → ReturnsKey w tag key w'
-    → HasMade opened now u u' → got.call.found ≡ Ok found
+    → HasMade opened now u u' → got.call.result ≡ Ok found
     → FindsItsFile w w' tag u' out

@@ -13,3 +13,4 @@ pub mod Outcomes
 pub mod Places
 pub mod StaleKeys
 pub mod Workers
+pub mod Worker

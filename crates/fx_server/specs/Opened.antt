@@ -1,6 +1,5 @@
 -- The workers of a table that was just opened.
 use Rattle.std.specs.Prelude.{◌≡◌, ℕ, List, All, None, map, length}
-use Rattle.std.specs.Arc.{arc_value}
 use Rattle.std.specs.Global.{Box}
 use Rattle.fx_plain.specs.Contents.{Contents, state_of}
 use Rattle.fx_plain.specs.State.{vacant}
@@ -11,7 +10,7 @@ use Rattle.fx_lasting.specs.declared.table.LastingTable.{LastingTable}
 use Rattle.fx_server.specs.FileNumbers.{numbers_of_all}
 use Rattle.fx_server.specs.Workers.{its_table, its_pass}
 use Rattle.fx_server.specs.declared.shared.Shared.{Shared}
-use Rattle.fx_server.specs.declared.worker.TableWorker.{TableWorker}
+use Rattle.fx_server.specs.Worker.{TableWorker}
 
 abbrev pub workers_in : List (Box TableWorker) → List TableWorker
 workers_in list = map (λ (b : Box TableWorker). b.value) list
@@ -20,7 +19,7 @@ workers_in list = map (λ (b : Box TableWorker). b.value) list
 -- has its first numbers
 pub record AreDealt (shared : Shared) (passes : List LastingPass) (installing : ℕ)
     (list : List TableWorker) : Type 0 where
-  pub shares : All (λ (w : TableWorker). arc_value w.shared ≡ shared) list
+  pub shares : All (λ (w : TableWorker). w.shared ≡ shared) list
   pub idle : All (λ (w : TableWorker). w.held ≡ None) list
   pub order : map (λ (w : TableWorker). w.pass) list ≡ passes
   pub numbers : map (λ (w : TableWorker). w.numbers) list

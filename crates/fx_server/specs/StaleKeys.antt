@@ -6,10 +6,10 @@ use Rattle.fx_lasting.specs.slots.ByNode.{WasSo}
 use Rattle.fx_lasting.specs.slots.ByKey.{IsKeyOf}
 use Rattle.fx_lasting.specs.declared.key.Key.{Key}
 use Rattle.fx_server.specs.Answers.{GetsAs, RemovesAs, ReplacesAs}
-use Rattle.fx_server.specs.Workers.{IsGood, its_pass, its_start}
+use Rattle.fx_server.specs.Workers.{its_pass, its_start}
 use Rattle.fx_server.specs.declared.answers.CoreOutcome.{CoreOutcome}
 use Rattle.fx_server.specs.declared.answers.ServerRefusal.TheVariants.{Stale}
-use Rattle.fx_server.specs.declared.worker.TableWorker.{TableWorker}
+use Rattle.fx_server.specs.Worker.{TableWorker}
 
 -- there is a file, and the key names another one or none
 abbrev pub IsAnother : Key → Option File → Type 0
@@ -23,11 +23,11 @@ pub record HadAnother (w : TableWorker) (key : Key) (w' : TableWorker) : Type 0 
 -- a call by key says `Stale` only if the slot had another file at a moment of the call
 pub record StaleKeysHadAnother : Type 0 where
   pub gets : (w w' : TableWorker) (key : Key) (answer : ℤ) (out : CoreOutcome)
-      (done : GetsAs w key answer out w') → IsGood w → done.call.found ≡ Err Stale
+      (done : GetsAs w key answer out w') → done.call.result ≡ Err Stale
       → HadAnother w key w'
   pub removes : (w w' : TableWorker) (key : Key) (answer : ℤ) (out : CoreOutcome)
-      (done : RemovesAs w key answer out w') → IsGood w → done.call.removal ≡ Err Stale
+      (done : RemovesAs w key answer out w') → done.call.result ≡ Err Stale
       → HadAnother w key w'
   pub replaces : (w w' : TableWorker) (key : Key) (tag : ℕ) (answer : ℤ) (out : CoreOutcome)
-      (done : ReplacesAs w key tag answer out w') → IsGood w → done.call.placed ≡ Err Stale
+      (done : ReplacesAs w key tag answer out w') → done.call.result ≡ Err Stale
       → HadAnother w key w'

@@ -1,12 +1,11 @@
 -- The calls of a worker: the events that each adds to its pass.
 use Rattle.std.specs.Prelude.{◌≡◌, ℕ, ◌≤◌, ◌<◌, true, [], Option, Some, None, option_map}
 use Rattle.std.specs.Prelude.{is_some, Result, Ok, Err}
-use Rattle.std.specs.Arc.{arc_value}
 use Rattle.fx_base.specs.Identity.{Identity}
 use Rattle.fx_plain.specs.History.{◌▷◌}
 use Rattle.fx_plain.specs.declared.event.File.{File}
 use Rattle.fx_plain.specs.declared.event.Action.TheVariants.{Allocate, Full}
-use Rattle.fx_table.specs.Calls.{LookedUp, Released, Placed, Taken, HasRetired, Adds, IsNewFile}
+use Rattle.fx_table.specs.Calls.{LookedUp, Placed, Taken, HasRetired, Adds, IsNewFile}
 use Rattle.fx_table.specs.Calls.{no_use, one_number}
 use Rattle.fx_table.specs.Opening.{Opening, size_of}
 use Rattle.fx_table.specs.Pass.{PassView, IsIdle, IsHoldOf}
@@ -24,20 +23,23 @@ use Rattle.fx_lasting.specs.Tables.{view_of, opening_of_table, IsPassOfTable}
 use Rattle.fx_lasting.specs.declared.answers.FoundSlot.TheVariants as found
 use Rattle.fx_lasting.specs.declared.answers.PutEmpty.{PutEmpty}
 use Rattle.fx_lasting.specs.declared.answers.PutEmpty.TheVariants as empty
+use Rattle.fx_lasting.specs.declared.pass.LastingPass.{LastingPass}
 use Rattle.fx_lasting.specs.declared.table.LastingTable.{LastingTable}
 use Rattle.fx_lasting.specs.slots.AtEmpty.{GivesUp, HasPutEmpty, HasSearched}
 use Rattle.fx_lasting.specs.declared.view.Start.{Start}
 use Rattle.fx_server.specs.Files.{file_with}
+use Rattle.fx_server.specs.declared.answers.CallAnswer.{CallAnswer}
 use Rattle.fx_server.specs.declared.answers.FoundFile.{FoundFile}
-use Rattle.fx_server.specs.declared.answers.LookAnswer.{LookAnswer}
 use Rattle.fx_server.specs.declared.answers.ServerRefusal.{ServerRefusal}
 use Rattle.fx_server.specs.declared.answers.ServerRefusal.TheVariants.{Empty, NoSlot, Busy}
-use Rattle.fx_server.specs.declared.answers.ServerRefusal.TheVariants.{Idle, Reader, Again, Stale}
+use Rattle.fx_server.specs.declared.answers.ServerRefusal.TheVariants.{Reader, Again, Stale}
 use Rattle.fx_server.specs.declared.answers.ServerRefusal.TheVariants.{Full as NoFree}
 use Rattle.fx_server.specs.declared.answers.Removal.{Removal}
 use Rattle.fx_server.specs.declared.answers.Removal.TheVariants.{Nothing, InUse, Closed}
+use Rattle.fx_server.specs.declared.file_numbers.FileNumbers.{FileNumbers}
+use Rattle.fx_server.specs.declared.shared.Shared.{Shared}
 use Rattle.fx_server.specs.declared.worker.Held.{Held}
-use Rattle.fx_server.specs.declared.worker.TableWorker.{TableWorker}
+use Rattle.fx_server.specs.Worker.{TableWorker}
 
 -- a table can have this many slots and workers, and workers that install files
 abbrev pub IsInRange : (slots workers installing : ℕ) → Type 0
@@ -45,8 +47,12 @@ IsInRange slots workers installing = (1 ≤ slots) × (slots ≤ MOST_SLOTS) × 
     × (workers ≤ MOST_PASSES) × (1 ≤ installing) × (installing ≤ MOST_INSTALLING)
     × (installing ≤ workers)
 
+abbrev pub worker_of : Shared → Option Held → FileNumbers → LastingPass → TableWorker
+worker_of shared held numbers pass =
+    record { shared = shared; held = held; numbers = numbers; pass = pass }
+
 abbrev pub its_table : TableWorker → LastingTable
-its_table w = (arc_value w.shared).table
+its_table w = w.shared.table
 
 abbrev pub its_opening : TableWorker → Opening
 its_opening w = opening_of_table (its_table w)
@@ -56,6 +62,10 @@ its_pass w = view_of w.pass
 
 abbrev pub its_start : TableWorker → Start
 its_start w = (its_table w).table.shared.key
+
+-- the pass is one of the table, and idle
+abbrev pub IsReady : LastingTable → LastingPass → Type 0
+IsReady t p = IsPassOfTable t p × IsIdle (view_of p)
 
 -- the hold with the worker's fields
 abbrev pub hold_in : Held → Hold
@@ -124,16 +134,8 @@ Finds w slot (Err NoSlot) freed w' = (freed ≡ None) × HasNoSlot w slot w'
 Finds w slot (Err Busy) freed w' = (freed ≡ None) × IsBusy w w'
 Finds w slot (Err _) freed w' = ⊥
 
-abbrev pub LooksUp : TableWorker → ℕ → LookAnswer → TableWorker → Type 0
-LooksUp w slot look w' = Finds w slot look.found look.freed w' × (look.released ≡ None)
-
--- a release: the tag that is returned is that of the file, if it came out
-abbrev pub ReleasesHeld : TableWorker → Result (Option ℕ) ServerRefusal → TableWorker → Type 0
-ReleasesHeld w (Ok tag) w' = (held : Held) × (out : Option Identity) × (w.held ≡ Some held)
-    × (w'.held ≡ None) × (tag ≡ tag_in out)
-    × Released (its_opening w) (its_pass w) (hold_in held) out (its_pass w')
-ReleasesHeld w (Err Idle) w' = (w.held ≡ None) × (w' ≡ w)
-ReleasesHeld w (Err _) w' = ⊥
+abbrev pub LooksUp : TableWorker → ℕ → CallAnswer FoundFile → TableWorker → Type 0
+LooksUp w slot look w' = Finds w slot look.result look.freed w' × (look.released ≡ None)
 
 -- a removed file is retired: it is still used, or it is closed and its tag is returned
 abbrev pub RetiresAs : Opening → PassView → Retired → Removal → PassView → Type 0

@@ -1,38 +1,34 @@
 //! The results of a worker's calls. A file is named by its tag.
-ghost use Rattle.std.specs.Prelude.{◌≡◌};
+ghost use Rattle.std.specs.Prelude.{◌≡◌, None, Err};
 ghost use Rattle.fx_server.specs.Outcomes.{refusal_code};
 
-use crate::codes::{
-    AGAIN, BAD_ARGUMENT, BUSY, EMPTY, FULL, IDLE, NO_MEMORY, NO_SLOT, READER, STALE,
-};
+use crate::codes::{AGAIN, BAD_ARGUMENT, BUSY, EMPTY, FULL, NO_MEMORY, NO_SLOT, READER, STALE};
 
-/// The reason why a call is not done. `Empty`, `Full`, `Again` and `Stale` are answers of the
-/// table; after any other reason nothing has changed.
+/// The reason why a call is not done, with its number for C. `Empty`, `Full`, `Again` and `Stale` are
+/// answers of the table; after any other reason nothing has changed.
 #[derive(Clone, Copy)]
 pub enum ServerRefusal {
     /// The slot is empty.
-    Empty,
+    Empty = EMPTY as isize,
     /// The table has no such slot.
-    NoSlot,
+    NoSlot = NO_SLOT as isize,
     /// The worker holds a file.
-    Busy,
-    /// The worker holds no file.
-    Idle,
+    Busy = BUSY as isize,
     /// The worker only looks files up.
-    Reader,
+    Reader = READER as isize,
     /// At one step every slot had a file.
-    Full,
+    Full = FULL as isize,
     /// An insertion or a search found neither a slot nor a step at which every slot had a file:
     /// another worker emptied a slot meanwhile, changed an empty one, or was in the middle of a
     /// call. Or the slot's word changed during a call by key, or during one that fills only an
     /// empty slot.
-    Again,
+    Again = AGAIN as isize,
     /// A number is out of its range.
-    BadArgument,
+    BadArgument = BAD_ARGUMENT as isize,
     /// An allocation failed.
-    NoMemory,
+    NoMemory = NO_MEMORY as isize,
     /// The slot has another file than that of the key, or the call fills only an empty slot.
-    Stale,
+    Stale = STALE as isize,
 }
 
 impl ServerRefusal {
@@ -41,18 +37,7 @@ impl ServerRefusal {
     pub fn code(self) -> i64
         ensures { result ≡ refusal_code self }
     {
-        match self {
-            ServerRefusal::Empty => EMPTY,
-            ServerRefusal::NoSlot => NO_SLOT,
-            ServerRefusal::Busy => BUSY,
-            ServerRefusal::Idle => IDLE,
-            ServerRefusal::Reader => READER,
-            ServerRefusal::Full => FULL,
-            ServerRefusal::Again => AGAIN,
-            ServerRefusal::BadArgument => BAD_ARGUMENT,
-            ServerRefusal::NoMemory => NO_MEMORY,
-            ServerRefusal::Stale => STALE,
-        }
+        self as i64
     }
 }
 
@@ -65,37 +50,28 @@ pub struct FoundFile {
     pub number: u64,
 }
 
-/// The result of a look-up.
+/// The result of a call about a slot.
 #[derive(Clone, Copy)]
-pub struct LookAnswer {
-    /// The file that the worker holds from now on, or the reason why it holds no file.
-    pub found: Result<FoundFile, ServerRefusal>,
-    /// The tag of a removed file that this look-up was the last to use.
-    pub freed: Option<u64>,
-    /// The tag of another file than that of the key, which the call held and was the last to use.
-    pub released: Option<u64>,
-}
-
-/// The result of a removal.
-#[derive(Clone, Copy)]
-pub struct RemoveAnswer {
-    /// The fate of the file, or the reason why it was not removed.
-    pub removal: Result<Removal, ServerRefusal>,
+pub struct CallAnswer<T> {
+    /// What the call did, or the reason why it is not done.
+    pub result: Result<T, ServerRefusal>,
     /// The tag of a removed file that the call's look-up was the last to use.
     pub freed: Option<u64>,
     /// The tag of a file that the call held and was the last to use.
     pub released: Option<u64>,
 }
 
-/// The result of an installation at a slot.
-#[derive(Clone, Copy)]
-pub struct PlaceAnswer {
-    /// The fate of the old file, and the number of the new one; or why that was not installed.
-    pub placed: Result<Placed, ServerRefusal>,
-    /// The tag of a removed file that the call's look-up was the last to use.
-    pub freed: Option<u64>,
-    /// The tag of a file that the call held and was the last to use.
-    pub released: Option<u64>,
+// Returns the result of a call that was refused.
+#[inline(always)]
+pub(crate) fn refused<T>(refusal: ServerRefusal) -> CallAnswer<T>
+    ensures result { result.result ≡ Err refusal }
+    ensures no_tags { (result.freed ≡ None) × (result.released ≡ None) }
+{
+    CallAnswer {
+        result: Err(refusal),
+        freed: None,
+        released: None,
+    }
 }
 
 /// A file that was installed at a slot.

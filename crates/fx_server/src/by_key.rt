@@ -4,24 +4,23 @@ ghost use Rattle.fx_server.specs.ByKey.{FindsByKey, RemovesByKey, ReplacesByKey,
 ghost use Rattle.fx_server.specs.ByKey.{key_refusal};
 ghost use Rattle.fx_server.specs.Workers.{IsGood};
 
-use crate::answers::{LookAnswer, PlaceAnswer, Placed, RemoveAnswer, ServerRefusal};
+use crate::answers::{CallAnswer, FoundFile, Placed, Removal, ServerRefusal, refused};
 use crate::shared::file_with;
-use crate::worker::{TableWorker, not_found, not_removed, note_key, retire, tag_of};
+use crate::worker::{TableWorker, note_key, retire, tag_of};
 use fx_lasting::{Key, KeyFault, KeyLook, KeyPut, KeyTaken, PutOverKey};
 
 impl TableWorker {
     /// Looks up the file of a key. The worker holds it until `release`.
     #[inline(always)]
-    pub fn get(&mut self, slot: u32, number: u64) -> LookAnswer
-        requires good { IsGood self.old }
-        ensures good { IsGood self.new }
+    pub fn get(&mut self, slot: u32, number: u64) -> CallAnswer<FoundFile>
+        ensures good { IsGood self.old }
         ensures table { self.new.shared ≡ self.old.shared }
         ensures numbers { self.new.numbers ≡ self.old.numbers }
-        ensures found { FindsByKey self.old (key_of slot number) result.found result.freed
+        ensures found { FindsByKey self.old (key_of slot number) result.result result.freed
             result.released self.new }
     {
         if self.held.is_some() {
-            return not_found(ServerRefusal::Busy);
+            return refused(ServerRefusal::Busy);
         }
         let table = &self.shared.table;
         let KeyLook {
@@ -31,12 +30,12 @@ impl TableWorker {
         } = table.look_key(&mut self.pass, Key { slot, number });
         let freed = tag_of(freed);
         let released = tag_of(released);
-        let found = match found {
+        let result = match found {
             Ok(hold) => Ok(note_key(table, &mut self.pass, &mut self.held, hold, number)),
             Err(fault) => Err(key_refusal(fault)),
         };
-        LookAnswer {
-            found,
+        CallAnswer {
+            result,
             freed,
             released,
         }
@@ -49,21 +48,20 @@ impl TableWorker {
     /// `Busy`, `Reader`, `NoSlot`, in this order; `Empty` if the slot has no file, `Stale` if it
     /// has another one, `Again` if the slot's word changed during the call.
     #[inline(always)]
-    pub fn remove(&mut self, slot: u32, number: u64) -> RemoveAnswer
-        requires good { IsGood self.old }
-        ensures good { IsGood self.new }
+    pub fn remove(&mut self, slot: u32, number: u64) -> CallAnswer<Removal>
+        ensures good { IsGood self.old }
         ensures table { self.new.shared ≡ self.old.shared }
         ensures held { self.new.held ≡ self.old.held }
         ensures numbers { self.new.numbers ≡ self.old.numbers }
-        ensures removed { RemovesByKey self.old (key_of slot number) result.removal result.freed
+        ensures removed { RemovesByKey self.old (key_of slot number) result.result result.freed
             result.released self.new }
     {
         if self.held.is_some() {
-            return not_removed(ServerRefusal::Busy);
+            return refused(ServerRefusal::Busy);
         }
         let table = &self.shared.table;
         if !table.installs(&self.pass) {
-            return not_removed(ServerRefusal::Reader);
+            return refused(ServerRefusal::Reader);
         }
         let KeyTaken {
             taken,
@@ -72,12 +70,12 @@ impl TableWorker {
         } = table.take_key(&mut self.pass, Key { slot, number });
         let freed = tag_of(freed);
         let released = tag_of(released);
-        let removal = match taken {
+        let result = match taken {
             Ok(retired) => Ok(retire(table, &mut self.pass, retired)),
             Err(fault) => Err(key_refusal(fault)),
         };
-        RemoveAnswer {
-            removal,
+        CallAnswer {
+            result,
             freed,
             released,
         }
@@ -90,28 +88,27 @@ impl TableWorker {
     /// # Errors
     /// As of `remove`.
     #[inline(always)]
-    pub fn replace(&mut self, slot: u32, number: u64, tag: u64) -> PlaceAnswer
-        requires good { IsGood self.old }
-        ensures good { IsGood self.new }
+    pub fn replace(&mut self, slot: u32, number: u64, tag: u64) -> CallAnswer<Placed>
+        ensures good { IsGood self.old }
         ensures table { self.new.shared ≡ self.old.shared }
         ensures held { self.new.held ≡ self.old.held }
-        ensures placed { ReplacesByKeyNext self.old (key_of slot number) tag result.placed
+        ensures placed { ReplacesByKeyNext self.old (key_of slot number) tag result.result
             result.freed result.released self.new }
     {
-        let RemoveAnswer {
-            removal,
+        let CallAnswer {
+            result,
             freed,
             released,
         } = self.replace_as(slot, number, tag, self.numbers.next);
-        let placed = match removal {
+        let result = match result {
             Ok(removal) => {
                 let number = self.numbers.draw();
                 Ok(Placed { removal, number })
             }
             Err(refusal) => Err(refusal),
         };
-        PlaceAnswer {
-            placed,
+        CallAnswer {
+            result,
             freed,
             released,
         }
@@ -119,21 +116,19 @@ impl TableWorker {
 
     // Replaces the file of a key by one with this tag and this number.
     #[inline(always)]
-    fn replace_as(&mut self, slot: u32, number: u64, tag: u64, next: u64) -> RemoveAnswer
-        requires good { IsGood self.old }
-        ensures good { IsGood self.new }
+    fn replace_as(&mut self, slot: u32, number: u64, tag: u64, next: u64) -> CallAnswer<Removal>
         ensures table { self.new.shared ≡ self.old.shared }
         ensures held { self.new.held ≡ self.old.held }
         ensures numbers { self.new.numbers ≡ self.old.numbers }
-        ensures placed { ReplacesByKey self.old (key_of slot number) tag next result.removal
+        ensures placed { ReplacesByKey self.old (key_of slot number) tag next result.result
             result.freed result.released self.new }
     {
         if self.held.is_some() {
-            return not_removed(ServerRefusal::Busy);
+            return refused(ServerRefusal::Busy);
         }
         let table = &self.shared.table;
         if !table.installs(&self.pass) {
-            return not_removed(ServerRefusal::Reader);
+            return refused(ServerRefusal::Reader);
         }
         let file = file_with(tag, next);
         let KeyPut {
@@ -143,15 +138,15 @@ impl TableWorker {
         } = table.put_over_key(&mut self.pass, Key { slot, number }, file);
         let freed = tag_of(freed);
         let released = tag_of(released);
-        let removal = match put {
+        let result = match put {
             PutOverKey::Replaced(retired) => Ok(retire(table, &mut self.pass, retired)),
             PutOverKey::Missed(fault, file) => {
                 file.discard();
                 Err(key_refusal(fault))
             }
         };
-        RemoveAnswer {
-            removal,
+        CallAnswer {
+            result,
             freed,
             released,
         }

@@ -2,9 +2,8 @@
 //! or the one that the worker drew before and kept.
 ghost use Rattle.std.specs.Prelude.{◌≡◌, None};
 ghost use Rattle.fx_server.specs.Installing.{FindsNext, PutsAnyNext, PutsEmptyKept, PutsNext};
-ghost use Rattle.fx_server.specs.Workers.{IsGood};
 
-use crate::answers::{PlaceAnswer, Placed, PlacedAt, ServerRefusal};
+use crate::answers::{CallAnswer, Placed, PlacedAt, ServerRefusal};
 use crate::worker::TableWorker;
 
 impl TableWorker {
@@ -14,22 +13,20 @@ impl TableWorker {
     /// # Errors
     /// `Busy`, `NoSlot`, `Reader`, in this order.
     #[inline(always)]
-    pub fn replace_at(&mut self, slot: u32, tag: u64) -> PlaceAnswer
-        requires good { IsGood self.old }
-        ensures good { IsGood self.new }
+    pub fn replace_at(&mut self, slot: u32, tag: u64) -> CallAnswer<Placed>
         ensures table { self.new.shared ≡ self.old.shared }
-        ensures placed { PutsNext self.old slot tag result.placed self.new }
+        ensures placed { PutsNext self.old slot tag result.result self.new }
         ensures no_tags { (result.freed ≡ None) × (result.released ≡ None) }
     {
-        let placed = match self.replace_at_as(slot, tag, self.numbers.next) {
+        let result = match self.replace_at_as(slot, tag, self.numbers.next) {
             Ok(removal) => {
                 let number = self.numbers.draw();
                 Ok(Placed { removal, number })
             }
             Err(refusal) => Err(refusal),
         };
-        PlaceAnswer {
-            placed,
+        CallAnswer {
+            result,
             freed: None,
             released: None,
         }
@@ -44,8 +41,6 @@ impl TableWorker {
     /// the middle of a call.
     #[inline(always)]
     pub fn insert(&mut self, tag: u64) -> Result<PlacedAt, ServerRefusal>
-        requires good { IsGood self.old }
-        ensures good { IsGood self.new }
         ensures table { self.new.shared ≡ self.old.shared }
         ensures allocated { PutsAnyNext self.old tag result self.new }
     {
@@ -63,8 +58,6 @@ impl TableWorker {
     /// neither was found: another worker emptied a slot meanwhile, or was in the middle of a call.
     #[inline(always)]
     pub fn find(&mut self) -> Result<PlacedAt, ServerRefusal>
-        requires good { IsGood self.old }
-        ensures good { IsGood self.new }
         ensures table { self.new.shared ≡ self.old.shared }
         ensures found { FindsNext self.old result self.new }
     {
@@ -82,8 +75,6 @@ impl TableWorker {
     /// call.
     #[inline(always)]
     pub fn put_empty(&mut self, slot: u32, tag: u64) -> Result<(), ServerRefusal>
-        requires good { IsGood self.old }
-        ensures good { IsGood self.new }
         ensures table { self.new.shared ≡ self.old.shared }
         ensures placed { PutsEmptyKept self.old slot tag result self.new }
     {

@@ -3,7 +3,7 @@ ghost use Rattle.std.specs.Prelude.{◌≡◌, ◌<◌, ◌≤◌, ◌+◌, All,
 ghost use Rattle.std.specs.Prelude.{length};
 ghost use Rattle.std.specs.Arc.{arc_value};
 ghost use Rattle.fx_server.specs.Opened.{AreDealt, AreOpened, workers_in};
-ghost use Rattle.fx_server.specs.Workers.{IsGood, IsInRange};
+ghost use Rattle.fx_server.specs.Workers.{IsInRange, IsReady};
 ghost use Rattle.fx_lasting.specs.declared.life.layout.TheConstants.{MOST_PASSES};
 ghost use Rattle.fx_server.specs.declared.answers.ServerRefusal.TheVariants.{BadArgument, NoMemory as RanOut};
 
@@ -28,7 +28,6 @@ pub fn open(
 ) -> Result<Vec<Box<TableWorker>>, ServerRefusal>
     ensures opened { IfOk result (λ list.
         AreOpened slots workers installing (workers_in list.items)) }
-    ensures good { IfOk result (λ list. All IsGood (workers_in list.items)) }
     ensures count { IfOk result (λ list. length list.items ≡ workers) }
     ensures range { IfOk result (λ list. IsInRange slots workers installing) }
     ensures out_of_range { result ≡ Err BadArgument → IsInRange slots workers installing → ⊥ }
@@ -56,6 +55,7 @@ fn share(
     installing: u32,
 ) -> Result<Vec<Box<TableWorker>>, ServerRefusal>
     requires few { length passes.items ≤ MOST_PASSES }
+    requires ready { All (IsReady shared.table) passes.items }
     ensures dealt { IfOk result (λ list.
         AreDealt shared passes.items installing (workers_in list.items)) }
     ensures memory { IfErr result (λ refusal. refusal ≡ RanOut) }
@@ -81,6 +81,7 @@ fn deal(
 ) -> Result<Vec<Box<TableWorker>>, ServerRefusal>
     requires none { length workers.items ≡ 0 }
     requires few { length passes.items ≤ MOST_PASSES }
+    requires ready { All (IsReady (arc_value shared).table) passes.items }
     ensures dealt { IfOk result (λ list.
         AreDealt (arc_value shared) passes.items installing (workers_in list.items)) }
     ensures memory { IfErr result (λ refusal. refusal ≡ RanOut) }
@@ -108,7 +109,8 @@ fn begin(
     pass: LastingPass,
     numbers: FileNumbers,
 ) -> Result<Box<TableWorker>, AllocError>
-    ensures table { IfOk result (λ b. arc_value b.value.shared ≡ arc_value shared.now) }
+    requires ready { IsReady (arc_value shared.now).table pass }
+    ensures table { IfOk result (λ b. b.value.shared ≡ arc_value shared.now) }
     ensures pass { IfOk result (λ b. b.value.pass ≡ pass) }
     ensures idle { IfOk result (λ b. b.value.held ≡ None) }
     ensures numbers { IfOk result (λ b. b.value.numbers ≡ numbers) }

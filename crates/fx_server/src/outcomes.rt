@@ -1,13 +1,11 @@
 //! The numbers and outcomes that C gets for the results of a worker's calls.
 ghost use Rattle.std.specs.Prelude.{◌≡◌};
-ghost use Rattle.fx_server.specs.Outcomes.{done_code, found_code, found_outcome, placed_code};
-ghost use Rattle.fx_server.specs.Outcomes.{placed_outcome, release_code, released_tag};
+ghost use Rattle.fx_server.specs.Outcomes.{done_code, found_outcome, placed_code, placed_outcome};
 ghost use Rattle.fx_server.specs.Outcomes.{removal_code, removal_tag, removed_outcome, slot_code};
 ghost use Rattle.fx_server.specs.Outcomes.{slot_number, tag_or_zero};
 
 use crate::answers::{
-    CoreOutcome, FoundFile, LookAnswer, PlaceAnswer, Placed, PlacedAt, Removal, RemoveAnswer,
-    ServerRefusal,
+    CallAnswer, CoreOutcome, FoundFile, Placed, PlacedAt, Removal, ServerRefusal,
 };
 use crate::codes::{DONE, DROPPED, IN_USE};
 
@@ -22,13 +20,13 @@ pub fn tag_or_zero(tag: Option<u64>) -> u64
     }
 }
 
-/// Returns the number of a call that returns nothing else: `DONE`, or the refusal's.
+/// Returns the number of a call that returns no other one: `DONE`, or the refusal's.
 #[inline(always)]
-pub fn done_code(done: Result<(), ServerRefusal>) -> i64
+pub fn done_code<T: Copy>(done: Result<T, ServerRefusal>) -> i64
     ensures { result ≡ done_code done }
 {
     match done {
-        Ok(()) => DONE,
+        Ok(_) => DONE,
         Err(refusal) => refusal.code(),
     }
 }
@@ -55,46 +53,12 @@ pub fn slot_number(placed: Result<PlacedAt, ServerRefusal>) -> u64
     }
 }
 
-/// Returns the number of a release.
-#[inline(always)]
-pub fn release_code(released: Result<Option<u64>, ServerRefusal>) -> i64
-    ensures { result ≡ release_code released }
-{
-    match released {
-        Ok(None) => DONE,
-        Ok(Some(_)) => DROPPED,
-        Err(refusal) => refusal.code(),
-    }
-}
-
-/// Returns the tag that a release returned, or 0.
-#[inline(always)]
-pub fn released_tag(released: Result<Option<u64>, ServerRefusal>) -> u64
-    ensures { result ≡ released_tag released }
-{
-    match released {
-        Ok(tag) => tag_or_zero(tag),
-        Err(_) => 0,
-    }
-}
-
-/// Returns the number of a look-up: `DONE`, or the refusal's.
-#[inline(always)]
-pub fn found_code(found: Result<FoundFile, ServerRefusal>) -> i64
-    ensures { result ≡ found_code found }
-{
-    match found {
-        Ok(_) => DONE,
-        Err(refusal) => refusal.code(),
-    }
-}
-
 /// Returns the outcome of a look-up.
 #[inline(always)]
-pub fn found_outcome(look: LookAnswer) -> CoreOutcome
+pub fn found_outcome(look: CallAnswer<FoundFile>) -> CoreOutcome
     ensures { result ≡ found_outcome look }
 {
-    let (number, tag) = match look.found {
+    let (number, tag) = match look.result {
         Ok(file) => (file.number, file.tag),
         Err(_) => (0, 0),
     };
@@ -132,12 +96,12 @@ pub fn removal_tag(removal: Result<Removal, ServerRefusal>) -> u64
 
 /// Returns the outcome of a removal.
 #[inline(always)]
-pub fn removed_outcome(answer: RemoveAnswer) -> CoreOutcome
+pub fn removed_outcome(answer: CallAnswer<Removal>) -> CoreOutcome
     ensures { result ≡ removed_outcome answer }
 {
     CoreOutcome {
         number: 0,
-        tag: removal_tag(answer.removal),
+        tag: removal_tag(answer.result),
         freed: tag_or_zero(answer.freed),
         released: tag_or_zero(answer.released),
     }
@@ -156,10 +120,10 @@ pub fn placed_code(placed: Result<Placed, ServerRefusal>) -> i64
 
 /// Returns the outcome of an installation at a slot.
 #[inline(always)]
-pub fn placed_outcome(answer: PlaceAnswer) -> CoreOutcome
+pub fn placed_outcome(answer: CallAnswer<Placed>) -> CoreOutcome
     ensures { result ≡ placed_outcome answer }
 {
-    let (number, tag) = match answer.placed {
+    let (number, tag) = match answer.result {
         Ok(it) => (it.number, removal_tag(Ok(it.removal))),
         Err(_) => (0, 0),
     };

@@ -1,6 +1,6 @@
 //! The installations of a worker, with a number that the caller chose.
 ghost use Rattle.std.specs.Prelude.{◌≡◌};
-ghost use Rattle.fx_server.specs.Workers.{FindsSlot, IsGood, Puts, PutsAny, PutsEmpty};
+ghost use Rattle.fx_server.specs.Workers.{FindsSlot, Puts, PutsAny, PutsEmpty};
 
 use crate::answers::{Removal, ServerRefusal};
 use crate::shared::file_with;
@@ -19,8 +19,6 @@ impl TableWorker {
         tag: u64,
         number: u64,
     ) -> Result<Removal, ServerRefusal>
-        requires good { IsGood self.old }
-        ensures good { IsGood self.new }
         ensures table { self.new.shared ≡ self.old.shared }
         ensures numbers { self.new.numbers ≡ self.old.numbers }
         ensures placed { Puts self.old slot tag number result self.new }
@@ -50,8 +48,6 @@ impl TableWorker {
     /// the middle of a call.
     #[inline(always)]
     pub(crate) fn insert_as(&mut self, tag: u64, number: u64) -> Result<u32, ServerRefusal>
-        requires good { IsGood self.old }
-        ensures good { IsGood self.new }
         ensures table { self.new.shared ≡ self.old.shared }
         ensures numbers { self.new.numbers ≡ self.old.numbers }
         ensures allocated { PutsAny self.old tag number result self.new }
@@ -90,8 +86,6 @@ impl TableWorker {
         tag: u64,
         number: u64,
     ) -> Result<(), ServerRefusal>
-        requires good { IsGood self.old }
-        ensures good { IsGood self.new }
         ensures table { self.new.shared ≡ self.old.shared }
         ensures numbers { self.new.numbers ≡ self.old.numbers }
         ensures placed { PutsEmpty self.old slot tag number result self.new }
@@ -127,8 +121,6 @@ impl TableWorker {
     /// neither was found: another worker emptied a slot meanwhile, or was in the middle of a call.
     #[inline(always)]
     pub(crate) fn find_slot(&mut self) -> Result<u32, ServerRefusal>
-        requires good { IsGood self.old }
-        ensures good { IsGood self.new }
         ensures table { self.new.shared ≡ self.old.shared }
         ensures numbers { self.new.numbers ≡ self.old.numbers }
         ensures found { FindsSlot self.old result self.new }

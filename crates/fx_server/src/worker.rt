@@ -2,16 +2,19 @@
 ghost use Rattle.std.specs.Prelude.{◌≡◌, None, Ok, Err, IfOk, option_map};
 ghost use Rattle.fx_table.specs.Pass.{IsHoldOf, IsRetiredOf};
 ghost use Rattle.fx_lasting.specs.Tables.{view_of, opening_of_table, IsPassOfTable};
-ghost use Rattle.fx_server.specs.Workers.{HasNumber, IsGood, LooksUp, Notes, ReleasesHeld};
+ghost use Rattle.fx_server.specs.Answers.{ReleasesAs};
+ghost use Rattle.fx_server.specs.Workers.{HasNumber, LooksUp, Notes};
 ghost use Rattle.fx_server.specs.Workers.{RemovesFrom, RetiresAs};
 
-use crate::answers::{FoundFile, LookAnswer, Removal, RemoveAnswer, ServerRefusal};
+use crate::answers::{CallAnswer, FoundFile, Removal, ServerRefusal, refused};
+use crate::codes::{DONE, DROPPED, IDLE};
 use crate::file_numbers::FileNumbers;
 use crate::shared::Shared;
 use fx_base::OpenFile;
 use fx_lasting::{LastingPass, LastingTable};
 use fx_table::{Empty, Hold, LookFault as Fault, LookUp, Retired};
 use std::alloc::Global;
+use std::marker::Model;
 use std::sync::Arc;
 
 /// The hold of a worker: the fields of a `Hold`.
@@ -24,12 +27,25 @@ pub struct Held {
 }
 
 /// A pass with its table. It holds at most one file at a time, by the user's look-up. The pass is
-/// last, so that the workers of two threads share no cache line (`LastingPass`).
+/// last, so that the workers of two threads share no cache line (`LastingPass`). Between two calls
+/// the pass is one of the table, and is idle or holds by the worker's hold.
 pub struct TableWorker {
-    pub shared: Arc<Shared, Global>,
-    pub held: Option<Held>,
+    pub(crate) shared: Arc<Shared, Global>,
+    pub(crate) held: Option<Held>,
     pub(crate) numbers: FileNumbers,
-    pub pass: LastingPass,
+    pub(crate) pass: LastingPass,
+}
+
+impl Model for TableWorker {
+    ghost use Rattle.std.specs.Arc.{arc_value};
+    ghost use Rattle.fx_server.specs.Worker.{TableWorker as Worker};
+    ghost use Rattle.fx_server.specs.Workers.{IsGood, worker_of};
+
+    ghost Value = { Worker };
+
+    ghost view = { λ s. worker_of (arc_value s.shared) s.held s.numbers s.pass };
+
+    ghost invariant = { λ s. IsGood (worker_of (arc_value s.shared) s.held s.numbers s.pass) };
 }
 
 impl Drop for TableWorker {
@@ -48,49 +64,45 @@ impl Drop for TableWorker {
 impl TableWorker {
     /// Looks a slot up. The worker holds the file there until `release`.
     #[inline(always)]
-    pub fn get_at(&mut self, slot: u32) -> LookAnswer
-        requires good { IsGood self.old }
-        ensures good { IsGood self.new }
+    pub fn get_at(&mut self, slot: u32) -> CallAnswer<FoundFile>
         ensures table { self.new.shared ≡ self.old.shared }
         ensures numbers { self.new.numbers ≡ self.old.numbers }
         ensures looked { LooksUp self.old slot result self.new }
     {
         let table = &self.shared.table;
         if self.held.is_some() {
-            return not_found(ServerRefusal::Busy);
+            return refused(ServerRefusal::Busy);
         }
         if slot >= table.size() {
-            return not_found(ServerRefusal::NoSlot);
+            return refused(ServerRefusal::NoSlot);
         }
         let LookUp { found, freed } = table.look_up(&mut self.pass, slot);
         let freed = tag_of(freed);
-        let found = note(table, &mut self.pass, &mut self.held, found);
-        LookAnswer {
-            found,
+        CallAnswer {
+            result: note(table, &mut self.pass, &mut self.held, found),
             freed,
             released: None,
         }
     }
 
-    /// Releases the file that the worker holds. Returns its tag, if it was removed and nobody uses
-    /// it any more.
-    ///
-    /// # Errors
-    /// `Idle` if the worker holds no file.
+    /// Releases the file that the worker holds, and writes its tag, if it was removed and nobody
+    /// uses it any more, or 0. Returns `DROPPED` or `DONE`; or `IDLE` if the worker holds no file.
     #[inline(always)]
-    pub fn release(&mut self) -> Result<Option<u64>, ServerRefusal>
-        requires good { IsGood self.old }
-        ensures good { IsGood self.new }
-        ensures table { self.new.shared ≡ self.old.shared }
-        ensures numbers { self.new.numbers ≡ self.old.numbers }
-        ensures released { ReleasesHeld self.old result self.new }
+    pub fn release(&mut self, dropped: &mut u64) -> i64
+        ensures released { ReleasesAs self.old result dropped.new self.new }
     {
+        *dropped = 0;
         let Some(Held { node, entry }) = self.held.take() else {
-            return Err(ServerRefusal::Idle);
+            return IDLE;
         };
         let hold = Hold { node, entry };
-        let out = self.shared.table.release(&mut self.pass, hold);
-        Ok(tag_of(out))
+        match tag_of(self.shared.table.release(&mut self.pass, hold)) {
+            None => DONE,
+            Some(tag) => {
+                *dropped = tag;
+                DROPPED
+            }
+        }
     }
 
     /// Empties a slot. Returns what was there, which is not `Nothing`.
@@ -98,31 +110,29 @@ impl TableWorker {
     /// # Errors
     /// `Busy`, `NoSlot`, `Reader`, in this order, or `Empty` if the slot has no file.
     #[inline(always)]
-    pub fn remove_at(&mut self, slot: u32) -> RemoveAnswer
-        requires good { IsGood self.old }
-        ensures good { IsGood self.new }
+    pub fn remove_at(&mut self, slot: u32) -> CallAnswer<Removal>
         ensures table { self.new.shared ≡ self.old.shared }
         ensures numbers { self.new.numbers ≡ self.old.numbers }
-        ensures removed { RemovesFrom self.old slot result.removal self.new }
+        ensures removed { RemovesFrom self.old slot result.result self.new }
         ensures no_tags { (result.freed ≡ None) × (result.released ≡ None) }
     {
         if self.held.is_some() {
-            return not_removed(ServerRefusal::Busy);
+            return refused(ServerRefusal::Busy);
         }
         let table = &self.shared.table;
         if slot >= table.size() {
-            return not_removed(ServerRefusal::NoSlot);
+            return refused(ServerRefusal::NoSlot);
         }
         if !table.installs(&self.pass) {
-            return not_removed(ServerRefusal::Reader);
+            return refused(ServerRefusal::Reader);
         }
         match table.take(&mut self.pass, slot) {
-            Ok(retired) => RemoveAnswer {
-                removal: Ok(retire(table, &mut self.pass, retired)),
+            Ok(retired) => CallAnswer {
+                result: Ok(retire(table, &mut self.pass, retired)),
                 freed: None,
                 released: None,
             },
-            Err(Empty) => not_removed(ServerRefusal::Empty),
+            Err(Empty) => refused(ServerRefusal::Empty),
         }
     }
 }
@@ -178,32 +188,6 @@ pub(crate) fn note_key(
     let Hold { node, entry } = hold;
     *held = Some(Held { node, entry });
     FoundFile { tag, number }
-}
-
-// Returns the result of a look-up that was refused.
-#[inline(always)]
-pub(crate) fn not_found(refusal: ServerRefusal) -> LookAnswer
-    ensures found { result.found ≡ Err refusal }
-    ensures no_tags { (result.freed ≡ None) × (result.released ≡ None) }
-{
-    LookAnswer {
-        found: Err(refusal),
-        freed: None,
-        released: None,
-    }
-}
-
-// Returns the result of a removal that was refused.
-#[inline(always)]
-pub(crate) fn not_removed(refusal: ServerRefusal) -> RemoveAnswer
-    ensures removal { result.removal ≡ Err refusal }
-    ensures no_tags { (result.freed ≡ None) × (result.released ≡ None) }
-{
-    RemoveAnswer {
-        removal: Err(refusal),
-        freed: None,
-        released: None,
-    }
 }
 
 // Consumes a file that came out, and returns its tag.

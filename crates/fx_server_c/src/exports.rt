@@ -1,17 +1,17 @@
 //! The functions that C calls: one for each call that a user makes. Each borrows the handle of a
-//! worker, and calls the worker, which is good before the call and after it.
+//! worker, and calls the worker.
 ghost use Rattle.std.specs.Prelude.{◌≡◌, ◌≢◌, ◌⊎◌, length};
 ghost use Rattle.fx_server.specs.Answers.{FindsAs, GetsAs, GetsAtAs, InsertsAs, PutsEmptyAs};
 ghost use Rattle.fx_server.specs.Answers.{ReleasesAs, RemovesAs, RemovesAtAs, ReplacesAs};
 ghost use Rattle.fx_server.specs.Answers.{ReplacesAtAs};
 ghost use Rattle.fx_server.specs.ByKey.{key_of};
 ghost use Rattle.fx_server.specs.Places.{OpensAs};
-ghost use Rattle.fx_server.specs.Workers.{IsGood, IsInRange};
+ghost use Rattle.fx_server.specs.Workers.{IsInRange};
 ghost use Rattle.fx_server.specs.declared.codes.TheConstants.{DONE, BAD_ARGUMENT, NO_MEMORY};
 
 use fx_server::outcomes::{
-    done_code, found_code, found_outcome, placed_code, placed_outcome, release_code, released_tag,
-    removal_code, removed_outcome, slot_code, slot_number,
+    done_code, found_outcome, placed_code, placed_outcome, removal_code, removed_outcome, slot_code,
+    slot_number,
 };
 use fx_server::{CoreOutcome, Handle, WorkerPlace, open_places};
 use std::alloc::Global;
@@ -44,12 +44,11 @@ pub extern "C" fn yacht_core_close(worker: Handle) {
 /// a removed file that this look-up was the last to use.
 #[unsafe(no_mangle)]
 pub extern "C" fn yacht_core_get_at(worker: &mut Handle, slot: u32, out: &mut CoreOutcome) -> i64
-    requires good { IsGood worker.old.worker }
     ensures found { GetsAtAs worker.old.worker slot result out.new worker.new.worker }
 {
     let look = worker.as_mut().get_at(slot);
     *out = found_outcome(look);
-    found_code(look.found)
+    done_code(look.result)
 }
 
 /// Looks up the file with this number at a slot. It returns as `yacht_core_get_at`, or `STALE` if
@@ -62,32 +61,27 @@ pub extern "C" fn yacht_core_get(
     number: u64,
     out: &mut CoreOutcome,
 ) -> i64
-    requires good { IsGood worker.old.worker }
     ensures found { GetsAs worker.old.worker (key_of slot number) result out.new
         worker.new.worker }
 {
     let look = worker.as_mut().get(slot, number);
     *out = found_outcome(look);
-    found_code(look.found)
+    done_code(look.result)
 }
 
 /// Releases the file that the worker holds. It returns `DONE`, `DROPPED` or `IDLE`. `dropped` is
 /// the tag of the file if nobody uses it any more, or 0.
 #[unsafe(no_mangle)]
 pub extern "C" fn yacht_core_release(worker: &mut Handle, dropped: &mut u64) -> i64
-    requires good { IsGood worker.old.worker }
     ensures released { ReleasesAs worker.old.worker result dropped.new worker.new.worker }
 {
-    let released = worker.as_mut().release();
-    *dropped = released_tag(released);
-    release_code(released)
+    worker.as_mut().release(dropped)
 }
 
 /// Makes one round to install a file with this tag and the worker's next number at a free slot. It
 /// returns the slot, or `FULL`, `AGAIN`, `BUSY` or `READER`. `number` is the file's number, or 0.
 #[unsafe(no_mangle)]
 pub extern "C" fn yacht_core_insert(worker: &mut Handle, tag: u64, number: &mut u64) -> i64
-    requires good { IsGood worker.old.worker }
     ensures allocated { InsertsAs worker.old.worker tag result number.new worker.new.worker }
 {
     let placed = worker.as_mut().insert(tag);
@@ -105,12 +99,11 @@ pub extern "C" fn yacht_core_replace_at(
     tag: u64,
     out: &mut CoreOutcome,
 ) -> i64
-    requires good { IsGood worker.old.worker }
     ensures placed { ReplacesAtAs worker.old.worker slot tag result out.new worker.new.worker }
 {
     let answer = worker.as_mut().replace_at(slot, tag);
     *out = placed_outcome(answer);
-    placed_code(answer.placed)
+    placed_code(answer.result)
 }
 
 /// Replaces the file with this number at a slot by one with this tag and the worker's next number.
@@ -124,25 +117,23 @@ pub extern "C" fn yacht_core_replace(
     tag: u64,
     out: &mut CoreOutcome,
 ) -> i64
-    requires good { IsGood worker.old.worker }
     ensures placed { ReplacesAs worker.old.worker (key_of slot number) tag result out.new
         worker.new.worker }
 {
     let answer = worker.as_mut().replace(slot, number, tag);
     *out = placed_outcome(answer);
-    placed_code(answer.placed)
+    placed_code(answer.result)
 }
 
 /// Empties a slot. It returns `DROPPED`, `IN_USE`, `BUSY`, `NO_SLOT`, `READER` or `EMPTY`. `out`
 /// has the tag of what was there if nobody uses that any more.
 #[unsafe(no_mangle)]
 pub extern "C" fn yacht_core_remove_at(worker: &mut Handle, slot: u32, out: &mut CoreOutcome) -> i64
-    requires good { IsGood worker.old.worker }
     ensures removed { RemovesAtAs worker.old.worker slot result out.new worker.new.worker }
 {
     let answer = worker.as_mut().remove_at(slot);
     *out = removed_outcome(answer);
-    removal_code(answer.removal)
+    removal_code(answer.result)
 }
 
 /// Removes the file with this number from a slot. It returns `DROPPED`, `IN_USE`, `EMPTY`, `STALE`,
@@ -154,13 +145,12 @@ pub extern "C" fn yacht_core_remove(
     number: u64,
     out: &mut CoreOutcome,
 ) -> i64
-    requires good { IsGood worker.old.worker }
     ensures removed { RemovesAs worker.old.worker (key_of slot number) result out.new
         worker.new.worker }
 {
     let answer = worker.as_mut().remove(slot, number);
     *out = removed_outcome(answer);
-    removal_code(answer.removal)
+    removal_code(answer.result)
 }
 
 /// Finds an empty slot, and draws the worker's next number, which the worker keeps for the file
@@ -168,7 +158,6 @@ pub extern "C" fn yacht_core_remove(
 /// that, or `FULL`, `AGAIN`, `BUSY` or `READER`. `number` is the number, or 0.
 #[unsafe(no_mangle)]
 pub extern "C" fn yacht_core_find(worker: &mut Handle, number: &mut u64) -> i64
-    requires good { IsGood worker.old.worker }
     ensures found { FindsAs worker.old.worker result number.new worker.new.worker }
 {
     let found = worker.as_mut().find();
@@ -181,7 +170,6 @@ pub extern "C" fn yacht_core_find(worker: &mut Handle, number: &mut u64) -> i64
 /// `STALE` if the slot had a file, or `AGAIN` if it was empty and changed meanwhile.
 #[unsafe(no_mangle)]
 pub extern "C" fn yacht_core_put_empty(worker: &mut Handle, slot: u32, tag: u64) -> i64
-    requires good { IsGood worker.old.worker }
     ensures placed { PutsEmptyAs worker.old.worker slot tag result worker.new.worker }
 {
     done_code(worker.as_mut().put_empty(slot, tag))

@@ -1,6 +1,8 @@
 use Rattle.std.specs.Arc.{arc_value}
-use Rattle.std.proofs.Common.{◌≡◌, [], ◌∷◌, None, ap, ◌∙◌, arith, length, length-append}
-use Rattle.fx_server.specs.declared.worker.TableWorker.{TableWorker}
+use Rattle.std.proofs.Common.{◌≡◌, [], ◌∷◌, None, Some, ap, ◌∙◌, arith, length, length-append}
+use Rattle.fx_server.specs.Worker.{TableWorker}
+use Rattle.std.proofs.lemmas.List.Elements.{All-pop}
+use Rattle.fx_server.specs.Workers.{IsReady}
 use Rattle.fx_server.proofs.Dealing.{all_pushed, dealt_one, in_places}
 use Rattle.fx_server.specs.FileNumbers.{first_numbers}
 use Rattle.fx_server.proofs.opening.deal.Goals as goal
@@ -10,8 +12,9 @@ loop-pass-preserved c =
     let was = c.loop-pass.invariant in
     let pushed = c.in-Ok-push.ensures.items in
     record {
-      shares = all_pushed (λ (w : TableWorker). arc_value w.shared ≡ arc_value c.args.shared) _ _ c.in-Ok.worker pushed was.shares (rw (← was.same) c.in-Ok.ensures.table);
+      shares = all_pushed (λ (w : TableWorker). w.shared ≡ arc_value c.args.shared) _ _ c.in-Ok.worker pushed was.shares (rw (← was.same) c.in-Ok.ensures.table);
       idle = all_pushed (λ (w : TableWorker). w.held ≡ None) _ _ c.in-Ok.worker pushed was.idle c.in-Ok.ensures.idle;
+      ready = (All-pop (IsReady (arc_value c.args.shared).table) _ _ (Some c.in-Some.pass) c.in-Some.ensures.items was.ready).0;
       same = was.same;
       numbers = in_places (λ (w : TableWorker). w.numbers) (first_numbers c.args.installing) 1 _ _ c.in-Ok.worker pushed
           (c.in-Ok.ensures.numbers ∙ (c.first-numbers.ensures ∙ ap (first_numbers c.args.installing) (omega (arith, c.len.ensures, was.count, c.requires.few))))
@@ -26,3 +29,8 @@ loop-pass-preserved c =
       );
       passes = dealt_one _ _ c.in-Ok.worker _ _ c.in-Some.pass _ pushed c.in-Some.ensures.items c.in-Ok.ensures.pass was.passes;
     }
+
+pub begin-requires : goal.begin-requires
+begin-requires c = record {
+  ready = (All-pop (IsReady (arc_value c.args.shared).table) _ _ (Some c.in-Some.pass) c.in-Some.ensures.items c.loop-pass.invariant.ready).1;
+}

@@ -2,14 +2,16 @@ use Rattle.std.proofs.Common.{◌≡◌, ◌+◌, ◌++◌, All, None, length, m
 use Rattle.std.specs.Arc.{arc_value}
 use Rattle.fx_server.specs.FileNumbers.{numbers_of_all}
 use Rattle.fx_server.specs.Opened.{workers_in}
-use Rattle.fx_server.specs.declared.worker.TableWorker.{TableWorker}
+use Rattle.fx_server.specs.Worker.{TableWorker}
+use Rattle.fx_server.specs.Workers.{IsReady}
 use Rattle.fx_server.proofs.opening.deal.Given as goal
 
 -- the workers so far have the first passes, and the others are left, the last one first
 abbrev pub invariant-loop-pass : goal.invariant-loop-pass
 invariant-loop-pass l = record {
-  shares : All (λ (w : TableWorker). arc_value w.shared ≡ arc_value l.fn.shared) (workers_in l.workers.items);
+  shares : All (λ (w : TableWorker). w.shared ≡ arc_value l.fn.shared) (workers_in l.workers.items);
   idle : All (λ (w : TableWorker). w.held ≡ None) (workers_in l.workers.items);
+  ready : All (IsReady (arc_value l.fn.shared).table) l.passes.items;
   same : l.shared ≡ l.fn.shared;
   numbers : map (λ (w : TableWorker). w.numbers) (workers_in l.workers.items) ≡ numbers_of_all l.fn.installing (length (workers_in l.workers.items));
   count : length l.workers.items + length l.passes.items ≡ length l.fn.passes.items;

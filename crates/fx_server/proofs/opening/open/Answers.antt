@@ -1,18 +1,15 @@
 use Rattle.std.proofs.Common.{arith}
 use Rattle.std.proofs.lemmas.List.{length-map}
 use Rattle.std.specs.Global.{Box}
-use Rattle.fx_server.specs.declared.worker.TableWorker.{TableWorker}
+use Rattle.fx_server.specs.Worker.{TableWorker}
 use Rattle.fx_lasting.specs.Passes.{empty_slots}
-use Rattle.fx_server.proofs.Dealing.{good_of, opened_of}
+use Rattle.fx_server.proofs.Dealing.{opened_of}
 use Rattle.fx_server.proofs.opening.open.Goals as goal
 
 pub returns-clause-opened : goal.returns-clause-opened
 returns-clause-opened c =
     (opened_of _ (empty_slots c.args.slots (0, c.args.slots)) _ _ c.args.slots c.args.workers c.args.installing c.in_ok-list.ensures.dealt
     c.in-Ok.ensures.opened c.in-Ok.ensures.empty c.in-Ok.ensures.count c.in-Ok.ensures.new).0
-
-pub returns-clause-good : goal.returns-clause-good
-returns-clause-good c = good_of _ _ c.args.installing _ c.in_ok-list.ensures.dealt c.in-Ok.ensures.ready
 
 pub returns-clause-count : goal.returns-clause-count
 returns-clause-count c = omega (
