@@ -87,14 +87,23 @@ uint32_t yacht_judge_events(LOG_PASSED, uint32_t states, uint32_t memory, yacht_
     return it->number;
 }
 
-/* no row has these questions */
+/* no row has the two further questions: nothing is decided by whole updates. Only a log without events has a reason: of as many steps as the
+ * position that is asked for, each with other numbers. */
 uint32_t yacht_judge_whole_updates(LOG_PASSED, uint32_t states, uint32_t memory, yacht_judgement *judgement) {
-    return yacht_judge_events(script, script_length, slots, requests, requests_length, entries, entries_length, bytes, bytes_length, events,
-                              events_length, states, memory, judgement);
+    (void)yacht_judge_events(script, script_length, slots, requests, requests_length, entries, entries_length, bytes, bytes_length, events,
+                             events_length, states, memory, judgement);
+    return YACHT_UNDECIDED;
 }
+
+static yacht_point point_of(uint32_t nth) {
+    return (yacht_point){nth % 4 + 1, nth + 1, nth + 2, nth + 3, nth + 4, nth + 5, nth + 6, (nth + 7) % 251};
+}
+
 uint32_t yacht_explain_events(LOG_PASSED, uint64_t at, yacht_step *steps, size_t steps_length, yacht_reason *reason) {
     (void)script, (void)script_length, (void)slots, (void)requests, (void)requests_length, (void)entries, (void)entries_length, (void)bytes;
-    (void)bytes_length, (void)events, (void)events_length, (void)at, (void)steps, (void)steps_length;
-    *reason = (yacht_reason){0};
-    return YACHT_UNDECIDED;
+    (void)bytes_length, (void)events;
+    *reason = (yacht_reason){.steps = events_length ? 0 : at};
+    for (uint32_t nth = 0; nth < reason->steps && nth < steps_length; nth++)
+        steps[nth] = (yacht_step){nth % 27 + 1, nth % 2, nth, nth + 1, nth + 2, nth + 3, nth + 4, nth + 5, point_of(nth + 6), point_of(nth + 60)};
+    return events_length ? YACHT_UNDECIDED : YACHT_NOT_LEGAL;
 }

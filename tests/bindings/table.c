@@ -70,7 +70,8 @@ static void bad_arguments(void) {
 static void drops_that_install(void) {
     yacht_table *table;
     WANT(yacht_open(&table, 1, 2, 0, drop, &drops) == YACHT_DONE);
-    WANT(yacht_insert(yacht_handle_of(table, 0), &dropped[5]) == 0);
+    yacht_key key = {0, 9};
+    WANT(yacht_insert_key(yacht_handle_of(table, 0), &dropped[5], &key) == 0 && key.number && !key.slot);
     again = yacht_handle_of(table, 1), more = 2;
     yacht_free(table);
     WANT(drops == 3 && dropped[5] == 1 && dropped[6] == 1 && dropped[7] == 1);
@@ -180,8 +181,8 @@ static void bits(void) {
     key = (yacht_key){5, 3};
     WANT(yacht_key_to_bits_below(key, 16) == (5 << 13 | 3 << 1) && yacht_key_to_bits_below(key, 15) == 0);
     WANT(yacht_key_to_bits_below(key, 64) == (5 << 13 | 3 << 1) && yacht_key_from_bits_below(UINT64_MAX, 64).slot == 1048575);
-    key = yacht_key_from_bits_below(9ull << 60 | 5 << 13 | 3 << 1, 60);
-    WANT(key.slot == 3 && key.number == 5);
+    key = yacht_key_from_bits_below(9ull << 60 | 7 << 21 | 4096 << 1 | 1, 60);
+    WANT(key.slot == 4096 && key.number == 7);
 }
 
 static void leave(void *value, void *with) { (void)value, (void)with; }

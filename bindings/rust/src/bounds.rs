@@ -152,20 +152,19 @@ let table = yachtbanyan::Table::<&str>::with_slots(1).unwrap();
 table.insert(text.as_str()).unwrap();\n" };
 }
 
+/// Writes the pairs of a guard or an iterator that doesn't outlive its handle or its reader.
+macro_rules! lends {
+    ($($of:ident $call:literal;)*) => { $(pair!("compile_fail,E0505" (of_table!(@bytes), "let key = table.insert(1).unwrap();
+let (it, other) = (table.", stringify!($of), "().unwrap(), table.", stringify!($of), "().unwrap());
+let lent = it.", $call, ";\ndrop(") {it other} (");\ndrop(lent);"));)* };
+}
+
+lends! {
+    handle "get_at(0)"; handle "get(key)"; handle "iter()";
+    reader "get_at(0)"; reader "get(key)"; reader "iter()";
+}
+
 of_table! {
-    // a guard doesn't outlive its handle or its reader, and an iterator neither
-    "compile_fail,E0505" bytes
-    "let (it, other) = (table.handle().unwrap(), table.handle().unwrap());
-let lent = it.get_at(0);
-drop(" {it other} ");\ndrop(lent);";
-    "compile_fail,E0505" bytes
-    "let (it, other) = (table.reader().unwrap(), table.reader().unwrap());
-let lent = it.get_at(0);
-drop(" {it other} ");\ndrop(lent);";
-    "compile_fail,E0505" bytes
-    "let (it, other) = (table.handle().unwrap(), table.handle().unwrap());
-let lent = it.iter();
-drop(" {it other} ");\ndrop(lent);";
     // a reference to a value doesn't outlive its guard
     "compile_fail,E0505" guards "drop(" {guard other} ");\nprintln!(\"{value}\");";
     "compile_fail,E0505" bytes "let handle = table.handle().unwrap();

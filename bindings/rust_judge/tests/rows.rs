@@ -3,7 +3,7 @@
 //! rows that only that answers.
 use std::collections::HashMap;
 use yachtjudge::{judge, outcomes, File, JudgeError, Limits, Link, Log, LogFault, LogVerdict};
-use yachtjudge::{Op, Outcomes, Request, Verdict};
+use yachtjudge::{Op, Outcomes, Point, Request, Verdict};
 
 const ROWS: &str = include_str!("rows.txt");
 const FAULTS: [LogFault; 7] = [
@@ -334,4 +334,65 @@ fn each_answer_is_that_of_its_row() {
 fn the_limits_are_those_of_fixcheck() {
     let Limits { states, memory } = Limits::default();
     assert_eq!((states, memory), (1_000_000, 1_024));
+}
+
+#[test]
+fn each_fault_has_words_of_its_own() {
+    let errors = [JudgeError::TooManySlots, JudgeError::TooLong, JudgeError::NoMemory];
+    let mut words: Vec<_> = errors.iter().map(JudgeError::to_string).collect();
+    words.extend(FAULTS.iter().map(LogFault::to_string));
+    words.push(LogFault::UnknownFile.to_string());
+    words.sort();
+    words.dedup();
+    assert_eq!(words.len(), 11);
+}
+
+fn point(nth: u32) -> Point {
+    let file = File {
+        call: nth + 4,
+        member: nth + 5,
+        entry: nth + 6,
+        file: ((nth + 7) % 251) as u8,
+    };
+    let answer = nth as usize + 2;
+    match nth % 4 {
+        0 => Point::Event(answer),
+        1 => Point::Access {
+            answer,
+            access: answer + 1,
+        },
+        2 => Point::Put(file),
+        _ => Point::Gone {
+            file,
+            slot: nth + 1,
+        },
+    }
+}
+
+/// The stand-in's reason has as many steps as the event's position, each with other numbers.
+#[test]
+fn each_step_has_the_numbers_of_the_library() {
+    if std::env::var_os("JUDGE_ROWS").is_none() {
+        return;
+    }
+    let (log, mut rules) = (Log::new("", 1), HashMap::new());
+    for count in [0, 27, 300] {
+        let steps = log.explain(count).unwrap();
+        assert_eq!(steps.len(), count);
+        for (nth, it) in steps.iter().enumerate() {
+            let numbers = [it.first, it.second, it.access, it.premise, it.other];
+            assert_eq!(numbers, [nth, nth + 1, nth + 2, nth + 3, nth + 4]);
+            assert_eq!((it.slot, it.is_strict), (nth as u32 + 5, nth % 2 == 1));
+            let points = [point(nth as u32 + 6), point(nth as u32 + 60)];
+            assert_eq!([it.before, it.after], points);
+            let rule = format!("{:?}", it.rule);
+            assert_eq!(*rules.entry(nth % 27).or_insert(rule.clone()), rule);
+        }
+    }
+    assert_eq!((&rules[&0][..], &rules[&26][..]), ("Events", "Existed"));
+    let verdict = rows().iter().find(|it| it.fields[0] == "log").map(|it| {
+        let log = read(it);
+        log.judge_whole_updates(it.limits())
+    });
+    assert_eq!(verdict, Some(Ok(LogVerdict::Undecided)));
 }
