@@ -1,5 +1,5 @@
 -- Calls in flight, counted by slot, and what each says of its slot.
-use Rattle.fx_direct.proofs.Words.{arith, ◌≡◌, ◌≢◌, ℕ, ◌+◌, ◌<◌, ◌==◌, Bool, true, false, if◌then◌else◌, List, [], ◌∷◌, ◌++◌, ap}
+use Rattle.fx_direct.proofs.Words.{arith, ◌≡◌, ◌≢◌, ℕ, ◌+◌, ◌<◌, ◌==◌, Bool, true, false, if◌then◌else◌, List, [], ◌∷◌, ◌++◌}
 use Rattle.fx_direct.proofs.Words.{AllByRecursion, Option, Some, None, eq-eqb, ne_eqb, File, Phase, Slot}
 use Rattle.fx_direct.proofs.Words.{Free, Opening, Live, Ending, Closing, is_installed, DirectCall, OpenAt, UseOf, CloseOf, key_of_call, Pending}
 
@@ -88,18 +88,11 @@ stands_same e2 e3 e4 stands = rw (e2, e3, e4) stands
 -- a call of an open slot is a request, and it fits every open phase
 pub open_stays : (call : DirectCall) (made : Bool) (p p' : Phase) (at : Option File) (files : List File)
     → is_installed p ≡ true → is_installed p' ≡ true → Fits call made p at files → Fits call made p' at files
-open_stays (UseOf k) made p p' at files live live' fits = (live', fits.1)
-open_stays (OpenAt k) false p p' at files live live' fits = let shut = ap is_installed fits.0 in absurd cc
-open_stays (CloseOf k) false p p' at files live live' fits = let shut = ap is_installed fits.0 in absurd cc
-open_stays _ _ p p' at files live live' fits = let shut = ap is_installed fits.0 in absurd cc
+open_stays call made p p' at files live live' fits = grind arith
 
 -- an open slot has its file
 pub open_stands : (p : Phase) (at : Option File) (files : List File) → is_installed p ≡ true → Stands p at files → HasOne at files
-open_stands (Live a b) at files live stands = stands
-open_stands (Ending a b) at files live stands = stands
-open_stands _ at files live stands = absurd cc
+open_stands p at files live stands = grind arith
 
 pub stands_open : (p : Phase) (at : Option File) (files : List File) → is_installed p ≡ true → HasOne at files → Stands p at files
-stands_open (Live a b) at files live one = one
-stands_open (Ending a b) at files live one = one
-stands_open _ at files live one = absurd cc
+stands_open p at files live one = grind arith

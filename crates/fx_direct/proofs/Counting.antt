@@ -1,7 +1,7 @@
 -- Each transition keeps each key's counts balanced.
-use Rattle.fx_direct.proofs.Words.{arith, ◌≡◌, ◌≢◌, ℕ, ◌+◌, ◌<◌, ◌≤◌, ◌==◌, ◌⊎◌, inl, inr, true, false, List, [], ◌∷◌, refl, sym, ap, ◌∙◌, subst}
+use Rattle.fx_direct.proofs.Words.{arith, ◌≡◌, ◌≢◌, ℕ, ◌+◌, ◌<◌, ◌≤◌, ◌==◌, ◌⊎◌, inl, inr, true, List, [], ◌∷◌, refl, sym, ap, ◌∙◌, subst}
 use Rattle.fx_direct.proofs.Words.{if◌then◌else◌, cases_eq, eq-eqb, ne_eqb, Transition, LifeKey, Phase, Slot, Reserves, Opens, Starts, Finishes, Holds, Releases, Ends, Asks, Closes}
-use Rattle.fx_direct.proofs.Words.{AllFree, AreEnabled, slots_left_by, FailsToClose, Free, Opening, Live, Ending, Closing, slot_numbered, phase_at, requests_in, users_in, is_live, key_concerned, IsEnabled, phase_after, slots_with, same_key}
+use Rattle.fx_direct.proofs.Words.{AllFree, AreEnabled, slots_left_by, FailsToClose, Free, Opening, Ending, Closing, slot_numbered, phase_at, requests_in, users_in, is_live, key_concerned, IsEnabled, phase_after, slots_with, same_key}
 use Rattle.fx_direct.specs.Counts.{bit, times, reserves, phase_of}
 use Rattle.fx_direct.specs.Counts.{EachKeyIsBalanced, IsBalanced, KeysAreGivenOnce, NothingIsLeftOfALife}
 use Rattle.fx_direct.proofs.Moves.{after-here, after-else}
@@ -31,26 +31,15 @@ at_phase {h} {k} e b = subst (IsBalanced h k) e b
 own : (d : Transition) (h : List Transition) (k : LifeKey) (p : Phase) → Fits d p → bit (same_key (key_concerned d) k) ≡ 1
     → ((j : LifeKey) → d ≡ Reserves j → times (reserves k) h ≡ 0)
     → IsBalanced h k p → IsBalanced (d ∷ h) k (phase_after d p)
-own (Reserves j) h k p fits one new b = let c = at_phase fits b in let n = new j refl in search arith
-own (Opens j true) h k p fits one new b = let c = at_phase fits b in search arith
-own (Opens j false) h k p fits one new b = let c = at_phase fits b in search arith
-own (Asks j) h k p fits one new b = let c = at_phase fits b in search arith
-own (FailsToClose j) h k p fits one new b = let c = at_phase fits b in search arith
-own (Closes j) h k p fits one new b = let c = at_phase fits b in search arith
-own d h k (Live a u) fits one new b = search arith
-own (Finishes j) h k (Ending a u) fits one new b = search arith
-own (Releases j) h k (Ending a u) fits one new b = search arith
-own _ h k _ fits one new b = absurd (grind arith)
+own d h k p fits one new b = grind (arith, at_phase)
 
 -- a transition of another key counts for nothing
 other : (d : Transition) (h : List Transition) (k : LifeKey) (p : Phase) → bit (same_key (key_concerned d) k) ≡ 0
     → IsBalanced h k p → IsBalanced (d ∷ h) k p × (times (reserves k) (d ∷ h) ≡ times (reserves k) h)
-other (Opens j true) h k p none b = (search arith, omega arith)
-other _ h k p none b = (search arith, omega arith)
+other d h k p none b = grind arith
 
 pub fits_of : (slots : List Slot) (d : Transition) → IsEnabled slots d → Fits d (phase_at slots (key_concerned d).slot)
-fits_of slots (Reserves k) can = can.2
-fits_of slots _ can = can.1
+fits_of slots d can = grind arith
 
 -- the phase of a key whose number the slot has, and of one whose number it hasn't
 pub phase_here : (slots : List Slot) (k : LifeKey) → (slot_numbered slots k.slot).number ≡ k.number → phase_of slots k ≡ phase_at slots k.slot
@@ -61,26 +50,19 @@ phase_else slots k ne = rw (ne_eqb (slot_numbered slots k.slot).number k.number 
 
 -- the phase of a key at a free slot
 phase_free : (slots : List Slot) (k : LifeKey) → phase_at slots k.slot ≡ Free → phase_of slots k ≡ Free
-phase_free slots k free = elim (cases_eq (slot_numbered slots k.slot).number k.number) [
-  | inl e ↦ phase_here slots k e ∙ free
-  | inr ne ↦ phase_else slots k ne
-]
+phase_free slots k free = grind (arith, phase_here, phase_else)
 
 -- the number of a transition's slot before it
 pub number_before : (slots : List Slot) (d : Transition) → IsEnabled slots d
     → ((slot_numbered slots (key_concerned d).slot).number ≡ (key_concerned d).number)
     ⊎ (((key_concerned d).number ≡ (slot_numbered slots (key_concerned d).slot).number + 1) × (phase_at slots (key_concerned d).slot ≡ Free) × (d ≡ Reserves (key_concerned d)))
-number_before slots (Reserves k) can = inr (can.1, can.2, refl)
-number_before slots _ can = inl can.0.1
+number_before slots d can = grind arith
 
 pub grows : (slots : List Slot) (d : Transition) → IsEnabled slots d → (slot_numbered slots (key_concerned d).slot).number ≤ (key_concerned d).number
 grows slots d can = elim (number_before slots d can) [ inl e ↦ omega arith | inr w ↦ omega (arith, w.0) ]
 
 new_of : (slots : List Slot) (d : Transition) (j : LifeKey) → IsEnabled slots d → d ≡ Reserves j → (slot_numbered slots (key_concerned d).slot).number < (key_concerned d).number
-new_of slots d j can e =
-    let may : IsEnabled slots (Reserves j) = subst (λ (x : Transition). IsEnabled slots x) e can in
-    let lt : (slot_numbered slots j.slot).number < j.number = omega (arith, may.1) in
-    subst (λ (x : Transition). (slot_numbered slots (key_concerned x).slot).number < (key_concerned x).number) (sym e) lt
+new_of slots d j can e = grind arith
 
 one_key : (j k : LifeKey) → j.slot ≡ k.slot → j.number ≡ k.number → bit (same_key j k) ≡ 1
 one_key j k e n = rw (eq-eqb j.slot k.slot e, eq-eqb j.number k.number n) refl

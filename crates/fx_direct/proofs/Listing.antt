@@ -1,6 +1,6 @@
 -- The keys of the lives under way.
-use Rattle.fx_direct.proofs.Words.{arith, ◌≡◌, ◌≢◌, ℕ, ◌+◌, ◌<◌, ◌==◌, ◌&&◌, inl, inr, Bool, false, List, [], ◌∷◌, length, refl, sym, ap, ◌∙◌, subst, if◌then◌else◌}
-use Rattle.fx_direct.proofs.Words.{cases_eq, eq-eqb, ne_eqb, AllByRecursion, LifeKey, Phase, Slot, Free, slot_numbered, phase_at, is_free}
+use Rattle.fx_direct.proofs.Words.{arith, ◌≡◌, ◌≢◌, ℕ, ◌+◌, ◌<◌, ◌==◌, ◌&&◌, Bool, false, List, [], ◌∷◌, length, refl, sym, ap, subst, if◌then◌else◌}
+use Rattle.fx_direct.proofs.Words.{AllByRecursion, LifeKey, Phase, Slot, Free, phase_at, is_free}
 use Rattle.fx_direct.proofs.Words.{HasLife, same_key, life_at}
 use Rattle.fx_direct.specs.Keys.{FitsBits}
 use Rattle.fx_direct.specs.Living.{appearances, keys_at, AreKeysOf}
@@ -21,8 +21,7 @@ passed_over slots slot rest none =
 each_one : (slots : List Slot) (rest : List ℕ) (s : ℕ) (p : Phase) → phase_at slots s ≡ p → s < length slots
     → AllByRecursion (HasLife slots) (keys_at slots rest)
     → AllByRecursion (HasLife slots) (if is_free p then keys_at slots rest else life_at slots s ∷ keys_at slots rest)
-each_one slots rest s Free e lt all = all
-each_one slots rest s p e lt all = (((lt, refl), λ f. let g : p ≡ Free = sym e ∙ f in cc), all)
+each_one slots rest s p e lt all = grind arith
 
 each_life : (slots : List Slot) (rest : List ℕ) → AllByRecursion (λ slot. slot < length slots) rest → AllByRecursion (HasLife slots) (keys_at slots rest)
 each_life slots [] all = tt
@@ -31,18 +30,12 @@ each_life slots (s ∷ rest) all = each_one slots rest s (phase_at slots s) refl
 -- a key is in the list as often as its slot
 one_key : (slots : List Slot) (s : ℕ) (k : LifeKey) → HasLife slots k
     → ◌≡◌ {A = ℕ} (if same_key (life_at slots s) k then 1 else 0) (if s == k.slot then 1 else 0)
-one_key slots s k life = elim (cases_eq s k.slot) [
-  | inl e ↦ rw (eq-eqb s k.slot e, eq-eqb (slot_numbered slots s).number k.number (ap (λ (x : ℕ). (slot_numbered slots x).number) e ∙ life.0.1)) refl
-  | inr ne ↦ rw (ne_eqb s k.slot ne) refl
-]
+one_key slots s k life = grind arith
 
 once_one : (slots : List Slot) (rest : List ℕ) (s : ℕ) (k : LifeKey) (p : Phase) → phase_at slots s ≡ p → HasLife slots k
     → appearances k (keys_at slots rest) ≡ times_in k.slot rest
     → appearances k (if is_free p then keys_at slots rest else life_at slots s ∷ keys_at slots rest) ≡ (if s == k.slot then 1 else 0) + times_in k.slot rest
-once_one slots rest s k Free e life same =
-    let other : s ≢ k.slot = λ (at : s ≡ k.slot). life.1 (sym (ap (phase_at slots) at) ∙ e) in
-    let here = adds_none s k.slot other in omega arith
-once_one slots rest s k _ e life same = let one = one_key slots s k life in omega arith
+once_one slots rest s k p e life same = grind (arith, adds_none, one_key)
 
 once : (slots : List Slot) (rest : List ℕ) (k : LifeKey) → HasLife slots k → appearances k (keys_at slots rest) ≡ times_in k.slot rest
 once slots [] k life = refl
@@ -50,23 +43,14 @@ once slots (s ∷ rest) k life = once_one slots rest s k (phase_at slots s) refl
 
 -- a slot with a life isn't vacant
 not_vacant : (p : Phase) (b : Bool) → p ≢ Free → is_free p && b ≡ false
-not_vacant Free b busy = absurd (busy refl)
-not_vacant _ b busy = refl
+not_vacant p b busy = grind arith
 
 rest_inside : (slots : List Slot) (order : Order) (rest : List ℕ) → IsMachine slots order → AreOthers order rest
     → AllByRecursion (λ slot. slot < length slots) rest
 rest_inside slots order rest machine others = subst (λ (n : ℕ). AllByRecursion (λ slot. slot < n) rest) machine.same others.inside
 
 pub keys_are : (slots : List Slot) (order : Order) (rest : List ℕ) → IsMachine slots order → AreOthers order rest → AreKeysOf slots (keys_at slots rest)
-keys_are slots order rest machine others = record {
-  each = each_life slots rest (rest_inside slots order rest machine others);
-  once = λ k life. once slots rest k life
-      ∙ others.once k.slot (let same = machine.same in let inside = life.0.0 in omega arith)
-      (machine.ordered k.slot life.0.0 ∙ not_vacant (phase_at slots k.slot) _ life.1);
-}
+keys_are slots order rest machine others = grind (arith, each_life, rest_inside, once, not_vacant)
 
 pub keys_fit : (slots : List Slot) (order : Order) (rest : List ℕ) → IsMachine slots order → AreOthers order rest → AllByRecursion FitsBits (keys_at slots rest)
-keys_fit slots order rest machine others =
-    each-map (HasLife slots) FitsBits (keys_at slots rest) (λ k life.
-    (let few = machine.few in let inside = life.0.0 in omega arith, let number = machine.numbers k.slot in let same = life.0.1 in omega arith))
-    (each_life slots rest (rest_inside slots order rest machine others))
+keys_fit slots order rest machine others = grind (arith, each-map, each_life, rest_inside)

@@ -1,7 +1,7 @@
 -- Laws of a whole life.
-use Rattle.fx_direct.proofs.Words.{arith, ◌≡◌, ◌≢◌, ℕ, ◌+◌, ◌<◌, ◌≤◌, ◌⊎◌, inl, inr, true, List, [], ◌∷◌, length, refl, sym, ap, ◌∙◌, subst}
-use Rattle.fx_direct.proofs.Words.{Option, Some, None, cases_eq, cases_lt, ◌▷▷◌, Transition, LifeKey, Phase, Slot, Reserves, Opens, Starts, Holds}
-use Rattle.fx_direct.proofs.Words.{Asks, Free, Live, Ending, Closing, slot_numbered, phase_at}
+use Rattle.fx_direct.proofs.Words.{arith, ◌≡◌, ◌≢◌, ℕ, ◌+◌, ◌<◌, ◌≤◌, ◌⊎◌, inl, inr, List, [], ◌∷◌, length, sym, ap, ◌∙◌, subst}
+use Rattle.fx_direct.proofs.Words.{Option, Some, None, cases_eq, cases_lt, ◌▷▷◌, Transition, LifeKey, Phase, Slot, Reserves}
+use Rattle.fx_direct.proofs.Words.{Asks, Free, Ending, Closing, slot_numbered, phase_at}
 use Rattle.fx_direct.proofs.Words.{key_concerned, HasLife, IsEnabled, phase_after, slots_with, AreEnabled, slots_left_by, Advances, AdvancesAndAsks}
 use Rattle.fx_direct.specs.Counts.{times, starts, finishes, holds, releases, ends, asks, fails, phase_of, IsBalanced}
 use Rattle.fx_direct.specs.Lives.{NoCloseIsDue, NeverAsks, NoCloseIsLate, EachCloseIsAskedForOnce, StaleKeysStayStale}
@@ -14,18 +14,10 @@ use Rattle.std.proofs.lemmas.List.{get_or_past}
 
 asked : (h : List Transition) (k : LifeKey) (p : Phase) → IsBalanced h k p → (p ≡ Ending 0 0 → ⊥) → 0 < times (ends k) h
     → times (starts k) h ≡ times (finishes k) h → times (holds k) h ≡ times (releases k) h → times (asks k) h ≡ 1 + times (fails k) h
-asked h k (Live r u) b due ended requests users = let f1 = b.ended in let f3 = b.opened in let f4 = b.once in absurd (omega arith)
-asked h k (Ending r u) b due ended requests users =
-    let f1 = b.requests in let f2 = b.users in
-    let er : r ≡ 0 = omega arith in let eu : u ≡ 0 = omega arith in
-    absurd (due (ap (λ (x : ℕ). Ending x u) er ∙ ap (λ (x : ℕ). Ending 0 x) eu))
-asked h k _ b due ended requests users = let f1 = b.ended in let f2 = b.asked in let f3 = b.opened in let f4 = b.once in omega arith
+asked h k p b due ended requests users = grind arith
 
 due_here : (slots : List Slot) (k : LifeKey) → NoCloseIsDue slots → phase_of slots k ≡ Ending 0 0 → ⊥
-due_here slots k due e = elim (cases_eq (slot_numbered slots k.slot).number k.number) [
-  | inl same ↦ due k.slot (sym (phase_here slots k same) ∙ e)
-  | inr ne ↦ let f : Free ≡ Ending 0 0 = sym (phase_else slots k ne) ∙ e in cc
-]
+due_here slots k due e = grind (arith, phase_here, phase_else)
 
 pub each_close_is_asked_for_once : EachCloseIsAskedForOnce
 each_close_is_asked_for_once start h k free can =
@@ -40,23 +32,15 @@ each_close_is_asked_for_once start h k free can =
 -- No close is late.
 
 never : (t : Transition) (p : Phase) → NeverAsks t → Fits t p → phase_after t p ≡ Ending 0 0 → ⊥
-never (Opens k true) p calm fits e = cc
-never (Starts k) (Live r u) calm fits e = cc
-never (Holds k) (Live r u) calm fits e = cc
-never _ _ calm fits e = grind arith
+never t p calm fits e = grind arith
 
 -- after a transition no close is due, if none is due at its slot
 after_one : (old : List Slot) (t : Transition) → NoCloseIsDue old → (key_concerned t).slot < length old
     → (phase_after t (phase_at old (key_concerned t).slot) ≡ Ending 0 0 → ⊥) → NoCloseIsDue (slots_with old t)
-after_one old t due inside here s e = elim (cases_eq s (key_concerned t).slot) [
-  | inl same ↦ here (sym (ap (λ (x : Slot). x.phase) (after-here old t inside)) ∙ ap (phase_at (slots_with old t)) (sym same) ∙ e)
-  | inr ne ↦ due s (sym (ap (λ (x : Slot). x.phase) (after-else old t s ne)) ∙ e)
-]
+after_one old t due inside here s e = grind (arith, after-here, after-else)
 
 after_calm : (old new : List Slot) (t : Transition) → NoCloseIsDue old → NeverAsks t → Advances old t new → NoCloseIsDue new
-after_calm old new t due calm turns =
-    subst NoCloseIsDue (sym turns.1)
-    (after_one old t due (within old t turns.0) (never t (phase_at old (key_concerned t).slot) calm (fits_of old t turns.0)))
+after_calm old new t due calm turns = grind (arith, after_one, within, never, fits_of)
 
 after_asking : (old new : List Slot) (t : Transition) (ask : Option ℕ) → NoCloseIsDue old → AdvancesAndAsks old t ask new → NoCloseIsDue new
 after_asking old new t None due turns =
@@ -74,11 +58,7 @@ after_asking old new t (Some slot) due turns =
     ])
 
 pub no_close_is_late : NoCloseIsLate
-no_close_is_late = (
-  λ slots free s e. let f : Free ≡ Ending 0 0 = sym (free s) ∙ e in cc,
-  after_calm,
-  after_asking,
-)
+no_close_is_late = grind (arith, after_calm, after_asking)
 
 -- Stale keys stay stale.
 
@@ -88,40 +68,19 @@ IsOver slots k = (k.number ≤ (slot_numbered slots k.slot).number) × ((slot_nu
 
 -- a transition but a reservation is of a slot that isn't free
 busy : (t : Transition) (p : Phase) → Fits t p → ((k : LifeKey) → t ≡ Reserves k → ⊥) → p ≡ Free → ⊥
-busy (Reserves k) p fits new e = new k refl
-busy _ p fits new e = let f = rw e at fits in grind arith
+busy t p fits new e = grind arith
 
 -- the number of the transition's slot, which is its key's, and whose life isn't over; or a new one
 told : (slots : List Slot) (t : Transition) → IsEnabled slots t
     → (((slot_numbered slots (key_concerned t).slot).number ≡ (key_concerned t).number) × (phase_at slots (key_concerned t).slot ≡ Free → ⊥))
     ⊎ ((key_concerned t).number ≡ (slot_numbered slots (key_concerned t).slot).number + 1)
-told slots (Reserves k) can = inr can.1
-told slots t can = inl (can.0.1, busy t _ can.1 (λ j e. cc))
+told slots t can = grind arith
 
 refused : (slots : List Slot) (t : Transition) → IsOver slots (key_concerned t) → IsEnabled slots t → ⊥
-refused slots t over can = elim (told slots t can) [
-  | inl w ↦ w.1 (over.1 w.0)
-  | inr n ↦ omega (arith, n, over.0)
-]
+refused slots t over can = grind (arith, told)
 
 over_after : (slots : List Slot) (t : Transition) (k : LifeKey) → IsEnabled slots t → IsOver slots k → IsOver (slots_with slots t) k
-over_after slots t k can over = elim (cases_eq k.slot (key_concerned t).slot) [
-  | inl e ↦
-      let here = after-here slots t (within slots t can) in
-      let number : (slot_numbered (slots_with slots t) k.slot).number ≡ (key_concerned t).number =
-      ap (λ (s : ℕ). (slot_numbered (slots_with slots t) s).number) e ∙ ap (λ (x : Slot). x.number) here in
-      let before : (slot_numbered slots k.slot).number ≡ (slot_numbered slots (key_concerned t).slot).number = ap (λ (s : ℕ). (slot_numbered slots s).number) e in
-      elim (told slots t can) [
-        | inl w ↦ (
-          omega (arith, number, before, w.0, over.0),
-          λ same. absurd (w.1 (ap (phase_at slots) (sym e) ∙ over.1 (before ∙ w.0 ∙ sym number ∙ same))),
-        )
-        | inr n ↦ (omega (arith, number, before, n, over.0), λ same. absurd (omega (arith, number, before, n, over.0, same)))
-      ]
-  | inr ne ↦
-      let same = after-else slots t k.slot ne in
-      subst (λ (x : Slot). (k.number ≤ x.number) × (x.number ≡ k.number → x.phase ≡ Free)) (sym same) over
-]
+over_after slots t k can over = grind (arith, after-here, within, told, after-else)
 
 over_always : (start : List Slot) (earlier later : List Transition) (k : LifeKey) → AreEnabled start (earlier ▷▷ later)
     → IsOver (slots_left_by start earlier) k → IsOver (slots_left_by start (earlier ▷▷ later)) k
@@ -135,14 +94,10 @@ earlier_part start earlier (t ∷ later) can = earlier_part start earlier later 
 
 -- a phase that isn't free is that of a slot inside
 free_unless : (p : Phase) → (p ≢ Free → ⊥) → p ≡ Free
-free_unless Free busy = refl
-free_unless _ busy = absurd (busy (λ e. cc))
+free_unless p busy = grind arith
 
 pub over_now : (slots : List Slot) (k : LifeKey) → (HasLife slots k → ⊥) → (slot_numbered slots k.slot).number ≡ k.number → phase_at slots k.slot ≡ Free
-over_now slots k gone same = elim (cases_lt k.slot (length slots)) [
-  | inl lt ↦ free_unless (phase_at slots k.slot) (λ busy. gone ((lt, same), busy))
-  | inr le ↦ ap (λ (x : Slot). x.phase) (get_or_past slots k.slot _ le)
-]
+over_now slots k gone same = grind (arith, free_unless, get_or_past)
 
 pub stale_keys_stay_stale : StaleKeysStayStale
 stale_keys_stay_stale start earlier later t free can given gone =

@@ -50,10 +50,7 @@ module _ {slots : List Slot} {table : State} {calls : List Pending} {h : List Di
   at_this : (x : Pending) → place_of x ≡ k.slot
       → FitsAt x (length slots) (written d slots) (table.at (place_of x)) (files_under (key_of_call x.call) h)
       → Fitting (slots_with slots d) table (Does d ∷ h) x
-  at_this x e fits =
-      let here : slot_numbered (slots_with slots d) (place_of x) ≡ written d slots =
-      subst (λ (s : ℕ). slot_numbered (slots_with slots d) s ≡ written d slots) (sym e) (after-here slots d within) in
-      fits_same x (after-length slots d) here refl refl fits
+  at_this x e fits = grind (arith, after-here, fits_same, after-length)
 
   pub turned : (calls' : List Pending) → tally k.slot calls' ≡ calls_in p'
       → ((s : ℕ) → s ≢ k.slot → tally s calls' ≡ tally s calls)
@@ -127,9 +124,7 @@ module _ {slots : List Slot} {table : State} {calls : List Pending} {h : List Di
   -- a call at the slot is over
   pub less : (x : Pending) (front rest : List Pending) → place_of x ≡ k.slot → calls ≡ front ++ x ∷ rest → (s : ℕ) → s ≢ k.slot
       → tally s (front ++ rest) ≡ tally s calls
-  less x front rest e was s ne =
-      let o = at_other s x (λ (q : place_of x ≡ s). ne (sym q ∙ e)) in let m = tally-mid s front rest x in
-      let w : tally s calls ≡ tally s (front ++ x ∷ rest) = ap (tally s) was in omega arith
+  less x front rest e was s ne = grind (arith, at_other, tally-mid)
 
   -- the only call at the slot is over
   pub last : (x : Pending) (front rest : List Pending) → place_of x ≡ k.slot → calls ≡ front ++ x ∷ rest → calls_in p ≡ 1 → calls_in p' ≡ 0

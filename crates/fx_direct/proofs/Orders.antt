@@ -1,5 +1,5 @@
 -- A slot becomes vacant again.
-use Rattle.fx_direct.proofs.Words.{arith, ◌≡◌, ◌≢◌, ℕ, ◌+◌, ◌<◌, ◌≤◌, inl, inr, false, List, length, refl, sym, ap, ◌∙◌, slice_set, cases_eq}
+use Rattle.fx_direct.proofs.Words.{arith, ◌≡◌, ◌≢◌, ℕ, ◌+◌, ◌<◌, ◌≤◌, inl, inr, false, List, length, refl, sym, ap, ◌∙◌, slice_set}
 use Rattle.fx_direct.proofs.Words.{get_or-set_same, get_or-set_other, length-set}
 use Rattle.std.specs.Prelude.{slice_index, nat_lt}
 use Rattle.std.proofs.lemmas.Bool.{lt-ltb, cases_lt}
@@ -28,26 +28,7 @@ not_below a b e = elim (cases_lt a b) [ inl lt ↦ let t = lt-ltb a b lt in absu
 named_again : (p q : List ℕ) (n s v a o : ℕ) → length p ≡ n → length q ≡ n → s < n → v < n → a < n → o < n → slice_index q a ≡ s → slice_index q v ≡ o
     → ((t : ℕ) → t < n → slice_index p t < n) → ((t : ℕ) → t < n → slice_index q (slice_index p t) ≡ t) → (t : ℕ) → t < n
     → (slice_index (twice p s v o a) t < n) × (slice_index (twice q v s a o) (slice_index (twice p s v o a) t) ≡ t)
-named_again p q n s v a o size same s_in v_in a_in o_in qa qv named back t lt = elim (cases_eq t o) [
-  | inl e ↦
-      let pt : slice_index (twice p s v o a) t ≡ a = at_second p s v o a t (omega arith) e in
-      let qt : slice_index (twice q v s a o) a ≡ o = at_second q v s a o a (omega arith) refl in
-      (omega arith, ap (slice_index (twice q v s a o)) pt ∙ qt ∙ sym e)
-  | inr not_o ↦ elim (cases_eq t s) [
-    | inl e ↦
-        let pt : slice_index (twice p s v o a) t ≡ v = at_first p s v o a t (omega arith) not_o e in
-        let qt : slice_index (twice q v s a o) v ≡ s =
-        at_first q v s a o v (omega arith) (λ (va : v ≡ a). not_o (e ∙ sym qa ∙ ap (slice_index q) (sym va) ∙ qv)) refl in
-        (omega arith, ap (slice_index (twice q v s a o)) pt ∙ qt ∙ sym e)
-    | inr not_s ↦
-        let pt : slice_index (twice p s v o a) t ≡ slice_index p t = at_rest p s v o a t not_o not_s in
-        let b = back t lt in
-        let qt : slice_index (twice q v s a o) (slice_index p t) ≡ slice_index q (slice_index p t) =
-        at_rest q v s a o (slice_index p t) (λ (at : slice_index p t ≡ a). not_s (sym b ∙ ap (slice_index q) at ∙ qa))
-        (λ (at : slice_index p t ≡ v). not_o (sym b ∙ ap (slice_index q) at ∙ qv)) in
-        (let n = named t lt in omega arith, ap (slice_index (twice q v s a o)) pt ∙ qt ∙ b)
-  ]
-]
+named_again p q n s v a o size same s_in v_in a_in o_in qa qv named back t lt = grind (arith, at_second, at_first, at_rest)
 
 module _ (v : Order) (slot at other : ℕ) (stock : IsOrder v) (inside : slot < length v.place) (out : is_among_vacant v slot ≡ false)
     (is_at : at ≡ slice_index v.place slot) (is_other : other ≡ slice_index v.order v.vacant) where

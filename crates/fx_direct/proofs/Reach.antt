@@ -1,11 +1,11 @@
 -- Every flight keeps the invariant, and an access finds its own file.
-use Rattle.fx_direct.proofs.Words.{arith, ◌≡◌, ◌≢◌, ℕ, Bool, List, [], ◌∷◌, refl, sym, ap, ◌∙◌, subst}
-use Rattle.fx_direct.proofs.Words.{Phase, Action}
+use Rattle.fx_direct.proofs.Words.{arith, ◌≡◌, ◌≢◌, ℕ, Bool, List, [], ◌∷◌, sym, ap, ◌∙◌, subst}
+use Rattle.fx_direct.proofs.Words.{Action}
 use Rattle.fx_direct.proofs.Words.{Look, Put, Take}
-use Rattle.fx_direct.proofs.Words.{calls_in, life_at, phase_at, DirectCall, OpenAt, UseOf, CloseOf, Pending, pending, World, DirectMoment, Does, Accesses, Others, Makes}
+use Rattle.fx_direct.proofs.Words.{life_at, phase_at, DirectCall, OpenAt, UseOf, CloseOf, Pending, pending, World, DirectMoment, Does, Accesses, Others, Makes}
 use Rattle.fx_direct.proofs.Words.{Comes, IsDirectFlight, files_under, IsEmptyStart, FindsItsOwn, AllByRecursion, ◌▷◌, ◌▷▷◌}
 use Rattle.fx_direct.specs.Laws.{EachAccessFindsItsOwn, NothingIsLeft}
-use Rattle.fx_direct.proofs.Calls.{place_of, at_slot, tally, away, each-out, HasOne, Stands, open_stands}
+use Rattle.fx_direct.proofs.Calls.{place_of, at_slot, tally, away, each-out, HasOne, open_stands}
 use Rattle.fx_direct.proofs.Moves.{Sound, Fitting}
 use Rattle.fx_direct.proofs.Turns.{does, accesses, others}
 
@@ -13,13 +13,7 @@ abbrev pub SoundWorld : World → List DirectMoment → Type 0
 SoundWorld w h = Sound w.slots w.table w.calls h
 
 at_start : (w : World) → IsEmptyStart w → SoundWorld w []
-at_start w start = subst (λ (cs : List Pending). Sound w.slots w.table cs []) (sym start.idle) (record {
-  inside = start.inside;
-  counted = λ s. sym (ap calls_in (start.free s));
-  stands = λ s lt. subst (λ (p : Phase). Stands p (w.table.at s) []) (sym (start.free s)) (start.empty s lt);
-  fits = tt;
-  unborn = λ k lt. refl;
-})
+at_start w start = grind arith
 
 one_moment : (w : World) (m : DirectMoment) (v : World) (h : List DirectMoment) → SoundWorld w h → Comes w m v → SoundWorld v (m ∷ h)
 one_moment w (Does d) v h sound comes =
@@ -43,8 +37,7 @@ between start end earlier (x ∷ later) m flight = between start flight.0 earlie
 -- the call that makes an access fits
 own_fit : (w : World) (h : List DirectMoment) (c : DirectCall) (a : Action) (calls' : List Pending) → SoundWorld w h → (makes : Makes c a w.calls calls')
     → Fitting w.slots w.table h (pending c makes.earlier)
-own_fit w h c a calls' sound makes =
-    (each-out (Fitting w.slots w.table h) makes.front makes.rest (pending c makes.earlier) (subst (AllByRecursion (Fitting w.slots w.table h)) makes.was sound.fits)).0
+own_fit w h c a calls' sound makes = grind (arith, each-out)
 
 finds : (w v : World) (h : List DirectMoment) (c : DirectCall) (a : Action) → SoundWorld w h → Comes w (Accesses c a) v → FindsItsOwn h c a
 finds w v h (OpenAt k) (Put slot f replaced) sound comes =
@@ -76,11 +69,4 @@ none_at s (p ∷ ps) none =
     let here : at_slot s p ≡ 0 = omega arith in let rest : tally s ps ≡ 0 = omega arith in (away s p here, none_at s ps rest)
 
 pub nothing_is_left : NothingIsLeft
-nothing_is_left start w h k begins flight =
-    let sound = always start h w begins flight in (
-      λ can. (
-        none_at k.slot w.calls (sound.counted k.slot ∙ ap calls_in can.2),
-        subst (λ (p : Phase). Stands p (w.table.at k.slot) (files_under (life_at w.slots k.slot) h)) can.2 (sound.stands k.slot can.0),
-      ),
-      λ can. none_at k.slot w.calls (sound.counted k.slot ∙ ap calls_in can.1),
-    )
+nothing_is_left start w h k begins flight = grind (arith, always, none_at)

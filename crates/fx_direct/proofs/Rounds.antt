@@ -1,12 +1,11 @@
 -- A flight that goes round.
-use Rattle.fx_direct.proofs.Words.{arith, ℕ, ◌≡◌, zero, suc, [], ◌∷◌, refl, true, false, Some, None, pending, OpenAt, UseOf, CloseOf, phase_at, Free, IsEmptyStart}
+use Rattle.fx_direct.proofs.Words.{arith, ℕ, ◌≡◌, [], ◌∷◌, refl, true, false, Some, None, pending, OpenAt, UseOf, CloseOf, phase_at, Free, IsEmptyStart}
 use Rattle.fx_direct.proofs.Words.{Reserves, Opens, Starts, Finishes, Holds, Releases, Ends, Asks, Closes, FailsToClose, Look, Release, Put, Take, Close, IsEnabled}
 use Rattle.fx_direct.proofs.Flown.{begun, does, inside, makes, one_life, only, others, two_lives, use1}
 use Rattle.fx_direct.specs.Round.{one_slot, some_file, first_key, second_key, GoesRound}
 
 free : (slot : ℕ) → phase_at one_slot.slots slot ≡ Free
-free zero = refl
-free (suc n) = refl
+free slot = grind arith
 
 starts : IsEmptyStart one_slot
 starts = record { free = free; inside = omega arith; empty = λ s lt. refl; idle = refl }

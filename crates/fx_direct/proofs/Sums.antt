@@ -1,6 +1,6 @@
 -- The counts of all slots, and one slot that is written.
 use Rattle.fx_direct.proofs.Words.{arith, ◌≡◌, ℕ, ◌<◌, ◌≤◌, List, length, ap, Phase, Slot, unused, phase_at}
-use Rattle.fx_direct.proofs.Words.{Free, calls_in, lives_in}
+use Rattle.fx_direct.proofs.Words.{calls_in, lives_in}
 use Rattle.fx_direct.specs.Phases.{calls_in_flight, lives_of}
 use Rattle.std.specs.Prelude.{◌*◌, ◌^◌}
 use Rattle.std.proofs.lemmas.List.Sums.{sum_by-le}
@@ -8,8 +8,7 @@ use Rattle.std.proofs.lemmas.List.{get_or_default}
 use Rattle.std.specs.Prelude.{slice_index_or}
 
 pub one_life : (p : Phase) → lives_in p ≤ 1
-one_life Free = omega arith
-one_life _ = omega arith
+one_life p = grind arith
 
 pub lives_high : (slots : List Slot) → lives_of slots ≤ length slots
 lives_high slots =

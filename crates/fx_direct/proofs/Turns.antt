@@ -1,10 +1,10 @@
 -- Each transition of the machine, and each access, keeps what is sound.
 use Rattle.fx_direct.proofs.Words.{arith, ◌≡◌, ◌≢◌, ℕ, ◌+◌, ◌-◌, ◌<◌, ◌≤◌, ◌==◌, Bool, true, false, List, [], ◌∷◌, ◌++◌, length, refl, sym, ap, inl, inr}
 use Rattle.fx_direct.proofs.Words.{AllByRecursion, ◌∙◌, subst, Option, Some, None, cases_eq, append-nil, ne_eqb, eq-eqb, File, LifeKey, Phase, Slot, State, if◌then◌else◌}
-use Rattle.fx_direct.proofs.Words.{calls_in, is_installed, life_at, FailsToClose, Live, Ending, is_live, requests_in, users_in, with_counts, DirectCall, OpenAt, UseOf, CloseOf, key_of_call}
+use Rattle.fx_direct.proofs.Words.{calls_in, is_installed, life_at, FailsToClose, Ending, is_live, requests_in, users_in, with_counts, DirectCall, OpenAt, UseOf, CloseOf, key_of_call}
 use Rattle.fx_direct.proofs.Words.{Pending, pending, DirectMoment, Does, Accesses, Others, Transition, Reserves, Opens, Starts, Finishes, Holds, Releases, Ends, Asks, Closes}
 use Rattle.fx_direct.proofs.Words.{slot_numbered, phase_at, key_concerned, NamesLastLife, IsEnabled, slots_with, TurnsCalls, files_under, same_key}
-use Rattle.fx_direct.proofs.Words.{Action, Allocate, Clear, Look, Put, Release, Take, changed_at, table_after, Makes, IsElsewhere}
+use Rattle.fx_direct.proofs.Words.{Action, Look, Put, Release, Take, changed_at, table_after, Makes, IsElsewhere}
 use Rattle.fx_direct.proofs.Calls.{place_of, at_slot, tally, at_same, tally-mid, each-out, each-in, each-map, each-away}
 use Rattle.fx_direct.proofs.Calls.{HasOne, Stands, fits_same, stands_same, open_stands}
 use Rattle.fx_direct.proofs.Moves.{Sound, Fitting, still, first, last, more, less}
@@ -12,24 +12,18 @@ use Rattle.fx_direct.proofs.Moves.{Sound, Fitting, still, first, last, more, les
 -- Phases.
 
 live_open : (p : Phase) → is_live p ≡ true → is_installed p ≡ true
-live_open (Live a b) e = refl
-live_open _ e = absurd cc
+live_open p e = grind arith
 
 used_open : (p : Phase) → 0 < requests_in p + users_in p → is_installed p ≡ true
-used_open (Live a b) e = refl
-used_open (Ending a b) e = refl
-used_open _ e = absurd (omega arith)
+used_open p e = grind arith
 
 -- an open phase: its calls are its requests, and with other counts it is open too
 is_open : (p : Phase) → is_installed p ≡ true
     → (calls_in p ≡ requests_in p) × ((a b : ℕ) → (is_installed (with_counts p a b) ≡ true) × (calls_in (with_counts p a b) ≡ a))
-is_open (Live x y) e = (refl, λ a b. (refl, refl))
-is_open (Ending x y) e = (refl, λ a b. (refl, refl))
-is_open _ e = absurd cc
+is_open p e = grind arith
 
 pub within : (slots : List Slot) (d : Transition) → IsEnabled slots d → (key_concerned d).slot < length slots
-within slots (Reserves k) can = can.0
-within slots _ can = can.0.0
+within slots d can = grind arith
 
 -- Transitions.
 
@@ -39,9 +33,7 @@ module _ {slots : List Slot} {table : State} {calls : List Pending} {h : List Di
 
   -- an ended life has its file until it is taken
   ended_one : (k : LifeKey) → NamesLastLife slots k → phase_at slots k.slot ≡ Ending 0 0 → HasOne (table.at k.slot) (files_under k h)
-  ended_one k names e =
-      subst (λ (fs : List File). HasOne (table.at k.slot) fs) (files_of_key k names.1)
-      (open_stands (phase_at slots k.slot) (table.at k.slot) (files_under (life_at slots k.slot) h) (ap is_installed e) (sound.stands k.slot names.0))
+  ended_one k names e = grind (arith, files_of_key, open_stands)
 
   pub does : (d : Transition) (calls' : List Pending) → IsEnabled slots d → TurnsCalls d calls calls' → Sound (slots_with slots d) table calls' (Does d ∷ h)
   does (Reserves k) calls' can turns = let d = Reserves k in
@@ -94,14 +86,7 @@ module _ {slots : List Slot} {table : State} {calls : List Pending} {h : List Di
       → ((s : ℕ) → tally s calls' ≡ tally s calls)
       → AllByRecursion (Fitting slots table h) calls'
       → Sound slots table' calls' (m ∷ h)
-  quiet table' calls' m size at files count fits = record {
-    inside = rw size sound.inside;
-    counted = λ s. count s ∙ sound.counted s;
-    stands = λ s lt. stands_same {slot = slot_numbered slots s} refl (at s lt) (files (life_at slots s)) (sound.stands s lt);
-    fits = each-map (Fitting slots table h) (Fitting slots table' (m ∷ h)) calls'
-        (λ x fit. fits_same x refl refl (at (place_of x) fit.0) (files (key_of_call x.call)) fit) fits;
-    unborn = λ k lt. files k ∙ sound.unborn k lt;
-  }
+  quiet table' calls' m size h5 files count fits = grind (arith, stands_same, each-map, fits_same)
 
   -- the one call at a slot makes its access
   made : (table' : State) (x y : Pending) (front rest : List Pending) (m : DirectMoment)
@@ -136,13 +121,7 @@ module _ {slots : List Slot} {table : State} {calls : List Pending} {h : List Di
 
   -- two keys that differ are told apart
   apart : (j k : LifeKey) (f : File) → (k.slot ≡ j.slot → k.number ≡ j.number → ⊥) → (if same_key j k then f ∷ [] else []) ≡ []
-  apart j k f ne = elim (cases_eq j.slot k.slot) [
-    | inl e ↦ elim (cases_eq j.number k.number) [
-      | inl e1 ↦ absurd (ne (sym e) (sym e1))
-      | inr n1 ↦ rw (eq-eqb j.slot k.slot e, ne_eqb j.number k.number n1) refl
-    ]
-    | inr n ↦ rw (ne_eqb j.slot k.slot n) refl
-  ]
+  apart j k f ne = grind arith
 
   at_changed : (s0 : ℕ) (x : Option File) (s : ℕ) → s ≢ s0 → changed_at table.at s0 x s ≡ table.at s
   at_changed s0 x s ne = rw (ne_eqb s s0 ne) refl
@@ -212,9 +191,4 @@ module _ {slots : List Slot} {table : State} {calls : List Pending} {h : List Di
   elsewhere a table' size at = quiet table' calls (Others a) size at (λ j. refl) (λ s. refl) sound.fits
 
   pub others : (a : Action) → IsElsewhere (length slots) a → Sound slots (table_after table a) calls (Others a ∷ h)
-  others (Put slot f replaced) le = elsewhere (Put slot f replaced) (table_after table (Put slot f replaced)) refl (λ s lt. other_slot slot s (Some f) le lt)
-  others (Clear slot found) le = elsewhere (Clear slot found) (table_after table (Clear slot found)) refl (λ s lt. other_slot slot s None le lt)
-  others (Take slot found) le = elsewhere (Take slot found) (table_after table (Take slot found)) refl (λ s lt. other_slot slot s None le lt)
-  others (Allocate slot f) le = elsewhere (Allocate slot f) (table_after table (Allocate slot f)) refl (λ s lt. other_slot slot s (Some f) le lt)
-  others (Look slot None) le = elsewhere (Look slot None) table refl (λ s lt. refl)
-  others a le = elsewhere a (table_after table a) refl (λ s lt. refl)
+  others a le = grind (arith, elsewhere, other_slot)
