@@ -1,5 +1,5 @@
 -- The workers of a new table: a pass of the table for each, in their order.
-use Rattle.std.proofs.Common.{◌≡◌, ℕ, ◌+◌, arith, length-append, List, [], ◌∷◌, ◌++◌, All, Option, ap, subst, slice_index_or, refl, sym, ◌∙◌, length, map, reverse}
+use Rattle.std.proofs.Common.{◌≡◌, ℕ, ◌+◌, arith, length-append, List, [], ◌∷◌, ◌++◌, All, ap, refl, sym, ◌∙◌, length, map, reverse}
 use Rattle.std.proofs.lemmas.List.{map-append, append_assoc, reverse-append, length-map}
 use Rattle.std.proofs.lemmas.List.FromFn.{map-range_with_len_more}
 use Rattle.std.proofs.lemmas.List.Elements.{All-cons, All-head, All-nil, All-push, All-same, All-tail, All-weaker}
@@ -9,7 +9,6 @@ use Rattle.fx_plain.specs.State.{vacant}
 use Rattle.fx_table.specs.Opening.{lasting_opening}
 use Rattle.fx_lasting.specs.Tables.{first_passes, opening_of_table, view_of}
 use Rattle.fx_lasting.specs.declared.pass.LastingPass.{LastingPass}
-use Rattle.fx_lasting.specs.declared.table.LastingTable.{LastingTable}
 use Rattle.std.specs.List.{range_with_len}
 use Rattle.fx_server.specs.FileNumbers.{numbers_of_all}
 use Rattle.fx_server.specs.Opened.{AreDealt, AreOpened, workers_in}

@@ -4,8 +4,8 @@ ghost use Rattle.fx_server.specs.Outcomes.{refusal_code};
 
 use crate::codes::{AGAIN, BAD_ARGUMENT, BUSY, EMPTY, FULL, NO_MEMORY, NO_SLOT, READER, STALE};
 
-/// The reason why a call is not done, with its number for C. `Empty`, `Full`, `Again` and `Stale` are
-/// answers of the table; after any other reason nothing has changed.
+/// The reason why a call is not done, with its number for C. `Empty`, `Full`, `Again` and `Stale`
+/// are answers of the table; after any other reason nothing has changed.
 #[derive(Clone, Copy)]
 pub enum ServerRefusal {
     /// The slot is empty.

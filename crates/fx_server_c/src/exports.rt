@@ -10,8 +10,8 @@ ghost use Rattle.fx_server.specs.Workers.{IsInRange};
 ghost use Rattle.fx_server.specs.declared.codes.TheConstants.{DONE, BAD_ARGUMENT, NO_MEMORY};
 
 use fx_server::outcomes::{
-    done_code, found_outcome, placed_code, placed_outcome, removal_code, removed_outcome, slot_code,
-    slot_number,
+    done_code, found_outcome, placed_code, placed_outcome, removal_code, removed_outcome,
+    slot_code, slot_number,
 };
 use fx_server::{CoreOutcome, Handle, WorkerPlace, open_places};
 use std::alloc::Global;
