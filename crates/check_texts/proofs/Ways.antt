@@ -1,14 +1,17 @@
 -- The ways of plays in which memory is found: their texts, and those that begin with an exit.
-use Rattle.check_texts.proofs.Words.{Bor, Exits, KeptWays, Bool, Contains, FileEntry, Instruction, IsTextFound, List, Meaning, PrintsAllFound}
-use Rattle.check_texts.proofs.Words.{Reported, RingContents, RingState, Stage, [], ap, arith, false, length, map, new_ring, refl, ring_of, subst, sym}
-use Rattle.check_texts.proofs.Words.{true, ℕ, ⊎_elim, ◌++◌, ◌+◌, ◌<◌, ◌∙◌, ◌∷◌, ◌≡◌, append-nil, contains_map, contains_mapped, contains_none}
-use Rattle.check_texts.proofs.Words.{option_to_list, ring_with_slots, stages_of, HasEachNextStage, IsTrue, MayLeadTo, Reached, stage, All, IfSome}
-use Rattle.check_texts.proofs.Words.{None, Option, Some, Grows, bytes_decides, list_any, map-append, string_bytes, append_assoc, instruction_of}
-use Rattle.check_texts.proofs.Words.{concat, length-append, length-map, All-contains, Contains-append_cases, Contains-append_left}
-use Rattle.check_texts.proofs.Words.{Contains-append_right, Contains-push_cases, contains_head, contains_only, contains_tail, PrintsEnd, AreBare}
-use Rattle.check_texts.proofs.Words.{AreDistinct, AreTextsOf, CountsUpTo, GoesBy, HasWays, IsBare, IsAfterLine, IsWay, ways_after, Global, String}
-use Rattle.check_texts.proofs.Words.{string_eq, min, not, ◌-◌, ◌^◌, AreExits, AreWaysBy, IsRest, IsRestOf, bare, commands_in, texts_in, Layer}
-use Rattle.check_texts.proofs.Words.{none_rings, list_any_at, true≢false}
+use Rattle.check_texts.proofs.Words.{Bor, Exits, KeptWays, KeptExit, Bool, Contains, FileEntry, Instruction, IsTextFound, List, Meaning}
+use Rattle.check_texts.proofs.Words.{PrintsAllFound, Reported, RingContents, RingState, RingSlots, Stage, [], ap, arith, false, length, map, new_ring}
+use Rattle.check_texts.proofs.Words.{refl, ring_of, subst, sym, true, ℕ, ⊎_elim, ◌++◌, ◌+◌, ◌<◌, ◌≤◌, ◌∙◌, ◌∷◌, ◌≡◌, ◌⊎◌, inl, inr, suc, zero}
+use Rattle.check_texts.proofs.Words.{append-nil, contains_map, contains_mapped, contains_none, option_to_list, ring_with_slots, stages_of}
+use Rattle.check_texts.proofs.Words.{HasEachNextStage, IsTrue, MayLeadTo, stage, All, IfSome, None, Option, Some, Grows, bytes_decides, list_any}
+use Rattle.check_texts.proofs.Words.{map-append, string_bytes, append_assoc, instruction_of, concat, length-append, length-map, All-contains}
+use Rattle.check_texts.proofs.Words.{All-weaker, Contains-append_cases, Contains-append_left, Contains-append_right, Contains-push_cases}
+use Rattle.check_texts.proofs.Words.{contains_head, contains_only, contains_tail, PrintsEnd, AreBare, AreDistinct, AreWays, CountsUpTo, GoesBy}
+use Rattle.check_texts.proofs.Words.{HasWays, IsBare, IsWay, ways_after, Global, String, string_eq, min, not, ◌-◌, ◌^◌, AreExits, AreWaysBy}
+use Rattle.check_texts.proofs.Words.{AreWaysOf, AreCounted, AreAllCounted, AreRests, IsRest, ways_at, ways_by, ways_of, bare, commands_in, rests_in}
+use Rattle.check_texts.proofs.Words.{Layer, Vec, none_rings}
+use Rattle.check_texts.proofs.Words.{list_any_at, true≢false, slice_get, take, flat_map, flat_map_more, slice_get-map, slice_get_within}
+use Rattle.check_texts.proofs.Words.{get_or_from_slice_get, option_map}
 use Rattle.check_texts.proofs.Walks.{starts}
 
 -- a text found is that of a way, and a way's text is found
@@ -48,106 +51,181 @@ distinct_behind line (way ∷ ways) (new, others) = (
   distinct_behind line ways others,
 )
 
+-- lists and their elements by number
+
+-- an element of two lists is one of the first, or of the second
+get_front : {X : Type 0} (xs ys : List X) (k : ℕ) (x : X) → slice_get xs k ≡ Some x → slice_get (xs ++ ys) k ≡ Some x
+get_front [] ys k x is = absurd (cc)
+get_front (y ∷ xs) ys zero x is = is
+get_front (y ∷ xs) ys (suc k) x is = get_front xs ys k x is
+
+get_behind : {X : Type 0} (xs ys : List X) (n : ℕ) → slice_get (xs ++ ys) (length xs + n) ≡ slice_get ys n
+get_behind [] ys n = ap (slice_get ys) (let none : 0 + n ≡ n = omega arith in none)
+get_behind (x ∷ xs) ys n =
+    let more : length (x ∷ xs) + n ≡ suc (length xs + n) = omega arith in
+    ap (slice_get (x ∷ (xs ++ ys))) more ∙ get_behind xs ys n
+
+-- the last of a list, or one before it
+get_last : {X : Type 0} (xs : List X) (x : X) (k : ℕ) (y : X) → slice_get (xs ++ x ∷ []) k ≡ Some y
+    → ((slice_get xs k ≡ Some y) × (take k (xs ++ x ∷ []) ≡ take k xs)) ⊎ ((x ≡ y) × (take k (xs ++ x ∷ []) ≡ xs))
+get_last {X} [] x zero y is = inr (cc, refl)
+get_last {X} [] x (suc k) y is = absurd (cc)
+get_last {X} (z ∷ xs) x zero y is = inl (is, refl)
+get_last {X} (z ∷ xs) x (suc k) y is =
+    ⊎_elim (λ own. inl (own.0, ap (λ (l : List X). z ∷ l) own.1)) (λ last. inr (last.0, ap (λ (l : List X). z ∷ l) last.1)) (get_last xs x k y is)
+
+-- one of the list of an element, among the lists of all
+get_from : {X Y : Type 0} (f : X → List Y) (xs : List X) (k : ℕ) (x : X) (n : ℕ) (y : Y) → slice_get xs k ≡ Some x → slice_get (f x) n ≡ Some y
+    → slice_get (flat_map f xs) (length (flat_map f (take k xs)) + n) ≡ Some y
+get_from f [] k x n y is at = absurd (cc)
+get_from f (z ∷ xs) zero x n y is at =
+    let same : x ≡ z = cc in let none : 0 + n ≡ n = omega arith in
+    ap (slice_get (f z ++ flat_map f xs)) none ∙ get_front (f z) (flat_map f xs) n y (rw same at at)
+get_from f (z ∷ xs) (suc k) x n y is at =
+    let split : length (f z ++ flat_map f (take k xs)) + n ≡ length (f z) + (length (flat_map f (take k xs)) + n) =
+    omega (arith, length-append (f z) (flat_map f (take k xs))) in
+    ap (slice_get (f z ++ flat_map f xs)) split
+    ∙ (get_behind (f z) (flat_map f xs) (length (flat_map f (take k xs)) + n) ∙ get_from f xs k x n y is at)
+
+pub gotten : {X : Type 0} (xs : List X) (k : ℕ) {x : X} → slice_get xs k ≡ Some x → Contains xs x
+gotten xs k {x} is = (k, slice_get_within xs k x is, get_or_from_slice_get xs k x x is)
+
+-- the ways of an exit, after those before it
+module _ (behind : List (List KeptWays)) (exits : List KeptExit) (exit : KeptExit) where
+  pub ways_of_more : ways_by behind (exits ++ exit ∷ []) ≡ ways_by behind exits ++ ways_after (string_bytes exit.line) (ways_at behind exit.number)
+  ways_of_more = sym (flat_map_more (λ (e : KeptExit). ways_after (string_bytes e.line) (ways_at behind e.number)) [] exits exit)
+
+  -- they are counted right
+  pub counted_more : {old new : KeptWays} → old.exits.items ≡ exits → new.exits.items ≡ exits ++ exit ∷ [] → exit.before ≡ old.ways
+      → AreCounted behind old → CountsUpTo new.ways (length (ways_by behind (exits ++ exit ∷ []))) → AreCounted behind new
+  counted_more {old} {new} were are first own count = record {
+    ways = rw are count;
+    before = λ k one at.
+        ⊎_elim (λ here. rw (are, here.1) (rw were at (own.before k one (rw were here.0))))
+        (λ last. rw (are, last.1, sym last.0, first) (rw were at own.ways)) (get_last exits exit k one (rw are at at));
+  }
+
+-- a sum that stops at the largest number counts as many as both do
+pub counts_sum : {a b s : ℕ} (m n : ℕ) → s ≡ min (a + b) (2 ^ 64 - 1) → CountsUpTo a m → CountsUpTo b n → CountsUpTo s (m + n)
+counts_sum {a} {b} m n is one other = record {
+  few = omega (arith, is, one.few, other.few);
+  same = λ few.
+      let low : a + b < 2 ^ 64 - 1 = omega (arith, is, few) in
+      let left : a ≡ m = one.same (omega (arith, low)) in let right : b ≡ n = other.same (omega (arith, low)) in omega (arith, is, low, left, right);
+}
+
 -- one more exit of a ring
-module _ (catalogue : List FileEntry) (command : Instruction) (commands : List Instruction) (before : List Stage) (s : Stage)
-    (lines more : List (List ℕ)) (old : KeptWays) (kept : (l : List ℕ) → Contains lines l → Contains more l)
-    (ways : AreWaysBy catalogue command commands before lines old) where
+module _ (catalogue : List FileEntry) (command : Instruction) (commands : List Instruction) (behind : List (List KeptWays))
+    (before : List Stage) (s : Stage) (lines more : List (List ℕ)) (old : KeptWays)
+    (kept : (l : List ℕ) → Contains lines l → Contains more l) (ways : AreWaysBy catalogue command commands behind before lines old) where
+  abbrev own : List (List (List ℕ))
+  own = ways_by behind old.exits.items
+
   -- where its ways are left out
-  pub ways_stay : AreWaysBy catalogue command commands (before ++ s ∷ []) more (record old { are_all = false })
+  pub ways_stay : AreWaysBy catalogue command commands behind (before ++ s ∷ []) more (record old { are_all = false })
   ways_stay = record {
-    ways = ways.ways;
     each = ways.each;
     once = ways.once;
     first = λ line way inside. kept line (ways.first line way inside);
     all = λ yes. absurd (let e : false ≡ true = yes in cc);
-    count = ways.count;
-    texts = ways.texts;
+    counted = record { ways = ways.counted.ways; before = ways.counted.before };
   }
 
   -- where they are added
-  module _ (new later : KeptWays) (same : ring_with_slots catalogue new.ring ≡ ring_with_slots catalogue old.ring)
+  module _ (new later : KeptWays) (exit : KeptExit) (same : ring_with_slots catalogue new.ring ≡ ring_with_slots catalogue old.ring)
+      (items : new.exits.items ≡ old.exits.items ++ exit ∷ []) (line_is : string_bytes exit.line ≡ s.printed) (first_is : exit.before ≡ old.ways)
+      (sum : new.ways ≡ min (old.ways + later.ways) (2 ^ 64 - 1))
       (leads : MayLeadTo true (bare catalogue old.ring) command s)
-      (rest : IsRest catalogue commands later) (there : ring_with_slots catalogue later.ring ≡ s.ring)
+      (rest : AreWays s.ring commands later.are_all (ways_at behind exit.number))
+      (count : CountsUpTo later.ways (length (ways_at behind exit.number)))
       (is_new : Contains lines s.printed → ⊥) (added : Contains more s.printed)
-      (all : IsTrue new.are_all → IsTrue old.are_all × IsTrue later.are_all)
-      (counts : (m n : ℕ) → CountsUpTo old.ways m → CountsUpTo later.ways n → CountsUpTo new.ways (m + n))
-      (texts : (own others : List (List (List ℕ))) → AreTextsOf own old.is_whole (texts_in old.endings.items)
-      → AreTextsOf others later.is_whole (texts_in later.endings.items)
-      → AreTextsOf (own ++ ways_after s.printed others) new.is_whole (texts_in new.endings.items)) where
-    abbrev those : List (List (List ℕ))
-    those = ways_after s.printed rest.ways
+      (all : IsTrue new.are_all → IsTrue old.are_all × IsTrue later.are_all) where
+    abbrev others : List (List (List ℕ))
+    others = ways_at behind exit.number
 
-    parts_of : (way : List (List ℕ)) → Contains those way → (other : List (List ℕ)) × Contains rest.ways other × (way ≡ s.printed ∷ other)
-    parts_of way inside = contains_map (λ (w : List (List ℕ)). s.printed ∷ w) rest.ways way inside
+    abbrev those : List (List (List ℕ))
+    those = ways_after s.printed others
+
+    here_is : ways_by behind (old.exits.items ++ exit ∷ []) ≡ own ++ those
+    here_is = ways_of_more behind old.exits.items exit ∙ ap (λ (l : List ℕ). own ++ ways_after l others) line_is
+
+    new_is : ways_by behind new.exits.items ≡ own ++ those
+    new_is = ap (ways_by behind) items ∙ here_is
+
+    -- a way of the ring is an old one, or one of these
+    either : {way : List (List ℕ)} → Contains (ways_by behind new.exits.items) way → Contains own way ⊎ Contains those way
+    either {way} inside = Contains-append_cases own those way (subst (λ (l : List (List (List ℕ))). Contains l way) new_is inside)
+
+    parts_of : (way : List (List ℕ)) → Contains those way → (other : List (List ℕ)) × Contains others other × (way ≡ s.printed ∷ other)
+    parts_of way inside = contains_map (λ (w : List (List ℕ)). s.printed ∷ w) others way inside
 
     goes : (way : List (List ℕ)) → Contains those way → (ring : RingContents) → ring_of ring ≡ ring_with_slots catalogue old.ring
         → GoesBy ring (command ∷ commands) way
     goes way inside ring at =
         let (other, has, is) = parts_of way inside in
         let (next, line, one, is_s) = leads ring at in
-        let line_is : s.printed ≡ line = sym (ap (λ (t : Stage). t.printed) is_s) in
-        let next_is : ring_of next ≡ s.ring = ap (λ (t : Stage). t.ring) is_s in
-        (next, line, other, one, is ∙ ap (λ (l : List ℕ). l ∷ other) line_is, rest.are.each other has next (next_is ∙ sym there))
+        let line_same : s.printed ≡ line = sym (ap (λ (t : Stage). t.printed) is_s) in
+        (next, line, other, one, is ∙ ap (λ (l : List ℕ). l ∷ other) line_same, rest.each other has next (ap (λ (t : Stage). t.ring) is_s))
 
-    apart : (way : List (List ℕ)) → Contains ways.ways way → Contains those way → ⊥
+    apart : (way : List (List ℕ)) → Contains own way → Contains those way → ⊥
     apart way here inside =
-        let (other, has, is) = parts_of way inside in is_new (ways.first s.printed other (subst (Contains ways.ways) is here))
+        let (other, has, is) = parts_of way inside in is_new (ways.first s.printed other (subst (Contains own) is here))
 
     first_of : (line : List ℕ) (way : List (List ℕ)) → Contains those (line ∷ way) → Contains more line
     first_of line way inside =
         let (other, has, is) = parts_of (line ∷ way) inside in
-        let line_is : s.printed ≡ line = cc in subst (Contains more) line_is added
+        let line_same : s.printed ≡ line = cc in subst (Contains more) line_same added
 
     of_stage : IsTrue later.are_all → (t : Stage) → s ≡ t → (ring : RingContents) (way : List (List ℕ)) → ring_of ring ≡ t.ring
-        → GoesBy ring commands way → Contains (ways.ways ++ those) (t.printed ∷ way)
+        → GoesBy ring commands way → Contains (own ++ those) (t.printed ∷ way)
     of_stage all_there t is ring way at by =
-        let ring_is : ring_of ring ≡ ring_with_slots catalogue later.ring = at ∙ (ap (λ (u : Stage). u.ring) (sym is) ∙ sym there) in
-        let has : Contains those (s.printed ∷ way) =
-        contains_mapped (λ (w : List (List ℕ)). s.printed ∷ w) rest.ways way (rest.are.all all_there ring way ring_is by) in
-        Contains-append_right ways.ways those (t.printed ∷ way)
-        (subst (λ (u : Stage). Contains those (u.printed ∷ way)) is has)
+        let has : Contains those (s.printed ∷ way) = contains_mapped (λ (w : List (List ℕ)). s.printed ∷ w) others way
+        (rest.all all_there ring way (at ∙ ap (λ (u : Stage). u.ring) (sym is)) by) in
+        Contains-append_right own those (t.printed ∷ way) (subst (λ (u : Stage). Contains those (u.printed ∷ way)) is has)
 
-    pub ways_more : AreWaysBy catalogue command commands (before ++ s ∷ []) more new
+    counted : AreCounted behind new
+    counted = counted_more behind old.exits.items exit refl items first_is ways.counted (rw (here_is, length-append own those)
+        (counts_sum (length own) (length those) sum ways.counted.ways
+        (subst (CountsUpTo later.ways) (sym (length-map others (λ (w : List (List ℕ)). s.printed ∷ w))) count)))
+
+    pub ways_more : AreWaysBy catalogue command commands behind (before ++ s ∷ []) more new
     ways_more = record {
-      ways = ways.ways ++ those;
       each = λ way inside ring at.
-          let at_old = at ∙ same in
-          ⊎_elim (λ here. ways.each way here ring at_old) (λ has. goes way has ring at_old) (Contains-append_cases ways.ways those way inside);
-      once = distinct_append ways.ways those ways.once (distinct_behind s.printed rest.ways rest.are.once) apart;
-      first = λ line way inside.
-          ⊎_elim (λ here. kept line (ways.first line way here)) (first_of line way) (Contains-append_cases ways.ways those (line ∷ way) inside);
+          let at_old = at ∙ same in ⊎_elim (λ here. ways.each way here ring at_old) (λ has. goes way has ring at_old) (either inside);
+      once = subst (λ (l : List (List (List ℕ))). AreDistinct l) (sym new_is)
+          (distinct_append own those ways.once (distinct_behind s.printed others rest.once) apart);
+      first = λ line way inside. ⊎_elim (λ here. kept line (ways.first line way here)) (first_of line way) (either inside);
       all = λ yes t inside ring way at by.
           let both = all yes in
-          ⊎_elim (λ here. Contains-append_left ways.ways those (t.printed ∷ way) (ways.all both.0 t here ring way at by))
-          (λ is. of_stage both.1 t is ring way at by) (Contains-push_cases before s t inside);
-      count = subst (CountsUpTo new.ways) (sym (length-append ways.ways those)) (counts (length ways.ways) (length those) ways.count
-          (subst (CountsUpTo later.ways) (sym (length-map rest.ways (λ (w : List (List ℕ)). s.printed ∷ w))) rest.count));
-      texts = texts ways.ways rest.ways ways.texts rest.texts;
+          subst (λ (l : List (List (List ℕ))). Contains l (t.printed ∷ way)) (sym new_is)
+          (⊎_elim (λ here. Contains-append_left own those (t.printed ∷ way) (ways.all both.0 t here ring way at by))
+          (λ is. of_stage both.1 t is ring way at by) (Contains-push_cases before s t inside));
+      counted = counted;
     }
 
 -- no way yet
-pub no_ways : (catalogue : List FileEntry) (command : Instruction) (commands : List Instruction) (lines : List (List ℕ)) (rest : KeptWays)
-    → rest.ways ≡ 0 → rest.endings.items ≡ [] → AreWaysBy catalogue command commands [] lines rest
-no_ways catalogue command commands lines rest none empty = record {
-  ways = [];
-  each = λ way inside. absurd (contains_none way inside);
-  once = tt;
-  first = λ line way inside. absurd (contains_none (line ∷ way) inside);
+no_counts : (behind : List (List KeptWays)) (rest : KeptWays) → rest.ways ≡ 0 → rest.exits.items ≡ [] → AreCounted behind rest
+no_counts behind rest none empty = record {
+  ways = rw (none, empty) (record { few = omega arith; same = λ few. refl });
+  before = λ k exit at. absurd (let e : slice_get [] k ≡ Some exit = rw empty at at in cc);
+}
+
+pub no_ways : (catalogue : List FileEntry) (command : Instruction) (commands : List Instruction) (behind : List (List KeptWays))
+    (lines : List (List ℕ)) (rest : KeptWays) → rest.ways ≡ 0 → rest.exits.items ≡ [] → AreWaysBy catalogue command commands behind [] lines rest
+no_ways catalogue command commands behind lines rest none empty = record {
+  each = λ way inside. absurd (contains_none way (rw empty at inside));
+  once = rw empty tt;
+  first = λ line way inside. absurd (contains_none (line ∷ way) (rw empty at inside));
   all = λ yes s inside. absurd (contains_none s inside);
-  count = rw none (record { few = omega arith; same = λ few. refl });
-  texts = rw empty (record {
-    each = λ text inside. absurd (contains_none text inside);
-    all = λ yes text inside. absurd (contains_none text inside);
-  });
+  counted = no_counts behind rest none empty;
 }
 
 -- all exits of a ring
-pub rest_of_exits : (catalogue : List FileEntry) (command : Instruction) (commands : List Instruction) (exits : Exits) {lines : List (List ℕ)}
-    {rest : KeptWays} → ring_with_slots catalogue rest.ring ≡ ring_with_slots catalogue exits.ring → (IsTrue rest.are_all → IsTrue exits.are_all)
-    → AreExits catalogue command exits → AreWaysBy catalogue command commands (stages_of catalogue exits.to.items) lines rest
-    → IsRest catalogue (command ∷ commands) rest
-rest_of_exits catalogue command commands exits {rest = rest} same whole are by = record {
-  ways = by.ways;
+pub rest_of_exits : (catalogue : List FileEntry) (command : Instruction) (commands : List Instruction) (behind : List (List KeptWays))
+    (exits : Exits) {lines : List (List ℕ)} {rest : KeptWays} → ring_with_slots catalogue rest.ring ≡ ring_with_slots catalogue exits.ring
+    → (IsTrue rest.are_all → IsTrue exits.are_all) → AreExits catalogue command exits
+    → AreWaysBy catalogue command commands behind (stages_of catalogue exits.to.items) lines rest → IsRest catalogue (command ∷ commands) behind rest
+rest_of_exits catalogue command commands behind exits {rest = rest} same whole are by = record {
   are = record {
     each = by.each;
     once = by.once;
@@ -155,74 +233,113 @@ rest_of_exits catalogue command commands exits {rest = rest} same whole are by =
         let (next, line, others, leads, is, goes) = by_lines in
         let stands : ring_of ring ≡ ring_with_slots catalogue exits.ring = at ∙ same in
         let inside = are.all (whole yes) ring next line stands leads in
-        subst (Contains by.ways) (sym is) (by.all yes (stage true next line) inside next others refl goes);
+        rw is (by.all yes (stage true next line) inside next others refl goes);
   };
-  count = by.count;
-  texts = by.texts;
+  counted = by.counted;
 }
 
--- the end of the script: the text of a play that has come so far
-abbrev pub EndsAs : Stage → List ℕ → Type 0
-EndsAs last text = (end : List ℕ) × PrintsEnd last.ring end × (text ≡ last.printed ++ end)
-
-pub rest_of_end : (catalogue : List FileEntry) (rest : KeptWays) (s : Stage) (text : List ℕ) → ring_with_slots catalogue rest.ring ≡ s.ring
-    → s.printed ≡ [] → EndsAs s text → ((other : List ℕ) → EndsAs s other → other ≡ text) → rest.ways ≡ 1
-    → ((t : List ℕ) → Contains (texts_in rest.endings.items) t → t ≡ text)
-    → (IsTrue rest.is_whole → Contains (texts_in rest.endings.items) text) → IsRest catalogue [] rest
-rest_of_end catalogue rest s text same bare (end, prints, split) only one each whole = record {
-  ways = (text ∷ []) ∷ [];
+-- the end of the script
+pub rest_of_end : (catalogue : List FileEntry) (rest : KeptWays) (exit : KeptExit) (state : RingState)
+    → ring_with_slots catalogue rest.ring ≡ state → rest.exits.items ≡ exit ∷ [] → exit.before ≡ 0 → rest.ways ≡ 1
+    → PrintsEnd state (string_bytes exit.line) → ((other : List ℕ) → PrintsEnd state other → other ≡ string_bytes exit.line)
+    → IsRest catalogue [] [] rest
+rest_of_end catalogue rest exit state same is first one prints only = record {
   are = record {
     each = λ way inside ring at.
-        let is : way ≡ text ∷ [] = contains_only (text ∷ []) way inside in
-        let stands : ring_of ring ≡ s.ring = at ∙ same in
-        let text_is : text ≡ end = split ∙ ap (λ (p : List ℕ). p ++ end) bare in
-        (end, subst (λ (r : RingState). PrintsEnd r end) (sym stands) prints, is ∙ ap (λ (t : List ℕ). t ∷ []) text_is);
-    once = (contains_none (text ∷ []), tt);
+        let own : way ≡ string_bytes exit.line ∷ [] = contains_only (string_bytes exit.line ∷ []) way (rw is at inside) in
+        (string_bytes exit.line, subst (λ (r : RingState). PrintsEnd r (string_bytes exit.line)) (sym (at ∙ same)) prints, own);
+    once = rw is (contains_none (string_bytes exit.line ∷ []), tt);
     all = λ yes ring way at by_end.
-        let (other, ends, is) = by_end in
-        let stands : ring_of ring ≡ s.ring = at ∙ same in
-        let behind : other ≡ s.printed ++ other = sym (ap (λ (p : List ℕ). p ++ other) bare) in
-        let text_is : other ≡ text = only other (other, subst (λ (r : RingState). PrintsEnd r other) stands ends, behind) in
-        subst (Contains ((text ∷ []) ∷ [])) (sym (is ∙ ap (λ (t : List ℕ). t ∷ []) text_is)) (contains_head (text ∷ []) []);
+        let (other, ends, own) = by_end in
+        let ends_there = subst (λ (r : RingState). PrintsEnd r other) (at ∙ same) ends in
+        rw (is, own, only other ends_there) (contains_head (string_bytes exit.line ∷ []) []);
   };
-  count = rw one (record { few = omega arith; same = λ few. refl });
-  texts = record {
-    each = λ t inside.
-        subst (Contains (map concat ((text ∷ []) ∷ []))) (append-nil text ∙ sym (each t inside)) (contains_head (concat (text ∷ [])) []);
-    all = λ yes t inside. rw (contains_only (concat (text ∷ [])) t inside, append-nil text) (whole yes);
+  counted = record {
+    ways = rw (one, is) (record { few = omega arith; same = λ few. refl });
+    before = λ k e at.
+        ⊎_elim (λ none. absurd (let nothing : slice_get [] k ≡ Some e = none.0 in cc))
+        (λ last. let front : take k (exit ∷ []) ≡ [] = last.1 in rw (is, front, sym last.0, first) (record { few = omega arith; same = λ few. refl }))
+        (get_last [] exit k e (rw is at at));
   };
 }
 
--- the ways of a script are those of its first ring
-module _ (script : Meaning) {rest : KeptWays} (rests : IsRest script.catalogue script.commands rest)
-    (first : ring_with_slots script.catalogue rest.ring ≡ new_ring script.catalogue) where
-  is_way : (way : List (List ℕ)) → Contains rests.ways way → IsWay script way
-  is_way way inside =
-      let (start, new) = starts script.catalogue in (start, new, rests.are.each way inside start (new ∙ sym first))
+-- what is kept of the ring of a number
+pub kept_at : (catalogue : List FileEntry) (commands : List Instruction) (behind : List (List KeptWays)) (rests : List KeptWays) (number : ℕ)
+    {rest : KeptWays} → slice_get rests number ≡ Some rest → All (IsRest catalogue commands behind) rests
+    → AreWaysOf catalogue commands rest.ring (ways_at (rests ∷ behind) number) rest
+kept_at catalogue commands behind rests number {rest} there are =
+    let own = All-contains (IsRest catalogue commands behind) rests rest are (gotten rests number there) in
+    subst (λ (o : Option KeptWays). AreWaysOf catalogue commands rest.ring (ways_of (ways_at behind) o) rest) (sym there) (own.are, own.counted.ways)
 
-  pub script_ways : (are_all : Bool) → (IsTrue are_all → IsTrue rest.are_all × (rest.ways ≡ length rests.ways)) → HasWays script are_all rest.ways
-  script_ways are_all counted = record {
-    ways = rests.ways;
+-- that of the first ring of a script
+pub first_there : (rests : List (Vec KeptWays)) (own : Vec KeptWays) (ring : RingSlots) → slice_get rests 0 ≡ Some own
+    → ((catalogue : List FileEntry) → ring_with_slots catalogue ring ≡ new_ring catalogue) → (found : Option (Bor KeptWays))
+    → IfSome found (λ rest. slice_get own.items 0 ≡ Some rest.now)
+    → IfSome found (λ rest. (catalogue : List FileEntry) → ring_with_slots catalogue rest.now.ring ≡ ring_with_slots catalogue ring)
+    → IfSome found (λ rest. (catalogue : List FileEntry) (commands : List Instruction) → AreRests catalogue commands (rests_in rests)
+    → AreWays (new_ring catalogue) commands rest.now.are_all (ways_at (rests_in rests) 0)
+    × CountsUpTo rest.now.ways (length (ways_at (rests_in rests) 0)))
+first_there [] own ring at new found there same = absurd (let none : None ≡ Some own = at in cc)
+first_there (first ∷ behind) own ring at new None there same = tt
+first_there (first ∷ behind) own ring at new (Some rest) there same = λ catalogue commands are.
+    let is : own ≡ first = cc in
+    let here = subst (λ (o : Vec KeptWays). slice_get o.items 0 ≡ Some rest.now) is there in
+    let kept = kept_at catalogue commands (rests_in behind) first.items 0 here are.0 in
+    let new_is = same catalogue ∙ new catalogue in
+    (subst (λ (r : RingState). AreWays r commands rest.now.are_all (ways_at (first.items ∷ rests_in behind) 0)) new_is kept.0, kept.1)
+
+-- a way of that ring, by its number
+pub way_from : (behind : List (List KeptWays)) (rests : List KeptWays) (number : ℕ) (rest : KeptWays) (k : ℕ) (exit : KeptExit) (way : ℕ)
+    (later : List (List ℕ)) → slice_get rests number ≡ Some rest → slice_get rest.exits.items k ≡ Some exit → exit.before ≤ way → way < 2 ^ 64 - 1
+    → All (AreCounted behind) rests → slice_get (ways_at behind exit.number) (way - exit.before) ≡ Some later
+    → slice_get (ways_at (rests ∷ behind) number) way ≡ Some (string_bytes exit.line ∷ later)
+way_from behind rests number rest k exit way later there is low few are at =
+    let f = λ (e : KeptExit). ways_after (string_bytes e.line) (ways_at behind e.number) in
+    let own = All-contains (AreCounted behind) rests rest are (gotten rests number there) in
+    let exact : exit.before ≡ length (flat_map f (take k rest.exits.items)) = (own.before k exit is).same (omega (arith, low, few)) in
+    let split : way ≡ length (flat_map f (take k rest.exits.items)) + (way - exit.before) = omega (arith, exact, low) in
+    let after : slice_get (f exit) (way - exit.before) ≡ Some (string_bytes exit.line ∷ later) =
+    slice_get-map (λ (w : List (List ℕ)). string_bytes exit.line ∷ w) (ways_at behind exit.number) (way - exit.before)
+    ∙ ap (option_map (λ (w : List (List ℕ)). string_bytes exit.line ∷ w)) at in
+    subst (λ (o : Option KeptWays). slice_get (ways_of (ways_at behind) o) way ≡ Some (string_bytes exit.line ∷ later)) (sym there)
+    (subst (λ (n : ℕ). slice_get (flat_map f rest.exits.items) n ≡ Some (string_bytes exit.line ∷ later)) (sym split)
+    (get_from f rest.exits.items k exit (way - exit.before) (string_bytes exit.line ∷ later) is after))
+
+-- the rests of a layer, before others
+pub rests_counted : (catalogue : List FileEntry) (commands : List Instruction) (rests : List (List KeptWays)) → AreRests catalogue commands rests
+    → AreAllCounted rests
+rests_counted catalogue commands [] are = absurd are
+rests_counted catalogue commands (own ∷ behind) are =
+    (All-weaker (IsRest catalogue commands behind) (AreCounted behind) (λ rest is. is.counted) own are.0, are.1)
+
+-- the ways of a script are those of its first ring
+module _ (script : Meaning) {ways : List (List (List ℕ))} {are_all : Bool}
+    (are : AreWays (new_ring script.catalogue) script.commands are_all ways) where
+  is_way : (way : List (List ℕ)) → Contains ways way → IsWay script way
+  is_way way inside = let (start, new) = starts script.catalogue in (start, new, are.each way inside start new)
+
+  pub script_ways : (are_counted : Bool) (count : ℕ) → CountsUpTo count (length ways)
+      → (IsTrue are_counted → IsTrue are_all × (count < 2 ^ 64 - 1)) → HasWays script are_counted count
+  script_ways are_counted count counts both = record {
+    ways = ways;
     each = is_way;
-    once = rests.are.once;
-    few = rests.count.few;
-    same = λ yes. (counted yes).1;
-    all = λ yes way is. rests.are.all (counted yes).0 is.0 way (is.1 ∙ sym first) is.2;
+    once = are.once;
+    few = counts.few;
+    same = λ sure. counts.same (both sure).1;
+    all = λ sure way is. are.all (both sure).0 is.0 way is.1 is.2;
   }
 
-  pub script_text : (text : List ℕ) → Contains (texts_in rest.endings.items) text → IsTextFound script text
+  pub script_text : (text : List ℕ) → Contains (map concat ways) text → IsTextFound script text
   script_text text inside =
-      let (way, has, is) = contains_map concat rests.ways text (rests.texts.each text inside) in
+      let (way, has, is) = contains_map concat ways text inside in
       let (ring, new, goes) = is_way way has in
       let (reports, prints) = text_of_way ring script.commands way goes in
       (reports, (ring, new, subst (λ (t : List ℕ). PrintsAllFound ring script.commands t reports) (sym is) prints))
 
-  pub script_texts : IsTrue rest.are_all → IsTrue rest.is_whole → (text : List ℕ) → IsTextFound script text
-      → Contains (texts_in rest.endings.items) text
-  script_texts all whole text (reports, (ring, new, prints)) =
+  pub script_texts : IsTrue are_all → (text : List ℕ) → IsTextFound script text → Contains (map concat ways) text
+  script_texts all text (reports, (ring, new, prints)) =
       let (way, goes, is) = way_of_text ring script.commands text reports prints in
-      let has = rests.are.all all ring way (new ∙ sym first) goes in
-      rests.texts.all whole text (subst (Contains (map concat rests.ways)) (sym is) (contains_mapped concat rests.ways way has))
+      subst (Contains (map concat ways)) (sym is) (contains_mapped concat ways way (are.all all ring way new goes))
 
 -- a script of which no way is known
 pub no_script_ways : (script : Meaning) → HasWays script false 0
@@ -234,50 +351,6 @@ no_script_ways script = record {
   same = λ yes. absurd (let e : false ≡ true = yes in cc);
   all = λ yes. absurd (let e : false ≡ true = yes in cc);
 }
-
--- a sum that stops at the largest number counts as many as both do
-pub counts_sum : {a b s : ℕ} (m n : ℕ) → s ≡ min (a + b) (2 ^ 64 - 1) → CountsUpTo a m → CountsUpTo b n → CountsUpTo s (m + n)
-counts_sum {a} {b} m n is one other = record {
-  few = omega (arith, is, one.few, other.few);
-  same = λ few.
-      let low : a + b < 2 ^ 64 - 1 = omega (arith, is, few) in
-      let left : a ≡ m = one.same (omega (arith, low)) in let right : b ≡ n = other.same (omega (arith, low)) in omega (arith, is, low, left, right);
-}
-
--- the texts of ways, and those that begin with a line
-module _ (line : List ℕ) (ways others : List (List (List ℕ))) (old later new : List (List ℕ)) where
-  behind_text : (text : List ℕ) → Contains (map concat (ways_after line others)) text
-      → (other : List ℕ) × Contains (map concat others) other × (text ≡ line ++ other)
-  behind_text text inside =
-      let (way, has, is) = contains_map concat (ways_after line others) text inside in
-      let (rest, there, way_is) = contains_map (λ (w : List (List ℕ)). line ∷ w) others way has in
-      (concat rest, contains_mapped concat others rest there, is ∙ ap concat way_is)
-
-  text_behind : (other : List ℕ) → Contains (map concat others) other → Contains (map concat (ways_after line others)) (line ++ other)
-  text_behind other inside =
-      let (way, has, is) = contains_map concat others other inside in
-      subst (λ (t : List ℕ). Contains (map concat (ways_after line others)) (line ++ t)) (sym is)
-      (contains_mapped concat (ways_after line others) (line ∷ way) (contains_mapped (λ (w : List (List ℕ)). line ∷ w) others way has))
-
-  pub texts_more : {was all own_all : Bool} → Grows (IsAfterLine line later) old new
-      → (IsTrue own_all → (text : List ℕ) → Contains later text → Contains new (line ++ text))
-      → {whole : Bool} → (IsTrue whole → IsTrue was × (IsTrue own_all × IsTrue all))
-      → AreTextsOf ways was old → AreTextsOf others all later → AreTextsOf (ways ++ ways_after line others) whole new
-  texts_more grows there parts own rest = record {
-    each = λ text inside. subst (λ (l : List (List ℕ)). Contains l text) (sym (map-append concat ways (ways_after line others)))
-        (⊎_elim (λ here. Contains-append_left (map concat ways) (map concat (ways_after line others)) text (own.each text here))
-        (λ it. Contains-append_right (map concat ways) (map concat (ways_after line others)) text
-        (subst (Contains (map concat (ways_after line others))) (sym it.2) (text_behind it.0 (rest.each it.0 it.1))))
-        (grows.from text inside));
-    all = λ whole text inside.
-        let three = parts whole in
-        ⊎_elim (λ here. grows.kept text (own.all three.0 text here))
-        (λ has.
-        let (other, stands, is) = behind_text text has in
-        subst (Contains new) (sym is) (there three.1.0 other (rest.all three.1.1 other stands)))
-        (Contains-append_cases (map concat ways) (map concat (ways_after line others)) text
-        (subst (λ (l : List (List ℕ)). Contains l text) (map-append concat ways (ways_after line others)) inside));
-  }
 
 -- a text that is new in a set isn't among its keys
 pub new_text : (keys : List (String Global)) (k : String Global) {added : Bool} → added ≡ not (list_any (string_eq k) keys) → added ≡ true
@@ -305,14 +378,16 @@ exits_are catalogue command keeps from exits told is same each all =
           (subst (λ (k : Bool). HasEachNextStage k from command (stages_of catalogue exits.to.items)) told (all yes));
     }
 
--- the ways of an exit's ring are among those that are kept
-pub rest_there : (catalogue : List FileEntry) (commands : List Instruction) (exit : Reached) (later : List KeptWays) → All (IsRest catalogue commands) later
-    → (found : Option (Bor KeptWays)) → IfSome found (λ rest. Contains later rest.now)
-    → IfSome found (λ rest. (catalogue : List FileEntry) → ring_with_slots catalogue rest.now.ring ≡ ring_with_slots catalogue exit.ring)
-    → IfSome found (λ rest. IsRestOf catalogue commands exit rest.now)
-rest_there catalogue commands exit later are None inside same = tt
-rest_there catalogue commands exit later are (Some rest) inside same =
-    (All-contains (IsRest catalogue commands) later rest.now are inside, same catalogue)
+-- the ways of an exit's ring, where what is kept of it is found
+pub rest_there : (catalogue : List FileEntry) (commands : List Instruction) (behind : List (List KeptWays)) (later : List KeptWays) (number : ℕ)
+    (ring : RingSlots) → All (IsRest catalogue commands behind) later → (found : Option (Bor KeptWays))
+    → IfSome found (λ rest. slice_get later number ≡ Some rest.now)
+    → IfSome found (λ rest. (catalogue : List FileEntry) → ring_with_slots catalogue rest.now.ring ≡ ring_with_slots catalogue ring)
+    → IfSome found (λ rest. AreWaysOf catalogue commands ring (ways_at (later ∷ behind) number) rest.now)
+rest_there catalogue commands behind later number ring are None there same = tt
+rest_there catalogue commands behind later number ring are (Some rest) there same =
+    let own = kept_at catalogue commands behind later number there are in
+    (subst (λ (r : RingState). AreWays r commands rest.now.are_all (ways_at (later ∷ behind) number)) (same catalogue) own.0, own.1)
 
 -- the list of the first ring alone
 pub bare_start : (catalogue : List FileEntry) → AreBare (record { ring = new_ring catalogue; printed = [] } ∷ [])

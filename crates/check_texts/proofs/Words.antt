@@ -16,28 +16,33 @@ pub use Rattle.check_lines.proofs.Entries.{AreOf, all_closed, all_of_ring, few_o
 pub use Rattle.check_lines.specs.Calls.{call_of, after_call, IsCall, IsLineOf, accepted_following, AnswersFound}
 pub use Rattle.check_outcomes.specs.declared.outcomes.PossibleAnswer.{PossibleAnswer}
 pub use Rattle.check_outcomes.specs.declared.outcomes.PossibleReport.{PossibleReport}
-pub use Rattle.check_texts.specs.Layers.{AreExits, AreWaysBy, IsRest, IsRestOf, bare, commands_in, texts_in, IsLayer}
+pub use Rattle.check_texts.specs.Layers.{AreAllCounted, AreCounted, AreExits, AreRests, AreWaysBy, AreWaysOf, IsLayer, IsRest, bare}
+pub use Rattle.check_texts.specs.Layers.{commands_in, rests_in, ways_at, ways_by, ways_of}
 pub use Rattle.check_texts.specs.Rings.{AreStagesFrom, Grows, HasEachFrom, HasEachLast, HasEachNextStage, HasEachSaidFrom, LeadsRing, LeadsAll}
 pub use Rattle.check_texts.specs.Rings.{MayEnd, MayLeadAllTo, MayLeadTo, MaySay, Stage, count_after, count_after_all, kept_text, said_in, stage}
 pub use Rattle.check_texts.specs.Rings.{stage_of, stage_reported, stages_of, AreSaidFrom, IsAskedIn, AreRings}
 pub use Rattle.check_texts.specs.Texts.{FoundMemory, IsReportFound, IsTextFound, MayAnswerIn, PrintsAllFound, HasFound}
-pub use Rattle.check_texts.specs.Ways.{AreBare, AreDistinct, AreTextsOf, CountsUpTo, GoesBy, HasWays, IsBare, IsAfterLine, IsWay, ways_after}
+pub use Rattle.check_texts.specs.Ways.{AreBare, AreDistinct, AreWays, CountsUpTo, GoesBy, HasWays, IsBare, IsWay, ways_after}
 pub use Rattle.check_texts.specs.declared.layers.Exits.{Exits}
 pub use Rattle.check_texts.specs.declared.layers.Layer.{Layer}
 pub use Rattle.check_texts.specs.declared.request_answers.Said.{Said}
+pub use Rattle.check_texts.specs.declared.rests.KeptExit.{KeptExit}
 pub use Rattle.check_texts.specs.declared.rests.KeptWays.{KeptWays}
-pub use Rattle.check_texts.specs.declared.rests.TextEnd.{TextEnd}
 pub use Rattle.check_texts.specs.declared.walk.Reached.{Reached}
 pub use Rattle.fx_language.specs.Instruction.{Instruction, SetsRange, SubmitsAll, instruction_of, instructions_of}
 pub use Rattle.fx_language.specs.Script.{Meaning}
 pub use Rattle.fx_language.specs.declared.command.Command.{Command}
+pub use Rattle.fx_order.specs.declared.ring_slots.RingSlots.{RingSlots}
 pub use Rattle.fx_order.proofs.OneRing.{ring_with_files, shows_ring, each_closed_file_is_known}
 pub use Rattle.fx_ring.specs.Ring.{IsRing, RingState, ring_of, RingContents, files_of_ring, new_ring, HasClosed}
 pub use Rattle.fx_ring.specs.Submission.{IsOneHistory, Reported, reported}
 pub use Rattle.fx_script.specs.Play.{Prints, PrintsReport, IsText, PrintsAll, PrintsEnd}
 pub use Rattle.fx_script.specs.Text.{report_text}
 pub use Rattle.fx_table.proofs.SumLemmas.{contains_map, contains_mapped, contains_none, each_all, contains_only, contains_tail}
-pub use Rattle.std.proofs.lemmas.List.{nil_from_length, map-append, map_more, length-map, take_rest}
+pub use Rattle.std.proofs.lemmas.List.{nil_from_length, map-append, map_more, length-map, take_rest, flat_map_more, drop_all, reverse-append}
 pub use Rattle.std.proofs.lemmas.List.Elements.{Contains-push, Contains-push_cases, Contains-append_cases, All-weaker, All-contains_itself, All-pop}
-pub use Rattle.std.proofs.lemmas.List.Folds.{Any-from_list_any, list_any_at}
-pub use Rattle.std.specs.List.{list_any, concat}
+pub use Rattle.std.proofs.lemmas.List.Folds.{Any-from_list_any, list_any_at, concat-append}
+pub use Rattle.std.specs.List.{list_any, concat, flat_map}
+pub use Rattle.std.proofs.Common.{option_map, reverse}
+pub use Rattle.std.proofs.lemmas.Option.{slice_get-map, slice_get_within, get_or_from_slice_get, slice_get_read}
+pub use Rattle.std.specs.Global.{Vec}

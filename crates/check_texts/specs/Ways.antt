@@ -1,8 +1,7 @@
 -- The ways by which the plays of a script go if no allocation fails: the lines that each command
 -- prints, and those of the end.
-use Rattle.std.specs.Prelude.{◌≡◌, ℕ, ◌≤◌, ◌<◌, ◌^◌, ◌-◌, List, [], ◌∷◌, ◌++◌, Bool, Contains}
+use Rattle.std.specs.Prelude.{◌≡◌, ℕ, ◌≤◌, ◌<◌, ◌^◌, ◌-◌, List, [], ◌∷◌, Bool, Contains}
 use Rattle.std.specs.Prelude.{IsTrue, length, map}
-use Rattle.std.specs.List.{concat}
 use Rattle.fx_language.specs.Instruction.{Instruction}
 use Rattle.fx_language.specs.Script.{Meaning}
 use Rattle.fx_ring.specs.Ring.{IsRing, RingContents, RingState, ring_of}
@@ -52,17 +51,6 @@ pub record AreWays (state : RingState) (commands : List Instruction) (are_all : 
 pub record CountsUpTo (count number : ℕ) : Type 0 where
   pub few : count ≤ number
   pub same : count < 2 ^ 64 - 1 → count ≡ number
-
--- these are texts of the ways; of all of them, if so said
-pub record AreTextsOf (ways : List (List (List ℕ))) (are_all : Bool)
-    (texts : List (List ℕ)) : Type 0 where
-  pub each : (text : List ℕ) → Contains texts text → Contains (map concat ways) text
-  pub all : IsTrue are_all → (text : List ℕ) → Contains (map concat ways) text
-      → Contains texts text
-
--- the text is one of these, after a line
-abbrev pub IsAfterLine : List ℕ → List (List ℕ) → List ℕ → Type 0
-IsAfterLine line later text = (other : List ℕ) × Contains later other × (text ≡ line ++ other)
 
 -- ways after a line
 abbrev pub ways_after : List ℕ → List (List (List ℕ)) → List (List (List ℕ))

@@ -1,14 +1,18 @@
 //! The texts that a script can print, each of which is one of its texts.
-ghost use Rattle.std.specs.Prelude.{All, Contains, IfOk, IsTrue, List, map, string_bytes};
-ghost use Rattle.std.specs.Prelude.{string_eq, ℕ};
+ghost use Rattle.std.specs.Prelude.{◌≡◌, ◌-◌, ◌^◌, ◌<◌, ◌≤◌, All, Contains, IfOk, IfSome, IsTrue};
+ghost use Rattle.std.specs.Prelude.{List, Some, length, map, slice_get, string_bytes, string_eq, ℕ};
+ghost use Rattle.std.specs.List.{concat};
 ghost use Rattle.indexmap.specs.IndexSet.{IsUnique};
-ghost use Rattle.check_texts.specs.Layers.{texts_in};
+ghost use Rattle.fx_base.specs.Catalogue.{FileEntry};
+ghost use Rattle.fx_language.specs.Instruction.{Instruction};
+ghost use Rattle.fx_ring.specs.Ring.{new_ring};
+ghost use Rattle.check_texts.specs.Layers.{AreAllCounted, AreRests, rests_in, ways_at};
 ghost use Rattle.check_texts.specs.Texts.{EachFoundTextIsAText, IsTextFound};
-ghost use Rattle.check_texts.specs.Ways.{HasWays};
+ghost use Rattle.check_texts.specs.Ways.{AreWays, CountsUpTo, HasWays};
 
 use crate::layers::layers_of;
 use crate::next::both;
-use crate::rests::{TextEnd, rest_at, rests_of};
+use crate::rests::{KeptExit, KeptWays, rest_at, rests_of};
 use crate::rings::start_ring;
 use crate::walk::{Past, Spent, WalkSetting};
 use check_search::Limits;
@@ -35,28 +39,100 @@ pub struct AllTexts {
     pub are_counted: bool,
 }
 
-// Returns the texts, each once, and the orders of each, the first submission's first.
-fn each_text(
+// Returns what is kept of the first ring of a script, if that is the ring without a table.
+fn first_rest(alloc: Global, rests: &[Vec<KeptWays>]) -> Option<&KeptWays>
+    ensures { IfSome result (λ rest. (catalogue : List FileEntry) (commands : List Instruction)
+        → AreRests catalogue commands (rests_in rests.now)
+        → AreWays (new_ring catalogue) commands rest.now.are_all (ways_at (rests_in rests.now) 0)
+        × CountsUpTo rest.now.ways (length (ways_at (rests_in rests.now) 0))) }
+{
+    rest_at(rests.first()?, 0, &start_ring(alloc))
+}
+
+// Returns the exit of a ring by its number before a command, with which its way of a number begins.
+// The search for the exit is only a hint.
+fn exit_at(rests: &[KeptWays], number: usize, way: u64) -> Option<&KeptExit>
+    ensures before { IfSome result (λ exit. exit.now.before ≤ way) }
+    ensures few { IfSome result (λ _. way < 2 ^ 64 - 1) }
+    ensures there { IfSome result (λ exit. (rest : KeptWays) × (place : ℕ)
+        × (slice_get rests.now number ≡ Some rest)
+        × (slice_get rest.exits.items place ≡ Some exit.now)) }
+{
+    let rest = rests.get(number)?;
+    let next = rest.exits.partition_point(|exit| exit.before <= way);
+    let place = next.checked_sub(1)?;
+    let exit = rest.exits.get(place)?;
+    // the largest number stands for all larger ones
+    if exit.before > way || way == u64::MAX {
+        return None;
+    }
+    Some(exit)
+}
+
+// Returns the text of the way of a number, and the orders on it.
+fn text_at(
     alloc: Global,
-    endings: &[TextEnd],
-) -> Result<(IndexSet<String>, Vec<Vec<usize>>), NoMemory>
+    rests: &[Vec<KeptWays>],
+    way: u64,
+) -> Result<Option<(String, Vec<usize>)>, NoMemory>
+    requires { AreAllCounted (rests_in rests.now) }
+    ensures { IfOk result (λ found. IfSome found (λ made. (lines : List (List ℕ))
+        × (slice_get (ways_at (rests_in rests.now) 0) way ≡ Some lines)
+        × (string_bytes made.0 ≡ concat lines))) }
+{
+    let mut text = String::new(alloc);
+    let mut orders = Vec::new(alloc);
+    let mut number = 0usize;
+    let mut left = way;
+    for own in rests {
+        let Some(exit) = exit_at(own, number, left) else {
+            return Ok(None);
+        };
+        text.push_str(exit.line.as_str())?;
+        if let Some(past) = exit.past {
+            orders.push(past)?;
+        }
+        number = exit.number;
+        left -= exit.before;
+    }
+    if left > 0 {
+        return Ok(None);
+    }
+    Ok(Some((text, orders)))
+}
+
+// Returns the texts of the first ways, each once, the orders of each, and whether these are the
+// texts of `ways` ways.
+fn each_text(
+    setting: &WalkSetting<'_>,
+    spent: &mut Spent,
+    rests: &[Vec<KeptWays>],
+    ways: u64,
+) -> Result<(IndexSet<String>, Vec<Vec<usize>>, bool), NoMemory>
+    requires { AreAllCounted (rests_in rests.now) }
     ensures each { IfOk result (λ all. (text : List ℕ)
         → Contains (map string_bytes all.0.keys) text
-        → Contains (texts_in endings.now) text) }
-    ensures all { IfOk result (λ all. (text : List ℕ) → Contains (texts_in endings.now) text
+        → Contains (map concat (ways_at (rests_in rests.now) 0)) text) }
+    ensures all { IfOk result (λ all. IsTrue all.2
+        → ways ≡ length (ways_at (rests_in rests.now) 0) → (text : List ℕ)
+        → Contains (map concat (ways_at (rests_in rests.now) 0)) text
         → Contains (map string_bytes all.0.keys) text) }
 {
-    let mut texts = IndexSet::new(alloc);
-    let mut by = Vec::new(alloc);
-    for ending in endings {
-        let text = String::from_str(alloc, ending.text.as_str())?;
-        let mut orders = Vec::from_slice(alloc, &ending.orders)?;
-        orders.reverse();
+    let mut texts = IndexSet::new(setting.alloc);
+    let mut by = Vec::new(setting.alloc);
+    for way in 0..ways {
+        if way >= setting.most as u64 || !spent.has_place(setting.limits) {
+            return Ok((texts, by, false));
+        }
+        let Some((text, orders)) = text_at(setting.alloc, rests, way)? else {
+            return Ok((texts, by, false));
+        };
+        spent.count_text(text.len(), orders.len());
         if texts.insert(text)? {
             by.push(orders)?;
         }
     }
-    Ok((texts, by))
+    Ok((texts, by, true))
 }
 
 /// Returns the first texts that the plays of a script print in which no allocation fails, at most
@@ -90,8 +166,8 @@ pub fn texts_of(
     };
     let mut spent = Spent::nothing(alloc);
     let layers = layers_of(&setting, &mut spent, script.commands())?;
-    let rests = rests_of(&setting, &mut spent, layers)?;
-    let Some(rest) = rest_at(&rests, 0, &start_ring(alloc)) else {
+    let rests = rests_of(&setting, layers)?;
+    let Some(rest) = first_rest(alloc, &rests) else {
         return Ok(AllTexts {
             texts: IndexSet::new(alloc),
             by: Vec::new(alloc),
@@ -101,15 +177,17 @@ pub fn texts_of(
             are_counted: false,
         });
     };
-    let (texts, by) = each_text(alloc, &rest.endings)?;
+    spent.keep_command();
+    let (texts, by, is_whole) = each_text(&setting, &mut spent, &rests, rest.ways)?;
+    // the largest number stands for all larger ones
+    let are_counted = both(rest.are_all, rest.ways < u64::MAX);
     Ok(AllTexts {
         texts,
         by,
         orders: spent.orders,
-        are_all: both(rest.are_all, rest.is_whole),
+        are_all: both(are_counted, is_whole),
         ways: rest.ways,
-        // the largest number stands for all larger ones
-        are_counted: both(rest.are_all, rest.ways < u64::MAX),
+        are_counted,
     })
 }
 

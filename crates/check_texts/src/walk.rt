@@ -127,13 +127,13 @@ pub(crate) struct Spent {
     states: usize,
     /// The bytes that are kept to the end.
     kept: usize,
-    /// The bytes of the rings or texts before a command.
+    /// The bytes of the rings before a command.
     before: usize,
-    /// The bytes of the rings or texts after it.
+    /// The bytes of the rings after it, or of the texts.
     after: usize,
     /// The number of rings that are kept after it.
     rings: usize,
-    /// The number of texts that are kept after it.
+    /// The number of texts that are kept.
     texts: usize,
 }
 
@@ -151,12 +151,11 @@ impl Spent {
         }
     }
 
-    /// Begins the next command: the rings or texts after the last one are those before it.
+    /// Begins the next command: the rings after the last one are those before it.
     pub(crate) fn begin_command(&mut self) {
         self.before = self.after;
         self.after = 0;
         self.rings = 0;
-        self.texts = 0;
     }
 
     /// Begins the next command, and keeps the rings after the last one to the end.
@@ -216,9 +215,8 @@ impl Spent {
         total(&[self.kept, self.before, self.after])
     }
 
-    /// Checks whether one more text may be kept after a command: the first one of all rings, and
-    /// others in half of the bytes, since those before the command are made of them while both are
-    /// kept.
+    /// Checks whether one more text may be kept: the first one, and others in half of the bytes,
+    /// since a text that grows may have room for twice its bytes.
     pub(crate) fn has_place(&self, limits: Limits) -> bool {
         let twice = self.after.saturating_mul(2);
         self.texts == 0 || self.kept.saturating_add(twice) < limits.bytes

@@ -1,13 +1,20 @@
-use Rattle.check_texts.proofs.Words.{All, Instruction, List, ap, append-nil, arith, instruction_of, subst, sym, [], ◌++◌, ◌∙◌, ◌∷◌, ◌≡◌}
-use Rattle.check_texts.proofs.Words.{nil_from_length, IsLayer, IsRest, commands_in, Layer, All-pop, Some}
-use Rattle.check_texts.proofs.Ways.{commands_before}
+use Rattle.check_texts.proofs.Words.{Instruction, KeptWays, List, Vec, ap, append-nil, arith, instruction_of, reverse, subst, sym, [], ◌++◌, ◌∙◌, ◌∷◌}
+use Rattle.check_texts.proofs.Words.{◌≡◌, nil_from_length, AreRests, IsLayer, commands_in, rests_in, reverse-append, Layer, All-pop, Some}
+use Rattle.check_texts.proofs.Ways.{commands_before, rests_counted}
 use Rattle.check_texts.proofs.rests.rests_of.Goals as goal
 
-pub rests_at_end-requires-clause-rings : goal.rests_at_end-requires-clause-rings
-rests_at_end-requires-clause-rings c = rw c.deref.ensures.value c.requires.last
+-- one more before the others
+rests_more : (rests : List (Vec KeptWays)) (own : Vec KeptWays) → rests_in (reverse (rests ++ own ∷ [])) ≡ own.items ∷ rests_in (reverse rests)
+rests_more rests own = ap rests_in (reverse-append rests (own ∷ []))
+
+pub rests_at_end-requires : goal.rests_at_end-requires
+rests_at_end-requires c = record { rings = rw c.deref.ensures.value c.requires.last }
 
 pub loop-layer-init : goal.loop-layer-init
-loop-layer-init c = record { layers = c.requires.layers; rests = ([], append-nil (commands_in c.args.all.layers.items), c.in_ok-later.ensures) }
+loop-layer-init c = record {
+  layers = c.requires.layers;
+  rests = ([], append-nil (commands_in c.args.all.layers.items), rw c.new-rests.ensures.items (c.in_ok-later.ensures, tt));
+}
 
 pub loop-layer-preserved : goal.loop-layer-preserved
 loop-layer-preserved c =
@@ -16,14 +23,18 @@ loop-layer-preserved c =
     let layer = c.in-Some.layer in
     let is = c.in-Some.ensures.items in
     let (done, same, are) = c.loop-layer.invariant.rests in
+    let behind = rests_in (reverse c.loop-layer.rests.items) in
     let own = All-pop (IsLayer cat) c.loop-layer.layers.items layers (Some layer) is c.loop-layer.invariant.layers in
     record {
       layers = own.0;
       rests = (
         instruction_of layer.command.now ∷ done,
         commands_before layers layer is done _ same,
-        c.in_ok-later-2.ensures (instruction_of layer.command.now) done (rw c.deref-in-Some.ensures.value own.1)
-            (rw c.deref-in-Some-2.ensures.value are),
+        rw (c.in_ok-push.ensures.items, rests_more c.loop-layer.rests.items c.loop-layer.later) (
+          rw c.deref-in-Some-2.ensures.value at (c.in_ok-own.ensures (instruction_of layer.command.now) done behind
+              (rw c.deref-in-Some.ensures.value own.1) (rw c.deref-in-Some-2.ensures.value are.0)),
+          rests_counted cat done (c.loop-layer.later.items ∷ behind) are,
+        ),
       );
     }
 
@@ -34,5 +45,6 @@ returns c =
     let now = c.pop.new.self.items in
     let none : now ≡ [] = nil_from_length now (omega (arith, c.in_default.ensures.cases.1, c.pop.new.self.ok.0)) in
     let all_none : c.loop-layer.layers.items ≡ [] = c.in_default.ensures.items ∙ (append-nil now ∙ none) in
-    subst (λ (cs : List Instruction). All (IsRest cat cs) c.loop-layer.later.items)
-    (sym (ap (λ (ls : List Layer). commands_in ls ++ done) all_none) ∙ same) are
+    let commands_are = sym (ap (λ (ls : List Layer). commands_in ls ++ done) all_none) ∙ same in
+    rw (c.reverse.ensures.items, c.in_ok-push-2.ensures.items, rests_more c.loop-layer.rests.items c.loop-layer.later)
+    (subst (λ (cs : List Instruction). AreRests cat cs (c.loop-layer.later.items ∷ rests_in (reverse c.loop-layer.rests.items))) commands_are are)

@@ -1,7 +1,7 @@
-use Rattle.check_texts.proofs.Words.{ltb-true, IsTextFound, ring_with_slots, string_bytes, ◌∙◌, ◌≡◌, All-contains, All-nil, new_ring, IsRest}
-use Rattle.check_texts.proofs.Words.{commands_in, false, true}
+use Rattle.check_texts.proofs.Words.{AreWays, CountsUpTo, ltb-true, IsTextFound, length, rests_in, string_bytes, ways_at, ◌≡◌, All-nil, new_ring}
+use Rattle.check_texts.proofs.Words.{false, true}
 use Rattle.check_texts.proofs.Growth.{all_of_values}
-use Rattle.check_texts.proofs.Ways.{no_script_ways, script_text, script_texts, script_ways}
+use Rattle.check_texts.proofs.Ways.{no_script_ways, rests_counted, script_text, script_texts, script_ways}
 use Rattle.check_texts.proofs.texts.texts_of.Goals.{In-Some}
 use Rattle.check_texts.proofs.texts.texts_of.Goals as goal
 
@@ -15,32 +15,33 @@ pub returns-in_default-clause-ways : goal.returns-in_default-clause-ways
 returns-in_default-clause-ways c = no_script_ways c.args.script.now
 
 -- the ways of the first ring
-first_ways : (c : In-Some) → IsRest c.args.script.now.catalogue c.args.script.now.commands c.in-Some.rest.now
+first_ways : (c : In-Some)
+    → AreWays (new_ring c.args.script.now.catalogue) c.args.script.now.commands c.in-Some.rest.now.are_all
+    (ways_at (rests_in c.in_ok-rests.rests.items) 0)
+    × CountsUpTo c.in-Some.rest.now.ways (length (ways_at (rests_in c.in_ok-rests.rests.items) 0))
 first_ways c =
-    rw (c.catalogue.ensures.value, c.in_ok-layers.ensures.commands, c.commands.ensures)
-    at (All-contains (IsRest c.catalogue.result.now (commands_in c.in_ok-layers.layers.layers.items)) c.deref.result.now c.in-Some.rest.now (rw c.deref.ensures.value c.in_ok-rests.ensures)
-    c.in-Some.ensures.inside)
+    let are = rw (c.catalogue.ensures.value, c.in_ok-layers.ensures.commands, c.commands.ensures) at c.in_ok-rests.ensures in
+    rw c.deref.ensures.value at (c.in-Some.ensures c.args.script.now.catalogue c.args.script.now.commands (rw c.deref.ensures.value are))
 
-first_ring : (c : In-Some)
-    → ring_with_slots c.args.script.now.catalogue c.in-Some.rest.now.ring ≡ new_ring c.args.script.now.catalogue
-first_ring c = c.in-Some.ensures.same c.args.script.now.catalogue ∙ c.start_ring.ensures.ring c.args.script.now.catalogue
+pub each_text-requires : goal.each_text-requires
+each_text-requires c = rw c.deref-2.ensures.value (rests_counted _ _ _ c.in_ok-rests.ensures)
 
 pub returns-clause-each : goal.returns-clause-each
 returns-clause-each c =
     let at = (goal.at.returns-clause-each c).In-Some in
     all_of_values string_bytes c.in_ok-texts.texts.keys (IsTextFound c.args.script.now) (λ text inside.
-    script_text c.args.script.now (first_ways at) (first_ring at) text (rw c.deref-2.ensures.value at (c.in_ok-texts.ensures.each text inside)))
+    script_text c.args.script.now (first_ways at).0 text (rw c.deref-2.ensures.value at (c.in_ok-texts.ensures.each text inside)))
 
 pub returns-clause-all : goal.returns-clause-all
 returns-clause-all c = λ yes text found.
     let at = (goal.at.returns-clause-all c).In-Some in
-    let two = c.both.ensures yes in
-    c.in_ok-texts.ensures.all text
-    (rw c.deref-2.ensures.value (script_texts c.args.script.now (first_ways at) (first_ring at) two.0 two.1 text found))
+    let whole = c.both.ensures yes in
+    let counted = c.both-are_counted.ensures whole.0 in
+    c.in_ok-texts.ensures.all whole.1 (rw c.deref-2.ensures.value ((first_ways at).1.same (ltb-true _ _ counted.1))) text
+    (rw c.deref-2.ensures.value (script_texts c.args.script.now (first_ways at).0 counted.0 text found))
 
 pub returns-clause-ways : goal.returns-clause-ways
 returns-clause-ways c =
     let at = (goal.at.returns-clause-ways c).In-Some in
-    let ways = first_ways at in
-    script_ways c.args.script.now ways (first_ring at) c.both-2.result
-    (λ yes. let two = c.both-2.ensures yes in (two.0, ways.count.same (ltb-true _ _ two.1)))
+    script_ways c.args.script.now (first_ways at).0 _ _ (first_ways at).1
+    (λ yes. let counted = c.both-are_counted.ensures yes in (counted.0, ltb-true _ _ counted.1))
