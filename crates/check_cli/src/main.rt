@@ -66,7 +66,7 @@ fn list_answers(
     script: &Script,
 ) -> Result<u8, NoVerdict> {
     let alloc = rt.alloc();
-    let Some(place) = place_of(word.as_bytes()) else {
+    let Some(place) = place_of(alloc, word.as_bytes())? else {
         let words = format!(in alloc; "{word} is not the place of a request, as 1.1.2")?;
         return Err(NoVerdict::Because(ARGUMENTS, words));
     };

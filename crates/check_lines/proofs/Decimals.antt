@@ -1,14 +1,14 @@
 -- Decimal numbers and results as they are printed.
-use Rattle.check_lines.proofs.Words.{◌≡◌, ℕ, ◌+◌, ◌<◌, ◌≤◌, ◌^◌, ◌==◌, zero, suc, Bool, true, false, not, nat_le, List, [], ◌∷◌, length, get_or, refl}
-use Rattle.check_lines.proofs.Words.{sym, ap, ◌∙◌, arith, Option, option_map, Some, None, if◌then◌else◌, decimal, list_all, nat_tests, and_from}
-use Rattle.check_lines.proofs.Words.{and_parts, true≢false, is_digit, is_without, ReadsPrinted, ◌-◌, ◌++◌, ℤ, pos, negsuc, signed_decimal}
-use Rattle.check_lines.proofs.Words.{IsResultInRange, IsPrintedFrom, codes, append_assoc, append_cancel_left, cut_text, result_line, ◌&&◌, ◌||◌}
-use Rattle.check_lines.proofs.Words.{le-leb, leb-true, is_decimal, number_up_to, BeginsWithOneResult}
+use Rattle.check_lines.proofs.Words.{nat_tests, Bool, false, List, None, if◌then◌else◌, suc, ℕ, ◌∙◌, ◌≡◌, ◌++◌, ◌≤◌, ap, length, sym, Some}
+use Rattle.check_lines.proofs.Words.{not, arith, zero, refl, ◌∷◌, true, nat_le, ◌<◌, get_or, ◌==◌, ◌^◌, unwrap_or, le-leb, leb-true}
+use Rattle.check_lines.proofs.Words.{append_assoc, pos, ℤ, ◌||◌, codes, decimal, negsuc, ◌&&◌, BeginsWithOneResult, IsResultInRange}
+use Rattle.check_lines.proofs.Words.{is_without, is_digit, is_decimal, number_up_to, result_line, and_from, and_parts, append_cancel_left}
+use Rattle.check_lines.proofs.Words.{signed_decimal, list_all}
 use Rattle.std.specs.Str.Parse.{digits_value}
-use Rattle.std.proofs.lemmas.Fmt.{decimal_digit, decimal_nonempty, first_decimal, digits_decimal, digits_value-decimal, decimal-digits_value}
+use Rattle.std.proofs.lemmas.Fmt.{decimal_digit, decimal_nonempty, first_decimal, digits_decimal, digits_value-decimal}
 use Rattle.std.proofs.lemmas.Fmt.{signed_decimal_injective}
 use Rattle.std.proofs.lemmas.Str.Parse.{IsNumeralModel, IsDigitsTest, numerals_by_value}
-use Rattle.check_lines.proofs.Cuts.{cut_has, cut_once, reads_as, without_failing}
+use Rattle.check_lines.proofs.Cuts.{cut_once, without_failing}
 use Rattle.std.specs.Int.Signed.{mag}
 
 tells : IsDigitsTest (λ ds. list_all is_digit ds ≡ true)
@@ -25,9 +25,6 @@ tells = record {
 own : IsNumeralModel (λ ds. list_all is_digit ds ≡ true) (digits_value 10)
 own = numerals_by_value _ tells
 
-to_shape : {n first : ℕ} → (n == 1 || (nat_le 2 n && not (first == 48))) ≡ true → (0 < n) × (first ≡ 48 → n ≡ 1)
-to_shape is = grind (arith, nat_tests)
-
 from_shape : {n first : ℕ} → 0 < n → (first ≡ 48 → n ≡ 1) → (n == 1 || (nat_le 2 n && not (first == 48))) ≡ true
 from_shape some one = grind (arith, nat_tests)
 
@@ -41,71 +38,31 @@ decimal_is : {n : ℕ} → n < 2 ^ 64 → is_decimal (decimal n) ≡ true
 decimal_is {n} small =
     and_from (list_all is_digit (decimal n)) _ (digits_decimal own n small) (from_shape (decimal_nonempty n small) (one_zero n small))
 
--- a decimal word is the text of its number
-word_is : {word : List ℕ} → is_decimal word ≡ true → digits_value 10 word < 2 ^ 64 → decimal (digits_value 10 word) ≡ word
-word_is {word} is small =
-    let digits = (and_parts (list_all is_digit word) _ is).0 in
-    let shape = to_shape (and_parts (list_all is_digit word) _ is).1 in decimal-digits_value own word digits shape.0 shape.1 small
+-- the number of its text
+pub number_of : (largest n : ℕ) → largest < 2 ^ 64 → n ≤ largest → number_up_to largest (decimal n) ≡ Some n
+number_of largest n small inside =
+    let value : digits_value 10 (decimal n) ≡ n = digits_value-decimal own n (omega arith) in
+    let within : nat_le (digits_value 10 (decimal n)) largest ≡ true = le-leb _ _ (omega arith) in
+    ap (λ b. if b then Some (digits_value 10 (decimal n)) else None)
+    (and_from (is_decimal (decimal n)) (nat_le (digits_value 10 (decimal n)) largest) (decimal_is (omega arith)) within) ∙ ap Some value
 
-by_test : (largest : ℕ) (word : List ℕ) → largest < 2 ^ 64 → (test : Bool) → is_decimal word && nat_le (digits_value 10 word) largest ≡ test
-    → ReadsPrinted decimal (λ n. n < largest + 1) word (if test then Some (digits_value 10 word) else None)
-by_test largest word small true is =
-    let decimal_word = (and_parts (is_decimal word) (nat_le (digits_value 10 word) largest) is).0 in
-    let below : digits_value 10 word ≤ largest = leb-true _ _ (and_parts (is_decimal word) _ is).1 in
-    record {
-      fits_value = omega arith;
-      printed = sym (word_is decimal_word (omega arith));
-      only = λ other inside same. sym (digits_value-decimal own other (omega arith)) ∙ ap (digits_value 10) (sym same);
-    }
-by_test largest word small false is = λ other inside same.
-    let value : digits_value 10 word ≡ other = ap (digits_value 10) same ∙ digits_value-decimal own other (omega arith) in
-    let decimal_word : is_decimal word ≡ true = ap is_decimal same ∙ decimal_is (omega arith) in
-    let below : nat_le (digits_value 10 word) largest ≡ true = le-leb _ _ (omega arith) in
-    let passes = and_from (is_decimal word) (nat_le (digits_value 10 word) largest) decimal_word below in true≢false (sym passes ∙ is)
+by_test : (largest : ℕ) (word : List ℕ) (test : Bool) → is_decimal word && nat_le (digits_value 10 word) largest ≡ test
+    → unwrap_or (if test then Some (digits_value 10 word) else None) 0 ≤ largest
+by_test largest word true is = leb-true _ _ (and_parts (is_decimal word) _ is).1
+by_test largest word false is = omega arith
 
--- the number that a word writes is the one that it is the text of
-pub number_reads : (largest : ℕ) (word : List ℕ) → largest < 2 ^ 64 → ReadsPrinted decimal (λ n. n < largest + 1) word (number_up_to largest word)
-number_reads largest word small = by_test largest word small _ refl
+-- no number above the largest one
+pub at_most : (largest : ℕ) (word : List ℕ) → unwrap_or (number_up_to largest word) 0 ≤ largest
+at_most largest word = by_test largest word _ refl
+
+pub number_is : {largest r : ℕ} {word : List ℕ} → r ≡ unwrap_or (number_up_to largest word) 0 → largest < 2 ^ 64 → (n : ℕ) → n ≤ largest
+    → word ≡ decimal n → n ≡ r
+number_is {largest} is small n inside same =
+    sym (is ∙ ap (λ (w : List ℕ). unwrap_or (number_up_to largest w) 0) same ∙ ap (λ o. unwrap_or o 0) (number_of largest n small inside))
 
 -- a byte that isn't a digit is in no number
 pub decimal_without : (at n : ℕ) → is_digit at ≡ false → n < 2 ^ 64 → is_without at (decimal n) ≡ true
 decimal_without at n none small = without_failing is_digit at none (decimal n) (digits_decimal own n small)
-
--- Results as they are printed: 0 or more, or a sign and a number.
-
--- a word without a sign writes the number
-pub positive_reads : {word : List ℕ} → ((rest : List ℕ) → Unit {0} → word ≡ 45 ∷ [] ++ rest → ⊥) → (r : Option ℕ)
-    → ReadsPrinted decimal (λ n. n < 2 ^ 31) word r → ReadsPrinted signed_decimal IsResultInRange word (option_map pos r)
-positive_reads {word} no_sign r = reads_as pos r (λ n fits is. (fits, is)) back
-  where
-    back : (res : ℤ) → IsResultInRange res → word ≡ signed_decimal res → (n : ℕ) × (n < 2 ^ 31) × (word ≡ decimal n) × (res ≡ pos n)
-    back (pos n) fits same = (n, fits, same, refl)
-    back (negsuc n) fits same = absurd (no_sign (decimal (suc n)) tt same)
-
--- a word with a sign writes a number below zero
-pub negative_reads : {word digits : List ℕ} → word ≡ 45 ∷ [] ++ digits → (r : Option ℕ) → ReadsPrinted decimal (λ n. (0 < n) × (n < 2147483649)) digits r
-    → ReadsPrinted signed_decimal IsResultInRange word (option_map (λ n. negsuc (n - 1)) r)
-negative_reads {word} {digits} begins r = reads_as (λ n. negsuc (n - 1)) r there back
-  where
-    there : (n : ℕ) → (0 < n) × (n < 2147483649) → digits ≡ decimal n
-        → IsResultInRange (negsuc (n - 1)) × (word ≡ signed_decimal (negsuc (n - 1)))
-    there n fits is =
-        let some = fits.0 in let small = fits.1 in let whole : suc (n - 1) ≡ n = omega arith in
-        (omega arith, begins ∙ ap (λ (t : List ℕ). 45 ∷ t) (is ∙ ap decimal (sym whole)))
-
-    back : (res : ℤ) → IsResultInRange res → word ≡ signed_decimal res
-        → (n : ℕ) × ((0 < n) × (n < 2147483649)) × (digits ≡ decimal n) × (res ≡ negsuc (n - 1))
-    back (pos n) fits same =
-        absurd (cut_has 45 [] digits (ap (is_without 45) (sym begins ∙ same) ∙ decimal_without 45 n refl (omega arith)))
-    back (negsuc n) fits same =
-        let both : 45 ∷ digits ≡ 45 ∷ decimal (suc n) = sym begins ∙ same in let less : n ≡ suc n - 1 = omega arith in
-        (suc n, (omega arith, omega arith), cc, ap negsuc less)
-
--- 0 has no sign
-pub no_zero : {digits : List ℕ} {n : ℕ} → n ≡ 0 → IsPrintedFrom decimal (λ n. n < 2147483649) digits n
-    → ReadsPrinted decimal (λ n. (0 < n) × (n < 2147483649)) digits None
-no_zero {n = n} none is m fits same =
-    let equal : m ≡ n = is.only m fits.1 same in let some = fits.0 in absurd (omega arith)
 
 -- a result has no byte but digits and its sign
 pub result_without : (at : ℕ) (res : ℤ) → is_digit at ≡ false → (45 == at) ≡ false → IsResultInRange res → is_without at (signed_decimal res) ≡ true
@@ -120,15 +77,14 @@ small (pos n) fits = omega arith
 small (negsuc n) fits = omega arith
 
 regroup : (word : List ℕ) (res : ℤ) (behind : List ℕ)
-    → result_line word res ++ behind ≡ word ++ (codes " " ++ cut_text 10 (signed_decimal res, behind))
+    → result_line word res ++ behind ≡ word ++ (codes " " ++ (signed_decimal res ++ (10 ∷ behind)))
 regroup word res behind = simp append_assoc
 
 pub one_result : BeginsWithOneResult
 one_result word res other behind more fits fits_other same =
-    let tails : codes " " ++ cut_text 10 (signed_decimal res, behind) ≡ codes " " ++ cut_text 10 (signed_decimal other, more) =
+    let tails : codes " " ++ (signed_decimal res ++ (10 ∷ behind)) ≡ codes " " ++ (signed_decimal other ++ (10 ∷ more)) =
     append_cancel_left word _ _ (sym (regroup word res behind) ∙ same ∙ regroup word other more) in
-    let lines : cut_text 10 (signed_decimal res, behind) ≡ cut_text 10 (signed_decimal other, more) =
-    append_cancel_left (codes " ") _ _ tails in
-    let parts = cut_once 10 (signed_decimal res) behind (signed_decimal other) more
-    (result_without 10 res refl refl fits) (result_without 10 other refl refl fits_other) lines in
-    (signed_decimal_injective res other (small res fits) (small other fits_other) parts.0, parts.1)
+    let lines : signed_decimal res ++ (10 ∷ behind) ≡ signed_decimal other ++ (10 ∷ more) = append_cancel_left (codes " ") _ _ tails in
+    let parts = cut_once 10 (signed_decimal res) (10 ∷ behind) (signed_decimal other) (10 ∷ more)
+    (result_without 10 res refl refl fits) (result_without 10 other refl refl fits_other) refl refl lines in
+    let rests : 10 ∷ behind ≡ 10 ∷ more = parts.1 in (signed_decimal_injective res other (small res fits) (small other fits_other) parts.0, cc)

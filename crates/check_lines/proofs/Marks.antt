@@ -1,103 +1,11 @@
--- Places and marks by their numbers, and lists in order of mark.
-use Rattle.check_lines.proofs.Words.{bytes_decides, is_lt, nat_cmp, Ordering, Equal, sum_by-cons, sum_by-le, IsInOrderOfMark, mark_cmp, ◌≡◌, ℕ, ◌<◌}
-use Rattle.check_lines.proofs.Words.{◌^◌, List, [], ◌∷◌, ◌++◌, refl, sym, ap, ◌∙◌, arith, Option, Some, decimal, append_assoc, and_from, is_digit}
-use Rattle.check_lines.proofs.Words.{Mark, Place, number_text, place_digits, IsMarkInRange, IsPlaceInRange, is_without, ReadsPrinted, mark_text}
-use Rattle.check_lines.proofs.Words.{option_map, suc, ◌+◌, ◌≤◌, Bool, if◌then◌else◌, length, All, slice_index_or, not, true, false, ◌==◌, Registered}
-use Rattle.check_lines.proofs.Words.{Submitted, sum_by, All-cons, All-head, All-tail, All-permutation, ranks_by, sorted_far, sum_by-IsPermutation}
-use Rattle.check_lines.proofs.Words.{CloseListView, Closed, HasClosed}
-use Rattle.check_lines.proofs.Cuts.{cut_has, reads_as, without_between, AreBoth, number_and}
-use Rattle.check_lines.proofs.Decimals.{decimal_without}
+-- Marks by their numbers, and lists in order of mark.
+use Rattle.check_lines.proofs.Words.{mark_cmp, Mark, HasClosed, sum_by-cons, bytes_decides, Submitted, Closed, sum_by-le, IsInOrderOfMark}
+use Rattle.check_lines.proofs.Words.{CloseListView, Registered, Bool, false, List, if◌then◌else◌, suc, ℕ, ◌∙◌, ◌≡◌, slice_index_or, ◌+◌}
+use Rattle.check_lines.proofs.Words.{◌≤◌, ap, length, sym, All, Some, [], arith, refl, ◌∷◌, true, ◌<◌, nat_cmp, Ordering, Equal, sum_by}
+use Rattle.check_lines.proofs.Words.{is_lt, All-tail, All-head, All-cons, sum_by-IsPermutation, All-permutation, ranks_by, sorted_far}
 use Rattle.std.specs.Cmp.{IsStrictWeakOrder}
 use Rattle.std.specs.Cmp.Lexicographic.{nat_list_cmp_total, slice_cmp, texts_po}
 use Rattle.std.specs.Ordering.{ordering_reverse, ordering_then}
-
-abbrev pub is_small : ℕ → Type 0
-is_small n = n < 2 ^ 32
-
--- a place by its numbers
-pub place_reads : (word : List ℕ) (r : Option (ℕ × (ℕ × ℕ))) → ReadsPrinted (number_and (number_and decimal)) (AreBoth (AreBoth is_small)) word r
-    → ReadsPrinted place_digits IsPlaceInRange word (option_map (λ x. record { submission = x.0; chain = x.1.0; member = x.1.1 }) r)
-place_reads word r =
-    reads_as {B = Place} (λ x. record { submission = x.0; chain = x.1.0; member = x.1.1 }) r
-    (λ x fits is. (record { submission = fits.0; chain = fits.1.0; member = fits.1.1 }, is))
-    (λ place fits is. ((place.submission, (place.chain, place.member)), (fits.submission, (fits.chain, fits.member)), is, refl))
-
--- a number and the text after its full stop
-number_without : (at n : ℕ) (rest : List ℕ) → is_digit at ≡ false → (46 == at) ≡ false → n < 2 ^ 32 → is_without at rest ≡ true
-    → is_without at (number_text (n, rest)) ≡ true
-number_without at n rest none other small behind = without_between at 46 (decimal n) rest (decimal_without at n none (omega arith)) other behind
-
--- the text of a place has no byte but digits and full stops
-pub place_without : (at : ℕ) (place : Place) → is_digit at ≡ false → (46 == at) ≡ false → IsPlaceInRange place
-    → is_without at (place_digits place) ≡ true
-place_without at place none other fits = number_without at place.submission _ none other fits.submission
-    (number_without at place.chain _ none other fits.chain (decimal_without at place.member none (omega arith)))
-
--- the numbers of a submitted mark
-abbrev pub MarkNumbers : Type 0
-MarkNumbers = ℕ × (ℕ × (ℕ × ℕ))
-
-abbrev pub numbers_text : MarkNumbers → List ℕ
-numbers_text = number_and (number_and (number_and decimal))
-
-abbrev pub AreSmall : MarkNumbers → Type 0
-AreSmall = AreBoth (AreBoth (AreBoth is_small))
-
-abbrev pub submitted_of : MarkNumbers → Mark
-submitted_of x = Submitted x.0 x.1.0 x.1.1.0 x.1.1.1
-
-submitted_text : (x : MarkNumbers) → mark_text (submitted_of x) ≡ numbers_text x
-submitted_text x =
-    append_assoc (decimal x.0) (46 ∷ number_text (x.1.0, decimal x.1.1.0)) (46 ∷ decimal x.1.1.1)
-    ∙ ap (λ (t : List ℕ). decimal x.0 ++ 46 ∷ t) (append_assoc (decimal x.1.0) (46 ∷ decimal x.1.1.0) (46 ∷ decimal x.1.1.1))
-
--- that text has no letter
-numbers_without : (at : ℕ) (x : MarkNumbers) → is_digit at ≡ false → (46 == at) ≡ false → AreSmall x → is_without at (numbers_text x) ≡ true
-numbers_without at x none other fits = number_without at x.0 _ none other fits.0
-    (place_without at (record { submission = x.1.0; chain = x.1.1.0; member = x.1.1.1 }) none other
-    (record { submission = fits.1.0; chain = fits.1.1.0; member = fits.1.1.1 }))
-
--- a word without the letter is that of a submitted mark
-pub submitted_reads : {word : List ℕ} → ((rest : List ℕ) → Unit {0} → word ≡ 114 ∷ [] ++ rest → ⊥) → (r : Option MarkNumbers)
-    → ReadsPrinted numbers_text AreSmall word r → ReadsPrinted mark_text IsMarkInRange word (option_map submitted_of r)
-submitted_reads {word} no_r r =
-    reads_as submitted_of r
-    (λ x fits is. ((record { submission = fits.0; chain = fits.1.0; member = fits.1.1.0 }, fits.1.1.1), is ∙ sym (submitted_text x))) back
-  where
-    back : (mark : Mark) → IsMarkInRange mark → word ≡ mark_text mark
-        → (x : MarkNumbers) × AreSmall x × (word ≡ numbers_text x) × (mark ≡ submitted_of x)
-    back (Registered k i) fits same = absurd (no_r (number_text (k, decimal i)) tt same)
-    back (Submitted s c m e) fits same = (
-      (s, (c, (m, e))),
-      (fits.0.submission, (fits.0.chain, (fits.0.member, fits.1))),
-      same ∙ submitted_text (s, (c, (m, e))),
-      refl,
-    )
-
--- a word with the letter is that of a registered mark
-pub registered_reads : {word rest : List ℕ} → word ≡ 114 ∷ [] ++ rest → (r : Option (ℕ × ℕ)) → ReadsPrinted (number_and decimal) (AreBoth is_small) rest r
-    → ReadsPrinted mark_text IsMarkInRange word (option_map (λ x. Registered x.0 x.1) r)
-registered_reads {word} {rest} begins r =
-    reads_as (λ x. Registered x.0 x.1) r (λ x fits is. (fits, begins ∙ ap (λ (t : List ℕ). 114 ∷ t) is)) back
-  where
-    back : (mark : Mark) → IsMarkInRange mark → word ≡ mark_text mark
-        → (x : ℕ × ℕ) × AreBoth is_small x × (rest ≡ number_and decimal x) × (mark ≡ Registered x.0 x.1)
-    back (Registered k i) fits same =
-        let both : 114 ∷ rest ≡ 114 ∷ number_text (k, decimal i) = sym begins ∙ same in ((k, i), fits, cc, refl)
-    back (Submitted s c m e) fits same =
-        let x : MarkNumbers = (s, (c, (m, e))) in
-        let small : AreSmall x = (fits.0.submission, (fits.0.chain, (fits.0.member, fits.1))) in
-        absurd (cut_has 114 [] rest (ap (is_without 114) (sym begins ∙ (same ∙ submitted_text x)) ∙ numbers_without 114 x refl refl small))
-
--- the text of a mark has no byte but digits, full stops and its letter
-pub mark_without : (at : ℕ) (mark : Mark) → is_digit at ≡ false → (46 == at) ≡ false → (114 == at) ≡ false → IsMarkInRange mark
-    → is_without at (mark_text mark) ≡ true
-mark_without at (Registered k i) none other letter fits = and_from (not (114 == at)) (is_without at (number_text (k, decimal i))) (ap not letter)
-    (number_without at k (decimal i) none other fits.0 (decimal_without at i none (omega (arith, fits.1))))
-mark_without at (Submitted s c m e) none other letter fits = ap (is_without at) (submitted_text (s, (c, (m, e))))
-    ∙ numbers_without at (s, (c, (m, e))) none other (fits.0.submission, (fits.0.chain, (fits.0.member, fits.1)))
-
--- Files with different marks have exactly one list in order of mark.
 
 -- a mark as a list of numbers, in the order of marks
 abbrev pub numbers : Mark → List ℕ

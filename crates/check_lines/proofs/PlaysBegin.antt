@@ -53,6 +53,13 @@ begins_with_digit n = elim (n / 10 == 0) as (λ b. BeginsWithDigit
       | false ↦ onto 63 (n / 10) (digit_glyph false (n % 10)) [] (last_digit n)
     ]
 
+-- no other byte is the first of a number
+pub digit_first : (n b : ℕ) (rest others : List ℕ) → is_digit b ≡ false → b ∷ rest ≡ decimal n ++ others → ⊥
+digit_first n b rest others none same =
+    let (d, more, is, digit) = begins_with_digit n in
+    let first : b ≡ d = ap (λ (t : List ℕ). get_or t 0 0) (same ∙ ap (λ (t : List ℕ). t ++ others) is) in
+    true≢false (sym digit ∙ sym (ap is_digit first) ∙ none)
+
 pub no_letter : (d : ℕ) → is_digit d ≡ true → ((d == 99) ≡ false) × ((d == 116) ≡ false)
 no_letter d is = (grind (arith, nat_tests), grind (arith, nat_tests))
 

@@ -15,8 +15,7 @@ pub use Rattle.std.proofs.Common.{sum_by, option_to_list, MatchOption, is_lt, Co
 pub use Rattle.check_lines.specs.Calls.{after_call, call_of, unless_refused, IsCall, accepted_following, word_unless, memory_word, AnswersFound, Call}
 pub use Rattle.check_lines.specs.Calls.{IsNoSubmission}
 pub use Rattle.check_lines.specs.ClosedView.{named_close_of}
-pub use Rattle.check_lines.specs.Front.{AreAll, HasLength, IsCutPart, FitsFront, answer_text, close_text, completion_text, cut_text, lines_before}
-pub use Rattle.check_lines.specs.Front.{number_text, place_digits}
+pub use Rattle.check_lines.specs.Front.{AreAll, AreFirst, HasLength, IsCut}
 pub use Rattle.check_lines.specs.InRange.{AreInRange, IsFileInRange}
 pub use Rattle.check_lines.specs.Laws.{ReportsHaveEachRequest, BeginsWithOneResult, PlaysBeginWithNoClose}
 pub use Rattle.check_lines.specs.Lines.{HasNoCloses, IsCloseInRange, IsCompletionInRange, IsMarkInRange, IsPlaceInRange, IsResultInRange, NamedClose}
@@ -32,7 +31,7 @@ pub use Rattle.fx_language.specs.Words.{is_digit, is_decimal, number_up_to}
 pub use Rattle.fx_order.specs.declared.ring_slots.RingSlots.{RingSlots}
 pub use Rattle.fx_order.specs.declared.slots.Slots.{Slots}
 pub use Rattle.fx_print.specs.Text.{completion_line, completion_lines, got_text, mark_text, result_line, closes_text, refused_line, too_many_line}
-pub use Rattle.fx_print.specs.Text.{teardown_text, kind_name, name_of}
+pub use Rattle.fx_print.specs.Text.{teardown_text, kind_name, name_of, place_text}
 pub use Rattle.fx_ring.proofs.ListSteps.{good_files, files_upto, upto_here, upto_next, removed_next, upto_none, upto_all}
 pub use Rattle.fx_ring.proofs.Origins.{registered_rings, updated_rings, few_removed, removed_entries}
 pub use Rattle.fx_ring.proofs.Rings.{counted_still, none_rings, IsEntry, entries_of}

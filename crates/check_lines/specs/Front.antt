@@ -1,26 +1,14 @@
--- The pieces of a line.
-use Rattle.std.specs.Prelude.{◌≡◌, ℕ, ℤ, List, ◌∷◌, ◌++◌, length, decimal, All, IsTrue}
-use Rattle.std.specs.Borrow.{Bor}
-use Rattle.std.specs.Fmt.{signed_decimal}
+-- The parts of a text, and its first lines.
+use Rattle.std.specs.Prelude.{◌≡◌, ℕ, List, ◌++◌, length, All, IsTrue, get_or}
 use Rattle.std.specs.Io.{StartsWith}
 use Rattle.std.specs.List.{flat_map}
-use Rattle.fx_chain.specs.Completed.{Completed}
-use Rattle.fx_chain.specs.declared.completion.Place.{Place}
-use Rattle.check_lines.specs.Lines.{NamedClose, is_without}
-use Rattle.fx_print.specs.Text.{got_text, mark_text}
+use Rattle.check_lines.specs.Lines.{is_without}
 
--- a value that was read, and the rest of the text
-abbrev pub read_with_rest : {A : Type 0} → A × Bor (List ℕ) → A × List ℕ
-read_with_rest front = (front.0, front.1.now)
-
--- lines, and the rest of the text
-abbrev pub lines_before : {A : Type 0} → (A → List ℕ) → List A × List ℕ → List ℕ
-lines_before print front = flat_map print front.0 ++ front.1
-
--- each of the lines fits, and the rest may follow them
-abbrev pub FitsFront : {A : Type 0} → (A → Type 0) → (List A → List ℕ → Type 0)
-    → List A × List ℕ → Type 0
-FitsFront fits may front = All fits front.0 × may front.0 front.1
+-- a text in two parts: the byte isn't in the first one, and the second begins with it or is empty
+pub record IsCut (at : ℕ) (text front behind : List ℕ) : Type 0 where
+  pub without : IsTrue (is_without at front)
+  pub begins : get_or behind 0 at ≡ at
+  pub split : text ≡ front ++ behind
 
 -- this number of lines, whatever follows them
 abbrev pub HasLength : {A : Type 0} → ℕ → List A → List ℕ → Type 0
@@ -30,34 +18,12 @@ HasLength count items rest = length items ≡ count
 abbrev pub AreAll : {A : Type 0} → List ℕ → List A → List ℕ → Type 0
 AreAll word items rest = ¬ (StartsWith rest word)
 
--- a part of a text, and the rest of it
-abbrev pub both_parts_of : Bor (List ℕ) × Bor (List ℕ) → List ℕ × List ℕ
-both_parts_of parts = (parts.0.now, parts.1.now)
-
--- a part, the byte at which a text is cut, and the rest
-abbrev pub cut_text : ℕ → List ℕ × List ℕ → List ℕ
-cut_text at parts = parts.0 ++ at ∷ parts.1
-
--- the byte isn't in the part
-abbrev pub IsCutPart : ℕ → List ℕ × List ℕ → Type 0
-IsCutPart at parts = IsTrue (is_without at parts.0)
-
--- a number, a full stop, and the rest
-abbrev pub number_text : ℕ × List ℕ → List ℕ
-number_text front = decimal front.0 ++ 46 ∷ front.1
-
--- `S.C.M`
-abbrev pub place_digits : Place → List ℕ
-place_digits place = number_text (place.submission, number_text (place.chain, decimal place.member))
-
--- `RES`, and the bytes of a read
-abbrev pub answer_text : ℤ × List ℕ → List ℕ
-answer_text answer = signed_decimal answer.0 ++ got_text answer.1
-
--- the line of a completion, without its line end
-abbrev pub completion_text : Completed → List ℕ
-completion_text c = cut_text 32 (place_digits c.place, answer_text (c.res, c.got))
-
--- the line of a closed file, without its first word and its line end
-abbrev pub close_text : NamedClose → List ℕ
-close_text close = cut_text 32 (mark_text close.mark, close.name)
+-- lines that fit, and the rest of the text that begins with them. Lines that fit, and that the rest
+-- of the text may follow, are no others
+pub record AreFirst {A : Type 0} (print : A → List ℕ) (fits : A → Type 0)
+    (may : List A → List ℕ → Type 0) (text : List ℕ) (items : List A) (rest : List ℕ) :
+    Type 0 where
+  pub printed : text ≡ flat_map print items ++ rest
+  pub fit : All fits items
+  pub only : (others : List A) (behind : List ℕ) → All fits others → may others behind
+      → text ≡ flat_map print others ++ behind → (others ≡ items) × (behind ≡ rest)

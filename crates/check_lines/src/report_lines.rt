@@ -1,46 +1,57 @@
 //! Parses the printed lines of a submission's report: words and numbers, lines, and all lines of a
-//! report.
-ghost use Rattle.std.specs.Prelude.{◌≡◌, ◌++◌, ℕ, List, option_map, ◌<◌, ◌^◌, decimal, IfOk};
-ghost use Rattle.std.specs.Prelude.{length, codes, map};
-ghost use Rattle.check_lines.specs.Front.{cut_text, IsCutPart, both_parts_of, number_text};
-ghost use Rattle.check_lines.specs.Front.{read_with_rest, answer_text, completion_text};
-ghost use Rattle.check_lines.specs.Front.{lines_before, place_digits, HasLength, FitsFront};
-ghost use Rattle.check_lines.specs.Front.{close_text, AreAll};
+//! report. What a text reads as is printed again and compared, so that of a text that isn't printed
+//! so any value may be parsed.
+ghost use Rattle.std.specs.Prelude.{◌≡◌, ◌++◌, ◌≤◌, ◌<◌, ◌^◌, ℕ, ℤ, List, decimal, IfOk, IfNone, IfSome};
+ghost use Rattle.std.specs.Prelude.{codes, map, drop, get_or, false, option_map};
+ghost use Rattle.check_lines.specs.Front.{AreAll, AreFirst, HasLength, IsCut};
 ghost use Rattle.check_lines.specs.Reads.{ReadsPrinted};
 ghost use Rattle.std.specs.Fmt.{signed_decimal};
 ghost use Rattle.check_lines.specs.Lines.{IsResultInRange, IsCompletionInRange, IsPlaceInRange};
 ghost use Rattle.check_lines.specs.Lines.{IsCloseInRange, IsMarkInRange, line_of_tag, named_line};
 ghost use Rattle.check_lines.specs.Lines.{ReadsReport};
 ghost use Rattle.hex.specs.Hex.{encode_lower, IsBytes};
-ghost use Rattle.fx_chain.specs.Completed.{all_completed, completed_of};
-ghost use Rattle.fx_print.specs.Text.{completion_line, mark_text};
+ghost use Rattle.fx_base.specs.declared.mark.Mark.{Mark as FileMark};
+ghost use Rattle.fx_chain.specs.Completed.{Completed, all_completed, completed_of};
+ghost use Rattle.fx_chain.specs.declared.completion.Place.{Place as RequestPlace};
+ghost use Rattle.fx_language.specs.Words.{is_digit};
+ghost use Rattle.fx_print.specs.Text.{completion_line, mark_text, place_text};
 ghost use Rattle.check_lines.specs.ClosedView.{named_close_of};
 ghost use Rattle.check_lines.specs.LinesView.{front_of};
 
 use fx_base::{Mark, NoMemory};
 use fx_chain::{Completion, Place};
 use fx_language::{LARGEST_TAG, number_up_to};
+use fx_print::{push_completion, push_mark, push_number, push_place};
 use hex::FromHexError;
 use std::alloc::Global;
 
-// Returns the text before the first byte `at`, and the text after it, or `None` if the text doesn't
-// have that byte.
-fn cut(text: &[u8], at: u8) -> Option<(&[u8], &[u8])>
-    ensures { ReadsPrinted (cut_text at) (IsCutPart at) text.now (option_map both_parts_of result) }
+// Cuts a text before the first byte `at`, or at its end.
+fn cut(text: &[u8], at: u8) -> (&[u8], &[u8])
+    ensures { IsCut at text.now result.0.now result.1.now }
 {
     for (i, b) in text.iter().enumerate() {
         if *b == at {
-            return Some((&text[..i], &text[i + 1..]));
+            return (&text[..i], &text[i..]);
         }
     }
-    None
+    (text, b"")
+}
+
+// Returns a text without its first byte.
+fn behind_first(text: &[u8]) -> &[u8]
+    ensures { result.now ≡ drop 1 text.now }
+{
+    match text {
+        [_, rest @ ..] => rest,
+        [] => text,
+    }
 }
 
 // Returns the rest of a text after an expected beginning, or `None` if the text doesn't begin with
 // it.
 fn rest_after<'a>(text: &'a [u8], expected: &[u8]) -> Option<&'a [u8]>
-    ensures { ReadsPrinted (λ (rest : List ℕ). expected.now ++ rest) (λ _. Unit) text.now
-        (option_map (λ rest. rest.now) result) }
+    ensures none { IfNone result ((rest : List ℕ) → text.now ≡ expected.now ++ rest → ⊥) }
+    ensures rest { IfSome result (λ rest. text.now ≡ expected.now ++ rest.now) }
 {
     text.strip_prefix(expected)
 }
@@ -54,132 +65,123 @@ const LARGEST_RESULT: u64 = 2_147_483_647;
 /// The absolute value of the smallest result.
 const FARTHEST_BELOW_ZERO: u64 = 2_147_483_648;
 
-// Parses a word as a number.
-fn number(word: &[u8]) -> Option<u32>
-    ensures { ReadsPrinted decimal (λ n. n < 2 ^ 32) word.now result }
+// Parses a word as a number, at most `largest`.
+fn number(word: &[u8], largest: u64) -> u64
+    ensures most { result ≤ largest }
+    ensures parsed { (n : ℕ) → n ≤ largest → word.now ≡ decimal n → n ≡ result }
 {
-    Some(number_up_to(LARGEST_NUMBER, word)? as u32)
+    number_up_to(largest, word).unwrap_or(0)
 }
 
-// Parses the text before the first full stop as a number, and returns the rest after it.
-fn first_number(word: &[u8]) -> Option<(u32, &[u8])>
-    ensures { ReadsPrinted number_text (λ front. front.0 < 2 ^ 32) word.now
-        (option_map read_with_rest result) }
+// Parses the text before the first byte `at` as a number, and returns the rest after that byte.
+fn number_before(text: &[u8], at: u8) -> (u32, &[u8])
+    requires { is_digit at ≡ false }
+    ensures { (n : ℕ) (rest : List ℕ) → n < 2 ^ 32 → get_or rest 0 at ≡ at
+        → text.now ≡ decimal n ++ rest → (n ≡ result.0) × (drop 1 rest ≡ result.1.now) }
 {
-    let (digits, rest) = cut(word, b'.')?;
-    Some((number(digits)?, rest))
+    let (digits, rest) = cut(text, at);
+    (number(digits, LARGEST_NUMBER) as u32, behind_first(rest))
 }
 
-// Parses a word as a result: 0 or more, or `-` and a number other than 0.
-fn res_of(word: &[u8]) -> Option<i32>
-    ensures { ReadsPrinted signed_decimal IsResultInRange word.now result }
+// Parses a word as a result.
+fn res_of(word: &[u8]) -> i32
+    ensures fits { IsResultInRange result }
+    ensures parsed { (res : ℤ) → IsResultInRange res → word.now ≡ signed_decimal res → res ≡ result }
 {
-    let Some(digits) = rest_after(word, b"-") else {
-        return Some(number_up_to(LARGEST_RESULT, word)? as i32);
-    };
-    let n = number_up_to(FARTHEST_BELOW_ZERO, digits)?;
-    if n == 0 {
-        return None;
+    if let Some(digits) = rest_after(word, b"-") {
+        return -(number(digits, FARTHEST_BELOW_ZERO) as i64) as i32;
     }
-    Some(-1 - (n - 1) as i32)
+    number(word, LARGEST_RESULT) as i32
+}
+
+// Parses the text before the first byte `at` behind two full stops as a place, and returns the rest
+// after that byte.
+fn place_before(text: &[u8], at: u8) -> (Place, &[u8])
+    requires { is_digit at ≡ false }
+    ensures fits { IsPlaceInRange result.0 }
+    ensures parsed { (place : RequestPlace) (rest : List ℕ) → IsPlaceInRange place
+        → get_or rest 0 at ≡ at → text.now ≡ place_text place ++ rest
+        → (place ≡ result.0) × (drop 1 rest ≡ result.1.now) }
+{
+    let (submission, rest) = number_before(text, b'.');
+    let (chain, rest) = number_before(rest, b'.');
+    let (member, rest) = number_before(rest, at);
+    let place = Place {
+        submission,
+        chain,
+        member,
+    };
+    (place, rest)
 }
 
 /// Parses a word as a place, as a text has it: a submission, a chain and a member, such as `1.1.2`.
 /// Returns `None` for any other word.
-pub fn place_of(word: &[u8]) -> Option<Place>
-    ensures { ReadsPrinted place_digits IsPlaceInRange word.now result }
+///
+/// # Errors
+/// `NoMemory` if an allocation fails.
+pub fn place_of(alloc: Global, word: &[u8]) -> Result<Option<Place>, NoMemory>
+    ensures { IfOk result (λ place. ReadsPrinted place_text IsPlaceInRange word.now place) }
 {
-    let (submission, rest) = first_number(word)?;
-    let (chain, rest) = first_number(rest)?;
-    Some(Place {
-        submission,
-        chain,
-        member: number(rest)?,
-    })
-}
-
-// Parses a word as bytes in lower case hexadecimal, at least one.
-fn bytes_of(alloc: Global, word: &[u8]) -> Result<Option<Vec<u8>>, NoMemory>
-    ensures { IfOk result (λ bytes. ReadsPrinted encode_lower
-        (λ got. (0 < length got) × IsBytes got) word.now (option_map (λ got. got.items) bytes)) }
-{
-    if word.is_empty() {
-        return Ok(None);
-    }
-    let bytes = match hex::decode(alloc, word) {
-        Ok(bytes) => bytes,
-        Err(FromHexError::OutOfMemory) => return Err(NoMemory),
-        Err(_) => return Ok(None),
-    };
-    // An upper case digit stands for the same byte, and is never printed.
-    if hex::encode(alloc, bytes.as_slice())?.as_bytes() == word {
-        Ok(Some(bytes))
+    let (place, _) = place_before(word, b' ');
+    let mut text = String::new(alloc);
+    push_place(&mut text, place)?;
+    if text.as_bytes() == word {
+        Ok(Some(place))
     } else {
         Ok(None)
     }
 }
 
-// Parses the rest of a line as a result and the bytes of a read: `RES`, or `RES HEX`.
-fn answer_of(alloc: Global, text: &[u8]) -> Result<Option<(i32, Vec<u8>)>, NoMemory>
-    ensures { IfOk result (λ answer. ReadsPrinted answer_text
-        (λ found. IsResultInRange found.0 × IsBytes found.1)
-        text.now (option_map (λ found. (found.0, found.1.items)) answer)) }
+// Parses a word as bytes in lower case hexadecimal.
+fn bytes_of(alloc: Global, word: &[u8]) -> Result<Vec<u8>, NoMemory>
+    ensures fits { IfOk result (λ got. IsBytes got.items) }
+    ensures parsed { IfOk result (λ got. (bytes : List ℕ) → IsBytes bytes
+        → word.now ≡ encode_lower bytes → bytes ≡ got.items) }
 {
-    let Some((word, hex)) = cut(text, b' ') else {
-        let Some(res) = res_of(text) else {
-            return Ok(None);
-        };
-        return Ok(Some((res, Vec::new(alloc))));
-    };
-    let Some(res) = res_of(word) else {
-        return Ok(None);
-    };
-    let Some(got) = bytes_of(alloc, hex)? else {
-        return Ok(None);
-    };
-    Ok(Some((res, got)))
+    match hex::decode(alloc, word) {
+        Ok(bytes) => Ok(bytes),
+        Err(FromHexError::OutOfMemory) => Err(NoMemory),
+        Err(_) => Ok(Vec::new(alloc)),
+    }
 }
 
-// Parses a line without its end as a completion.
-fn completion_of(alloc: Global, line: &[u8]) -> Result<Option<Completion>, NoMemory>
-    ensures { IfOk result (λ completion. ReadsPrinted completion_text IsCompletionInRange
-        line.now (option_map completed_of completion)) }
+// Parses the line that a text begins with as a completion.
+fn completion_of(alloc: Global, text: &[u8]) -> Result<Completion, NoMemory>
+    ensures fits { IfOk result (λ completion. IsCompletionInRange (completed_of completion)) }
+    ensures parsed { IfOk result (λ completion. (c : Completed) (rest : List ℕ)
+        → IsCompletionInRange c → text.now ≡ completion_line c ++ rest → c ≡ completed_of completion) }
 {
-    let Some((word, answer)) = cut(line, b' ') else {
-        return Ok(None);
-    };
-    let Some(place) = place_of(word) else {
-        return Ok(None);
-    };
-    let Some((res, got)) = answer_of(alloc, answer)? else {
-        return Ok(None);
-    };
-    Ok(Some(Completion { place, res, got }))
+    let (place, rest) = place_before(text, b' ');
+    let (answer, _) = cut(rest, b'\n');
+    let (word, hex) = cut(answer, b' ');
+    let got = bytes_of(alloc, behind_first(hex))?;
+    let res = res_of(word);
+    Ok(Completion { place, res, got })
 }
 
-// Returns the completions of the first `count` lines of a text, and the rest of the text.
+// Returns the completions of the first lines of a text, at most `count`, and the rest of the text.
 fn read_completions(
     alloc: Global,
     text: &[u8],
     count: usize,
-) -> Result<Option<(Vec<Completion>, &[u8])>, NoMemory>
-    ensures { IfOk result (λ found. ReadsPrinted (lines_before completion_line)
-        (FitsFront IsCompletionInRange (HasLength count))
-        text.now (option_map (λ front. (all_completed front.0.items, front.1.now)) found)) }
+) -> Result<(Vec<Completion>, &[u8]), NoMemory>
+    ensures { IfOk result (λ found. AreFirst completion_line IsCompletionInRange (HasLength count)
+        text.now (all_completed found.0.items) found.1.now) }
 {
     let mut completions = Vec::new(alloc);
     let mut rest = text;
+    let mut line = String::new(alloc);
     for _ in 0..count {
-        let Some((line, others)) = cut(rest, b'\n') else {
-            return Ok(None);
-        };
-        let Some(completion) = completion_of(alloc, line)? else {
-            return Ok(None);
+        let completion = completion_of(alloc, rest)?;
+        line.clear();
+        push_completion(&mut line, &completion)?;
+        let Some(others) = rest_after(rest, line.as_bytes()) else {
+            return Ok((completions, rest));
         };
         completions.push(completion)?;
         rest = others;
     }
-    Ok(Some((completions, rest)))
+    Ok((completions, rest))
 }
 
 /// A line of a closed file, read.
@@ -191,85 +193,75 @@ pub struct ClosedLine {
     pub name: Vec<u8>,
 }
 
-// Parses a word as a mark: `rK.I`, or `S.C.M.E`.
-fn mark_of(word: &[u8]) -> Option<Mark>
-    ensures { ReadsPrinted mark_text IsMarkInRange word.now result }
+// Parses the text before the first space as a mark: `rK.I`, or `S.C.M.E`.
+fn mark_of(text: &[u8]) -> Mark
+    ensures fits { IsMarkInRange result }
+    ensures parsed { (mark : FileMark) (rest : List ℕ) → IsMarkInRange mark
+        → get_or rest 0 32 ≡ 32 → text.now ≡ mark_text mark ++ rest → mark ≡ result }
 {
-    let Some(rest) = rest_after(word, b"r") else {
-        let (submission, rest) = first_number(word)?;
-        let (chain, rest) = first_number(rest)?;
-        let (member, rest) = first_number(rest)?;
-        return Some(Mark::Submitted {
-            submission,
-            chain,
-            member,
-            entry: number(rest)?,
-        });
-    };
-    let (k, rest) = first_number(rest)?;
-    Some(Mark::Registered {
-        k,
-        i: number(rest)?,
-    })
+    if let Some(rest) = rest_after(text, b"r") {
+        let (k, rest) = number_before(rest, b'.');
+        let (i, _) = number_before(rest, b' ');
+        return Mark::Registered { k, i };
+    }
+    let (place, rest) = place_before(text, b'.');
+    let (entry, _) = number_before(rest, b' ');
+    Mark::Submitted {
+        submission: place.submission,
+        chain: place.chain,
+        member: place.member,
+        entry,
+    }
 }
 
-// Parses the text of a closed file's line after its first word.
-fn closed_of(alloc: Global, text: &[u8]) -> Result<Option<ClosedLine>, NoMemory>
-    ensures { IfOk result (λ closed. ReadsPrinted close_text (λ close. IsMarkInRange close.mark)
-        text.now (option_map named_close_of closed)) }
-{
-    let Some((word, name)) = cut(text, b' ') else {
-        return Ok(None);
-    };
-    let Some(mark) = mark_of(word) else {
-        return Ok(None);
-    };
-    let name = name.to_vec(alloc)?;
-    Ok(Some(ClosedLine { mark, name }))
-}
-
-// Returns the closed files of the first lines of a text, up to a line of another kind, and the rest
-// of the text.
-fn read_closed(alloc: Global, text: &[u8]) -> Result<Option<(Vec<ClosedLine>, &[u8])>, NoMemory>
-    ensures { IfOk result (λ found. ReadsPrinted (lines_before named_line)
-        (FitsFront IsCloseInRange (AreAll (codes "closed ")))
-        text.now (option_map (λ front. (map named_close_of front.0.items, front.1.now)) found)) }
+// Returns the closed files of the first lines of a text, and the rest of the text.
+fn read_closed(alloc: Global, text: &[u8]) -> Result<(Vec<ClosedLine>, &[u8]), NoMemory>
+    ensures { IfOk result (λ found. AreFirst named_line IsCloseInRange (AreAll (codes "closed "))
+        text.now (map named_close_of found.0.items) found.1.now) }
 {
     let mut closed = Vec::new(alloc);
     let mut rest = text;
+    let mut head = String::new(alloc);
     while let Some(tail) = rest_after(rest, b"closed ") {
-        let Some((line, others)) = cut(tail, b'\n') else {
-            return Ok(None);
+        let mark = mark_of(tail);
+        head.clear();
+        push_mark(&mut head, mark)?;
+        head.push(' ')?;
+        let Some(tail) = rest_after(tail, head.as_bytes()) else {
+            return Ok((closed, rest));
         };
-        let Some(close) = closed_of(alloc, line)? else {
-            return Ok(None);
+        let (name, end) = cut(tail, b'\n');
+        let Some(others) = rest_after(end, b"\n") else {
+            return Ok((closed, rest));
         };
-        closed.push(close)?;
+        let name = name.to_vec(alloc)?;
+        closed.push(ClosedLine { mark, name })?;
         rest = others;
     }
-    Ok(Some((closed, rest)))
+    Ok((closed, rest))
 }
 
-// Returns the tags of the first lines of a text, up to a line of another kind, and the rest of the
-// text.
-fn read_tags(alloc: Global, text: &[u8]) -> Result<Option<(Vec<u64>, &[u8])>, NoMemory>
-    ensures { IfOk result (λ found. ReadsPrinted (lines_before line_of_tag)
-        (FitsFront (λ tag. tag < 2 ^ 64) (AreAll (codes "tag ")))
-        text.now (option_map (λ front. (front.0.items, front.1.now)) found)) }
+// Returns the tags of the first lines of a text, and the rest of the text.
+fn read_tags(alloc: Global, text: &[u8]) -> Result<(Vec<u64>, &[u8]), NoMemory>
+    ensures { IfOk result (λ found. AreFirst line_of_tag (λ tag. tag < 2 ^ 64) (AreAll (codes "tag "))
+        text.now found.0.items found.1.now) }
 {
     let mut tags = Vec::new(alloc);
     let mut rest = text;
+    let mut line = String::new(alloc);
     while let Some(tail) = rest_after(rest, b"tag ") {
-        let Some((line, others)) = cut(tail, b'\n') else {
-            return Ok(None);
-        };
-        let Some(tag) = number_up_to(LARGEST_TAG, line) else {
-            return Ok(None);
+        let (word, _) = cut(tail, b'\n');
+        let tag = number(word, LARGEST_TAG);
+        line.clear();
+        push_number(&mut line, tag)?;
+        line.push('\n')?;
+        let Some(others) = rest_after(tail, line.as_bytes()) else {
+            return Ok((tags, rest));
         };
         tags.push(tag)?;
         rest = others;
     }
-    Ok(Some((tags, rest)))
+    Ok((tags, rest))
 }
 
 /// The lines of a submission's report, read.
@@ -299,16 +291,10 @@ pub fn read_report(
 ) -> Result<Option<(ReportLines, &[u8])>, NoMemory>
     ensures { IfOk result (λ found. ReadsReport count text.now (option_map front_of found)) }
 {
-    let Some((completions, rest)) = read_completions(alloc, text, count)? else {
-        return Ok(None);
-    };
-    let Some((closed, rest)) = read_closed(alloc, rest)? else {
-        return Ok(None);
-    };
-    let Some((tags, rest)) = read_tags(alloc, rest)? else {
-        return Ok(None);
-    };
-    if rest.starts_with(b"closed ") {
+    let (completions, rest) = read_completions(alloc, text, count)?;
+    let (closed, rest) = read_closed(alloc, rest)?;
+    let (tags, rest) = read_tags(alloc, rest)?;
+    if completions.len() != count || rest.starts_with(b"closed ") || rest.starts_with(b"tag ") {
         return Ok(None);
     }
     let lines = ReportLines {

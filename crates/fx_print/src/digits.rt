@@ -10,10 +10,14 @@ use std::str;
 /// The number of bytes whose digits are appended at once.
 const STRETCH: usize = 64;
 
-// Appends the digits of a number. Most numbers of a line have one digit.
+/// Appends the digits of a number.
+///
+/// # Errors
+/// `AllocError` if an allocation for the text fails.
 pub fn push_number(text: &mut String, number: u64) -> Result<(), AllocError>
     ensures { OnOk result (string_bytes text.new ≡ string_bytes text.old ++ decimal number) }
 {
+    // Most numbers of a line have one digit.
     if number < 10 {
         text.push((b'0' + number as u8) as char)?;
         return Ok(());

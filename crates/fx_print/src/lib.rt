@@ -7,6 +7,8 @@
 mod digits;
 mod text;
 
+pub use digits::push_number;
 pub use text::{
-    refused_line, result_line, submission_text, teardown_text, too_many_line, with_closes,
+    push_completion, push_mark, push_place, refused_line, result_line, submission_text,
+    teardown_text, too_many_line, with_closes,
 };

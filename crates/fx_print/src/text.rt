@@ -46,8 +46,11 @@ fn push_got(text: &mut String, got: &[u8]) -> Result<(), AllocError>
     push_hex(text, got)
 }
 
-// Appends a place: its submission, chain and member.
-fn push_place(text: &mut String, place: Place) -> Result<(), AllocError>
+/// Appends a place: its submission, chain and member.
+///
+/// # Errors
+/// `AllocError` if an allocation for the text fails.
+pub fn push_place(text: &mut String, place: Place) -> Result<(), AllocError>
     ensures { OnOk result (string_bytes text.new ≡ string_bytes text.old ++ place_text place) }
 {
     push_number(text, u64::from(place.submission))?;
@@ -67,8 +70,11 @@ fn push_result(text: &mut String, res: i32, got: &[u8]) -> Result<(), AllocError
     push_got(text, got)
 }
 
-// Appends the line of a completion: its place, its result, and the bytes of a read.
-fn push_completion(text: &mut String, completion: &Completion) -> Result<(), AllocError>
+/// Appends the line of a completion: its place, its result, and the bytes of a read.
+///
+/// # Errors
+/// `AllocError` if an allocation for the text fails.
+pub fn push_completion(text: &mut String, completion: &Completion) -> Result<(), AllocError>
     ensures { OnOk result (string_bytes text.new
         ≡ string_bytes text.old ++ completion_line (completed_of completion.now)) }
 {
@@ -88,8 +94,11 @@ fn push_completions(text: &mut String, completions: &[Completion]) -> Result<(),
     Ok(())
 }
 
-// Appends a mark: `rK.I` or `S.C.M.E`.
-fn push_mark(text: &mut String, mark: Mark) -> Result<(), AllocError>
+/// Appends a mark: `rK.I` or `S.C.M.E`.
+///
+/// # Errors
+/// `AllocError` if an allocation for the text fails.
+pub fn push_mark(text: &mut String, mark: Mark) -> Result<(), AllocError>
     ensures { OnOk result (string_bytes text.new ≡ string_bytes text.old ++ mark_text mark) }
 {
     match mark {

@@ -1,22 +1,22 @@
-use Rattle.check_lines.proofs.Words.{refl, rules, w32, FitsSigned, to_z-of_z, answer_text, place_digits}
-use Rattle.check_lines.proofs.CompletionTexts.{one_completion, parts_of_completion}
-use Rattle.check_lines.proofs.Marks.{place_without}
+use Rattle.check_lines.proofs.Words.{FitsSigned, w32, to_z-of_z, rules, drop, List, ℕ, ◌∙◌, ◌++◌, ap, sym, not, refl, ◌∷◌, ◌==◌, append_assoc, got_text, and_from}
+use Rattle.check_lines.proofs.Words.{list_all-append, signed_decimal}
+use Rattle.check_lines.proofs.Cuts.{got_behind, got_begins, got_without, parts_are}
+use Rattle.check_lines.proofs.Decimals.{result_without}
 use Rattle.check_lines.proofs.report_lines.completion_of.Goals as goal
 
-pub returns-in_default : goal.returns-in_default
-returns-in_default c = λ other fits same.
-    c.in_default.ensures (place_digits other.place, answer_text (other.res, other.got)) (place_without 32 other.place refl refl fits.place) same
+pub returns-clause-parsed : goal.returns-clause-parsed
+returns-clause-parsed c = λ x rest fits same.
+    let res : List ℕ = signed_decimal x.res in let answer : List ℕ = res ++ got_text x.got in
+    let place = c.place_before.ensures.parsed x.place (32 ∷ (answer ++ (10 ∷ rest))) fits.place refl (same ∙ simp append_assoc) in
+    let without = list_all-append (λ b. not (b == 10)) res (got_text x.got) ∙ and_from _ _ (result_without 10 x.res refl refl fits.res) (got_without x.got fits.got) in
+    let line = parts_are c.cut.ensures answer (10 ∷ rest) without refl (sym place.1) in
+    let word = parts_are c.cut-2.ensures res (got_text x.got) (result_without 32 x.res refl refl fits.res) (got_begins x.got) (sym line.0) in
+    let got = c.in_ok-got.ensures.parsed x.got fits.got (c.behind_first.ensures ∙ ap (drop 1) (sym word.1) ∙ got_behind x.got) in
+    let small : FitsSigned w32 c.res_of-res.result = search rules in
+    let read = c.res_of-res.ensures.parsed x.res fits.res (sym word.0) ∙ sym (to_z-of_z w32 c.res_of-res.result small) in
+    λ i. record { place = place.0 i; res = read i; got = got i }
 
-pub returns-in_default-place_of : goal.returns-in_default-place_of
-returns-in_default-place_of c = λ other fits same.
-    c.in_default-place_of.ensures other.place fits.place (parts_of_completion c.in-Some.ensures fits same).0
-
-pub returns-in_default-2 : goal.returns-in_default-2
-returns-in_default-2 c = λ other fits same.
-    let none = rw c.in_default-2.is at c.in_ok-res.ensures in
-    none (other.res, other.got) (fits.res, fits.got) (parts_of_completion c.in-Some.ensures fits same).1
-
-pub returns : goal.returns
-returns c =
-    let fits : FitsSigned w32 c.in-Some-2.res = search rules in
-    rw (to_z-of_z w32 c.in-Some-2.res fits) (one_completion c.in-Some.ensures c.in-Some-place_of.ensures (rw c.in-Some-2.is at c.in_ok-res.ensures))
+pub returns-clause-fits : goal.returns-clause-fits
+returns-clause-fits c =
+    let small : FitsSigned w32 c.res_of-res.result = search rules in
+    record { place = c.place_before.ensures.fits; res = rw (to_z-of_z w32 c.res_of-res.result small) c.res_of-res.ensures.fits; got = c.in_ok-got.ensures.fits }

@@ -1,37 +1,21 @@
-use Rattle.check_lines.proofs.Words.{rules, None, Some}
-use Rattle.check_lines.proofs.Marks.{registered_reads, submitted_reads}
-use Rattle.check_lines.proofs.Cuts.{from_none, no_number, number_then}
+use Rattle.check_lines.proofs.Words.{List, ℕ, ◌∷◌, ◌++◌, ◌∙◌, sym, refl, append_assoc, append_cancel_left, codes, decimal, place_text, Place, Registered, Submitted}
+use Rattle.check_lines.proofs.PlaysBegin.{digit_first}
 use Rattle.check_lines.proofs.report_lines.mark_of.Goals as goal
 
-pub returns-in_err-submission : goal.returns-in_err-submission
-returns-in_err-submission c = from_none (search rules) (submitted_reads c.in_default.ensures None (no_number _ _ c.in_err-submission.ensures))
+pub returns-in-Some-clause-parsed : goal.returns-in-Some-clause-parsed
+returns-in-Some-clause-parsed c (Registered k i) rest fits here same =
+    let one = c.number_before-k.ensures k (46 ∷ (decimal i ++ rest)) fits.0 refl
+    (append_cancel_left (codes "r") _ _ (sym c.in-Some.ensures.rest ∙ same) ∙ append_assoc (decimal k) (46 ∷ decimal i) rest) in
+    let two = c.number_before-i.ensures i rest fits.1 here (sym one.1) in λ j. Registered (one.0 j) (two.0 j)
+returns-in-Some-clause-parsed c (Submitted s h m e) rest fits here same =
+    let others : List ℕ = 46 ∷ (decimal h ++ (46 ∷ (decimal m ++ (46 ∷ (decimal e ++ rest))))) in
+    absurd (digit_first s 114 c.in-Some.rest.now others refl (sym c.in-Some.ensures.rest ∙ same ∙ simp append_assoc))
 
-pub returns-in_err-chain : goal.returns-in_err-chain
-returns-in_err-chain c =
-    from_none (search rules)
-    (submitted_reads c.in_default.ensures None (number_then _ _ c.in_ok-submission.ensures None (no_number _ _ c.in_err-chain.ensures)))
-
-pub returns-in_err-member : goal.returns-in_err-member
-returns-in_err-member c =
-    from_none (search rules) (submitted_reads c.in_default.ensures None
-    (number_then _ _ c.in_ok-submission.ensures None (number_then _ _ c.in_ok-chain.ensures None (no_number _ _ c.in_err-member.ensures))))
-
-pub returns-in_err-number : goal.returns-in_err-number
-returns-in_err-number c =
-    from_none (search rules) (submitted_reads c.in_default.ensures None (number_then _ _ c.in_ok-submission.ensures None
-    (number_then _ _ c.in_ok-chain.ensures None (number_then _ _ c.in_ok-member.ensures None c.in_err-number.ensures))))
-
-pub returns-in_default : goal.returns-in_default
-returns-in_default c =
-    submitted_reads c.in_default.ensures (Some _) (number_then _ _ c.in_ok-submission.ensures (Some _)
-    (number_then _ _ c.in_ok-chain.ensures (Some _) (number_then _ _ c.in_ok-member.ensures (Some _) c.in_ok-number.ensures)))
-
-pub returns-in_err-k : goal.returns-in_err-k
-returns-in_err-k c = from_none (search rules) (registered_reads c.in-Some.ensures.printed None (no_number _ _ c.in_err-k.ensures))
-
-pub returns-in_err-number-2 : goal.returns-in_err-number-2
-returns-in_err-number-2 c =
-    from_none (search rules) (registered_reads c.in-Some.ensures.printed None (number_then _ _ c.in_ok-k.ensures None c.in_err-number-2.ensures))
-
-pub returns : goal.returns
-returns c = registered_reads c.in-Some.ensures.printed (Some _) (number_then _ _ c.in_ok-k.ensures (Some _) c.in_ok-number-2.ensures)
+pub returns-clause-parsed : goal.returns-clause-parsed
+returns-clause-parsed c (Registered k i) rest fits here same = absurd (c.in_default.ensures.none _ same)
+returns-clause-parsed c (Submitted s h m e) rest fits here same =
+    let place : Place = record { submission = s; chain = h; member = m } in
+    let one = c.place_before.ensures.parsed place (46 ∷ (decimal e ++ rest)) fits.0 refl
+    (same ∙ append_assoc (place_text place) (46 ∷ decimal e) rest) in
+    let two = c.number_before-entry.ensures e rest fits.1 here (sym one.1) in
+    λ j. Submitted (one.0 j).submission (one.0 j).chain (one.0 j).member (two.0 j)

@@ -1,13 +1,8 @@
-use Rattle.check_lines.proofs.Words.{◌∙◌, sym, arith, rules}
-use Rattle.check_lines.proofs.Decimals.{number_reads}
-use Rattle.check_lines.proofs.Cuts.{from_none}
+use Rattle.check_lines.proofs.Words.{arith, ◌∙◌, ap, unwrap_or}
+use Rattle.check_lines.proofs.Decimals.{at_most, number_is}
 use Rattle.check_lines.proofs.report_lines.number.Goals as goal
-
-pub returns-in_err-number_up_to : goal.returns-in_err-number_up_to
-returns-in_err-number_up_to c =
-    from_none (search rules) (rw (sym c.number_up_to.ensures ∙ c.in_err-number_up_to.was) at
-    (number_reads 4294967295 c.args.word.now (omega arith)))
 
 pub returns : goal.returns
 returns c =
-    rw (sym c.number_up_to.ensures ∙ c.in_ok-number_up_to.was) at (number_reads 4294967295 c.args.word.now (omega arith))
+    let is = c.unwrap_or.ensures ∙ ap (λ o. unwrap_or o 0) c.number_up_to.ensures in
+    record { most = rw is (at_most c.args.largest c.args.word.now); parsed = number_is {largest = c.args.largest} is (omega arith) }

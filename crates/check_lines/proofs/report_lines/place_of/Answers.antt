@@ -1,21 +1,9 @@
-use Rattle.check_lines.proofs.Words.{rules, None, Some}
-use Rattle.check_lines.proofs.Marks.{place_reads}
-use Rattle.check_lines.proofs.Cuts.{from_none, no_number, number_then}
+use Rattle.check_lines.proofs.Words.{◌∙◌, ◌++◌, [], List, ℕ, sym, ap, refl, append-nil, place_text, Decides-eqb, slice_eq-Decides, true≢false}
 use Rattle.check_lines.proofs.report_lines.place_of.Goals as goal
 
-pub returns-in_err-submission : goal.returns-in_err-submission
-returns-in_err-submission c = from_none (search rules) (place_reads _ None (no_number _ _ c.in_err-submission.ensures))
-
-pub returns-in_err-chain : goal.returns-in_err-chain
-returns-in_err-chain c =
-    from_none (search rules) (place_reads _ None (number_then _ _ c.in_ok-submission.ensures None (no_number _ _ c.in_err-chain.ensures)))
-
-pub returns-in_err-number : goal.returns-in_err-number
-returns-in_err-number c =
-    from_none (search rules) (place_reads _ None
-    (number_then _ _ c.in_ok-submission.ensures None (number_then _ _ c.in_ok-chain.ensures None c.in_err-number.ensures)))
-
 pub returns : goal.returns
-returns c =
-    place_reads _ (Some _) (number_then _ _ c.in_ok-submission.ensures (Some _)
-    (number_then _ _ c.in_ok-chain.ensures (Some _) c.in_ok-number.ensures))
+returns c = λ other fits same.
+    let is = (c.place_before.ensures.parsed other [] fits refl (same ∙ sym (append-nil (place_text other)))).0 in
+    let printed = c.as_bytes.ensures.value ∙ c.in_ok-push_place.ensures ∙ ap (λ (t : List ℕ). t ++ place_text c.place_before.result.0) c.new-text.ensures.bytes in
+    let equal = slice_eq-Decides Decides-eqb c.as_bytes.result.now c.args.word.now c.eq.result c.eq.ensures in
+    true≢false (sym (equal.1 (printed ∙ ap place_text (sym is) ∙ sym same)) ∙ c.if-eq.false)

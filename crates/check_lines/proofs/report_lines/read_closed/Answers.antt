@@ -1,27 +1,32 @@
-use Rattle.check_lines.proofs.Words.{[], ◌∷◌, codes, map-append, named_close_of, IsMarkInRange}
-use Rattle.check_lines.proofs.ReportTexts.{close_fits, closes_are_lines, ends_here, goes_on, line_begins, next_line, no_line, not_begun, other_line}
+use Rattle.check_lines.proofs.Words.{◌≡◌, ◌++◌, ◌∷◌, [], ℕ, List, sym, rules, codes, mark_text, flat_map, named_line, map-append}
+use Rattle.check_lines.proofs.ReportTexts.{close_is, goes_on, next_line, no_next, one_close, one_mark}
 use Rattle.check_lines.proofs.report_lines.read_closed.Goals as goal
 
-pub returns-in_default-cut : goal.returns-in_default-cut
-returns-in_default-cut c =
-    no_line closes_are_lines c.loop-tail.rest.now c.in-Some.tail.now c.in-Some.ensures.printed c.loop-tail.invariant
-    (goes_on (codes "closed ") c.in-Some.tail.now c.in-Some.ensures.printed) c.in_default-cut.ensures
+pub returns-in_default-rest_after : goal.returns-in_default-rest_after
+returns-in_default-rest_after c =
+    let head : c.as_bytes.result.now ≡ mark_text c.mark_of-mark.result ++ (32 ∷ []) = search rules in
+    no_next c.loop-tail.invariant (λ y later behind ends fits same.
+    c.in_default-rest_after.ensures.none _
+    (one_mark c.in-Some.ensures.rest head c.mark_of-mark.ensures.parsed y (flat_map named_line later ++ behind) fits same).1)
 
-pub returns-in_default-2 : goal.returns-in_default-2
-returns-in_default-2 c =
-    other_line closes_are_lines c.loop-tail.rest.now c.in-Some.tail.now c.in-Some.ensures.printed c.loop-tail.invariant
-    (goes_on (codes "closed ") c.in-Some.tail.now c.in-Some.ensures.printed) c.in-Some-cut.ensures
-    (λ close. IsMarkInRange close.mark) (λ y fit. fit.mark) (rw c.in_default-2.is at c.in_ok-close.ensures)
+pub returns-in_default-rest_after-2 : goal.returns-in_default-rest_after-2
+returns-in_default-rest_after-2 c =
+    let head : c.as_bytes.result.now ≡ mark_text c.mark_of-mark.result ++ (32 ∷ []) = search rules in
+    no_next c.loop-tail.invariant (λ y later behind ends fits same.
+    let others : List ℕ = flat_map named_line later ++ behind in
+    c.in_default-rest_after-2.ensures.none others
+    (sym (one_close c.in-Some.ensures.rest head c.mark_of-mark.ensures.parsed c.in-Some-rest_after.ensures.rest c.cut.ensures y others fits same).1))
 
 pub loop-tail-preserved : goal.loop-tail-preserved
 loop-tail-preserved c =
-    let is = rw c.in-Some-2.is at c.in_ok-close.ensures in
-    rw (c.in_ok-push.ensures.items, map-append named_close_of c.loop-tail.closed.items (c.in-Some-2.close ∷ []))
-    (next_line closes_are_lines c.loop-tail.rest.now c.in-Some.tail.now c.in-Some.ensures.printed c.loop-tail.invariant
-    (goes_on (codes "closed ") c.in-Some.tail.now c.in-Some.ensures.printed) c.in-Some-cut.ensures
-    (λ close. IsMarkInRange close.mark) (λ y fit. fit.mark) (close_fits c.in-Some-cut.ensures.fits_value is) is)
+    let head : c.as_bytes.result.now ≡ mark_text c.mark_of-mark.result ++ (32 ∷ []) = search rules in
+    let copied : c.in_ok-name.name.items ≡ c.cut.result.0.now = search rules in
+    rw (c.in_ok-push-2.ensures.items, map-append, copied) (next_line c.loop-tail.invariant
+    (record { mark = c.mark_of-mark.ensures.fits; name = c.cut.ensures.without })
+    (close_is c.in-Some.ensures.rest head c.mark_of-mark.ensures.parsed c.in-Some-rest_after.ensures.rest c.cut.ensures c.in-Some-rest_after-2.ensures.rest)
+    (goes_on (codes "closed ") c.in-Some.tail.now c.in-Some.ensures.rest)
+    (λ y more fits same. (one_close c.in-Some.ensures.rest head c.mark_of-mark.ensures.parsed c.in-Some-rest_after.ensures.rest c.cut.ensures y more fits
+    same).0))
 
 pub returns : goal.returns
-returns c =
-    ends_here c.loop-tail.invariant (not_begun c.in_default.ensures)
-    (λ y later behind ends. line_begins c.loop-tail.rest.now closes_are_lines c.in_default.ensures y later behind)
+returns c = no_next c.loop-tail.invariant (λ y later behind ends fits same. c.in_default.ensures.none _ same)

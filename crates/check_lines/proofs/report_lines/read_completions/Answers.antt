@@ -1,7 +1,6 @@
-use Rattle.check_lines.proofs.Words.{Completion, ◌≡◌, ℕ, List, HasLength, ◌<◌, ◌≤◌, [], ◌∷◌, length, refl, arith, length-append, map-append}
-use Rattle.check_lines.proofs.Words.{all_completed, IsCompletionInRange, length-map, completed_of}
-use Rattle.check_lines.proofs.CompletionTexts.{completions_are_lines}
-use Rattle.check_lines.proofs.ReportTexts.{ends_here, next_line, no_line, other_line}
+use Rattle.check_lines.proofs.Words.{Completion, ◌≡◌, ◌∙◌, ◌++◌, ℕ, List, HasLength, ◌<◌, ◌≤◌, [], ◌∷◌, length, sym, ap, arith, length-append, map-append}
+use Rattle.check_lines.proofs.Words.{all_completed, completion_line, flat_map, length-map, completed_of}
+use Rattle.check_lines.proofs.ReportTexts.{next_line, no_next}
 use Rattle.check_lines.proofs.report_lines.read_completions.Goals as goal
 
 -- the text may not end before `count` completions
@@ -11,26 +10,25 @@ not_yet items counted left all same = let known = length-map items completed_of 
 
 pub returns-in_default : goal.returns-in_default
 returns-in_default c =
-    no_line completions_are_lines c.loop.rest.now c.loop.rest.now refl c.loop.invariant.first
-    (λ behind. not_yet c.loop.completions.items c.loop.invariant.counted c.loop-test.true) c.in_default.ensures
-
-pub returns-in_default-2 : goal.returns-in_default-2
-returns-in_default-2 c =
-    other_line completions_are_lines c.loop.rest.now c.loop.rest.now refl c.loop.invariant.first
-    (λ behind. not_yet c.loop.completions.items c.loop.invariant.counted c.loop-test.true) c.in-Some.ensures
-    IsCompletionInRange (λ y fit. fit) (rw c.in_default-2.is at c.in_ok-completion.ensures)
+    let line = c.as_bytes.ensures.value ∙ c.in_ok-push_completion.ensures
+    ∙ ap (λ (t : List ℕ). t ++ completion_line (completed_of c.in_ok-completion.completion)) c.clear.ensures.bytes in
+    no_next c.loop.invariant.first (λ y later behind ends fits same.
+    let others : List ℕ = flat_map completion_line later ++ behind in
+    let is = c.in_ok-completion.ensures.parsed y others fits same in
+    c.in_default.ensures.none others (same ∙ ap (λ (t : List ℕ). t ++ others) (ap completion_line is ∙ sym line)))
 
 pub loop-preserved : goal.loop-preserved
 loop-preserved c =
-    let is = rw c.in-Some-2.is at c.in_ok-completion.ensures in
+    let line = c.as_bytes.ensures.value ∙ c.in_ok-push_completion.ensures
+    ∙ ap (λ (t : List ℕ). t ++ completion_line (completed_of c.in_ok-completion.completion)) c.clear.ensures.bytes in
     let counted : length c.loop.completions.items ≡ c.loop.counter = c.loop.invariant.counted in
-    let more = length-append c.loop.completions.items (c.in-Some-2.completion ∷ []) in
+    let more = length-append c.loop.completions.items (c.in_ok-completion.completion ∷ []) in
     record {
       counted = rw c.in_ok-push.ensures.items (omega arith);
-      first = rw (c.in_ok-push.ensures.items, map-append completed_of c.loop.completions.items (c.in-Some-2.completion ∷ []))
-          (next_line completions_are_lines c.loop.rest.now c.loop.rest.now refl c.loop.invariant.first
-          (λ behind. not_yet c.loop.completions.items c.loop.invariant.counted c.loop-test.true) c.in-Some.ensures
-          IsCompletionInRange (λ y fit. fit) is.fits_value is);
+      first = rw (c.in_ok-push.ensures.items, map-append completed_of c.loop.completions.items (c.in_ok-completion.completion ∷ []))
+          (next_line c.loop.invariant.first c.in_ok-completion.ensures.fits
+          (c.in-Some.ensures.rest ∙ ap (λ (t : List ℕ). t ++ c.in-Some.others.now) line)
+          (λ behind. not_yet c.loop.completions.items c.loop.invariant.counted c.loop-test.true) c.in_ok-completion.ensures.parsed);
     }
 
 pub returns : goal.returns
@@ -38,7 +36,5 @@ returns c =
     let known = length-map c.loop.completions.items completed_of in
     let counted : length c.loop.completions.items ≡ c.loop.counter = c.loop.invariant.counted in
     let over : c.args.count ≤ c.loop.counter = c.loop-test.false in
-    let all : length (all_completed c.loop.completions.items) ≡ c.args.count = omega arith in
-    ends_here c.loop.invariant.first all
-    (λ y later behind ends same.
+    no_next c.loop.invariant.first (λ y later behind ends fits same.
     let long = length-append (all_completed c.loop.completions.items) (y ∷ later) in omega arith)

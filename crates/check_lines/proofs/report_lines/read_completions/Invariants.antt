@@ -1,4 +1,4 @@
-use Rattle.check_lines.proofs.Words.{◌≡◌, length, all_completed, HasLength, IsCompletionInRange, completion_line}
+use Rattle.check_lines.proofs.Words.{◌≡◌, length, HasLength, IsCompletionInRange, all_completed, completion_line}
 use Rattle.check_lines.proofs.ReportTexts.{HasFirst}
 use Rattle.check_lines.proofs.report_lines.read_completions.Given as goal
 

@@ -1,27 +1,30 @@
-use Rattle.check_lines.proofs.Words.{◌∙◌, codes, sym, take, true≢false, Decides-eqb, slice_eq-Decides}
-use Rattle.check_lines.proofs.ReportTexts.{all_parts, closed_behind_tags, no_first, no_second, no_third}
+use Rattle.check_lines.proofs.Words.{◌∙◌, codes, sym, take, arith, length-map, completed_of, true≢false, Decides-eqb, slice_eq-Decides}
+use Rattle.check_lines.proofs.ReportTexts.{no_report, one_report}
+use Rattle.check_lines.proofs.report_lines.read_report.Goals.{then-len-count-via-then-len-count}
+use Rattle.check_lines.proofs.report_lines.read_report.Goals.{then-len-count-via-else-len-count+then-starts_with}
+use Rattle.check_lines.proofs.report_lines.read_report.Goals.{then-len-count-via-else-len-count+else-starts_with+then-starts_with-2}
 use Rattle.check_lines.proofs.report_lines.read_report.Goals as goal
 
-pub returns-in_default : goal.returns-in_default
-returns-in_default c = no_first (rw c.in_default.is at c.in_ok-completions.ensures)
-
-pub returns-in_default-2 : goal.returns-in_default-2
-returns-in_default-2 c = no_second (rw c.in-Some.is at c.in_ok-completions.ensures) (rw c.in_default-2.is at c.in_ok-closed.ensures)
-
-pub returns-in_default-3 : goal.returns-in_default-3
-returns-in_default-3 c =
-    no_third (rw c.in-Some.is at c.in_ok-completions.ensures) (rw c.in-Some-2.is at c.in_ok-closed.ensures) (rw c.in_default-3.is at c.in_ok-tags.ensures)
-
-pub returns-then-starts_with : goal.returns-then-starts_with
-returns-then-starts_with c =
-    let starts = slice_eq-Decides Decides-eqb (codes "closed ") (take 7 c.in-Some-3.rest.now) c.starts_with.result c.starts_with.ensures.value in
-    closed_behind_tags (rw c.in-Some.is at c.in_ok-completions.ensures) (rw c.in-Some-2.is at c.in_ok-closed.ensures)
-    (rw c.in-Some-3.is at c.in_ok-tags.ensures) (sym (starts.0 c.if-starts_with.true))
+pub returns-then-len-count : goal.returns-then-len-count
+returns-then-len-count c =
+    let known = length-map c.in_ok-completions.completions.items completed_of in
+    let rest = c.in_ok-tags.rest.now in let first = c.in_ok-completions.ensures in let next = c.in_ok-closed.ensures in let last = c.in_ok-tags.ensures in
+    elim c.then-len-count.branch [
+      | then-len-count-via-then-len-count w ↦ no_report first next last (λ is. let each = is.each in let other = w.if-len-count.true in let l = c.len.ensures in omega arith)
+      | then-len-count-via-else-len-count+then-starts_with w ↦ no_report first next last (λ is. is.behind.no_closed
+          (sym ((slice_eq-Decides Decides-eqb (codes "closed ") (take 7 rest) w.starts_with.result w.starts_with.ensures.value).0 w.if-starts_with.true)))
+      | then-len-count-via-else-len-count+else-starts_with+then-starts_with-2 w ↦ no_report first next last (λ is. is.behind.no_tag
+          (sym ((slice_eq-Decides Decides-eqb (codes "tag ") (take 4 rest) w.starts_with-else-starts_with.result w.starts_with-else-starts_with.ensures.value).0
+          w.if-starts_with-2.true)))
+    ]
 
 pub returns : goal.returns
 returns c =
-    let starts = slice_eq-Decides Decides-eqb (codes "closed ") (take 7 c.in-Some-3.rest.now) c.starts_with.result c.starts_with.ensures.value in
-    all_parts (rw c.in-Some.is at c.in_ok-completions.ensures)
-    (rw c.in-Some-2.is at c.in_ok-closed.ensures)
-    (rw c.in-Some-3.is at c.in_ok-tags.ensures)
-    (λ is. true≢false (sym (starts.1 (sym is)) ∙ c.if-starts_with.false))
+    let known = length-map c.in_ok-completions.completions.items completed_of in
+    let rest = c.in_ok-tags.rest.now in let same = c.if-len-count.false in let l = c.len.ensures in
+    one_report c.in_ok-completions.ensures c.in_ok-closed.ensures c.in_ok-tags.ensures (omega arith) (record {
+      no_closed = λ is. true≢false (sym ((slice_eq-Decides Decides-eqb (codes "closed ") (take 7 rest) c.starts_with.result c.starts_with.ensures.value).1
+          (sym is)) ∙ c.if-starts_with.false);
+      no_tag = λ is. true≢false (sym ((slice_eq-Decides Decides-eqb (codes "tag ") (take 4 rest) c.starts_with-else-starts_with.result
+          c.starts_with-else-starts_with.ensures.value).1 (sym is)) ∙ c.if-starts_with-2.false);
+    })

@@ -1,29 +1,24 @@
-use Rattle.check_lines.proofs.Words.{◌<◌, ◌^◌, arith, codes, sym}
-use Rattle.check_lines.proofs.Decimals.{number_reads}
-use Rattle.check_lines.proofs.ReportTexts.{tags_are_lines, ends_here, goes_on, line_begins, next_line, no_line, not_begun, other_line}
+use Rattle.check_lines.proofs.Words.{◌≡◌, ◌∙◌, ◌++◌, ◌∷◌, [], ℕ, List, sym, ap, arith, rules, codes, decimal, flat_map, line_of_tag}
+use Rattle.check_lines.proofs.ReportTexts.{goes_on, next_line, no_next, one_tag}
 use Rattle.check_lines.proofs.report_lines.read_tags.Goals as goal
 
-pub returns-in_default-cut : goal.returns-in_default-cut
-returns-in_default-cut c =
-    no_line tags_are_lines c.loop-tail.rest.now c.in-Some.tail.now c.in-Some.ensures.printed c.loop-tail.invariant
-    (goes_on (codes "tag ") c.in-Some.tail.now c.in-Some.ensures.printed) c.in_default-cut.ensures
-
-pub returns-in_default-number_up_to : goal.returns-in_default-number_up_to
-returns-in_default-number_up_to c =
-    other_line tags_are_lines c.loop-tail.rest.now c.in-Some.tail.now c.in-Some.ensures.printed c.loop-tail.invariant
-    (goes_on (codes "tag ") c.in-Some.tail.now c.in-Some.ensures.printed) c.in-Some-cut.ensures
-    (λ tag. tag < 2 ^ 64) (λ y fit. fit) (rw (sym c.in_default-number_up_to.ensures) at
-    (number_reads 18446744073709551615 c.in-Some-cut.line.now (omega arith)))
+pub returns-in_default-rest_after : goal.returns-in_default-rest_after
+returns-in_default-rest_after c =
+    let line : c.as_bytes.result.now ≡ decimal c.number-tag.result ++ (10 ∷ []) = search rules in
+    no_next c.loop-tail.invariant (λ y later behind ends fits same.
+    let others : List ℕ = flat_map line_of_tag later ++ behind in
+    c.in_default-rest_after.ensures.none others ((one_tag c.in-Some.ensures.rest c.cut.ensures c.number-tag.ensures.parsed y others fits same).1
+    ∙ ap (λ (t : List ℕ). t ++ others) (sym line)))
 
 pub loop-tail-preserved : goal.loop-tail-preserved
 loop-tail-preserved c =
-    let is = rw (sym c.in-Some-number_up_to.ensures) at (number_reads 18446744073709551615 c.in-Some-cut.line.now (omega arith)) in
-    rw c.in_ok-push.ensures.items
-    (next_line tags_are_lines c.loop-tail.rest.now c.in-Some.tail.now c.in-Some.ensures.printed c.loop-tail.invariant
-    (goes_on (codes "tag ") c.in-Some.tail.now c.in-Some.ensures.printed) c.in-Some-cut.ensures
-    (λ tag. tag < 2 ^ 64) (λ y fit. fit) is.fits_value is)
+    let line : c.as_bytes.result.now ≡ decimal c.number-tag.result ++ (10 ∷ []) = search rules in
+    let most = c.number-tag.ensures.most in
+    rw c.in_ok-push-2.ensures.items (next_line c.loop-tail.invariant (omega arith)
+    (c.in-Some.ensures.rest ∙ ap (λ (t : List ℕ). codes "tag " ++ t)
+    (c.in-Some-rest_after.ensures.rest ∙ ap (λ (t : List ℕ). t ++ c.in-Some-rest_after.others.now) line))
+    (goes_on (codes "tag ") c.in-Some.tail.now c.in-Some.ensures.rest)
+    (λ y more fits same. (one_tag c.in-Some.ensures.rest c.cut.ensures c.number-tag.ensures.parsed y more fits same).0))
 
 pub returns : goal.returns
-returns c =
-    ends_here c.loop-tail.invariant (not_begun c.in_default.ensures)
-    (λ y later behind ends. line_begins c.loop-tail.rest.now tags_are_lines c.in_default.ensures y later behind)
+returns c = no_next c.loop-tail.invariant (λ y later behind ends fits same. c.in_default.ensures.none _ same)
