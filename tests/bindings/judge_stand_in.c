@@ -87,8 +87,9 @@ uint32_t yacht_judge_events(LOG_PASSED, uint32_t states, uint32_t memory, yacht_
     return it->number;
 }
 
-/* no row has the two further questions: nothing is decided by whole updates. Only a log without events has a reason: of as many steps as the
- * position that is asked for, each with other numbers. */
+/* no row has the two further questions: nothing is decided by whole updates. Only a log without
+ * events has a reason: of as many steps as the position that is asked for, each with other
+ * numbers. */
 uint32_t yacht_judge_whole_updates(LOG_PASSED, uint32_t states, uint32_t memory, yacht_judgement *judgement) {
     (void)yacht_judge_events(script, script_length, slots, requests, requests_length, entries, entries_length, bytes, bytes_length, events,
                              events_length, states, memory, judgement);
