@@ -1,7 +1,8 @@
 """Reads the wrong bodies of the crates. An edit has a line 'file: src/NAME.rt', and then pairs of lines 'old: TEXT' and 'new: TEXT'.
 
 The gate requires a file of its own for each edit that it tries, in a crate's must-fail/. All other edits of a crate are in its file
-wrong-bodies.txt, each after a line with its name in brackets."""
+wrong-bodies.txt, each after a line with its name in brackets. There a line '# src/NAME.rt' names the file of the edits after it that
+have no line 'file:'."""
 import os
 import re
 
@@ -12,8 +13,12 @@ FILE = "wrong-bodies.txt"
 
 def parts(text):
     """Returns the edits of a file wrong-bodies.txt, as pairs of a name and the edit's lines."""
-    it = re.split(r"^\[(\w+)\]\n", text, flags=re.MULTILINE)
-    return list(zip(it[1::2], it[2::2]))
+    found, file = [], ""
+    for path, name, lines in re.findall(r"^(?:# (\S+)\n|\[(\w+)\]\n((?:(?![\[#]).*\n)*))", text, flags=re.MULTILINE):
+        file = path or file
+        if name:
+            found.append((name, lines if lines.startswith("file: ") else f"file: {file}\n{lines}"))
+    return found
 
 
 def edits(kind, crate="*"):
