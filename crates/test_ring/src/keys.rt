@@ -45,9 +45,10 @@ fn put<H: Host>(rt: &H, table: &LastingTable, pass: &mut LastingPass, i: u32) ->
     ensures { IsPassOfTable table.now pass.new }
 {
     assert!(rt; table.is_idle(pass) && 0 < table.size() && 0 < table.numbers_left(pass));
-    let None = table.put(pass, 0, file_of(i)) else {
-        panic!(rt; "an empty slot")
-    };
+    if let Some(removed) = table.put(pass, 0, file_of(i)) {
+        discard(table.retire(pass, removed));
+        panic!(rt; "an empty slot");
+    }
     key_of(i)
 }
 
