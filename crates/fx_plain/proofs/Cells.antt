@@ -1,7 +1,7 @@
 -- Places of a list where one was written, and their counts.
 use Rattle.fx_plain.proofs.Words.{◌≡◌, ◌≢◌, ℕ, zero, suc, replicate, ◌<◌, Bool, true, false, List, length, refl, sym, ap, ◌∙◌, slice_index_or}
 use Rattle.fx_plain.proofs.Words.{slice_set, subst, ◌==◌, if◌then◌else◌, inl, inr, get_or-set_same, get_or-set_other, cases_lt, get_or-eq_default}
-use Rattle.fx_plain.proofs.Words.{changed_at, IsSome, Option, Some, None, Closed, Contents, IsTable, state_of, slot_at, node_at, file_at, placed_at}
+use Rattle.fx_plain.proofs.Words.{changed_at, IsSome, Option, Some, None, Closed, Contents, IsTable, state_of, slot_at, node_at, file_at}
 use Rattle.fx_plain.proofs.Words.{leaving, removed_at, is_fresh, is_leaving, is_retired, identity_in, Fresh, At, Leaving, Retired, Gone, Node, ◌≤◌}
 use Rattle.fx_plain.proofs.Words.{arith, File, ◌+◌, eq-eqb, ne_eqb}
 
@@ -55,16 +55,13 @@ has_file-At nodes n is = subst (λ (node : Node). IsSome (identity_in node)) (sy
 
 -- a node, by the results of its tests
 pub fresh_is : (node : Node) → is_fresh node ≡ true → node ≡ Fresh
-fresh_is Fresh e = refl
-fresh_is _ e = cc
+fresh_is node e = grind arith
 
 pub leaving_is : (node : Node) → is_leaving node ≡ true → (file : Closed) × (node ≡ Leaving file)
-leaving_is (Leaving file) e = (file, refl)
-leaving_is _ e = cc
+leaving_is node e = grind arith
 
 pub retired_is : (node : Node) → is_retired node ≡ true → (file : Closed) × (node ≡ Retired file)
-retired_is (Retired file) e = (file, refl)
-retired_is _ e = cc
+retired_is node e = grind arith
 
 -- no slot names the number of a node that isn't at a slot
 abbrev pub IsOff : Node → Type 0
@@ -72,8 +69,7 @@ IsOff node = (slot : ℕ) (file : Closed) → node ≢ At slot file
 
 -- a file stays where its node does, as where a node that isn't at a slot is written
 pub file_same : (old new : List Node) (x : Option ℕ) → ((m : ℕ) → x ≡ Some m → node_at new m ≡ node_at old m) → file_at new x ≡ file_at old x
-file_same old new None same = refl
-file_same old new (Some m) same = ap (placed_at m) (same m refl)
+file_same old new x same = grind arith
 
 pub same_file : {c : Contents} (n : ℕ) (v : Node) → IsTable c → IsOff (node_at c.nodes n) → (slot : ℕ)
     → file_at (slice_set c.nodes n v) (slot_at c.slots slot) ≡ file_at c.nodes (slot_at c.slots slot)
@@ -98,8 +94,7 @@ leaving-nodes c v inside = written (λ q x. is_leaving x) c.nodes v Gone inside
 
 -- an empty slot names no number
 none_named : {c : Contents} (slot : ℕ) → IsTable c → (x : Option ℕ) → slot_at c.slots slot ≡ x → file_at c.nodes x ≡ None → x ≡ None
-none_named slot t None is empty = refl
-none_named slot t (Some n) is empty = absurd (cc (rw (t.placed slot n is).1 at empty))
+none_named slot t x is empty = grind arith
 
 pub unnamed : {c : Contents} (slot : ℕ) → IsTable c → (state_of c).at slot ≡ None → slot_at c.slots slot ≡ None
 unnamed {c} slot t empty = none_named slot t (slot_at c.slots slot) refl empty

@@ -66,8 +66,7 @@ pub files_next : (at : ℕ → Option File) (n : ℕ) → files_in_order at (n +
 files_next at n = ap (files_in_order at) (add-one n)
 
 pub listed : (found : Option File) → option_to_list (identity_of found) ≡ identities_of found
-listed None = refl
-listed (Some f) = refl
+listed found = grind arith
 
 -- the files of the first slots are out, and the others are where they were
 pub record IsWorked (slots : List (Option ℕ)) (first nodes : List Node) (s : ℕ) : Type 0 where
@@ -81,8 +80,7 @@ read_slot slots s {x} inside read = read ∙ sym (get_or_default slots s None x 
 
 module _ (slots : List (Option ℕ)) (first nodes : List Node) (s : ℕ) (placed : AllPlaced slots first) (left : IsLeft slots first nodes s) where
   named_is : (x : Option ℕ) → slot_at slots s ≡ x → file_named first x ≡ identity_of (file_at first x)
-  named_is None is = refl
-  named_is (Some n) is = rw (placed s n is).1 refl
+  named_is x is = grind arith
 
   -- the file that is taken is the one of the slot, and the one that is closed is the next in order
   pub next_taken : file_named nodes (slot_at slots s) ≡ identity_of (file_at first (slot_at slots s))

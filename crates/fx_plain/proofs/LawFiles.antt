@@ -1,7 +1,7 @@
 -- The files of a history: installed, removed and closed.
 use Rattle.fx_plain.proofs.Words.{◌≡◌, ◌⊎◌, ℕ, ◌<◌, List, [], ◌∷◌, map, refl, sym, ap, subst, ◌∙◌, Option, Some, None, if◌then◌else◌, inl, inr}
 use Rattle.fx_plain.proofs.Words.{Closed, State, Allows, after, changed_at, with_removed, state_after, AllowsAll, action_of, closes_in, closed_by}
-use Rattle.fx_plain.proofs.Words.{File, Event, Action, Look, Put, Clear, Take, Allocate, Close, All, IsLegal, ◌+◌, ◌≤◌, true, false, ◌++◌, length}
+use Rattle.fx_plain.proofs.Words.{File, Event, Action, Take, Close, All, IsLegal, ◌+◌, ◌≤◌, true, false, ◌++◌, length}
 use Rattle.fx_plain.proofs.Words.{arith, IsSettled, nil_from_length, IsAtSlot, IsInstalled, installed_by, IsClosed, IsStart, closed_of, closes_of}
 use Rattle.fx_plain.proofs.Words.{IsStillThere, IsClosedOnce, All-append, All-cons, All-nil}
 use Rattle.fx_plain.proofs.Cells.{by_equality, named, named_same, term_found}
@@ -20,20 +20,13 @@ module _ (P : File → Type 0) (Q : ℕ → File → Type 0) (both : (f : File) 
 
     more_removed : {slot : ℕ} (found : Option File) → slot < st.size → found ≡ st.at slot → (n : ℕ) (f : File)
         → with_removed st.removed found n ≡ Some f → Q n f
-    more_removed None lt is n f = all.removed n f
-    more_removed {slot} (Some g) lt is n f = grind arith
+    more_removed found lt is n f = grind arith
 
     emptied : {slot : ℕ} {found : Option File} → slot < st.size → found ≡ st.at slot → HoldsOfFiles (after st (Take slot found))
     emptied {slot} {found} lt is = record { at_slots = at_changed slot {x = None} (λ f is. cc); removed = more_removed found lt is }
 
     pub holds_after : (a : Action) → Allows st a → ((f : File) → installed_by a ≡ Some f → P f) → HoldsOfFiles (after st a)
-    holds_after (Put slot f replaced) may new = record { at_slots = at_changed slot new; removed = more_removed replaced may.0 may.2 }
-    holds_after (Clear slot found) may new = emptied may.0 may.1
-    holds_after (Take slot found) may new = emptied may.0 may.1
-    holds_after (Allocate slot f) may new = record { at_slots = at_changed slot new; removed = all.removed }
-    holds_after (Close g) may new = grind arith
-    holds_after (Look slot None) may new = all
-    holds_after _ may new = record { at_slots = all.at_slots; removed = all.removed }
+    holds_after a may new = grind (arith, at_changed, more_removed, emptied)
 
 module _ (P : File → Type 0) where
   abbrev pub HoldsOfAll : State → Type 0
@@ -66,8 +59,7 @@ every_file_was_there_or_installed start end h f none legal is =
     ]
 
 closed_now : (P : Closed → Type 0) (a : Action) → ((f : File) → a ≡ Close f → P f.identity) → All P (closed_by a)
-closed_now P (Close f) all = All-cons P f.identity [] (all f refl) (All-nil P)
-closed_now P _ all = All-nil P
+closed_now P a all = grind (arith, All-cons, All-nil)
 
 -- a property of each file that was closed holds for the list of closes
 pub all_closes_in : (P : Closed → Type 0) (h : List Event) → ((f : File) → IsClosed h f → P f.identity) → All P (closes_in (map action_of h))
@@ -91,15 +83,10 @@ IsOnly f st = HoldsOfFiles (Same f) (SameAt f) (λ _ p. p) st
 -- a file that is installed has a fresh number, which is then used, and closes nothing
 pub installed_now : {f : File} (st : State) (a : Action) → Allows st a → installed_by a ≡ Some f
     → (st.fresh f.number ≡ true) × ((after st a).fresh f.number ≡ false) × (closed_of f.number a ≡ [])
-installed_now {f} st (Put slot new replaced) may is = let e : new ≡ f = cc in (rw (sym e) may.1, grind arith, refl)
-installed_now {f} st (Allocate slot new) may is = let e : new ≡ f = cc in (rw (sym e) may.3, grind arith, refl)
-installed_now st _ may is = cc
+installed_now st a may is = grind arith
 
 pub used_after : (st : State) (a : Action) (n : ℕ) → st.fresh n ≡ false → (after st a).fresh n ≡ false
-used_after st (Look slot None) n used = used
-used_after st (Put slot new replaced) n used = grind arith
-used_after st (Allocate slot new) n used = grind arith
-used_after st _ n used = used
+used_after st a n used = grind arith
 
 -- the file is in the table and no file of its number was closed, or it isn't and was closed
 abbrev IsOneOf : File → ℕ → List File → Type 0

@@ -83,9 +83,7 @@ given n (Release f) = named n (Some f)
 given n _ = 0
 
 holds_after : (st : State) (a : Action) (n : ℕ) → Allows st a → (after st a).holds n + given n a ≡ st.holds n + taken n a
-holds_after st (Look slot (Some f)) n may = grind arith
-holds_after st (Release f) n may = grind arith
-holds_after st _ n may = refl
+holds_after st a n may = grind arith
 
 -- passes claim no more holds than there are
 pub record IsCovered (claims : ℕ → ℕ) (holds : ℕ) : Type 0 where
@@ -113,8 +111,7 @@ own_held : (e : Event) (h : List Event) → held_by (e ∷ h) e.pass ≡ held_af
 own_held e h = grind arith
 
 own_change : (n : ℕ) (held : Option File) (a : Action) → ReleasesItsOwn held a → named n (held_after held a) + given n a ≤ named n held + taken n a
-own_change n held (Release f) own = let e : named n held ≡ named n (Some f) = ap (named n) own in omega arith
-own_change n held _ own = omega arith
+own_change n held a own = grind (arith, named)
 
 -- the passes have at most as many holds as the state counts
 pub covered : (start : State) (h : List Event) (n : ℕ) → AllowsAll start (map action_of h) → AllReleaseTheirOwn h
@@ -128,8 +125,7 @@ covered start (e ∷ h) n may own =
     (other_holds n e h) change (holds_after st e.action n may.1) (covered start h n may.0 own.0)
 
 given_none : (n : ℕ) (a : Action) → released_by a ≡ [] → given n a ≡ 0
-given_none n (Release f) is = cc
-given_none n _ is = refl
+given_none n a is = grind arith
 
 both_empty : (xs ys : List File) → xs ++ ys ≡ [] → (xs ≡ []) × (ys ≡ [])
 both_empty [] ys is = (refl, is)
@@ -146,8 +142,7 @@ keeping p n h k = if k == p then 1 else holding n h k
 
 -- a number with a hold isn't closed
 no_close : (st : State) (a : Action) (n : ℕ) → Allows st a → 0 < st.holds n → closed_of n a ≡ []
-no_close st (Close f) n may held = let unheld = may.1 in grind arith
-no_close st _ n may held = refl
+no_close st a n may held = grind arith
 
 -- the hold that a pass keeps belongs to no other pass, and no file of the number is closed
 kept : (start : State) (h since : List Event) (p n : ℕ) → IsCovered (keeping p n h) ((state_after start (map action_of h)).holds n)

@@ -1,6 +1,6 @@
 -- Histories that go on from one another.
 use Rattle.fx_plain.proofs.Words.{◌≡◌, ℕ, List, [], ◌∷◌, ◌++◌, map, refl, ap, ◌∙◌, None, State, after, state_after, AllowsAll, action_of, Event, sym}
-use Rattle.fx_plain.proofs.Words.{append_assoc, Action, Look, ◌▷▷◌, Leads, closes_in, append-nil}
+use Rattle.fx_plain.proofs.Words.{append_assoc, Action, ◌▷▷◌, Leads, closes_in, append-nil}
 use Rattle.fx_plain.specs.History.{held_by, AllReleaseTheirOwn}
 use Rattle.fx_plain.specs.Reopening.{LegalAfter}
 use Rattle.std.proofs.Common.{arith}
@@ -39,8 +39,7 @@ closes_in-then h [] = sym (append-nil (closes_in h))
 closes_in-then h (action ∷ more) = grind (arith, append_assoc, closes_in-then h more)
 
 shape_after : (st : State) (action : Action) → ((after st action).size ≡ st.size) × ((after st action).range ≡ st.range)
-shape_after st (Look slot None) = (refl, refl)
-shape_after st _ = (refl, refl)
+shape_after st action = grind arith
 
 -- no history changes the size of a table, or its range
 pub same_shape : (st : State) (h : List Action) → ((state_after st h).size ≡ st.size) × ((state_after st h).range ≡ st.range)

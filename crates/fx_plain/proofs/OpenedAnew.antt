@@ -1,8 +1,8 @@
 -- A later part of a history, with the numbers that a newly opened table uses.
 use Rattle.fx_plain.proofs.Words.{◌≡◌, ◌≢◌, ◌⊎◌, ℕ, zero, suc, ◌<◌, Bool, true, false, List, [], ◌∷◌, length, refl, sym, ap, ◌∙◌, Option, Some, None}
 use Rattle.fx_plain.proofs.Words.{if◌then◌else◌, ◌==◌, arith, inl, inr, File, ◌+◌, ◌-◌, ◌≤◌, not, ◌&&◌, nat_lt, map, lt-ltb, State, IsSettled}
-use Rattle.fx_plain.proofs.Words.{opening, file_numbered, AllowsAll, state_after, action_of, Event, Action, IsLegal, identity_of, number_of, Put}
-use Rattle.fx_plain.proofs.Words.{Allocate, IsStart, installed_by}
+use Rattle.fx_plain.proofs.Words.{opening, file_numbered, AllowsAll, state_after, action_of, Event, Action, IsLegal, identity_of, number_of}
+use Rattle.fx_plain.proofs.Words.{IsStart, installed_by}
 use Rattle.fx_plain.proofs.Cells.{by_equality}
 use Rattle.fx_plain.proofs.LawFiles.{installed_now, used_after}
 use Rattle.fx_plain.proofs.Renaming.{IsOneToOne, IsNamed, renamed_state, IsRenamable, InstallsNamed, legal_renamed}
@@ -59,8 +59,7 @@ slot_of at (suc s) n = if has_number n (at s) then Some s else slot_of at s n
 
 by_file : (n : ℕ) (x : Option File) (P : Bool → Type 0) → ((f : File) → x ≡ Some f → f.number ≡ n → P true)
     → (((f : File) → x ≡ Some f → f.number ≢ n) → P false) → P (has_number n x)
-by_file n None P there none = none (λ f is. absurd (cc is))
-by_file n (Some g) P there none = by_equality g.number n P (λ same. there g refl same) (λ other. none (λ f is same. other (cc (is, same))))
+by_file n x P there none = grind (arith, by_equality)
 
 pub slot_found : (at : ℕ → Option File) (size n : ℕ) {s : ℕ} → slot_of at size n ≡ Some s → (s < size) × (f : File) × (at s ≡ Some f) × (f.number ≡ n)
 slot_found at zero n is = cc
@@ -84,11 +83,7 @@ used_behind start (a ∷ h) n used = used_after (state_after start h) a n (used_
 
 by_installed : (a : Action) (l : List ℕ) (n : ℕ) → IsIn n (with_number_of (installed_by a) l)
     → ((f : File) × (installed_by a ≡ Some f) × (f.number ≡ n)) ⊎ IsIn n l
-by_installed (Put slot f replaced) l n (inl same) = inl (f, refl, same)
-by_installed (Put slot f replaced) l n (inr more) = inr more
-by_installed (Allocate slot f) l n (inl same) = inl (f, refl, same)
-by_installed (Allocate slot f) l n (inr more) = inr more
-by_installed _ l n is = inr is
+by_installed a l n h4 = grind arith
 
 -- a number that a history gave to a file was fresh at the start, and isn't fresh afterwards
 module _ (start : State) where
@@ -111,13 +106,7 @@ module _ (start : State) where
 
   pub distinct_installs : (h : List Action) → AllowsAll start h → AreDistinct (numbers_given h)
   distinct_installs [] may = tt
-  distinct_installs (a ∷ h) may = elim (installed_by a) as (λ x. installed_by a ≡ x → AreDistinct (with_number_of x (numbers_given h))) [
-    | None ↦ λ _. distinct_installs h may.0
-    | Some f ↦ λ by. (
-      λ there. let clash : true ≡ false = sym (installed_now (state_after start h) a may.1 by).0 ∙ used_then h may.0 f.number there in cc clash,
-      distinct_installs h may.0,
-    )
-  ] refl
+  distinct_installs (a ∷ h) may = grind (arith, distinct_installs h may.0, installed_by, installed_now, state_after, used_then)
 
 settled_still : (r : Renaming) (fresh : ℕ → Bool) (st : State) → IsSettled st → IsSettled (renamed_state r fresh st)
 settled_still r fresh st settled = grind arith
@@ -146,8 +135,7 @@ module _ (chain : ℕ → ℕ) (start : State) (new : List ℕ) where
 
     of_new : (n : ℕ) → start.fresh n ≡ true → (x : Option ℕ) → slot_of start.at start.size n ≡ x
         → number_by start.size new n x ≡ start.size + place_of n new
-    of_new n is None none = refl
-    of_new n is (Some s) found = grind (arith, slot_found)
+    of_new n is x h4 = grind (arith, slot_found)
 
     number_of_new : (n : ℕ) → start.fresh n ≡ true → by_order.number n ≡ start.size + place_of n new
     number_of_new n is = of_new n is (slot_of start.at start.size n) refl
@@ -159,8 +147,7 @@ module _ (chain : ℕ → ℕ) (start : State) (new : List ℕ) where
     named_new n there = grind (arith, number_of_new, number_at_place)
 
     from_slot : {k old : ℕ} → k < start.size → (x : Option File) → start.at k ≡ x → number_of x ≡ Some old → by_order.number old ≡ k
-    from_slot lt None is same = absurd (cc same)
-    from_slot {old} lt (Some f) is same = grind (arith, of_slot)
+    from_slot lt x is same = grind (arith, of_slot)
 
     pub one_to_one : IsOneToOne by_order
     one_to_one k old is = grind (arith, from_slot, place_of_number, number_of_new, number_at_in)
@@ -181,15 +168,13 @@ module _ (chain : ℕ → ℕ) (start : State) (new : List ℕ) where
       renamable = grind (arith, named_slot, fresh_then)
 
       found_anew : (slot : ℕ) (x : Option File) → start.at slot ≡ x → renamed_found by_order x ≡ file_numbered x slot
-      found_anew slot None is = refl
-      found_anew slot (Some f) is = rw (of_slot (at_inside slot is) is (slot_of start.at start.size f.number) refl) refl
+      found_anew slot x is = grind (arith, of_slot, at_inside)
 
       pub opened : renamed_state by_order (opening start numbers).fresh start ≡ opening start numbers
       opened = grind (arith, found_anew)
 
 given_more : (x : Option File) (l : List ℕ) (n : ℕ) → IsIn n l → IsIn n (with_number_of x l)
-given_more None l n is = is
-given_more (Some f) l n is = inr is
+given_more x l n is = grind arith
 
 installs_named : (r : Renaming) (h : List Action) → ((n : ℕ) → IsIn n (numbers_given h) → IsNamed r n) → InstallsNamed r h
 installs_named r [] known = tt
@@ -197,8 +182,7 @@ installs_named r (a ∷ h) known =
     grind (arith, given_more, installs_named r h (λ n there. known n (given_more (installed_by a) (numbers_given h) n there)))
 
 same_identity : (r : Renaming) (x : Option File) → identity_of (renamed_found r x) ≡ identity_of x
-same_identity r None = refl
-same_identity r (Some f) = refl
+same_identity r x = grind arith
 
 pub opened_anew : (chain : ℕ → ℕ) (numbers : ℕ) (start end : State) (h : List Event) → IsTableAtRest start
     → start.size + length (numbers_given (map action_of h)) ≤ numbers → IsLegal start h end

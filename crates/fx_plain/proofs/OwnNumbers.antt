@@ -1,8 +1,8 @@
 -- Each file moves to the node of its slot's number, one slot after another, and slots outside the
 -- span have such numbers.
 use Rattle.fx_plain.proofs.Words.{◌≡◌, ◌≢◌, ℕ, ◌<◌, ◌≤◌, List, length, sym, ◌∙◌, arith, slice_set, Option, Some, None, length-set, get_or-set_other}
-use Rattle.fx_plain.proofs.Words.{slot_at, SlotSpan, IsOutside, HaveOwnOutside, ◌+◌, [], ◌∷◌, ◌++◌, refl, ap, set-set, get_or_append_left, Closed}
-use Rattle.fx_plain.proofs.Words.{AllPlaced, IsFiled, subst, node_at, file_named, identity_in, opening_slot, moved_node, nodes_without, file_count_of}
+use Rattle.fx_plain.proofs.Words.{slot_at, SlotSpan, IsOutside, HaveOwnOutside, ◌+◌, [], ◌∷◌, ◌++◌, refl, set-set, get_or_append_left, Closed}
+use Rattle.fx_plain.proofs.Words.{AllPlaced, IsFiled, subst, node_at, file_named, opening_slot, moved_node, nodes_without, file_count_of}
 use Rattle.fx_plain.proofs.Words.{At, Gone, sum_by, Node, sum_by-set, set-get_or, HaveOwnNumbers}
 use Rattle.fx_plain.proofs.Cells.{each_set, inside_of-At}
 use Rattle.std.proofs.Math.Seq.{get_or-append_seam}
@@ -25,8 +25,7 @@ module _ (slots : List (Option ℕ)) {slot : ℕ} (x : Option ℕ) (inside : slo
 
 -- Each file moves to the node of its slot's number, one slot after another.
 file_named_same : (old new : List Node) (x : Option ℕ) → ((n : ℕ) → x ≡ Some n → node_at new n ≡ node_at old n) → file_named new x ≡ file_named old x
-file_named_same old new None same = refl
-file_named_same old new (Some n) same = ap identity_in (same n refl)
+file_named_same old new x same = grind arith
 
 -- the files of the slots from `s` on are as they were
 abbrev pub IsLeft : List (Option ℕ) → List Node → List Node → ℕ → Type 0
@@ -46,8 +45,7 @@ length-without nodes None = refl
 length-without nodes (Some n) = length-set nodes n Gone
 
 same_filled : (x : Option ℕ) (s : ℕ) → file_count_of (opening_slot x s) ≡ file_count_of x
-same_filled None s = refl
-same_filled (Some n) s = refl
+same_filled x s = grind arith
 
 -- the slots before s name their own numbers, and the others are as they were
 pub record IsOpened (first slots : List (Option ℕ)) (s : ℕ) : Type 0 where

@@ -4,7 +4,7 @@ use Rattle.fx_plain.proofs.Words.{file_numbered, identity_of, arith, ◌<◌, �
 use Rattle.fx_plain.proofs.Words.{length-replicate, get_or-eq_default, Closed, Contents, IsTable, IsCounted, state_of, slot_at, node_at, file_at}
 use Rattle.fx_plain.proofs.Words.{removed_at, is_fresh, is_retired, IsRenumbered, IsVacant, opening_slot, sum, removed_count_of, Fresh, At, Gone}
 use Rattle.fx_plain.proofs.Words.{Node, lt-ltb, le-ltb, ◌≢◌, zero, suc, ◌+◌, [], ◌∷◌, if◌then◌else◌, Allows, AllowsAll, after, state_after}
-use Rattle.fx_plain.proofs.Words.{changed_at, Event, Action, Put, Clear, Take, Allocate, Look, IsLegal, IsStart, false_from_ne_true}
+use Rattle.fx_plain.proofs.Words.{changed_at, Event, Action, IsLegal, IsStart, false_from_ne_true}
 use Rattle.std.proofs.lemmas.Grind.{common_steps}
 use Rattle.fx_plain.proofs.Cells.{inside_of, read_default, by_equality, named, named_same, sum_below, sum_grows}
 use Rattle.fx_plain.proofs.Settled.{no_holds, none_removed, quiet_is, sum_of_nothings, sum_by-replicate}
@@ -13,12 +13,10 @@ use Rattle.fx_plain.proofs.LawHolds.{bit, placed_one, tally, tally_start, tally_
 
 -- a file that is numbered anew: its number is its slot's, and it is the file that it was
 pub numbered_anew : (x : Option File) (slot : ℕ) (f : File) → file_numbered x slot ≡ Some f → f.number ≡ slot
-numbered_anew None slot f is = cc
-numbered_anew (Some g) slot f is = cc
+numbered_anew x slot f is = grind arith
 
 pub same_identity : (x : Option File) (slot : ℕ) → identity_of (file_numbered x slot) ≡ identity_of x
-same_identity None slot = refl
-same_identity (Some f) slot = refl
+same_identity x slot = grind arith
 
 -- the laws of histories speak from there
 pub opening_is_start : (st : State) (numbers : ℕ) → IsStart (opening st numbers)
@@ -33,8 +31,7 @@ opens_alike one other size range files numbers = grind arith
 
 -- The state of a table that was prepared.
 opening_own : (slot : ℕ) {number : ℕ} (x : Option ℕ) → opening_slot x slot ≡ Some number → number ≡ slot
-opening_own slot None is = cc
-opening_own slot (Some m) is = cc
+opening_own slot x is = grind arith
 
 module _ {c : Contents} {slots : List (Option ℕ)} {nodes : List Node} {numbers : ℕ} (t : IsTable c) (enough : length c.slots ≤ numbers)
     (few : numbers < 2 ^ 32) (r : IsRenumbered c.slots c.nodes slots nodes numbers) {holds : List ℕ} (unheld : holds ≡ replicate numbers 0) where
@@ -67,8 +64,7 @@ module _ {c : Contents} {slots : List (Option ℕ)} {nodes : List Node} {numbers
 
   named_placed : {u k : ℕ} → u < length c.slots → (x : Option ℕ) → slot_at c.slots u ≡ x → opening_slot x u ≡ Some k
       → (file : Closed) × (node_at nodes k ≡ At u file)
-  named_placed inside None is same = cc
-  named_placed {u} {k} inside (Some m) is same = grind arith
+  named_placed inside x is same = grind arith
 
   slot_inside : (u : ℕ) {k : ℕ} → slot_at slots u ≡ Some k → u < length c.slots
   slot_inside u {k} is = grind (arith, inside_of)
@@ -137,12 +133,7 @@ none_past : (st : State) {slot : ℕ} (x : Option File) → slot < st.size → H
 none_past st {slot} x lt none u le = by_equality u slot (λ b. (if b then x else st.at u) ≡ None) (λ same. absurd (omega arith)) (λ _. none u le)
 
 inside_after : (st : State) (a : Action) → Allows st a → HasNonePast st → HasNonePast (after st a)
-inside_after st (Look slot None) may none = none
-inside_after st (Put slot f replaced) may none = none_past st (Some f) may.0 none
-inside_after st (Clear slot found) may none = none_past st None may.0 none
-inside_after st (Take slot found) may none = none_past st None may.0 none
-inside_after st (Allocate slot f) may none = none_past st (Some f) may.0 none
-inside_after st _ may none = none
+inside_after st a may none = grind (arith, none_past)
 
 pub inside_behind : (start : State) (h : List Action) → AllowsAll start h → HasNonePast start → HasNonePast (state_after start h)
 inside_behind start [] may none = none

@@ -55,27 +55,19 @@ node_else nodes None m other = refl
 node_else nodes (Some old) m other = get_or-set_other nodes old m (node_after_removal (node_at nodes old)) Gone (other old refl)
 
 opened_le : (node : Node) → removed_count_of node ≤ 1
-opened_le Gone = omega arith
-opened_le _ = omega arith
+opened_le node = grind arith
 
 filled_le : (x : Option ℕ) → file_count_of x ≤ 1
-filled_le None = omega arith
-filled_le (Some n) = omega arith
+filled_le x = grind arith
 
 -- one removed file more, if there was a file
 opened-gave_way : (nodes : List Node) (x : Option ℕ) (slot : ℕ) → Names nodes x slot
     → sum_by removed_count_of (gave_way nodes x) ≡ sum_by removed_count_of nodes + file_count_of x
-opened-gave_way nodes None slot named = omega arith
-opened-gave_way nodes (Some old) slot named =
-    let at = (named old refl).1 in
-    let all = sum_by-set removed_count_of nodes old (node_after_removal (node_at nodes old)) Gone (inside_of-At nodes old at) in
-    let was : removed_count_of (node_at nodes old) ≡ 0 = rw at refl in
-    let now : removed_count_of (node_after_removal (node_at nodes old)) ≡ 1 = rw at refl in omega arith
+opened-gave_way nodes x slot named = grind (arith, sum_by-set, inside_of-At)
 
 -- the number that a slot names is that of the file there
 number_at : {c : Contents} (slot : ℕ) (x : Option ℕ) → IsTable c → slot_at c.slots slot ≡ x → x ≡ number_of ((state_of c).at slot)
-number_at slot None t is = rw is refl
-number_at slot (Some n) t is = rw (is, (t.placed slot n is).1) refl
+number_at slot x t is = grind arith
 
 -- two slots name two numbers
 pub other_number : (slots : List (Option ℕ)) (nodes : List Node) {s u m n : ℕ} → AllPlaced slots nodes → u ≢ s → slot_at slots s ≡ Some m

@@ -1,7 +1,7 @@
 -- One step of a table, and a history, with other numbers.
-use Rattle.fx_plain.proofs.Words.{◌≡◌, ◌≢◌, ℕ, ◌+◌, ◌-◌, ◌<◌, Bool, true, false, List, [], ◌∷◌, map, refl, sym, ap, subst, ◌∙◌, Option, Some, None}
+use Rattle.fx_plain.proofs.Words.{◌≡◌, ◌≢◌, ℕ, ◌<◌, Bool, true, false, List, [], ◌∷◌, map, refl, sym, ap, subst, ◌∙◌, Option, Some, None}
 use Rattle.fx_plain.proofs.Words.{IsSome, if◌then◌else◌, State, Allows, AllowsAll, after, state_after, changed_at, with_removed, IsLegal}
-use Rattle.fx_plain.proofs.Words.{action_of, File, Event, Action, Look, Release, Put, Clear, Take, Allocate, Close, Full, installed_by}
+use Rattle.fx_plain.proofs.Words.{action_of, File, Event, Action, Put, Take, Allocate, installed_by}
 use Rattle.fx_plain.specs.History.{held_after, held_by, ReleasesItsOwn, AllReleaseTheirOwn}
 use Rattle.fx_plain.specs.Reopening.{Renaming, renamed_found, renamed, renamed_event}
 use Rattle.std.proofs.Common.{arith}
@@ -52,8 +52,7 @@ each_changed : {X : Type 0} (P : ℕ → X → Type 0) (f : ℕ → X) (n : ℕ)
 each_changed P f n v here m others = grind arith
 
 some_renamed : (r : Renaming) (x : Option File) → IsSome x → IsSome (renamed_found r x)
-some_renamed r (Some f) is = refl
-some_renamed r None is = absurd (cc is)
+some_renamed r x is = grind arith
 
 -- the fresh numbers after an action
 abbrev pub fresh_after : Renaming → (ℕ → Bool) → Action → ℕ → Bool
@@ -80,12 +79,7 @@ module _ (r : Renaming) (one : IsOneToOne r) where
     held_same known = ap (read_at (λ x. x) 0 st.holds) known
 
     allows : (a : Action) → KnowsFound r (installed_by a) → Allows st a → Allows other (renamed r a)
-    allows (Release f) known some = rw (held_same (k.held f.number some)) some
-    allows (Put slot f replaced) known (inside, is_fresh, is) = (inside, k.stays_fresh f.number (known f refl) is_fresh, ap (renamed_found r) is)
-    allows (Allocate slot f) known (inside, in_range, none, is_fresh) = grind arith
-    allows Full known full = λ slot inside in_range. some_renamed r (st.at slot) (full slot inside in_range)
-    allows (Close f) known (waits, none) = grind arith
-    allows _ known may = (may.0, ap (renamed_found r) may.1)
+    allows a known h3 = grind (arith, held_same, some_renamed)
 
     -- a hold more or less
     holds_back : (change : ℕ → ℕ) {n : ℕ} → IsNamed r n → changed_at other.holds (r.number n) (change (other.holds (r.number n)))
@@ -100,14 +94,7 @@ module _ (r : Renaming) (one : IsOneToOne r) where
     emptied_is slot {found} is = grind arith
 
     after_is : (a : Action) → Allows st a → after other (renamed r a) ≡ renamed_state r (fresh_after r fresh a) (after st a)
-    after_is (Look slot (Some f)) may = λ i. record other { holds = holds_back (λ held. held + 1) (k.at slot f (sym may.1)) i }
-    after_is (Release f) may = λ i. record other { holds = holds_back (λ held. held - 1) (k.held f.number may) i }
-    after_is (Put slot f replaced) may = grind arith
-    after_is (Clear slot found) may = emptied_is slot may.1
-    after_is (Take slot found) may = emptied_is slot may.1
-    after_is (Allocate slot f) may = grind arith
-    after_is (Close f) may = λ i. record other { removed = changed_back (renamed_found r) None st.removed None (k.removed f.number f may.0) i }
-    after_is _ may = refl
+    after_is a may = grind (arith, holds_back, emptied_is, changed_back)
 
     -- the files of the state afterwards
     file_changed : {files : ℕ → Option File} → ((m : ℕ) → KnowsFound r (files m)) → (n : ℕ) {new : Option File} → KnowsFound r new
@@ -132,14 +119,7 @@ module _ (r : Renaming) (one : IsOneToOne r) where
     stays_emptied slot found is = assumption (file_changed k.at slot nothing_known, removed_after found (known_found slot is))
 
     stays_renamable : (a : Action) → KnowsFound r (installed_by a) → Allows st a → IsRenamable r (fresh_after r fresh a) (after st a)
-    stays_renamable (Look slot (Some f)) known may = assumption (held_changed (st.holds f.number + 1) (k.at slot f (sym may.1)))
-    stays_renamable (Release f) known may = assumption (held_changed (st.holds f.number - 1) (k.held f.number may))
-    stays_renamable (Put slot f replaced) known may = grind (arith, removed_after)
-    stays_renamable (Clear slot found) known may = stays_emptied slot found may.1
-    stays_renamable (Take slot found) known may = stays_emptied slot found may.1
-    stays_renamable (Allocate slot f) known may = assumption (file_changed k.at slot known, still_fresh (known f refl))
-    stays_renamable (Close f) known may = assumption (file_changed k.removed f.number nothing_known)
-    stays_renamable _ known may = k
+    stays_renamable a known may = grind (arith, held_changed, removed_after, stays_emptied, file_changed, still_fresh, nothing_known)
 
   -- a history of actions
   module _ {fresh : ℕ → Bool} {start : State} (k : IsRenamable r fresh start) where
@@ -159,13 +139,11 @@ module _ (r : Renaming) (one : IsOneToOne r) where
 -- the file that a pass holds
 held_after_same : (r : Renaming) (held : Option File) (a : Action)
     → held_after (renamed_found r held) (renamed r a) ≡ renamed_found r (held_after held a)
-held_after_same r held (Release f) = refl
-held_after_same r held _ = refl
+held_after_same r held a = grind arith
 
 if_renamed : (r : Renaming) (b : Bool) (x y : Option File) {x' y' : Option File} → x' ≡ renamed_found r x → y' ≡ renamed_found r y
     → (if b then x' else y') ≡ renamed_found r (if b then x else y)
-if_renamed r true x y on off = on
-if_renamed r false x y on off = off
+if_renamed r b x y on off = grind arith
 
 held_same_by : (r : Renaming) (h : List Event) (pass : ℕ) → held_by (map (renamed_event r) h) pass ≡ renamed_found r (held_by h pass)
 held_same_by r [] pass = refl
@@ -173,8 +151,7 @@ held_same_by r (e ∷ h) pass = grind (arith, if_renamed, held_after_same, held_
 
 releases_its_own : (r : Renaming) (held : Option File) {now : Option File} (a : Action) → now ≡ renamed_found r held → ReleasesItsOwn held a
     → ReleasesItsOwn now (renamed r a)
-releases_its_own r held (Release f) same own = same ∙ ap (renamed_found r) own
-releases_its_own r held _ same own = tt
+releases_its_own r held a same own = grind arith
 
 all_release : (r : Renaming) (h : List Event) → AllReleaseTheirOwn h → AllReleaseTheirOwn (map (renamed_event r) h)
 all_release r [] own = tt

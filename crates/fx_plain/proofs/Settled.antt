@@ -1,8 +1,8 @@
 -- The counters of a table, and its state; sums over lists of nothings.
 use Rattle.fx_plain.proofs.Words.{◌≡◌, sum_by-cons, sum_by, List, [], arith, ap, ◌∙◌, replicate, slice_index_or, suc, zero, ℕ, ◌∷◌, ◌≤◌, false}
-use Rattle.fx_plain.proofs.Words.{length, length-append, refl, Option, Some, None, IsSettled, files_in_order, files_of, identities_of, Contents}
+use Rattle.fx_plain.proofs.Words.{length, length-append, refl, Option, None, IsSettled, files_in_order, files_of, identities_of, Contents}
 use Rattle.fx_plain.proofs.Words.{IsTable, IsCounted, state_of, slot_at, node_at, file_at, removed_at, is_leaving, is_retired, file_count_of}
-use Rattle.fx_plain.proofs.Words.{removed_count_of, take, add-one, length-replicate, Fresh, Leaving, Retired, Gone, Node, All-from_get_or, sum_by-le}
+use Rattle.fx_plain.proofs.Words.{removed_count_of, take, add-one, length-replicate, Gone, Node, All-from_get_or, sum_by-le}
 use Rattle.fx_plain.proofs.Words.{sum_by_more, take_all}
 use Rattle.fx_plain.proofs.Cells.{read_default}
 
@@ -25,14 +25,10 @@ abbrev pub IsQuiet : Node → Type 0
 IsQuiet node = ((number : ℕ) → removed_at number node ≡ None) × (is_leaving node ≡ false) × (is_retired node ≡ false)
 
 pub quiet_is : (node : Node) → removed_count_of node ≡ 0 → IsQuiet node
-quiet_is Fresh none = (λ _. refl, refl, refl)
-quiet_is (Leaving file) none = absurd (omega arith)
-quiet_is (Retired file) none = absurd (omega arith)
-quiet_is _ none = (λ _. refl, refl, refl)
+quiet_is node none = grind arith
 
 pub not_removed : (n : ℕ) (node : Node) → removed_at n node ≡ None → removed_count_of node ≡ 0
-not_removed n Fresh is = refl
-not_removed n _ is = cc
+not_removed n node is = grind arith
 
 -- a table without holds and removed files is settled
 pub settled_by_counts : {c : Contents} {full held removed : ℕ} → IsCounted c full held removed → held ≡ 0 → removed ≡ 0 → IsSettled (state_of c)
@@ -47,8 +43,7 @@ none_removed {c} k s = k.all_removed ∙ sum_of_nothings removed_count_of c.node
 -- the file that a slot names is at that slot
 one_file : {c : Contents} (slot : ℕ) → IsTable c → (x : Option ℕ) → slot_at c.slots slot ≡ x
     → length (identities_of (file_at c.nodes x)) ≡ file_count_of x
-one_file slot t None is = refl
-one_file slot t (Some n) is = rw (t.placed slot n is).1 refl
+one_file slot t x is = grind arith
 
 files_upto : {c : Contents} → IsTable c → (n : ℕ) → n ≤ length c.slots
     → length (files_in_order (state_of c).at n) ≡ sum_by file_count_of (take n c.slots)
