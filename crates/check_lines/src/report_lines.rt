@@ -94,7 +94,7 @@ fn res_of(word: &[u8]) -> i32
     number(word, LARGEST_RESULT) as i32
 }
 
-// Parses the text before the first byte `at` behind two full stops as a place, and returns the rest
+// Parses the text before the first byte `at` after two full stops as a place, and returns the rest
 // after that byte.
 fn place_before(text: &[u8], at: u8) -> (Place, &[u8])
     requires { is_digit at ≡ false }

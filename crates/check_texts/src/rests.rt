@@ -21,7 +21,7 @@ use indexmap::IndexSet;
 /// An exit of a ring, with the ways that begin with it, or the end of the script.
 #[derive(Drop)]
 pub(crate) struct KeptExit {
-    /// What is printed there.
+    /// The text that is printed there.
     pub(crate) line: String,
     /// The index of the order of its submission, if it is an accepted one.
     pub(crate) past: Option<usize>,

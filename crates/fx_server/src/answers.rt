@@ -53,7 +53,7 @@ pub struct FoundFile {
 /// The result of a call about a slot.
 #[derive(Clone, Copy)]
 pub struct CallAnswer<T> {
-    /// What the call did, or the reason why it is not done.
+    /// The result of the call, or the reason why it is not done.
     pub result: Result<T, ServerRefusal>,
     /// The tag of a removed file that the call's look-up was the last to use.
     pub freed: Option<u64>,
