@@ -55,64 +55,109 @@ pub struct NoSlot {
     pub slots: u32,
 }
 
-/// The reason why a look-up returns no guard.
-///
-/// ```
-/// use yachtbanyan::{GetError, Table};
-///
-/// let table = Table::<u64>::with_slots(4)?;
-/// match table.get_owned_at(3) {
-///     Ok(guard) => println!("{guard}"),
-///     Err(GetError::Empty { slot }) => println!("nothing at {slot}"),
-///     Err(error) => return Err(error.into()),
-/// }
-/// # Ok::<(), Box<dyn std::error::Error>>(())
-/// ```
-#[derive(Clone, Copy, Debug, PartialEq, Eq)]
-#[non_exhaustive]
-pub enum GetError {
-    /// The slot is empty.
-    Empty {
-        /// The slot.
-        slot: u32,
-    },
-    /// The slot has another value than that of the key.
-    Stale {
-        /// The slot.
-        slot: u32,
-    },
-    /// The table has no such slot.
-    NoSlot(NoSlot),
-    /// There is no seat for a guard.
-    NoSeat(NoSeat),
+/// Defines an error that has the reasons of a look-up, with their words, and further reasons with
+/// theirs. `of` is what a slot belongs to that is empty, and `by` what finds no seat.
+macro_rules! with_reasons_of_a_look_up {
+    (
+        $(#[$about:meta])* $error:ident of $slot:literal, by $user:literal
+        $($(#[$more:meta])* $name:ident $({ $(#[$of:meta])* $field:ident })? => $words:expr;)*
+    ) => {
+        $(#[$about])*
+        #[derive(Clone, Copy, Debug, PartialEq, Eq)]
+        #[non_exhaustive]
+        pub enum $error {
+            $($(#[$more])* $name $({ $(#[$of])* $field: u32 })?,)*
+            #[doc = concat!("The slot", $slot, " is empty.")]
+            Empty {
+                /// The slot.
+                slot: u32,
+            },
+            /// The slot has another value than that of the key.
+            Stale {
+                /// The slot.
+                slot: u32,
+            },
+            /// The table has no such slot.
+            NoSlot(NoSlot),
+            #[doc = concat!("There is no seat for ", $user, ".")]
+            NoSeat(NoSeat),
+        }
+
+        impl fmt::Display for $error {
+            fn fmt(&self, f: &mut fmt::Formatter<'_>) -> fmt::Result {
+                match *self {
+                    $($error::$name $({ $field })? => $words.fmt(f),)*
+                    $error::Empty { slot } => write!(f, "slot {slot} is empty"),
+                    $error::Stale { slot } => write!(f, "slot {slot} has another value"),
+                    $error::NoSlot(error) => error.fmt(f),
+                    $error::NoSeat(error) => error.fmt(f),
+                }
+            }
+        }
+
+        impl Error for $error {}
+    };
 }
 
-/// The reason why a call that removes a value by its key, by its guard, or by a seat of the table
-/// removes nothing.
-///
-/// ```
-/// let table = yachtbanyan::Table::<u64>::with_slots(4)?;
-/// let error = table.remove_at(4).unwrap_err();
-/// assert_eq!(error.to_string(), "slot 4 is out of range: the table has slots 0 to 3");
-/// # Ok::<(), yachtbanyan::OpenError>(())
-/// ```
-#[derive(Clone, Copy, Debug, PartialEq, Eq)]
-#[non_exhaustive]
-pub enum RemoveError {
-    /// The slot of the key is empty.
-    Empty {
-        /// The slot.
-        slot: u32,
-    },
-    /// The slot has another value than that of the key.
-    Stale {
-        /// The slot.
-        slot: u32,
-    },
-    /// The table has no such slot.
-    NoSlot(NoSlot),
-    /// There is no seat for the call.
-    NoSeat(NoSeat),
+with_reasons_of_a_look_up! {
+    /// The reason why a look-up returns no guard.
+    ///
+    /// ```
+    /// use yachtbanyan::{GetError, Table};
+    ///
+    /// let table = Table::<u64>::with_slots(4)?;
+    /// match table.get_owned_at(3) {
+    ///     Ok(guard) => println!("{guard}"),
+    ///     Err(GetError::Empty { slot }) => println!("nothing at {slot}"),
+    ///     Err(error) => return Err(error.into()),
+    /// }
+    /// # Ok::<(), Box<dyn std::error::Error>>(())
+    /// ```
+    GetError of "", by "a guard"
+}
+
+with_reasons_of_a_look_up! {
+    /// The reason why a call that removes a value by its key, by its guard, or by a seat of the
+    /// table removes nothing.
+    ///
+    /// ```
+    /// let table = yachtbanyan::Table::<u64>::with_slots(4)?;
+    /// let error = table.remove_at(4).unwrap_err();
+    /// assert_eq!(error.to_string(), "slot 4 is out of range: the table has slots 0 to 3");
+    /// # Ok::<(), yachtbanyan::OpenError>(())
+    /// ```
+    RemoveError of " of the key", by "the call"
+}
+
+with_reasons_of_a_look_up! {
+    /// The reason why a value is not installed.
+    ///
+    /// ```
+    /// use yachtbanyan::{Reason, Table};
+    ///
+    /// let table = Table::<u64>::with_slots(1)?;
+    /// let handle = table.handle()?;
+    /// handle.insert_with(|key| u64::from(key.slot()))?;
+    /// let reason = handle.insert_with(|_| 7).unwrap_err();
+    /// assert_eq!(reason, Reason::Full { slots: 1 });
+    /// assert_eq!(reason.to_string(), "the only slot has a value");
+    /// # Ok::<(), Box<dyn std::error::Error>>(())
+    /// ```
+    Reason of " of the key", by "the call"
+    /// At one moment during the call every slot had a value.
+    Full {
+        /// The number of slots.
+        slots
+    } => match slots {
+        1 => "the only slot has a value".to_string(),
+        _ => format!("all {slots} slots have values"),
+    };
+    /// No slot was free when it was looked at, and others were filling or emptying slots: another
+    /// thread emptied a slot during the call, changed a free one, or was in the middle of a call.
+    Again => "other threads are filling or emptying slots";
+    /// The handle is calling the function that makes a value for
+    /// [`insert_with`](crate::Handle::insert_with).
+    Making => "the handle is making a value for insert_with";
 }
 
 /// A value that is not installed, and the reason.
@@ -132,49 +177,6 @@ pub struct Refused<T> {
     pub value: T,
     /// The reason.
     pub reason: Reason,
-}
-
-/// The reason why a value is not installed.
-///
-/// ```
-/// use yachtbanyan::{Reason, Table};
-///
-/// let table = Table::<u64>::with_slots(1)?;
-/// let handle = table.handle()?;
-/// handle.insert_with(|key| u64::from(key.slot()))?;
-/// let reason = handle.insert_with(|_| 7).unwrap_err();
-/// assert_eq!(reason, Reason::Full { slots: 1 });
-/// assert_eq!(reason.to_string(), "the only slot has a value");
-/// # Ok::<(), Box<dyn std::error::Error>>(())
-/// ```
-#[derive(Clone, Copy, Debug, PartialEq, Eq)]
-#[non_exhaustive]
-pub enum Reason {
-    /// At one moment during the call every slot had a value.
-    Full {
-        /// The number of slots.
-        slots: u32,
-    },
-    /// No slot was free when it was looked at, and others were filling or emptying slots: another
-    /// thread emptied a slot during the call, changed a free one, or was in the middle of a call.
-    Again,
-    /// The handle is calling the function that makes a value for
-    /// [`insert_with`](crate::Handle::insert_with).
-    Making,
-    /// The slot of the key is empty.
-    Empty {
-        /// The slot.
-        slot: u32,
-    },
-    /// The slot has another value than that of the key.
-    Stale {
-        /// The slot.
-        slot: u32,
-    },
-    /// The table has no such slot.
-    NoSlot(NoSlot),
-    /// There is no seat for the call.
-    NoSeat(NoSeat),
 }
 
 impl<T> Refused<T> {
@@ -197,10 +199,9 @@ impl<T> fmt::Display for Refused<T> {
     }
 }
 
-/// Gives an error that has the reasons of a look-up their words and their conversion, and the words
-/// of its further reasons.
-macro_rules! with_reasons_of_a_look_up {
-    ($error:ident $(, $reason:pat => $words:expr)*) => {
+/// Gives an error the reasons of a look-up.
+macro_rules! from_a_look_up {
+    ($($error:ident)*) => { $(
         impl From<GetError> for $error {
             fn from(error: GetError) -> $error {
                 match error {
@@ -211,28 +212,10 @@ macro_rules! with_reasons_of_a_look_up {
                 }
             }
         }
-
-        impl fmt::Display for $error {
-            fn fmt(&self, f: &mut fmt::Formatter<'_>) -> fmt::Result {
-                match *self {
-                    $error::Empty { slot } => write!(f, "slot {slot} is empty"),
-                    $error::Stale { slot } => write!(f, "slot {slot} has another value"),
-                    $error::NoSlot(error) => error.fmt(f),
-                    $error::NoSeat(error) => error.fmt(f),
-                    $($reason => $words.fmt(f),)*
-                }
-            }
-        }
-    };
+    )* };
 }
 
-with_reasons_of_a_look_up! { RemoveError }
-with_reasons_of_a_look_up! { Reason,
-    Reason::Full { slots: 1 } => "the only slot has a value",
-    Reason::Full { slots } => format_args!("all {slots} slots have values"),
-    Reason::Again => "other threads are filling or emptying slots",
-    Reason::Making => "the handle is making a value for insert_with"
-}
+from_a_look_up! { RemoveError Reason }
 
 impl fmt::Display for OpenError {
     fn fmt(&self, f: &mut fmt::Formatter<'_>) -> fmt::Result {
@@ -279,17 +262,6 @@ impl fmt::Display for NoSlot {
     }
 }
 
-impl fmt::Display for GetError {
-    fn fmt(&self, f: &mut fmt::Formatter<'_>) -> fmt::Result {
-        match self {
-            GetError::Empty { slot } => write!(f, "slot {slot} is empty"),
-            GetError::Stale { slot } => write!(f, "slot {slot} has another value"),
-            GetError::NoSlot(error) => error.fmt(f),
-            GetError::NoSeat(error) => error.fmt(f),
-        }
-    }
-}
-
 impl From<NoSlot> for RemoveError {
     fn from(error: NoSlot) -> RemoveError {
         RemoveError::NoSlot(error)
@@ -306,6 +278,3 @@ impl<T> Error for Refused<T> {}
 impl Error for OpenError {}
 impl Error for NoSeat {}
 impl Error for NoSlot {}
-impl Error for Reason {}
-impl Error for GetError {}
-impl Error for RemoveError {}

@@ -1,5 +1,5 @@
 //! Iterating over the values of a table.
-use crate::access::{Guard, Reader};
+use crate::access::{Guard, Handle, Reader};
 use crate::errors::{GetError, NoSeat};
 use std::fmt;
 
@@ -44,3 +44,26 @@ impl<T> fmt::Debug for Iter<'_, T> {
             .finish_non_exhaustive()
     }
 }
+
+/// Has handles and readers iterate over guards, and print their number of slots.
+macro_rules! iterates {
+    ($($by:ident)*) => { $(
+        impl<'r, T> IntoIterator for &'r $by<T> {
+            type Item = Result<Guard<'r, T>, NoSeat>;
+            type IntoIter = Iter<'r, T>;
+
+            fn into_iter(self) -> Iter<'r, T> {
+                self.iter()
+            }
+        }
+
+        impl<T> fmt::Debug for $by<T> {
+            fn fmt(&self, f: &mut fmt::Formatter<'_>) -> fmt::Result {
+                let mut it = f.debug_struct(stringify!($by));
+                it.field("slots", &self.table().slots()).finish_non_exhaustive()
+            }
+        }
+    )* };
+}
+
+iterates! { Handle Reader }

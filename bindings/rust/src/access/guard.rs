@@ -61,18 +61,6 @@ impl<'r, T> Guard<'r, T> {
         }
     }
 
-    /// Returns the slot at which the value was found.
-    #[inline]
-    pub fn slot(&self) -> u32 {
-        self.slot
-    }
-
-    /// Returns the key of the value, by which others find it while it is at its slot.
-    #[inline]
-    pub fn key(&self) -> Key {
-        Key::new(self.slot, self.number)
-    }
-
     /// Returns the same guard, part by part: the compiler can keep those in registers.
     #[inline(always)]
     pub(super) fn moved(self) -> Guard<'r, T> {
@@ -116,38 +104,6 @@ impl<'r, T> Guard<'r, T> {
         };
         self.reader.give_back(self.place.number);
         freed
-    }
-}
-
-impl<T> Deref for Guard<'_, T> {
-    type Target = T;
-
-    #[inline]
-    fn deref(&self) -> &T {
-        // SAFETY: the core closes no file that is held (`no_close_while_held`, `has_one_history`),
-        // so the box is there until `end`.
-        unsafe { &*self.value }
-    }
-}
-
-impl<T> Drop for Guard<'_, T> {
-    #[inline]
-    fn drop(&mut self) {
-        // SAFETY: nobody uses a guard after its drop.
-        let freed = unsafe { self.release() };
-        drop_last(freed);
-    }
-}
-
-impl<T: fmt::Debug> fmt::Debug for Guard<'_, T> {
-    fn fmt(&self, f: &mut fmt::Formatter<'_>) -> fmt::Result {
-        (**self).fmt(f)
-    }
-}
-
-impl<T: fmt::Display> fmt::Display for Guard<'_, T> {
-    fn fmt(&self, f: &mut fmt::Formatter<'_>) -> fmt::Result {
-        (**self).fmt(f)
     }
 }
 
@@ -198,18 +154,6 @@ impl<T> OwnedGuard<T> {
         }
     }
 
-    /// Returns the slot at which the value was found.
-    #[inline]
-    pub fn slot(&self) -> u32 {
-        self.slot
-    }
-
-    /// Returns the key of the value, by which others find it while it is at its slot.
-    #[inline]
-    pub fn key(&self) -> Key {
-        Key::new(self.slot, self.number)
-    }
-
     /// Ends the hold, and gives its seat back. Returns the value if this closed it.
     pub(super) fn end(self) -> Option<Box<T>> {
         let guard = ManuallyDrop::new(self);
@@ -233,34 +177,54 @@ impl<T> OwnedGuard<T> {
     }
 }
 
-impl<T> Deref for OwnedGuard<T> {
-    type Target = T;
+/// Gives a guard what guards have alike, and prints its value.
+macro_rules! guards {
+    ($($guard:ident $(<$lifetime:lifetime>)?;)*) => { $(
+        impl<T> $guard<$($lifetime,)? T> {
+            /// Returns the slot at which the value was found.
+            #[inline]
+            pub fn slot(&self) -> u32 {
+                self.slot
+            }
 
-    #[inline]
-    fn deref(&self) -> &T {
-        // SAFETY: the core closes no file that is held (`no_close_while_held`, `has_one_history`),
-        // so the box is there until `drop`. The guard's table keeps the core.
-        unsafe { &*self.value }
-    }
+            /// Returns the key of the value, by which others find it while it is at its slot.
+            #[inline]
+            pub fn key(&self) -> Key {
+                Key::new(self.slot, self.number)
+            }
+        }
+
+        impl<T> Deref for $guard<$($lifetime,)? T> {
+            type Target = T;
+
+            #[inline]
+            fn deref(&self) -> &T {
+                // SAFETY: the core closes no file that is held (`no_close_while_held`,
+                // `has_one_history`), so the box is there until the guard's end. The guard keeps
+                // the core: it borrows a reader, or has a table.
+                unsafe { &*self.value }
+            }
+        }
+
+        impl<T> Drop for $guard<$($lifetime,)? T> {
+            #[inline]
+            fn drop(&mut self) {
+                // SAFETY: nobody uses a guard after its drop, but for its table.
+                let freed = unsafe { self.release() };
+                drop_last(freed);
+            }
+        }
+
+        guards! { Debug of $guard $($lifetime)? }
+        guards! { Display of $guard $($lifetime)? }
+    )* };
+    ($shown:ident of $guard:ident $($lifetime:lifetime)?) => {
+        impl<T: fmt::$shown> fmt::$shown for $guard<$($lifetime,)? T> {
+            fn fmt(&self, f: &mut fmt::Formatter<'_>) -> fmt::Result {
+                (**self).fmt(f)
+            }
+        }
+    };
 }
 
-impl<T> Drop for OwnedGuard<T> {
-    #[inline]
-    fn drop(&mut self) {
-        // SAFETY: nobody uses a guard after its drop, but for its table.
-        let freed = unsafe { self.release() };
-        drop_last(freed);
-    }
-}
-
-impl<T: fmt::Debug> fmt::Debug for OwnedGuard<T> {
-    fn fmt(&self, f: &mut fmt::Formatter<'_>) -> fmt::Result {
-        (**self).fmt(f)
-    }
-}
-
-impl<T: fmt::Display> fmt::Display for OwnedGuard<T> {
-    fn fmt(&self, f: &mut fmt::Formatter<'_>) -> fmt::Result {
-        (**self).fmt(f)
-    }
-}
+guards! { Guard<'_>; OwnedGuard; }

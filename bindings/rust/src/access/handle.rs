@@ -6,12 +6,11 @@ use super::seats::{Installer, Place};
 use super::storage::{self, Spare};
 use super::table::Table;
 use super::values::{Round, Values};
-use crate::errors::{GetError, NoSeat, NoSlot, Reason, Refused};
+use crate::errors::{GetError, NoSlot, Reason, Refused};
 use crate::iter::Iter;
 use crate::key::Key;
 use crate::old::Old;
 use std::cell::Cell;
-use std::fmt;
 
 /// The access of one thread at a time to a [`Table`]: it looks slots up, and installs and removes
 /// values. It is `Send`, but not `Sync`.
@@ -273,22 +272,5 @@ impl<T> Handle<T> {
     #[inline]
     pub fn table(&self) -> &Table<T> {
         self.reader.table()
-    }
-}
-
-impl<'r, T> IntoIterator for &'r Handle<T> {
-    type Item = Result<Guard<'r, T>, NoSeat>;
-    type IntoIter = Iter<'r, T>;
-
-    fn into_iter(self) -> Iter<'r, T> {
-        self.iter()
-    }
-}
-
-impl<T> fmt::Debug for Handle<T> {
-    fn fmt(&self, f: &mut fmt::Formatter<'_>) -> fmt::Result {
-        f.debug_struct("Handle")
-            .field("slots", &self.table().slots())
-            .finish_non_exhaustive()
     }
 }

@@ -4,11 +4,10 @@ use super::guard::Guard;
 use super::seats::{Installer, Place};
 use super::table::Table;
 use super::values::{add_unused, drop_unused, frees, At, Held, Wanted};
-use crate::errors::{GetError, NoSeat};
+use crate::errors::GetError;
 use crate::iter::Iter;
 use crate::key::Key;
 use std::cell::Cell;
-use std::fmt;
 
 /// A seat that looks slots up, for one thread at a time. It is `Send`, but not `Sync`.
 ///
@@ -230,22 +229,5 @@ impl<T> Drop for Reader<T> {
         self.table.values().seats.give_back(self.own.number);
         // The seats are back. The values are dropped with the list, one after another, even if the
         // drop of one panics.
-    }
-}
-
-impl<'r, T> IntoIterator for &'r Reader<T> {
-    type Item = Result<Guard<'r, T>, NoSeat>;
-    type IntoIter = Iter<'r, T>;
-
-    fn into_iter(self) -> Iter<'r, T> {
-        self.iter()
-    }
-}
-
-impl<T> fmt::Debug for Reader<T> {
-    fn fmt(&self, f: &mut fmt::Formatter<'_>) -> fmt::Result {
-        f.debug_struct("Reader")
-            .field("slots", &self.table.slots())
-            .finish_non_exhaustive()
     }
 }

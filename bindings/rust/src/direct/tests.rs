@@ -2,7 +2,7 @@
 use super::{Full, Key, Next, OpenError, Phase, Refusal, Releases, Slots};
 use std::collections::HashMap;
 use std::sync::atomic::{AtomicU32, Ordering::Relaxed};
-use std::sync::Arc;
+use std::sync::{Arc, OnceLock};
 
 /// A life as the model has it.
 #[derive(Clone, Copy, PartialEq, Debug)]
@@ -127,25 +127,17 @@ impl Model {
                 self.all.push(key);
                 self.lives.insert(key, Life::Opening);
             }
-            Err(full) => {
-                assert_eq!(
-                    full,
-                    Full {
-                        slots: slots.slots()
-                    }
-                );
-                assert_eq!(self.lives.len() as u32, slots.slots());
+            Err(Full { slots: count }) => {
+                assert_eq!((count, self.lives.len() as u32), (slots.slots(), count));
             }
         }
     }
 
     // Checks what can be asked.
-    fn agrees(&self, slots: &Slots<Key>) {
-        let keys: Vec<Key> = slots.keys();
-        assert_eq!(
-            (keys.len(), slots.len() as usize),
-            (self.lives.len(), self.lives.len())
-        );
+    fn agrees(&self, slots: &mut Slots<Key>) {
+        let (keys, count) = (slots.keys(), self.lives.len());
+        assert_eq!((keys.len(), slots.len() as usize), (count, count));
+        assert_eq!(slots.is_empty(), count == 0);
         assert!(keys.iter().all(|key| self.lives.contains_key(key)));
         let in_flight = self.lives.values().map(|life| match life {
             Life::Opening | Life::Closing => 1,
@@ -156,6 +148,7 @@ impl Model {
             let life = self.lives.get(key).copied();
             assert_eq!(slots.phase(*key), life.map(phase_of));
             assert_eq!(slots.get(*key), life.map(|_| key));
+            assert_eq!(slots.get_mut(*key).copied(), life.map(|_| *key));
             assert_eq!(slots.key_at(key.slot()) == Some(*key), life.is_some());
         }
     }
@@ -180,7 +173,7 @@ fn random_calls_answer_as_the_model() {
                 model.call(&mut slots, key, what);
             }
             if round % 16 == 0 {
-                model.agrees(&slots);
+                model.agrees(&mut slots);
             }
         }
         assert!(model.all.len() > 300, "{} lives", model.all.len());
@@ -191,10 +184,7 @@ fn random_calls_answer_as_the_model() {
 fn numbers_of_slots_out_of_range() {
     let most = super::MOST_SLOTS;
     for slots in [0, most + 1, u32::MAX] {
-        assert_eq!(
-            Slots::<()>::new(slots).unwrap_err(),
-            OpenError::Slots(slots)
-        );
+        assert_eq!(Slots::<()>::new(slots).err(), Some(OpenError::Slots(slots)));
     }
     let mut slots = Slots::<()>::new(most).unwrap();
     let keys: Vec<Key> = (0..most).map(|_| slots.reserve().unwrap()).collect();
@@ -217,29 +207,61 @@ fn a_value_that_panics_leaves_a_free_slot() {
 }
 
 #[test]
+fn each_refusal_has_a_number_and_words() {
+    let key = Key::from_bits(5 << 24 | 3 << 4).0;
+    let refusals = [
+        (Refusal::Stale { key }, -10, "the life of the key is over"),
+        (Refusal::IsOpening { key }, -11, "the open is not completed"),
+        (Refusal::IsLive { key }, -12, "the file is open"),
+        (Refusal::IsEnding { key }, -13, "the life was ended"),
+        (Refusal::IsClosing { key }, -14, "the close is not completed"),
+        (Refusal::TooManyRequests { key }, -15, "too many requests are in flight"),
+        (Refusal::TooManyUsers { key }, -16, "there are too many users"),
+    ];
+    for (it, number, words) in refusals {
+        assert_eq!((it.key(), it.number()), (key, number));
+        assert_eq!((Refusal::of(number, key), it.to_string()), (it, format!("3#5: {words}")));
+    }
+    let full = |slots| Full { slots }.to_string();
+    assert_eq!((Full { slots: 1 }.number(), full(1)), (-6, "the only slot has a life".into()));
+    assert_eq!(full(2), "all 2 slots have lives");
+    assert_eq!((key.slot(), key.number(), key.to_bits(15)), (3, 5, 5 << 24 | 3 << 4 | 15));
+    assert!(std::panic::catch_unwind(|| key.to_bits(16)).is_err());
+}
+
+#[test]
 fn users_in_other_threads_come_back() {
     let woken = Arc::new(AtomicU32::new(0));
-    let counter = woken.clone();
+    let collected = Arc::new((OnceLock::<Releases>::new(), AtomicU32::new(0)));
+    let (counter, inner) = (woken.clone(), Arc::downgrade(&collected));
+    // what wakes the ring's thread may look at the queue
     let releases = Releases::new(move || {
         counter.fetch_add(1, Relaxed);
+        let inner = inner.upgrade().unwrap();
+        let keys = inner.0.get().map_or(0, |it| it.collect().len());
+        inner.1.fetch_add(keys as u32, Relaxed);
     });
     let mut slots = Slots::<()>::new(2).unwrap();
     let key = slots.reserve().unwrap();
     slots.opened(key, 0).unwrap();
-    let users: Vec<_> = (0..40)
-        .map(|_| slots.hold_by(key, &releases).unwrap())
-        .collect();
-    assert_eq!(slots.end(key), Ok(Next::Nothing));
+    let mut users: Vec<_> = (0..40).map(|_| slots.hold_by(key, &releases).unwrap()).collect();
+    assert_eq!((slots.end(key), users[0].key()), (Ok(Next::Nothing), key));
+    let no = Refusal::IsEnding { key };
+    assert_eq!(slots.hold_by(key, &releases).map(|it| it.key()), Err(no));
+    assert!(releases.collect().is_empty(), "a user that is refused");
+    let last = users.pop();
     std::thread::scope(|scope| {
         for user in users {
             scope.spawn(move || drop(user));
         }
     });
     let keys = releases.collect();
-    assert_eq!((keys.len(), woken.load(Relaxed)), (40, 1));
-    let closes = keys
-        .into_iter()
-        .filter(|key| slots.release(*key) != Ok(Next::Nothing));
-    assert_eq!(closes.count(), 1);
-    assert!(releases.collect().is_empty() && slots.phase(key) == Some(Phase::Closing));
+    assert_eq!((keys.len(), woken.load(Relaxed)), (39, 1));
+    assert!(keys.into_iter().all(|it| slots.release(it) == Ok(Next::Nothing)));
+    assert!(releases.collect().is_empty() && slots.phase(key).is_some());
+    collected.0.set(releases).ok().unwrap();
+    drop(last);
+    assert_eq!((woken.load(Relaxed), collected.1.load(Relaxed)), (2, 1));
+    assert_eq!(slots.release(key), Ok(Next::Close(key.slot())));
+    assert_eq!(slots.phase(key), Some(Phase::Closing));
 }
