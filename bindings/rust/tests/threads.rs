@@ -1,8 +1,11 @@
 //! Threads over one table: each value is read only while it is alive, and dropped once by the end.
-//! `YACHTBANYAN_ROUNDS` sets the rounds of a thread.
+//! Of those that remove or replace one key, one does. `YACHTBANYAN_ROUNDS` sets the rounds of a
+//! thread.
 mod support;
 
-use std::sync::atomic::{AtomicBool, AtomicUsize, Ordering::Relaxed, Ordering::SeqCst};
+use std::collections::HashSet;
+use std::sync::atomic::{AtomicBool, AtomicU64, AtomicUsize, Ordering::Relaxed, Ordering::SeqCst};
+use std::sync::Mutex;
 use support::{begin, join, together, Job};
 use yachtbanyan::{GetError, Guard, Handle, Key, NoSeat, Old, Options, Reason, Table};
 
@@ -158,12 +161,8 @@ fn serve_by_table(table: &Table<Value>, mut seed: u64, rounds: u64) {
 
 /// Drops owned guards on other threads, while this one takes the same seat again.
 fn hand_over(rounds: u64) {
-    let table = Options::new(1)
-        .handles(1)
-        .readers(0)
-        .guards(1)
-        .open()
-        .unwrap();
+    let options = Options::new(1).handles(1).readers(0).guards(1);
+    let table = options.open().unwrap();
     table.insert(Value::new(0)).unwrap();
     for round in 0..rounds {
         let given = table.get_owned_at(0).unwrap();
@@ -190,6 +189,60 @@ fn share_seats(rounds: u64) {
     };
     together((0..4).map(job).collect());
     assert!((table.handle().is_ok(), table.handle().is_ok()) == (true, true));
+}
+
+/// Inserts, replaces and removes by keys that all threads know. Returns how many keys it got, and
+/// those that it ended.
+fn end_keys(
+    table: &Table<u64>,
+    known: &[AtomicU64],
+    mut seed: u64,
+    rounds: u64,
+) -> (usize, Vec<Key>) {
+    let handle = table.handle().unwrap();
+    let (mut issued, mut ended) = (0, Vec::new());
+    for value in 0..rounds {
+        let place = &known[next(&mut seed) as usize % known.len()];
+        let key = Key::from_bits(place.load(SeqCst));
+        let (new, ends) = match next(&mut seed) % 3 {
+            0 => (handle.try_insert(value).ok(), false),
+            1 => (None, handle.remove(key).is_ok()),
+            _ => match handle.replace(key, value) {
+                Ok((new, _)) => (Some(new), true),
+                Err(_) => (None, false),
+            },
+        };
+        ended.extend(ends.then_some(key));
+        if let Some(bits) = new.and_then(Key::to_bits) {
+            issued += 1;
+            place.store(bits, SeqCst);
+        }
+    }
+    (issued, ended)
+}
+
+/// Has four threads end each other's keys.
+fn end_each_key_once(slots: u32, rounds: u64) {
+    let table = Options::new(slots).handles(4).open::<u64>().unwrap();
+    let (known, found): ([AtomicU64; 8], _) = (Default::default(), Mutex::new(Vec::new()));
+    let job = |seed| -> Job<'_> {
+        let (table, known, found) = (&table, &known, &found);
+        Box::new(move || {
+            let mine = end_keys(table, known, seed, rounds);
+            found.lock().unwrap().push(mine);
+        })
+    };
+    together((1..5).map(job).collect());
+    let found = found.into_inner().unwrap();
+    let issued: usize = found.iter().map(|it| it.0).sum();
+    let ended: Vec<Key> = found.into_iter().flat_map(|it| it.1).collect();
+    let different: HashSet<Key> = ended.iter().copied().collect();
+    assert_eq!(different.len(), ended.len(), "a key was ended twice");
+    let handle = table.handle().unwrap();
+    assert_eq!(issued, ended.len() + handle.len() as usize);
+    let mut left = handle.iter().map(|it| it.unwrap().key());
+    assert!(left.all(|it| !different.contains(&it)));
+    assert!(issued as u64 > rounds / 40, "{slots} slots, {issued} keys");
 }
 
 fn run(table: &Table<Value>, threads: u64, rounds: u64) {
@@ -224,6 +277,9 @@ fn main() {
     }
     hand_over(rounds / 16);
     share_seats(rounds / 4);
+    for slots in [1, 2, 4, 16] {
+        end_each_key_once(slots, rounds);
+    }
     assert_eq!(MADE.load(SeqCst), DROPPED.load(SeqCst));
     assert_eq!(WRONG.load(SeqCst), 0);
 }

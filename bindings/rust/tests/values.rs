@@ -2,9 +2,8 @@
 use std::sync::atomic::{AtomicUsize, Ordering::SeqCst};
 use std::sync::Arc;
 use std::thread::ThreadId;
-use yachtbanyan::{
-    GetError, Guard, Handle, NoSeat, Old, OpenError, Options, OwnedGuard, Reason, Table, MOST_SLOTS,
-};
+use yachtbanyan::{GetError, Guard, Handle, Key, NoSeat, Old, OpenError, Options, OwnedGuard};
+use yachtbanyan::{Reason, Refused, Table, MOST_SLOTS};
 
 /// Counts how often it was dropped, and notes where.
 #[derive(Debug)]
@@ -40,6 +39,17 @@ impl Notes {
     }
 }
 
+/// Opens a table of these numbers of slots, handles, readers and guards.
+fn opened<T>([slots, handles, readers, guards]: [u32; 4]) -> Table<T> {
+    let options = Options::new(slots).handles(handles).readers(readers);
+    options.guards(guards).open().unwrap()
+}
+
+/// Returns what became of a value that was replaced.
+fn old<T>(replaced: Result<(Key, Old<T>), Refused<T>>) -> Old<T> {
+    replaced.unwrap().1
+}
+
 #[test]
 fn a_handle_uses_the_storage_of_a_removed_value_again() {
     let notes = Notes::default();
@@ -71,10 +81,7 @@ fn a_replaced_value_is_dropped_by_its_last_guard() {
     let (a, b) = (table.handle().unwrap(), table.handle().unwrap());
     assert!(a.replace_at(3, notes.value(7)).unwrap().1.is_none());
     let (first, second) = (a.get_at(3).unwrap(), b.get_at(3).unwrap());
-    assert!(matches!(
-        b.replace_at(3, notes.value(8)).map(|(_, old)| old),
-        Ok(Old::InUse)
-    ));
+    assert!(matches!(old(b.replace_at(3, notes.value(8))), Old::InUse));
     assert_eq!((first.number, second.number, notes.drops()), (7, 7, 0));
     drop(first);
     assert_eq!((second.number, notes.drops()), (7, 0));
@@ -129,21 +136,15 @@ fn one_handle_has_several_guards() {
     let table = Options::new(8).handles(1).guards(2).open().unwrap();
     let handle = table.handle().unwrap();
     for slot in 0..8 {
-        assert_eq!(
-            handle.replace_at(slot, slot * 10).map(|(_, old)| old),
-            Ok(Old::None)
-        );
+        assert!(old(handle.replace_at(slot, slot * 10)).is_none());
     }
     let guards: Vec<Guard<'_, u32>> = (2..5).map(|slot| handle.get_at(slot).unwrap()).collect();
-    assert_eq!(
-        guards.iter().map(|it| **it).collect::<Vec<_>>(),
-        [20, 30, 40]
-    );
+    assert!(guards.iter().map(|it| **it).eq([20, 30, 40]));
     let none = GetError::NoSeat(NoSeat::Guard { in_use: 2 });
     assert_eq!(handle.get_at(5).unwrap_err(), none);
     assert_eq!(table.get_owned_at(5).unwrap_err(), none);
     // a handle installs and removes while it has guards
-    assert_eq!(handle.replace_at(2, 21).map(|(_, old)| old), Ok(Old::InUse));
+    assert_eq!(old(handle.replace_at(2, 21)), Old::InUse);
     assert_eq!(handle.remove_at(7), Ok(Old::Unused(70)));
     drop(guards);
     assert_eq!(*handle.get_at(2).unwrap(), 21);
@@ -181,36 +182,24 @@ fn a_table_that_is_too_large_or_too_small_is_refused() {
         assert_eq!(refused(Options::new(slots)), OpenError::Slots(slots));
     }
     for handles in [0, 65, u32::MAX] {
-        assert_eq!(
-            refused(Options::new(1).handles(handles)),
-            OpenError::Handles(handles)
-        );
+        let options = Options::new(1).handles(handles);
+        assert_eq!(refused(options), OpenError::Handles(handles));
     }
     let most = Options::new(MOST_SLOTS).handles(64).readers(400);
     assert_eq!(refused(most.guards(497)), OpenError::Seats(1_025));
-    assert_eq!(
-        refused(most.guards(u32::MAX)),
-        OpenError::Seats((1 << 32) + 527)
-    );
+    let seats = OpenError::Seats((1 << 32) + 527);
+    assert_eq!(refused(most.guards(u32::MAX)), seats);
     let largest = most.guards(496).open::<u8>().unwrap();
     let (handle, reader) = (largest.handle().unwrap(), largest.reader().unwrap());
-    assert_eq!(handle.replace_at(0, 1).map(|(_, old)| old), Ok(Old::None));
+    assert!(old(handle.replace_at(0, 1)).is_none());
     let handles: Vec<Handle<u8>> = (1..64).map(|_| largest.handle().unwrap()).collect();
-    let error = largest.handle().unwrap_err().to_string();
-    assert_eq!(
-        error,
-        "64 handles are in use; Options::handles sets at most 64"
-    );
+    let words = "64 handles are in use; Options::handles sets at most 64";
+    assert_eq!(largest.handle().unwrap_err().to_string(), words);
     drop(handles);
     let guards: Vec<OwnedGuard<u8>> = (0..496).map(|_| largest.get_owned_at(0).unwrap()).collect();
-    assert_eq!(
-        (*handle.get_at(0).unwrap(), *reader.get_at(0).unwrap()),
-        (1, 1)
-    );
-    assert_eq!(
-        largest.get_owned_at(0).unwrap_err(),
-        GetError::NoSeat(NoSeat::Guard { in_use: 496 })
-    );
+    assert!(*handle.get_at(0).unwrap() + *reader.get_at(0).unwrap() == 2);
+    let none = GetError::NoSeat(NoSeat::Guard { in_use: 496 });
+    assert_eq!(largest.get_owned_at(0).unwrap_err(), none);
     drop(guards);
 }
 
@@ -222,10 +211,7 @@ fn a_forgotten_guard_keeps_its_value_until_its_handle_is_dropped() {
     handle.replace_at(0, notes.value(1)).unwrap();
     // by the handle's own seat, and by one of the table
     std::mem::forget((handle.get_at(0).unwrap(), handle.get_at(0).unwrap()));
-    assert!(matches!(
-        handle.replace_at(0, notes.value(2)).map(|(_, old)| old),
-        Ok(Old::InUse)
-    ));
+    assert!(matches!(old(handle.replace_at(0, notes.value(2))), Old::InUse));
     let guard = handle.get_at(0).unwrap();
     assert_eq!((guard.number, notes.drops()), (2, 0));
     let none = GetError::NoSeat(NoSeat::Guard { in_use: 2 });
@@ -245,12 +231,7 @@ fn a_forgotten_guard_keeps_its_value_until_its_handle_is_dropped() {
 #[test]
 fn guards_are_dropped_in_any_order() {
     let notes = Notes::default();
-    let table = Options::new(1)
-        .handles(1)
-        .readers(0)
-        .guards(3)
-        .open()
-        .unwrap();
+    let table = opened([1, 1, 0, 3]);
     assert_eq!(table.reader().unwrap_err(), NoSeat::Reader { in_use: 0 });
     let places = || 0..4usize;
     let all = places().flat_map(|a| places().flat_map(move |b| places().map(move |c| [a, b, c])));
@@ -263,8 +244,7 @@ fn guards_are_dropped_in_any_order() {
         order.into_iter().for_each(|at| drop(guards[at].take()));
         guards.into_iter().for_each(std::mem::forget);
         // others get the seats that are free, and keep them when the handle's are returned
-        let own: Vec<OwnedGuard<Noted>> =
-            std::iter::from_fn(|| table.get_owned_at(0).ok()).collect();
+        let own: Vec<_> = std::iter::from_fn(|| table.get_owned_at(0).ok()).collect();
         assert_eq!(own.len(), if order.contains(&0) { 2 } else { 3 });
         drop(handle);
         assert!(matches!(table.remove_at(0), Ok(Old::InUse)));
@@ -287,12 +267,7 @@ impl Drop for Fragile {
 
 #[test]
 fn a_drop_that_panics_leaves_each_seat_usable() {
-    let table = Options::new(1)
-        .handles(1)
-        .readers(1)
-        .guards(1)
-        .open()
-        .unwrap();
+    let table = opened([1, 1, 1, 1]);
     let (handle, reader) = (table.handle().unwrap(), table.reader().unwrap());
     let panics = |drop: &mut dyn FnMut()| {
         let caught = std::panic::catch_unwind(std::panic::AssertUnwindSafe(drop));
@@ -304,10 +279,7 @@ fn a_drop_that_panics_leaves_each_seat_usable() {
         let mut guard = (round == 0).then(|| handle.get_at(0).unwrap());
         let mut own = (round == 1).then(|| table.get_owned_at(0).unwrap());
         let mut other = (round == 2).then(|| reader.get_at(0).unwrap());
-        assert!(matches!(
-            handle.replace_at(0, Fragile(false)).map(|(_, old)| old),
-            Ok(Old::InUse)
-        ));
+        assert!(matches!(old(handle.replace_at(0, Fragile(false))), Old::InUse));
         panics(&mut || drop((guard.take(), own.take(), other.take())));
         // all seats at once
         let (guard, own) = (handle.get_at(0).unwrap(), table.get_owned_at(0).unwrap());
@@ -427,10 +399,7 @@ fn values_without_bytes_are_counted() {
     let handle = table.handle().unwrap();
     handle.replace_at(0, Empty).unwrap();
     let guard = handle.get_at(0).unwrap();
-    assert!(matches!(
-        handle.replace_at(0, Empty).map(|(_, old)| old),
-        Ok(Old::InUse)
-    ));
+    assert!(matches!(old(handle.replace_at(0, Empty)), Old::InUse));
     drop(guard);
     assert_eq!(DROPS.load(SeqCst), 1);
     drop((handle, table));
@@ -443,15 +412,12 @@ fn debug_and_display_show_the_value_of_a_guard() {
     let (handle, reader) = (table.handle().unwrap(), table.reader().unwrap());
     handle.replace_at(1, "five").unwrap();
     let (guard, own) = (handle.get_at(1).unwrap(), table.get_owned_at(1).unwrap());
-    assert_eq!(
-        format!("{guard:?} {own:?} {guard} {own}"),
-        "\"five\" \"five\" five five"
-    );
+    let shown = format!("{guard:?} {own:?} {guard} {own}");
+    assert_eq!(shown, "\"five\" \"five\" five five");
     assert_eq!((guard.slot(), own.slot()), (1, 1));
-    assert_eq!(
-        format!("{table:?} {handle:?} {reader:?} {:?}", handle.iter()),
-        "Table { slots: 2, .. } Handle { slots: 2, .. } Reader { slots: 2, .. } Iter { slot: 0, .. }"
-    );
+    let shown = format!("{table:?} {handle:?} {reader:?} {:?}", handle.iter());
+    let [a, b, c] = ["Table", "Handle", "Reader"].map(|it| format!("{it} {{ slots: 2, .. }}"));
+    assert_eq!(shown, format!("{a} {b} {c} Iter {{ slot: 0, .. }}"));
 }
 
 #[test]

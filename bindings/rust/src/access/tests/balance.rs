@@ -80,13 +80,11 @@ impl Scene {
     fn open() -> Scene {
         let options = Options::new(2).handles(HANDLES).readers(READERS);
         let table = options.guards(GUARDS).open().unwrap();
-        let (handle, reader) = (table.handle().unwrap(), table.reader().unwrap());
-        let alive = Arc::new(AtomicUsize::new(0));
         Scene {
+            handle: table.handle().unwrap(),
+            reader: table.reader().unwrap(),
             table,
-            handle,
-            reader,
-            alive,
+            alive: Arc::default(),
         }
     }
 
@@ -167,15 +165,10 @@ fn check(case: Case) -> bool {
 
 impl Case {
     fn what(&self) -> String {
-        let Case {
-            name,
-            before,
-            beside,
-            nth,
-            ..
-        } = self;
         let other = self.other.map(|((other, ..), after)| (other, after));
-        format!("{name} by key {nth}, {before:?}, beside {beside:?}, within {other:?}")
+        let (before, beside) = (self.before, self.beside);
+        let what = format!("{} by key {}", self.name, self.nth);
+        format!("{what}, {before:?}, beside {beside:?}, within {other:?}")
     }
 }
 
@@ -183,11 +176,8 @@ impl Case {
 fn check_answer(scene: &Scene, case: Case, (answer, key): Answer) {
     let moments = moments(&case);
     let may_be: Vec<_> = moments.map(|it| answers(&case, it)).concat();
-    let what = case.what();
-    assert!(
-        may_be.contains(&answer),
-        "the answer of {what}: {answer}, and not {may_be:?}"
-    );
+    let (what, is_right) = (case.what(), may_be.contains(&answer));
+    assert!(is_right, "the answer of {what}: {answer}, not {may_be:?}");
     let is_there = key.is_none_or(|key| scene.table.get_owned(key).is_ok());
     assert!(is_there || case.other.is_some(), "the key of {what}");
 }
@@ -207,28 +197,17 @@ fn check_scene(scene: Scene, case: Case) {
         }
     };
     let none = GetError::NoSeat(NoSeat::Guard { in_use: GUARDS });
-    assert_eq!(
-        (owned.len() as u32, error),
-        (GUARDS, none),
-        "seats of guards after {what}"
-    );
-    let Scene {
-        table,
-        handle,
-        reader,
-        ..
-    } = scene;
+    let found = (owned.len() as u32, error);
+    assert_eq!(found, (GUARDS, none), "seats of guards after {what}");
+    let (table, handle, reader) = (scene.table, scene.handle, scene.reader);
     assert!(handle.get_at(0).is_ok(), "the handle's seat after {what}");
     assert!(reader.get_at(0).is_ok(), "the reader's seat after {what}");
     drop((handle, reader));
     let handles: Vec<_> = std::iter::from_fn(|| table.handle().ok()).collect();
     let readers: Vec<_> = std::iter::from_fn(|| table.reader().ok()).collect();
     let counts = (handles.len() as u32, readers.len() as u32);
-    assert_eq!(
-        counts,
-        (HANDLES, READERS),
-        "handles and readers after {what}"
-    );
+    let wanted = (HANDLES, READERS);
+    assert_eq!(counts, wanted, "handles and readers after {what}");
 }
 
 /// Returns each call, before each value at the slot.
@@ -249,20 +228,11 @@ fn cases() -> impl Iterator<Item = Case> {
 
 #[test]
 fn each_call_leaves_every_seat_and_value() {
-    let all = [
-        Beside::Nothing,
-        Beside::Own,
-        Beside::Guards,
-        Beside::Handles,
-    ];
+    use Beside::{Guards, Handles, Nothing, Own};
     for case in cases() {
-        for beside in all {
+        for beside in [Nothing, Own, Guards, Handles] {
             for nth in 0..4 {
-                assert!(check(Case {
-                    beside,
-                    nth,
-                    ..case
-                }));
+                assert!(check(Case { beside, nth, ..case }));
             }
         }
     }
@@ -298,15 +268,10 @@ fn check_each_step(cold_takes: u64) -> BTreeSet<&'static str> {
 #[test]
 fn each_call_that_another_one_meets_leaves_every_seat_and_value() {
     let again = check_each_step(16);
-    let insertions = ["Handle::insert", "Handle::insert_with", "Table::insert"];
-    let by_key = [
-        "Handle::remove",
-        "Handle::replace",
-        "Table::remove",
-        "Table::replace",
-    ];
-    for name in insertions.iter().chain(&by_key) {
-        assert!(again.contains(name), "{name} never tries again");
+    let of_both = ["insert", "remove", "replace"];
+    let names = of_both.iter().flat_map(|it| [format!("Handle::{it}"), format!("Table::{it}")]);
+    for name in names.chain(["Handle::insert_with".into()]) {
+        assert!(again.contains(&name[..]), "{name} never tries again");
     }
 }
 
