@@ -22,9 +22,8 @@ fn by_pkg_config() -> Option<PathBuf> {
 fn targets_in(folder: &Path) -> String {
     let entries = fs::read_dir(folder).into_iter().flatten().flatten();
     let with_library = entries.filter(|it| it.path().join(LIBRARY).exists());
-    let mut names: Vec<_> = with_library
-        .map(|it| it.file_name().to_string_lossy().into_owned())
-        .collect();
+    let mut names: Vec<_> =
+        with_library.map(|it| it.file_name().to_string_lossy().into_owned()).collect();
     names.sort();
     if names.is_empty() {
         return "has none".to_string();
@@ -83,9 +82,7 @@ fn main() {
     let all = Path::new(&env::var("CARGO_MANIFEST_DIR").expect("cargo sets it")).join("lib");
     let own = all.join(&target);
     let given = env::var_os("YACHTBANYAN_LIB_DIR").map(PathBuf::from);
-    let by = given
-        .as_ref()
-        .map_or("pkg-config", |_| "YACHTBANYAN_LIB_DIR");
+    let by = given.as_ref().map_or("pkg-config", |_| "YACHTBANYAN_LIB_DIR");
     let known = given.or_else(|| own.join(LIBRARY).exists().then_some(own));
     let Some(folder) = known.or_else(|| is_host.then(by_pkg_config).flatten()) else {
         panic!(

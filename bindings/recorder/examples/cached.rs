@@ -47,10 +47,7 @@ impl Table for Cached {
 
     fn handle(&self) -> CachedHandle<'_> {
         let copies = RefCell::new(vec![(0, None); self.slots.len()]);
-        CachedHandle {
-            table: self,
-            copies,
-        }
+        CachedHandle { table: self, copies }
     }
 }
 
@@ -85,9 +82,7 @@ impl Handle for CachedHandle<'_> {
     }
 
     fn take(&self, slot: usize) -> bool {
-        self.table.slots[slot]
-            .swap(None, self.table.is_right)
-            .is_some()
+        self.table.slots[slot].swap(None, self.table.is_right).is_some()
     }
 
     fn rest(&self) {
@@ -105,10 +100,7 @@ fn arguments(words: &[String]) -> Result<(u64, bool), String> {
     };
     match seed.parse::<u32>() {
         Ok(seed) => Ok((seed.into(), is_right)),
-        Err(_) => Err(format!(
-            "SEED is a number from 0 to {}, not '{seed}'",
-            u32::MAX
-        )),
+        Err(_) => Err(format!("SEED is a number from 0 to {}, not '{seed}'", u32::MAX)),
     }
 }
 

@@ -78,21 +78,10 @@ impl CTable {
         let mut raw = null_mut();
         // SAFETY: `raw` is written, and nothing is kept of it
         let answer = unsafe {
-            yacht_open(
-                &mut raw,
-                slots as u32,
-                handles as u32,
-                0,
-                drop_value,
-                null_mut(),
-            )
+            yacht_open(&mut raw, slots as u32, handles as u32, 0, drop_value, null_mut())
         };
         assert_eq!(answer, DONE, "a table");
-        CTable {
-            raw,
-            most_handles: handles as u32,
-            handles: AtomicU32::new(0),
-        }
+        CTable { raw, most_handles: handles as u32, handles: AtomicU32::new(0) }
     }
 }
 

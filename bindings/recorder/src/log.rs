@@ -85,9 +85,7 @@ impl Notes {
     fn taken(&self) -> Vec<Event> {
         let end = self.clock.fetch_add(1, SeqCst);
         let lists = self.lists.iter();
-        let mut lines: Lines = lists
-            .flat_map(|it| std::mem::take(&mut *locked(it)))
-            .collect();
+        let mut lines: Lines = lists.flat_map(|it| std::mem::take(&mut *locked(it))).collect();
         lines.retain(|(at, _)| *at < end);
         lines.sort_by_key(|(at, _)| *at);
         lines.into_iter().map(|(_, event)| event).collect()
@@ -104,11 +102,7 @@ pub struct Value {
 
 impl Value {
     pub(crate) fn new(call: usize, notes: &Arc<Notes>) -> Value {
-        Value {
-            call,
-            is_open: AtomicBool::new(true),
-            notes: notes.clone(),
-        }
+        Value { call, is_open: AtomicBool::new(true), notes: notes.clone() }
     }
 
     /// Notes that the value is dropped now. Only the first time counts. A table needs this only if
@@ -158,12 +152,7 @@ impl Log {
             keys
         });
         let slots = keys.as_ref().map_or(slots, |keys| keys.len().max(1));
-        Log {
-            events,
-            slots,
-            keys,
-            cut,
-        }
+        Log { events, slots, keys, cut }
     }
 
     /// Returns why the log ends before its plan, or `None` if it has the whole plan.

@@ -45,20 +45,11 @@ fn plan_of(words: &[String]) -> Result<(&str, Plan), String> {
     let is_keyed = table.ends_with("keys");
     if is_keyed && all > MOST.1 {
         let most = MOST.1;
-        return Err(format!(
-            "by keys at most {most} calls are recorded, not {all}"
-        ));
+        return Err(format!("by keys at most {most} calls are recorded, not {all}"));
     }
     let least = if is_keyed { all } else { 1 };
     let slots = number(5, "SLOTS", least.max(3), least, MOST.1)?;
-    let plan = Plan {
-        seed,
-        threads,
-        rounds,
-        calls,
-        slots,
-        silence: Duration::from_secs(20),
-    };
+    let plan = Plan { seed, threads, rounds, calls, slots, silence: Duration::from_secs(20) };
     Ok((table, plan))
 }
 

@@ -181,12 +181,7 @@ pub fn record<T: Table>(table: T, plan: Plan) -> Log {
     }
     let tickets = || shared.notes.tickets();
     let cut = shared.meeting.wait_for_end(plan.silence, tickets);
-    let log = Log::new(
-        &shared.notes,
-        plan.slots,
-        <T::Handle<'_> as Handle>::CHOOSES,
-        cut,
-    );
+    let log = Log::new(&shared.notes, plan.slots, <T::Handle<'_> as Handle>::CHOOSES, cut);
     if cut.is_some() {
         std::mem::forget(table);
     }

@@ -114,10 +114,7 @@ impl Table for Slots {
 
     fn handle(&self) -> SlotsHandle<'_> {
         let copies = RefCell::new(vec![(0, None); self.slots.len()]);
-        SlotsHandle {
-            table: self,
-            copies,
-        }
+        SlotsHandle { table: self, copies }
     }
 }
 
@@ -132,11 +129,7 @@ impl Handle for SlotsHandle<'_> {
         if let Fault::Rare(Wrong::Stale, _) = self.table.fault {
             let now = current();
             let old = std::mem::replace(&mut self.copies.borrow_mut()[slot].1, now.clone());
-            return if self.table.is_wrong(Wrong::Stale) {
-                old
-            } else {
-                now
-            };
+            return if self.table.is_wrong(Wrong::Stale) { old } else { now };
         }
         if self.table.fault != Fault::Stale {
             return current();

@@ -8,14 +8,8 @@ use std::sync::mpsc::{channel, Sender};
 use std::sync::{Arc, Mutex};
 use std::time::Duration;
 
-const PLAN: Plan = Plan {
-    seed: 1,
-    threads: 3,
-    rounds: 4,
-    calls: 50,
-    slots: 3,
-    silence: Duration::from_secs(600),
-};
+const PLAN: Plan =
+    Plan { seed: 1, threads: 3, rounds: 4, calls: 50, slots: 3, silence: Duration::from_secs(600) };
 /// The call that is wrong.
 const WRONG: usize = 40;
 
@@ -108,10 +102,7 @@ fn ends_at_the_wrong_call(log: &Log, cut: Cut) {
     let closed = text.lines().filter_map(|it| it.strip_prefix("closed "));
     for call in closed.map(|it| it.split('.').next().unwrap()) {
         let answer = format!("\ndone {call}.1 ");
-        assert!(
-            text.contains(&answer),
-            "{call} has no answer, and its value is closed"
-        );
+        assert!(text.contains(&answer), "{call} has no answer, and its value is closed");
     }
 }
 
@@ -233,23 +224,12 @@ impl Handle for &Reclaimed {
 fn drops_by_a_thread_of_the_table_are_lines() {
     let slots = 1;
     for seed in 1..=20 {
-        let text = record(
-            Reclaimed::new(),
-            Plan {
-                seed,
-                slots,
-                ..PLAN
-            },
-        )
-        .to_string();
+        let text = record(Reclaimed::new(), Plan { seed, slots, ..PLAN }).to_string();
         let full = text.matches(" -23\n").count();
         let installed = text.matches(" open v ").count() - full;
         let closed = text.matches("closed ").count();
         // one value may be left in the slot
-        assert!(
-            installed - closed <= 1,
-            "seed {seed}: {installed} installed, {closed} closed"
-        );
+        assert!(installed - closed <= 1, "seed {seed}: {installed} installed, {closed} closed");
         assert!(closed > 10, "seed {seed}: {closed} closed");
         let last = text.lines().last();
         assert_eq!(last, Some("settled"), "seed {seed}");

@@ -55,11 +55,7 @@ fn next_line(client: &mut BufReader<TcpStream>) -> String {
 }
 
 fn main() -> Result<(), Box<dyn std::error::Error>> {
-    let table = Options::new(SLOTS)
-        .handles(2)
-        .readers(0)
-        .guards(16)
-        .open::<Connection>()?;
+    let table = Options::new(SLOTS).handles(2).readers(0).guards(16).open::<Connection>()?;
     let listener = TcpListener::bind("127.0.0.1:0")?;
     let address = listener.local_addr()?;
     let (mut clients, mut keys) = (Vec::new(), Vec::new());
@@ -74,10 +70,7 @@ fn main() -> Result<(), Box<dyn std::error::Error>> {
     // each thread sends to each connection
     std::thread::scope(|scope| {
         for _ in 0..4 {
-            scope.spawn(|| {
-                keys.iter()
-                    .for_each(|key| send(&table, *key, "hello").unwrap())
-            });
+            scope.spawn(|| keys.iter().for_each(|key| send(&table, *key, "hello").unwrap()));
         }
     });
     let lines: Vec<String> = (0..4).map(|_| next_line(&mut clients[0])).collect();

@@ -63,10 +63,7 @@ fn visit(address: SocketAddr, files: &Handle<Text>, folder: &Path) -> Result<()>
     let reader = files.get_at(0).map_err(Error::other)?;
     println!("in use: {}", matches!(reload(files, 0)?, Old::InUse));
     println!("0: {}", fetch(address, "0\n")?);
-    println!(
-        "a reader still has: {}",
-        String::from_utf8_lossy(&reader.bytes)
-    );
+    println!("a reader still has: {}", String::from_utf8_lossy(&reader.bytes));
     println!("2: {}", fetch(address, "2\n")?);
     Ok(())
 }
@@ -84,9 +81,8 @@ fn main() -> std::result::Result<(), Box<dyn std::error::Error>> {
     }
     let listener = TcpListener::bind("127.0.0.1:0")?;
     let address = listener.local_addr()?;
-    let readers = (0..THREADS)
-        .map(|_| table.reader())
-        .collect::<std::result::Result<Vec<_>, _>>()?;
+    let readers =
+        (0..THREADS).map(|_| table.reader()).collect::<std::result::Result<Vec<_>, _>>()?;
     std::thread::scope(|scope| {
         for reader in readers {
             let listener = &listener;

@@ -20,16 +20,8 @@ struct Load {
 }
 
 const LOADS: [Load; 2] = [
-    Load {
-        slots: 4_096,
-        connections: 100_000,
-        open: 4_096,
-    },
-    Load {
-        slots: 131_072,
-        connections: 400_000,
-        open: 100_000,
-    },
+    Load { slots: 4_096, connections: 100_000, open: 4_096 },
+    Load { slots: 131_072, connections: 400_000, open: 100_000 },
 ];
 
 static CLOSED: AtomicU32 = AtomicU32::new(0);
@@ -61,10 +53,7 @@ struct Server<'a> {
 
 impl Server<'_> {
     fn a_request(&mut self) -> usize {
-        self.random = self
-            .random
-            .wrapping_mul(1_664_525)
-            .wrapping_add(1_013_904_223);
+        self.random = self.random.wrapping_mul(1_664_525).wrapping_add(1_013_904_223);
         (self.random >> 16) as usize % self.requests.len()
     }
 

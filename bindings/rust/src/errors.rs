@@ -187,9 +187,7 @@ impl<T> Refused<T> {
 
 impl<T> fmt::Debug for Refused<T> {
     fn fmt(&self, f: &mut fmt::Formatter<'_>) -> fmt::Result {
-        f.debug_struct("Refused")
-            .field("reason", &self.reason)
-            .finish_non_exhaustive()
+        f.debug_struct("Refused").field("reason", &self.reason).finish_non_exhaustive()
     }
 }
 
@@ -244,10 +242,7 @@ impl fmt::Display for NoSeat {
             NoSeat::Guard { in_use } => (in_use, "guard", MOST_WORKERS - 2),
         };
         let are = if in_use == 1 { " is" } else { "s are" };
-        write!(
-            f,
-            "{in_use} {kind}{are} in use; Options::{kind}s sets at most {most}"
-        )
+        write!(f, "{in_use} {kind}{are} in use; Options::{kind}s sets at most {most}")
     }
 }
 
@@ -255,10 +250,7 @@ impl fmt::Display for NoSlot {
     fn fmt(&self, f: &mut fmt::Formatter<'_>) -> fmt::Result {
         let NoSlot { slot, slots } = self;
         let last = slots - 1;
-        write!(
-            f,
-            "slot {slot} is out of range: the table has slots 0 to {last}"
-        )
+        write!(f, "slot {slot} is out of range: the table has slots 0 to {last}")
     }
 }
 

@@ -39,9 +39,7 @@ impl<'r, T> Iterator for Iter<'r, T> {
 
 impl<T> fmt::Debug for Iter<'_, T> {
     fn fmt(&self, f: &mut fmt::Formatter<'_>) -> fmt::Result {
-        f.debug_struct("Iter")
-            .field("slot", &self.slot)
-            .finish_non_exhaustive()
+        f.debug_struct("Iter").field("slot", &self.slot).finish_non_exhaustive()
     }
 }
 

@@ -97,11 +97,7 @@ impl Key {
     /// # Ok::<(), Box<dyn std::error::Error>>(())
     /// ```
     pub fn from_bits(bits: u64) -> Key {
-        let width = if bits % 2 == 1 {
-            WIDE_SLOT
-        } else {
-            NARROW_SLOT
-        };
+        let width = if bits % 2 == 1 { WIDE_SLOT } else { NARROW_SLOT };
         let slot = (bits >> 1) as u32 & ((1 << width) - 1);
         Key::new(slot, NonZeroU64::new(bits >> (width + 1)))
     }
@@ -152,22 +148,13 @@ mod tests {
     /// one, which is 0 for a slot below 4,096. The next number has no bits.
     #[test]
     fn the_bits_of_a_key_at_the_limits() {
-        let rows = [
-            (4_095, 1 << 51, u64::MAX - 1),
-            (MOST_SLOTS - 1, 1 << 43, u64::MAX),
-        ];
+        let rows = [(4_095, 1 << 51, u64::MAX - 1), (MOST_SLOTS - 1, 1 << 43, u64::MAX)];
         for (slot, past, bits) in rows {
             let last = Key::new(slot, NonZeroU64::new(past - 1));
             assert_eq!((last.to_bits(), Key::from_bits(bits)), (Some(bits), last));
             assert_eq!(Key::new(slot, NonZeroU64::new(past)).to_bits(), None);
         }
-        assert_eq!(
-            Key::new(4_096, NonZeroU64::new(1)).to_bits(),
-            Some(1 << 21 | 4_096 << 1 | 1)
-        );
-        assert_eq!(
-            Key::new(1, NonZeroU64::new(1)).to_bits(),
-            Some(1 << 13 | 1 << 1)
-        );
+        assert_eq!(Key::new(4_096, NonZeroU64::new(1)).to_bits(), Some(1 << 21 | 4_096 << 1 | 1));
+        assert_eq!(Key::new(1, NonZeroU64::new(1)).to_bits(), Some(1 << 13 | 1 << 1));
     }
 }

@@ -29,12 +29,7 @@ impl Options {
     /// Returns the size of a table of `slots` slots, 1 to [`MOST_SLOTS`](crate::MOST_SLOTS), for 16
     /// handles, 16 readers and 128 further guards.
     pub fn new(slots: u32) -> Options {
-        Options {
-            slots,
-            handles: 16,
-            readers: 16,
-            guards: 128,
-        }
+        Options { slots, handles: 16, readers: 16, guards: 128 }
     }
 
     /// Sets the number of handles, 1 to [`MOST_HANDLES`](crate::MOST_HANDLES). Calls of the table

@@ -176,8 +176,7 @@ impl Pair {
             panic!("after {call:?} of worker {at} word {place} is {core:#x}, and {plain:#x}");
         }
         let Found(answer, number, [its, ..]) = found;
-        self.numbers
-            .extend([number, its].iter().filter(|it| **it != 0));
+        self.numbers.extend([number, its].iter().filter(|it| **it != 0));
         *self.answers.entry(answer.min(0)).or_default() += 1;
     }
 }
@@ -223,9 +222,6 @@ fn the_core_and_the_stand_in_agree() {
     println!("answers: {all:?}");
     // each answer but `BAD_ARGUMENT`, `NO_MEMORY` and `AGAIN`, which no call alone gets
     for answer in [0, -1, -2, -3, -4, -5, -6, -10] {
-        assert!(
-            all.get(&answer).is_some_and(|it: &usize| *it > 50),
-            "few answers of {answer}"
-        );
+        assert!(all.get(&answer).is_some_and(|it: &usize| *it > 50), "few answers of {answer}");
     }
 }

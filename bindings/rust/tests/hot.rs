@@ -114,10 +114,7 @@ fn main() {
     );
     // no guard is alive and no call runs: the value at the slot is the only one that is left
     assert_eq!(made - dropped, 1, "a value is lost");
-    assert!(
-        borrowed >= enough && owned >= enough,
-        "few look-ups were overtaken"
-    );
+    assert!(borrowed >= enough && owned >= enough, "few look-ups were overtaken");
     drop(table);
     assert_eq!(DROPPED.load(SeqCst), made);
 }

@@ -91,10 +91,7 @@ fn a_value_whose_slot_is_lost_is_dropped_and_made_again() {
         made[keys.len() - 1].clone()
     });
     assert_eq!((keys.len(), key), (2, Ok(keys[1])));
-    assert_eq!(
-        (Arc::strong_count(&made[0]), Arc::strong_count(&made[1])),
-        (1, 2)
-    );
+    assert_eq!((Arc::strong_count(&made[0]), Arc::strong_count(&made[1])), (1, 2));
     assert_ne!(keys[0].slot(), keys[1].slot());
     // the key that was lost is no value's
     assert!(matches!(handle.get(keys[0]), Err(GetError::Stale { .. })));
@@ -137,9 +134,6 @@ fn a_function_that_makes_a_value_inserts_none_by_the_handle() {
         assert_eq!(inner, Err(Reason::Making));
         9
     });
-    assert_eq!(
-        (handle.len(), calls, *handle.get(key.unwrap()).unwrap()),
-        (1, 1, 9)
-    );
+    assert_eq!((handle.len(), calls, *handle.get(key.unwrap()).unwrap()), (1, 1, 9));
     assert!(handle.insert(7).is_ok());
 }

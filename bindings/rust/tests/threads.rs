@@ -24,11 +24,7 @@ struct Value {
 impl Value {
     fn new(number: u64) -> Value {
         MADE.fetch_add(1, SeqCst);
-        Value {
-            number,
-            again: Box::new(number),
-            is_alive: AtomicBool::new(true),
-        }
+        Value { number, again: Box::new(number), is_alive: AtomicBool::new(true) }
     }
     fn check(&self) {
         if !self.is_alive.load(Relaxed) || self.number != *self.again {
@@ -48,9 +44,7 @@ impl Drop for Value {
 }
 
 fn next(seed: &mut u64) -> u64 {
-    *seed = seed
-        .wrapping_mul(6_364_136_223_846_793_005)
-        .wrapping_add(1_442_695_040_888_963_407);
+    *seed = seed.wrapping_mul(6_364_136_223_846_793_005).wrapping_add(1_442_695_040_888_963_407);
     *seed >> 33
 }
 
@@ -258,10 +252,8 @@ fn run(table: &Table<Value>, threads: u64, rounds: u64) {
 // A program of its own, since ThreadSanitizer reports races of the test harness, which isn't
 // compiled for it.
 fn main() {
-    let rounds = std::env::var("YACHTBANYAN_ROUNDS")
-        .ok()
-        .and_then(|it| it.parse().ok())
-        .unwrap_or(20_000);
+    let rounds =
+        std::env::var("YACHTBANYAN_ROUNDS").ok().and_then(|it| it.parse().ok()).unwrap_or(20_000);
     for (slots, threads) in [(2, 4), (8, 3), (256, 4)] {
         let options = Options::new(slots).handles(threads + 1).guards(threads);
         let table = options.open().unwrap();

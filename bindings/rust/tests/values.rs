@@ -28,11 +28,7 @@ struct Notes {
 
 impl Notes {
     fn value(&self, number: u32) -> Noted {
-        Noted {
-            number,
-            drops: self.drops.clone(),
-            by: self.by.clone(),
-        }
+        Noted { number, drops: self.drops.clone(), by: self.by.clone() }
     }
     fn drops(&self) -> usize {
         self.drops.load(SeqCst)

@@ -29,11 +29,7 @@ unsafe extern "C" {
 
 /// Waits until one of the clients may read, and returns which may.
 fn readable(clients: &[Client]) -> Vec<bool> {
-    let polled = |it: &Client| Polled {
-        fd: it.stream.as_raw_fd(),
-        wanted: READABLE,
-        seen: 0,
-    };
+    let polled = |it: &Client| Polled { fd: it.stream.as_raw_fd(), wanted: READABLE, seen: 0 };
     let mut all: Vec<Polled> = clients.iter().map(polled).collect();
     // SAFETY: it writes the entries of the vector.
     unsafe { poll(all.as_mut_ptr(), all.len() as c_ulong, PATIENCE) };
@@ -72,19 +68,8 @@ impl Client {
         stream.set_nonblocking(true)?;
         seen.connections += 1;
         let number = seen.connections;
-        let leaves_after = if number % 8 == 3 {
-            1 + number % LINES
-        } else {
-            LINES
-        };
-        let mut it = Client {
-            stream,
-            number,
-            sent: 0,
-            answered: 0,
-            leaves_after,
-            input: vec![],
-        };
+        let leaves_after = if number % 8 == 3 { 1 + number % LINES } else { LINES };
+        let mut it = Client { stream, number, sent: 0, answered: 0, leaves_after, input: vec![] };
         // the server may have ended the connection already: the next read sees that
         let _is_ended = it.send_lines().is_err();
         Ok(it)
@@ -207,11 +192,7 @@ pub struct Plan {
 
 /// Runs the clients, and then asks the server to end.
 pub fn run(address: SocketAddr, plan: Plan, stop: impl FnOnce()) -> Result<Seen> {
-    let Plan {
-        connections,
-        at_a_time,
-        lasting,
-    } = plan;
+    let Plan { connections, at_a_time, lasting } = plan;
     let mut seen = Seen::default();
     let mut all: Vec<Client> = Vec::new();
     loop {

@@ -107,11 +107,7 @@ pub struct Reading {
 impl Reading {
     pub fn new(reader: Key, path: CString) -> Reading {
         let bytes = Buffer::new();
-        Reading {
-            reader,
-            path,
-            bytes,
-        }
+        Reading { reader, path, bytes }
     }
 
     /// Returns the number that is the file's name.

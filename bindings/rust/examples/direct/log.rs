@@ -82,11 +82,7 @@ impl Log {
         if result == EMPTY_SLOT {
             return self.done(data, format_args!("-9")).map(|_| ());
         }
-        let own = self
-            .opens
-            .get(&Key::from_bits(data).0)
-            .copied()
-            .unwrap_or(0);
+        let own = self.opens.get(&Key::from_bits(data).0).copied().unwrap_or(0);
         let owner = number_in(bytes).map_or(own, |it| *self.owners.entry(it).or_insert(own));
         if let Some(call) = self.done(data, format_args!("0 {owner}.1.0"))? {
             writeln!(self.out, "free {call}")?;

@@ -43,28 +43,12 @@ const NO_IO_URING: u8 = 77;
 
 /// Prints what was counted, and returns whether all is right.
 fn report(seen: &Seen, counts: &Counts, lasting: u32) -> bool {
-    let Seen {
-        connections,
-        lines,
-        files,
-        busy,
-        to_another,
-        wrong,
-        left,
-        ..
-    } = seen;
+    let Seen { connections, lines, files, busy, to_another, wrong, left, .. } = seen;
     println!(
         "{connections} connections, {lines} lines, {files} of files, {busy} without a slot; \
          {to_another} to another connection, {wrong} wrong"
     );
-    let Counts {
-        opened,
-        closed,
-        waits,
-        ended,
-        late,
-        ..
-    } = counts;
+    let Counts { opened, closed, waits, ended, late, .. } = counts;
     let last = seen.ended_at_last;
     println!(
         "{opened} opened, {closed} closed; {waits} times the backlog waited; {ended} ended by the \
@@ -78,10 +62,7 @@ fn report(seen: &Seen, counts: &Counts, lasting: u32) -> bool {
 fn make_files(folder: &Path) -> std::io::Result<()> {
     fs::create_dir(folder)?;
     for file in 0..FILES {
-        fs::write(
-            folder.join(file.to_string()),
-            format!("this is file {file}\n"),
-        )?;
+        fs::write(folder.join(file.to_string()), format!("this is file {file}\n"))?;
     }
     Ok(())
 }
@@ -92,11 +73,7 @@ fn run(ring: Ring, slots: u32, plan: Plan, log: Option<Log>) -> Result<bool, Box
     let listener = TcpListener::bind(("127.0.0.1", 0))?;
     ring::set_backlog(&listener, BACKLOG)?;
     let address = listener.local_addr()?;
-    let table = Options::new(slots)
-        .handles(1)
-        .readers(WORKERS)
-        .guards(0)
-        .open()?;
+    let table = Options::new(slots).handles(1).readers(WORKERS).guards(0).open()?;
     let (asked, questions) = channel();
     let (answers, answered) = channel();
     let (bell, stops) = (Bell::new()?, Arc::new(AtomicBool::new(false)));
@@ -114,14 +91,7 @@ fn run(ring: Ring, slots: u32, plan: Plan, log: Option<Log>) -> Result<bool, Box
         stop(); // after an error too, so that the server ends and the error is printed
         seen
     });
-    let shared = Shared {
-        listener,
-        folder: folder.clone(),
-        bell,
-        stops,
-        asked,
-        answered,
-    };
+    let shared = Shared { listener, folder: folder.clone(), bell, stops, asked, answered };
     let counts = Server::new(ring, slots, table.handle()?, log, shared)?.serve()?;
     let seen = clients.join().expect("the clients end")?;
     for worker in workers {
@@ -134,11 +104,7 @@ fn run(ring: Ring, slots: u32, plan: Plan, log: Option<Log>) -> Result<bool, Box
 fn main() -> Result<ExitCode, Box<dyn Error>> {
     let number = |nth, default| env::args().nth(nth).map_or(Ok(default), |it| it.parse());
     let (connections, at_a_time, slots) = (number(1, 3000)?, number(2, 200)?, number(3, 64)?);
-    let plan = Plan {
-        connections,
-        at_a_time: at_a_time as usize,
-        lasting: (slots / 2).min(30),
-    };
+    let plan = Plan { connections, at_a_time: at_a_time as usize, lasting: (slots / 2).min(30) };
     let ring = match Ring::new(ENTRIES, slots) {
         Ok(ring) => ring,
         Err(error) => {

@@ -117,74 +117,30 @@ pub struct Completion {
 
 impl Request {
     fn sqe(self, data: u64) -> Sqe {
-        let plain = Sqe {
-            data,
-            ..Sqe::default()
-        };
-        let fixed = |opcode, slot: u32| Sqe {
-            opcode,
-            flags: FIXED_FILE,
-            fd: slot as i32,
-            ..plain
-        };
+        let plain = Sqe { data, ..Sqe::default() };
+        let fixed = |opcode, slot: u32| Sqe { opcode, flags: FIXED_FILE, fd: slot as i32, ..plain };
         match self {
-            Request::Accept { listener, slot } => Sqe {
-                opcode: 13,
-                fd: listener,
-                file_index: slot + 1,
-                ..plain
-            },
+            Request::Accept { listener, slot } => {
+                Sqe { opcode: 13, fd: listener, file_index: slot + 1, ..plain }
+            }
             Request::Open { path, slot } => {
                 // AT_FDCWD, O_RDONLY
-                Sqe {
-                    opcode: 18,
-                    fd: -100,
-                    address: path as u64,
-                    file_index: slot + 1,
-                    ..plain
-                }
+                Sqe { opcode: 18, fd: -100, address: path as u64, file_index: slot + 1, ..plain }
             }
-            Request::ReadOf { fd, at, len } => Sqe {
-                opcode: 22,
-                fd,
-                address: at as u64,
-                len,
-                ..plain
-            },
-            Request::Read { slot, at, len } => Sqe {
-                address: at as u64,
-                len,
-                ..fixed(22, slot)
-            },
-            Request::Receive { slot, at, len } => Sqe {
-                address: at as u64,
-                len,
-                ..fixed(27, slot)
-            },
+            Request::ReadOf { fd, at, len } => {
+                Sqe { opcode: 22, fd, address: at as u64, len, ..plain }
+            }
+            Request::Read { slot, at, len } => Sqe { address: at as u64, len, ..fixed(22, slot) },
+            Request::Receive { slot, at, len } => {
+                Sqe { address: at as u64, len, ..fixed(27, slot) }
+            }
             Request::Send { slot, at, len } => {
                 // MSG_NOSIGNAL, MSG_WAITALL
-                Sqe {
-                    address: at as u64,
-                    len,
-                    own_flags: 0x4100,
-                    ..fixed(26, slot)
-                }
+                Sqe { address: at as u64, len, own_flags: 0x4100, ..fixed(26, slot) }
             }
-            Request::Shutdown { slot } => Sqe {
-                len: 2,
-                ..fixed(34, slot)
-            },
-            Request::Close { slot } => Sqe {
-                opcode: 19,
-                file_index: slot + 1,
-                ..plain
-            },
-            Request::Cancel { data } => Sqe {
-                opcode: 14,
-                fd: -1,
-                address: data,
-                ..plain
-            },
+            Request::Shutdown { slot } => Sqe { len: 2, ..fixed(34, slot) },
+            Request::Close { slot } => Sqe { opcode: 19, file_index: slot + 1, ..plain },
+            Request::Cancel { data } => Sqe { opcode: 14, fd: -1, address: data, ..plain },
         }
     }
 }
@@ -242,16 +198,8 @@ impl Ring {
 
     fn map(&self, len: usize, from: i64) -> Result<*mut c_void> {
         // SAFETY: new memory, which is unmapped when the ring is dropped.
-        let at = unsafe {
-            mmap(
-                null_mut(),
-                len,
-                READ_AND_WRITE,
-                SHARED_AND_POPULATED,
-                self.fd,
-                from,
-            )
-        };
+        let at =
+            unsafe { mmap(null_mut(), len, READ_AND_WRITE, SHARED_AND_POPULATED, self.fd, from) };
         if at as usize == NOT_SET_UP {
             return Err(Error::last_os_error());
         }
@@ -290,11 +238,7 @@ impl Ring {
         if sent < 0 {
             let error = Error::last_os_error();
             // a signal, as when the process is continued: nothing was submitted
-            return if error.kind() == ErrorKind::Interrupted {
-                Ok(())
-            } else {
-                Err(error)
-            };
+            return if error.kind() == ErrorKind::Interrupted { Ok(()) } else { Err(error) };
         }
         self.queued -= sent as u32;
         Ok(())

@@ -340,11 +340,7 @@ impl Server {
 
     fn opened_file(&mut self, key: Key, result: i32) -> Done {
         if let Some(Life::File(refused)) = self.slots.opened(key, result)? {
-            let why = if result == NO_SUCH_FILE {
-                NO_FILE
-            } else {
-                b"busy\n"
-            };
+            let why = if result == NO_SUCH_FILE { NO_FILE } else { b"busy\n" };
             return self.answer(refused.reader, why);
         }
         self.counts.opened += 1;
@@ -355,10 +351,7 @@ impl Server {
 
     fn read(&mut self, key: Key, result: i32) -> Done {
         let it = self.file(key);
-        let (reader, bytes) = (
-            it.reader,
-            it.bytes.bytes(0, result.max(0) as usize).to_vec(),
-        );
+        let (reader, bytes) = (it.reader, it.bytes.bytes(0, result.max(0) as usize).to_vec());
         self.answer(reader, &bytes)?;
         let next = self.slots.end(key)?;
         self.settle(key, next)

@@ -72,11 +72,7 @@ pub fn work(
         if nth % 64 == 0 {
             thread::sleep(Duration::from_micros(300)); // an answer that takes longer
         }
-        assert_eq!(
-            session.user.key(),
-            job.key,
-            "a worker holds another connection"
-        );
+        assert_eq!(session.user.key(), job.key, "a worker holds another connection");
         session.answers.fetch_add(1, Ordering::Relaxed);
         drop(session);
         if answered.send(job).is_err() {

@@ -52,33 +52,15 @@ impl<'r, T> Guard<'r, T> {
         place: Place,
         slot: u32,
     ) -> Guard<'r, T> {
-        Guard {
-            value: held.value,
-            number: held.number,
-            reader,
-            place,
-            slot,
-        }
+        Guard { value: held.value, number: held.number, reader, place, slot }
     }
 
     /// Returns the same guard, part by part: the compiler can keep those in registers.
     #[inline(always)]
     pub(super) fn moved(self) -> Guard<'r, T> {
         let guard = ManuallyDrop::new(self);
-        let Guard {
-            value,
-            number,
-            reader,
-            place,
-            slot,
-        } = *guard;
-        Guard {
-            value,
-            number,
-            reader,
-            place,
-            slot,
-        }
+        let Guard { value, number, reader, place, slot } = *guard;
+        Guard { value, number, reader, place, slot }
     }
 
     /// Ends the hold, and gives its seat back. Returns the value if this closed it.
@@ -96,12 +78,7 @@ impl<'r, T> Guard<'r, T> {
     unsafe fn release(&self) -> Option<Box<T>> {
         // SAFETY: the seat is the reader's (one user), on whose thread the guard is. It holds the
         // guard's value, and every reference to the value borrowed the guard.
-        let freed = unsafe {
-            self.reader
-                .table()
-                .values()
-                .release(self.place.core, self.value)
-        };
+        let freed = unsafe { self.reader.table().values().release(self.place.core, self.value) };
         self.reader.give_back(self.place.number);
         freed
     }
@@ -145,13 +122,7 @@ impl<T> OwnedGuard<T> {
     /// Makes a guard of a value that this seat of the table holds.
     #[inline]
     pub(super) fn new(table: Table<T>, held: Held<T>, place: Place, slot: u32) -> OwnedGuard<T> {
-        OwnedGuard {
-            value: held.value,
-            number: held.number,
-            place,
-            slot,
-            table,
-        }
+        OwnedGuard { value: held.value, number: held.number, place, slot, table }
     }
 
     /// Ends the hold, and gives its seat back. Returns the value if this closed it.

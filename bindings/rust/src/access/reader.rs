@@ -47,13 +47,7 @@ impl<T> Reader<T> {
     /// Makes a reader of a seat that the caller claimed, and of the seat that installs if it is the
     /// reader of a handle.
     pub(super) fn new(table: Table<T>, own: Place, installer: Option<Installer>) -> Reader<T> {
-        Reader {
-            table,
-            own,
-            is_busy: Cell::new(false),
-            others: Cell::new(None),
-            installer,
-        }
+        Reader { table, own, is_busy: Cell::new(false), others: Cell::new(None), installer }
     }
 
     /// Returns a guard of the value at a slot. The look-up may drop another value: one that it saw

@@ -17,11 +17,7 @@ pub(super) struct Seat {
 
 impl Seat {
     fn new(core: Core) -> Seat {
-        Seat {
-            core: UnsafeCell::new(core),
-            next: Cell::new(None),
-            previous: Cell::new(None),
-        }
+        Seat { core: UnsafeCell::new(core), next: Cell::new(None), previous: Cell::new(None) }
     }
 
     #[inline]
@@ -68,11 +64,7 @@ unsafe impl Sync for Installer {}
 struct Line(AtomicU64);
 
 /// The number of seats in a word.
-const IN_WORD: u32 = if cfg!(all(test, yachtbanyan_stand_in)) {
-    2
-} else {
-    u64::BITS
-};
+const IN_WORD: u32 = if cfg!(all(test, yachtbanyan_stand_in)) { 2 } else { u64::BITS };
 
 /// A set of free numbers.
 pub(super) struct Free(Box<[Line]>);
@@ -117,9 +109,7 @@ impl Free {
     /// Adds a number to the set again. The caller has it from `claim`, and uses its seat no more.
     pub(super) fn give_back(&self, number: u32) {
         let word = (number / IN_WORD) as usize;
-        self.0[word]
-            .0
-            .fetch_or(1 << (number % IN_WORD), Ordering::Release);
+        self.0[word].0.fetch_or(1 << (number % IN_WORD), Ordering::Release);
         begin_at(word);
     }
 }
@@ -169,11 +159,8 @@ impl Seats {
         let answer = unsafe {
             core::yacht_core_open(options.slots, options.handles, cores.as_mut_ptr(), count)
         };
-        let mut seats: Vec<Seat> = cores
-            .into_iter()
-            .filter(|it| !it.worker().is_null())
-            .map(Seat::new)
-            .collect();
+        let mut seats: Vec<Seat> =
+            cores.into_iter().filter(|it| !it.worker().is_null()).map(Seat::new).collect();
         if answer != core::DONE || seats.len() != count {
             return Err(OpenError::NoMemory);
         }
@@ -244,10 +231,7 @@ impl Seats {
             sync::yield_now();
         }
         let number = self.claim_installing()?;
-        Ok(Call {
-            seats: self,
-            number,
-        })
+        Ok(Call { seats: self, number })
     }
 
     /// Claims the seat of a reader.

@@ -236,16 +236,12 @@ impl<T> Table<T> {
 
 impl<T> Clone for Table<T> {
     fn clone(&self) -> Table<T> {
-        Table {
-            values: Arc::clone(&self.values),
-        }
+        Table { values: Arc::clone(&self.values) }
     }
 }
 
 impl<T> fmt::Debug for Table<T> {
     fn fmt(&self, f: &mut fmt::Formatter<'_>) -> fmt::Result {
-        f.debug_struct("Table")
-            .field("slots", &self.slots())
-            .finish_non_exhaustive()
+        f.debug_struct("Table").field("slots", &self.slots()).finish_non_exhaustive()
     }
 }

@@ -125,11 +125,7 @@ fn with<R>(run: impl FnOnce(&mut Turns) -> R) -> Option<R> {
 fn switch() {
     let Some((from, to)) = with(|it| {
         let old = it.now;
-        let next = if it.fault.is_none() {
-            it.choose()
-        } else {
-            None
-        };
+        let next = if it.fault.is_none() { it.choose() } else { None };
         if let Some(next) = next {
             let (all, next) = (it.changed, &mut it.threads[next]);
             if next.waits.take().is_some() {
@@ -171,8 +167,7 @@ fn go_on() {
 // Returns the text of a panic.
 fn text_of(what: &dyn Any) -> String {
     let text = what.downcast_ref::<&str>().map(|it| it.to_string());
-    text.or_else(|| what.downcast_ref().cloned())
-        .unwrap_or_default()
+    text.or_else(|| what.downcast_ref().cloned()).unwrap_or_default()
 }
 
 extern "C" fn start() {
@@ -201,13 +196,7 @@ fn thread(at: usize, job: Job, stack: &mut [u64]) -> Thread {
     }
     let mut clock = [0; MOST + 1];
     clock[MOST] = 1;
-    Thread {
-        context,
-        job: Some(job),
-        clock,
-        first_word: at,
-        ..Thread::default()
-    }
+    Thread { context, job: Some(job), clock, first_word: at, ..Thread::default() }
 }
 
 impl Turns {
@@ -222,9 +211,7 @@ impl Turns {
     fn begin(&mut self, jobs: Vec<Job>) {
         assert!(jobs.len() <= MOST);
         let all = jobs.into_iter().zip(&mut self.stacks).enumerate();
-        self.threads = all
-            .map(|(at, (job, stack))| thread(at, job, stack))
-            .collect();
+        self.threads = all.map(|(at, (job, stack))| thread(at, job, stack)).collect();
         (self.depth, self.steps, self.now, self.changed, self.memory) = (0, 0, 0, 0, 0);
         (self.is_old, self.begun) = (false, true);
         self.atomics.clear();

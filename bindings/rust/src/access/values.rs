@@ -31,10 +31,7 @@ impl<T> Held<T> {
     /// those of the file that the worker holds (`found`).
     #[inline(always)]
     pub(super) fn of(out: &Outcome) -> Held<T> {
-        Held {
-            value: out.tag as usize as *const T,
-            number: NonZeroU64::new(out.number),
-        }
+        Held { value: out.tag as usize as *const T, number: NonZeroU64::new(out.number) }
     }
 }
 
@@ -271,11 +268,7 @@ impl<T> Values<T> {
         if answer >= 0 {
             return Ok(Key::new(answer as u32, NonZeroU64::new(number)));
         }
-        let reason = if answer == core::AGAIN {
-            Round::Again
-        } else {
-            Round::Full
-        };
+        let reason = if answer == core::AGAIN { Round::Again } else { Round::Full };
         // SAFETY: the core installed nothing, so the value is still this call's (`allocated`).
         Err((unsafe { value_of(tag) }, reason))
     }

@@ -23,9 +23,7 @@ impl Machine {
         let mut raw = MaybeUninit::uninit();
         // SAFETY: it writes the machine if it returns DONE, and else nothing.
         match unsafe { core::yacht_direct_open_6(raw.as_mut_ptr(), slots) } {
-            DONE => Ok(Machine {
-                raw: UnsafeCell::new(unsafe { raw.assume_init() }),
-            }),
+            DONE => Ok(Machine { raw: UnsafeCell::new(unsafe { raw.assume_init() }) }),
             NO_MEMORY => Err(OpenError::NoMemory),
             _ => Err(OpenError::Slots(slots)),
         }
@@ -82,10 +80,7 @@ impl Machine {
 
     pub(super) fn hold(&mut self, key: Key) -> Result<(), Refusal> {
         // SAFETY: the machine is open, and no other thread uses it.
-        done(
-            unsafe { core::yacht_direct_hold(self.raw.get(), key.bits()) },
-            key,
-        )
+        done(unsafe { core::yacht_direct_hold(self.raw.get(), key.bits()) }, key)
     }
 
     pub(super) fn release(&mut self, key: Key) -> Result<Next, Refusal> {
@@ -98,10 +93,7 @@ impl Machine {
 
     pub(super) fn closed(&mut self, key: Key) -> Result<(), Refusal> {
         // SAFETY: the machine is open, and no other thread uses it.
-        done(
-            unsafe { core::yacht_direct_closed(self.raw.get(), key.bits()) },
-            key,
-        )
+        done(unsafe { core::yacht_direct_closed(self.raw.get(), key.bits()) }, key)
     }
 
     pub(super) fn close_failed(&mut self, key: Key) -> Result<u32, Refusal> {

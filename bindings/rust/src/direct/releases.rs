@@ -54,20 +54,12 @@ impl Releases {
     pub fn new(wake: impl Fn() + Send + Sync + 'static) -> Releases {
         let keys = Mutex::default();
         let wake = Box::new(wake);
-        Releases {
-            shared: Arc::new(Shared { keys, wake }),
-        }
+        Releases { shared: Arc::new(Shared { keys, wake }) }
     }
 
     /// Returns the keys of the users that were dropped since the last call.
     pub fn collect(&self) -> Vec<Key> {
-        mem::take(
-            &mut self
-                .shared
-                .keys
-                .lock()
-                .unwrap_or_else(PoisonError::into_inner),
-        )
+        mem::take(&mut self.shared.keys.lock().unwrap_or_else(PoisonError::into_inner))
     }
 
     pub(super) fn user(&self, key: Key) -> User {
@@ -93,11 +85,7 @@ impl User {
 
 impl Drop for User {
     fn drop(&mut self) {
-        let mut keys = self
-            .shared
-            .keys
-            .lock()
-            .unwrap_or_else(PoisonError::into_inner);
+        let mut keys = self.shared.keys.lock().unwrap_or_else(PoisonError::into_inner);
         let was_empty = keys.is_empty();
         keys.push(self.key);
         drop(keys);
@@ -115,8 +103,6 @@ impl fmt::Debug for Releases {
 
 impl fmt::Debug for User {
     fn fmt(&self, f: &mut fmt::Formatter<'_>) -> fmt::Result {
-        f.debug_struct("User")
-            .field("key", &self.key)
-            .finish_non_exhaustive()
+        f.debug_struct("User").field("key", &self.key).finish_non_exhaustive()
     }
 }

@@ -140,13 +140,7 @@ pub(super) unsafe extern "C" fn yacht_direct_open_6(machine: *mut Machine, slots
     if !(1..=MOST_SLOTS).contains(&slots) {
         return BAD_ARGUMENT;
     }
-    let life = |at| Life {
-        number: 0,
-        phase: FREE,
-        requests: 0,
-        users: 0,
-        at,
-    };
+    let life = |at| Life { number: 0, phase: FREE, requests: 0, users: 0, at };
     let made = Box::new(Plain {
         lives: (0..slots as usize).map(life).collect(),
         order: (0..slots).collect(),
@@ -214,12 +208,10 @@ calls_of_a_slot! {
 }
 
 pub(super) unsafe extern "C" fn yacht_direct_hold(machine: *mut Machine, key: u64) -> i32 {
-    let held = unsafe { plain(machine) }
-        .in_phase(key, LIVE)
-        .and_then(|life| {
-            life.users = life.users.checked_add(1).ok_or(TOO_MANY_USERS)?;
-            Ok(DONE)
-        });
+    let held = unsafe { plain(machine) }.in_phase(key, LIVE).and_then(|life| {
+        life.users = life.users.checked_add(1).ok_or(TOO_MANY_USERS)?;
+        Ok(DONE)
+    });
     number(held)
 }
 

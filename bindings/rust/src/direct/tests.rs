@@ -40,18 +40,14 @@ struct Model {
 
 impl Model {
     fn below(&mut self, most: usize) -> usize {
-        self.seed = self
-            .seed
-            .wrapping_mul(6364136223846793005)
-            .wrapping_add(1442695040888963407);
+        self.seed = self.seed.wrapping_mul(6364136223846793005).wrapping_add(1442695040888963407);
         (self.seed >> 33) as usize % most
     }
 
     // What a request or a user that is gone leaves, and whether the slot is to be closed.
     fn left(&mut self, key: Key, life: Life) -> Next {
         let is_last = life == Life::Ending(0, 0);
-        self.lives
-            .insert(key, if is_last { Life::Closing } else { life });
+        self.lives.insert(key, if is_last { Life::Closing } else { life });
         if is_last {
             Next::Close(key.slot())
         } else {
@@ -81,10 +77,7 @@ impl Model {
                 assert_eq!(slots.finish(key), Ok(self.left(key, Life::Live(r - 1, u))));
             }
             (4 | 5, Some(Life::Ending(r, u))) if r > 0 => {
-                assert_eq!(
-                    slots.finish(key),
-                    Ok(self.left(key, Life::Ending(r - 1, u)))
-                );
+                assert_eq!(slots.finish(key), Ok(self.left(key, Life::Ending(r - 1, u))));
             }
             (4 | 5, _) => assert_eq!(slots.finish(key), Err(no)),
             (6, Some(Life::Live(r, u))) => {
@@ -96,10 +89,7 @@ impl Model {
                 assert_eq!(slots.release(key), Ok(self.left(key, Life::Live(r, u - 1))));
             }
             (7, Some(Life::Ending(r, u))) if u > 0 => {
-                assert_eq!(
-                    slots.release(key),
-                    Ok(self.left(key, Life::Ending(r, u - 1)))
-                );
+                assert_eq!(slots.release(key), Ok(self.left(key, Life::Ending(r, u - 1))));
             }
             (7, _) => assert_eq!(slots.release(key), Err(no)),
             (8, Some(Life::Live(r, u))) => {

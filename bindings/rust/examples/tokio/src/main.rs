@@ -58,9 +58,7 @@ async fn main() -> Result<(), Box<dyn std::error::Error>> {
     let options = Options::new(256).handles(8).readers(0).guards(TASKS);
     let table = options.open::<Session>()?;
 
-    let tasks: Vec<_> = (0..TASKS)
-        .map(|it| tokio::spawn(task(table.clone(), it)))
-        .collect();
+    let tasks: Vec<_> = (0..TASKS).map(|it| tokio::spawn(task(table.clone(), it))).collect();
     let mut sum = 0;
     for task in tasks {
         sum += task.await?;

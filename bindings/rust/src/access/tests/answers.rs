@@ -139,12 +139,7 @@ pub(super) fn answers(case: &Case, moment: Moment) -> Vec<String> {
     let no_handle = format!("Handle {{ in_use: {HANDLES} }}");
     let has_guards = case.beside != Beside::Guards;
     let has_handles = case.beside != Beside::Handles;
-    let visits = [
-        "Handle::len",
-        "Handle::is_empty",
-        "Handle::iter",
-        "Reader::iter",
-    ];
+    let visits = ["Handle::len", "Handle::is_empty", "Handle::iter", "Reader::iter"];
     match case.name {
         "Handle::iter" | "Reader::iter" if !has_guards => vec![no_guard],
         // it sees each slot at a moment of its own

@@ -133,9 +133,7 @@ fn check(case: Case) -> bool {
     let right = scene.handle.get_at(1).unwrap().key();
     // each pass is listed, and a slot that may be hot is hot
     drop((scene.reader.get_at(1), scene.table.get_owned_at(1)));
-    let others: Vec<_> = (1..HANDLES)
-        .map(|_| scene.table.handle().unwrap())
-        .collect();
+    let others: Vec<_> = (1..HANDLES).map(|_| scene.table.handle().unwrap()).collect();
     let all = others.iter().chain([&scene.handle]);
     all.for_each(|it| assert!(it.contains(1)));
     drop(others);

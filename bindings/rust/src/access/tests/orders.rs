@@ -50,10 +50,7 @@ impl Scene {
         changes(Rc::as_ptr(&place));
         self.alive.set(self.alive.get() + 1);
         self.places.borrow_mut().push(place.clone());
-        Value {
-            place,
-            alive: self.alive.clone(),
-        }
+        Value { place, alive: self.alive.clone() }
     }
 
     /// Returns a key of the value at the first slot.
@@ -67,11 +64,7 @@ impl Scene {
         let readers: Vec<_> = std::iter::from_fn(|| self.table.reader().ok()).collect();
         let counts = (handles.len() as u32, readers.len() as u32);
         assert_eq!(counts, (options.handles, options.readers), "a seat is lost");
-        assert_eq!(
-            handles[0].len() as usize,
-            self.alive.get(),
-            "a value is lost"
-        );
+        assert_eq!(handles[0].len() as usize, self.alive.get(), "a value is lost");
         let full = loop {
             if let Err(refused) = handles[0].try_insert(self.value()) {
                 break refused.reason;
@@ -129,10 +122,7 @@ impl Family {
 
 const LOOK_OWNED: Part = |it, _| match it.table.get_owned_at(0) {
     Ok(guard) => guard.check(),
-    Err(error) => assert!(matches!(
-        error,
-        GetError::NoSeat(_) | GetError::Empty { .. }
-    )),
+    Err(error) => assert!(matches!(error, GetError::NoSeat(_) | GetError::Empty { .. })),
 };
 
 const INSERT_AND_REMOVE: Part = |it, _| match it.table.insert(it.value()) {
@@ -158,11 +148,7 @@ const SEAT: Part = |it, _| match it.table.values().seats.claim_call() {
         it.calls.set(0);
         drop(call);
     }
-    Err(_) => assert_eq!(
-        it.calls.get(),
-        0,
-        "a call is refused, and there is no handle"
-    ),
+    Err(_) => assert_eq!(it.calls.get(), 0, "a call is refused, and there is no handle"),
 };
 
 const GIVE: Part = |it, _| {
@@ -193,11 +179,7 @@ impl Family {
     fn seats(cold_takes: u64, sizes: [u32; 4], parts: &'static [Part]) -> Family {
         let [slots, handles, readers, guards] = sizes;
         let options = Options::new(slots).handles(handles);
-        Family {
-            options: options.readers(readers).guards(guards),
-            cold_takes,
-            parts,
-        }
+        Family { options: options.readers(readers).guards(guards), cold_takes, parts }
     }
 
     /// Returns the number of states. Panics if some order is wrong.
@@ -255,10 +237,7 @@ fn a_wrong_order_is_found() {
     assert_eq!(fault_of(add, add), "");
     let lose: Steps = |it, _| it.store(it.load(SeqCst) + 1, SeqCst);
     assert_eq!(fault_of(lose, add), "an update is lost");
-    assert_eq!(
-        fault_of(lose, |it, _| wait_for(it, 2, Relaxed)),
-        "a thread waits for ever"
-    );
+    assert_eq!(fault_of(lose, |it, _| wait_for(it, 2, Relaxed)), "a thread waits for ever");
     let write: Steps = |it, at| {
         changes(at);
         it.store(2, Release);

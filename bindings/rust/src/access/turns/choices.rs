@@ -35,17 +35,15 @@ impl Turns {
         all.fold(begun, |all, (at, it)| {
             let changed = self.is_changed(at, it.woke);
             let rest = [it.is_done, self.can_go_on(at), it.waits.is_some(), changed];
-            rest.iter()
-                .fold(mixed(all, it.found), |all, it| mixed(all, u64::from(*it)))
+            rest.iter().fold(mixed(all, it.found), |all, it| mixed(all, u64::from(*it)))
         })
     }
 
     // Chooses the thread that makes the next step, or none if none can.
     pub(super) fn choose(&mut self) -> Option<usize> {
         let now = self.now;
-        let mut free: Vec<usize> = (0..self.threads.len())
-            .filter(|it| self.can_go_on(*it))
-            .collect();
+        let mut free: Vec<usize> =
+            (0..self.threads.len()).filter(|it| self.can_go_on(*it)).collect();
         // the present thread goes on first
         free.sort_by_key(|it| (*it == now, *it));
         let last = *free.last()?;

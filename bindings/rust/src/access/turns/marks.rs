@@ -47,8 +47,5 @@ pub(super) fn look() {
 
 /// Returns the marks in one number.
 pub(super) fn in_one() -> u64 {
-    MARKS
-        .get()
-        .iter()
-        .fold(0, |all, it| 2 * all + u64::from(*it))
+    MARKS.get().iter().fold(0, |all, it| 2 * all + u64::from(*it))
 }
