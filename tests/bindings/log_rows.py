@@ -3,6 +3,7 @@ numbers of calls, tags, the caller's own events, the reason of a log, what is ra
 import yachtevents
 import yachtjudge
 import yachtlog
+import yachtreason
 from rows import end, raises, want
 from tests import reasons
 from yachtjudge import LogVerdict, Point, Step, explain_events, judge_events
@@ -125,4 +126,40 @@ want(rows[5][:2] == (yachtevents.EVENT_EMPTY, 3), f"a look of an empty slot is a
 want(rows[6][:4] == (yachtevents.EVENT_DONE, 1, 1, 2), f"an update is answered by {rows[6]}")
 want(rows[7][0] == yachtevents.EVENT_SETTLED and len(rows) == 8, f"a log is settled by {rows[7]}")
 want(yachtevents.REQUEST.unpack(events.requests) == (yachtevents.REQUEST_UPDATE, 1, 0, 2, 0, 0), "an update is another request")
+
+# the words of each rule, as include/yachtjudge.h describes it, by its lines and its two points
+told = log("call 2 open a at 0", "done 2.1 0", "call 3 look 0", "done 3.1 0 2.1.0", "free 3", "call 4 open b at 1 link ; close 0", "done 4.1 0",
+           "done 4.2 0", "closed 2.1.0 a", "settled")
+event, access, put = Point("event", 7), Point("access", 12), Point("put", file=(2, 1, 0))
+gone, other, found = Point("gone", file=(2, 1, 0)), Point("put", file=(4, 1, 0)), "look 3 found a file at slot 0 by line 8"
+RULES = [
+    ("begins", (7, 8), event, access, "look 3 was called at line 7"),
+    ("ends", (7, 8), access, event, "look 3 was answered at line 8"),
+    ("calls", (5,), event, put, "the call that installs 2.1.0 began at line 5"),
+    ("installs", (5, 6), put, access, "open 2 had installed 2.1.0 at line 6"),
+    ("places", (5, 6), access, gone, "open 2 installed 2.1.0 at slot 0"),
+    ("follows", (7, 8), put, access, "2.1.0 was installed before look 3 found it"),
+    ("finds", (7, 8), access, gone, "look 3 found 2.1.0 at slot 0"),
+    ("closes", (13,), gone, event, "2.1.0 was closed by line 13"),
+    ("settles", (14,), event, gone, "2.1.0 was still at slot 0 when all was settled at line 14"),
+    ("empties", (10, 12), gone, access, "2.1.0 was gone from slot 0 after close 4.2"),
+    ("precedes", (10, 12), access, other, "4.1.0 was installed after close 4.2"),
+    ("displaces", (), gone, other, "2.1.0 was gone from slot 0 when 4.1.0 was installed"),
+    ("outlives", (), put, other, "4.1.0 was installed after 2.1.0"),
+    ("finds-closed", (13, 8), event, event, "look 3 found 2.1.0 at line 8, which was closed by line 13"),
+    ("cant-answer", (10, 11), event, event, "open 4.1 answered 0 at line 11, which such a request never answers"),
+    ("holds", (7, 8), gone, gone, f"{found}, where no file can have been"),
+    ("holds", (7, 8), access, gone, f"{found}, which can only have been 2.1.0"),
+    ("holds", (7, 8), put, access, f"{found}, which can only have been 2.1.0"),
+    ("differs", (5, 7), access, access, "accesses of two calls are not at the same time"),
+    ("stays", (13,), event, gone, "no call before line 13 can have taken 2.1.0 from slot 0"),
+    ("takes", (), access, gone, "2.1.0 was at slot 0 until close 4.2, which alone can have taken it"),
+    ("taken-by", (), gone, other, "2.1.0 was gone from slot 0 after the installation of 4.1.0, which alone can have taken it"),
+    ("lands", (), put, gone, "2.1.0 was installed at slot 0"),
+    ("misses", (), gone, put, "no call before can have installed 2.1.0 at slot 0"),
+    ("existed", (13,), put, event, "2.1.0 was installed before it was closed by line 13"),
+]
+for rule, lines, before, after, words in RULES:
+    sentences = yachtreason.Words(told, told.events, [Step(rule, lines, 0, (), before, after, True)]).sentences()
+    want(sentences == [words], f"the words of {rule} are {sentences}")
 end()
