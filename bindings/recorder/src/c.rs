@@ -59,8 +59,9 @@ fn into_raw(value: Value) -> *mut c_void {
     Box::into_raw(Box::new(value)).cast()
 }
 
-/// A table of the C library.
-pub struct CTable {
+/// A table of the C library: by its slots, or, if it is `KEYED`, by the keys of its values
+/// ([`Keyed`](crate::library::Keyed)).
+pub struct CTable<const KEYED: bool> {
     raw: *mut RawTable,
     most_handles: u32,
     /// The number of handles that were given out.
@@ -68,24 +69,23 @@ pub struct CTable {
 }
 
 // SAFETY: any thread frees a table that no handle is in use of, and its values go to any thread
-unsafe impl Send for CTable {}
+unsafe impl<const KEYED: bool> Send for CTable<KEYED> {}
 // SAFETY: threads may use a table at the same time, each by a handle of its own
-unsafe impl Sync for CTable {}
+unsafe impl<const KEYED: bool> Sync for CTable<KEYED> {}
 
-impl CTable {
+impl<const KEYED: bool> CTable<KEYED> {
     /// Opens an empty table of `slots` slots, for `handles` threads.
-    pub fn new(slots: usize, handles: usize) -> CTable {
-        let mut raw = null_mut();
+    pub fn new(slots: usize, handles: usize) -> CTable<KEYED> {
+        let (mut raw, most_handles) = (null_mut(), handles as u32);
         // SAFETY: `raw` is written, and nothing is kept of it
-        let answer = unsafe {
-            yacht_open(&mut raw, slots as u32, handles as u32, 0, drop_value, null_mut())
-        };
+        let answer =
+            unsafe { yacht_open(&mut raw, slots as u32, most_handles, 0, drop_value, null_mut()) };
         assert_eq!(answer, DONE, "a table");
-        CTable { raw, most_handles: handles as u32, handles: AtomicU32::new(0) }
+        CTable { raw, most_handles, handles: AtomicU32::new(0) }
     }
 }
 
-impl Drop for CTable {
+impl<const KEYED: bool> Drop for CTable<KEYED> {
     fn drop(&mut self) {
         for number in 0..*self.handles.get_mut() {
             // SAFETY: no handle is used any more, since handles borrow the table. If a guard was
@@ -98,15 +98,16 @@ impl Drop for CTable {
 }
 
 /// A handle of the C library. It holds one value at a time, and so has one guard.
-pub struct CHandle<'a> {
+pub struct CHandle<'a, const KEYED: bool> {
     raw: *mut RawHandle,
-    _table: PhantomData<&'a CTable>,
+    _table: PhantomData<&'a CTable<KEYED>>,
 }
 
 /// The hold of a handle.
 pub struct CGuard<'a> {
     value: *mut Value,
-    handle: &'a CHandle<'a>,
+    handle: *mut RawHandle,
+    _handle: PhantomData<&'a RawHandle>,
 }
 
 impl Deref for CGuard<'_> {
@@ -121,112 +122,75 @@ impl Deref for CGuard<'_> {
 impl Drop for CGuard<'_> {
     fn drop(&mut self) {
         // SAFETY: the handle is this thread's, and holds a value
-        let answer = unsafe { yacht_release(self.handle.raw) };
+        let answer = unsafe { yacht_release(self.handle) };
         assert!(answer >= DONE);
     }
 }
 
-impl Table for CTable {
-    type Handle<'a> = CHandle<'a>;
+impl<const KEYED: bool> Table for CTable<KEYED> {
+    type Handle<'a> = CHandle<'a, KEYED>;
 
-    fn handle(&self) -> CHandle<'_> {
+    fn handle(&self) -> CHandle<'_, KEYED> {
         let next = |number| (number < self.most_handles).then_some(number + 1);
         let number = self.handles.fetch_update(SeqCst, SeqCst, next);
         let number = number.expect("a handle for each thread");
         // SAFETY: each number is used once, so each handle has one thread
         let raw = unsafe { yacht_handle_of(self.raw, number) };
-        let _table = PhantomData;
-        CHandle { raw, _table }
+        CHandle { raw, _table: PhantomData }
     }
 }
 
-impl Handle for CHandle<'_> {
+/// Checks whether a call found no value, where a key may be stale.
+fn is_none(answer: c_int, keyed: bool) -> bool {
+    answer == EMPTY || keyed && matches!(answer, NO_SLOT | STALE)
+}
+
+// SAFETY of each call: the handle is this thread's, what is passed to be written is written, and a
+// value that is installed is the library's from then on; any key may be passed
+impl<const KEYED: bool> Handle for CHandle<'_, KEYED> {
     type Guard<'a>
         = CGuard<'a>
     where
         Self: 'a;
+    const CHOOSES: bool = KEYED;
 
-    fn get(&self, slot: usize) -> Option<CGuard<'_>> {
-        let mut value = null_mut();
-        // SAFETY: the handle is this thread's, and `value` is written
-        let answer = unsafe { yacht_get_at(self.raw, slot as u32, &mut value) };
-        assert!(answer == DONE || answer == EMPTY);
+    fn get(&self, at: usize) -> Option<CGuard<'_>> {
+        let (mut value, handle, _handle) = (null_mut(), self.raw, PhantomData);
+        let answer = match KEYED {
+            true => unsafe { yacht_get(handle, yacht_key_from_bits(at as u64), &mut value) },
+            false => unsafe { yacht_get_at(handle, at as u32, &mut value) },
+        };
+        assert!(answer == DONE || is_none(answer, KEYED));
         let value = value.cast();
-        let handle = self;
-        (answer == DONE).then(|| CGuard { value, handle })
+        (answer == DONE).then(|| CGuard { value, handle, _handle })
     }
 
     fn put(&self, slot: usize, value: Value) {
-        // SAFETY: the handle is this thread's, and the value is the library's from now on
         let answer = unsafe { yacht_replace_at(self.raw, slot as u32, into_raw(value)) };
         assert!(answer >= DONE);
     }
 
     fn put_any(&self, value: Value) -> Result<usize, Value> {
-        let raw = into_raw(value);
-        // SAFETY: as `put`; if the answer is an error, the value is still ours
-        match unsafe { yacht_insert(self.raw, raw) } {
-            FULL => Err(*unsafe { Box::from_raw(raw.cast::<Value>()) }),
-            slot => Ok(usize::try_from(slot).expect("a slot")),
+        let (raw, mut key) = (into_raw(value), RawKey { number: 0, slot: 0 });
+        let slot = match KEYED {
+            true => unsafe { yacht_insert_key(self.raw, raw, &mut key) },
+            false => unsafe { yacht_insert(self.raw, raw) },
+        };
+        if !KEYED && slot == FULL {
+            // the value is still ours
+            return Err(*unsafe { Box::from_raw(raw.cast::<Value>()) });
         }
+        let slot = usize::try_from(slot).expect("a slot for each value");
+        assert!(!KEYED || slot == key.slot as usize, "the slot of another key");
+        Ok(if KEYED { unsafe { yacht_key_to_bits(key) as usize } } else { slot })
     }
 
-    fn take(&self, slot: usize) -> bool {
-        // SAFETY: the handle is this thread's
-        let answer = unsafe { yacht_remove_at(self.raw, slot as u32) };
-        assert!(answer >= DONE || answer == EMPTY);
-        answer != EMPTY
-    }
-}
-
-/// The table of the C library by the keys of its values, as [`Keyed`](crate::library::Keyed).
-pub struct CKeyed(pub CTable);
-
-/// A thread's access to [`CKeyed`].
-pub struct CKeyedHandle<'a>(CHandle<'a>);
-
-fn is_none(answer: c_int) -> bool {
-    matches!(answer, EMPTY | NO_SLOT | STALE)
-}
-
-impl Table for CKeyed {
-    type Handle<'a> = CKeyedHandle<'a>;
-
-    fn handle(&self) -> CKeyedHandle<'_> {
-        CKeyedHandle(self.0.handle())
-    }
-}
-
-impl Handle for CKeyedHandle<'_> {
-    type Guard<'a>
-        = CGuard<'a>
-    where
-        Self: 'a;
-    const CHOOSES: bool = true;
-
-    fn get(&self, key: usize) -> Option<CGuard<'_>> {
-        let (mut value, handle) = (null_mut(), &self.0);
-        // SAFETY: the handle is this thread's, and `value` is written
-        let answer = unsafe { yacht_get(handle.raw, yacht_key_from_bits(key as u64), &mut value) };
-        assert!(answer == DONE || is_none(answer));
-        let value = value.cast();
-        (answer == DONE).then(|| CGuard { value, handle })
-    }
-
-    fn put_any(&self, value: Value) -> Result<usize, Value> {
-        let mut key = RawKey { number: 0, slot: 0 };
-        // SAFETY: the handle is this thread's, the value is the library's from now on, and `key` is
-        // written
-        let slot = unsafe { yacht_insert_key(self.0.raw, into_raw(value), &mut key) };
-        assert_eq!(slot, key.slot as c_int, "a slot for each value");
-        // SAFETY: any key may be passed
-        Ok(unsafe { yacht_key_to_bits(key) } as usize)
-    }
-
-    fn take(&self, key: usize) -> bool {
-        // SAFETY: the handle is this thread's
-        let answer = unsafe { yacht_remove(self.0.raw, yacht_key_from_bits(key as u64)) };
-        assert!(answer > DONE || is_none(answer));
-        answer > DONE
+    fn take(&self, at: usize) -> bool {
+        let answer = match KEYED {
+            true => unsafe { yacht_remove(self.raw, yacht_key_from_bits(at as u64)) },
+            false => unsafe { yacht_remove_at(self.raw, at as u32) },
+        };
+        assert!(answer > DONE || answer == DONE && !KEYED || is_none(answer, KEYED));
+        !is_none(answer, KEYED)
     }
 }

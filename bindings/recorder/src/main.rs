@@ -65,12 +65,10 @@ fn log_of_library(table: &str, plan: Plan) -> Option<Result<Log, String>> {
         "yachtbanyan" => Some(opened().map(|it| record(it, plan))),
         "keys" => Some(opened().map(|it| record(recorder::library::Keyed(it), plan))),
         #[cfg(not(yachtbanyan_stand_in))]
-        "c" | "c-keys" => {
-            let opened = recorder::c::CTable::new(plan.slots, plan.threads);
-            Some(Ok(match table {
-                "c-keys" => record(recorder::c::CKeyed(opened), plan),
-                _ => record(opened, plan),
-            }))
+        "c" => Some(Ok(record(recorder::c::CTable::<false>::new(plan.slots, plan.threads), plan))),
+        #[cfg(not(yachtbanyan_stand_in))]
+        "c-keys" => {
+            Some(Ok(record(recorder::c::CTable::<true>::new(plan.slots, plan.threads), plan)))
         }
         _ => None,
     }
