@@ -2,8 +2,8 @@
 use std::sync::atomic::{AtomicUsize, Ordering::SeqCst};
 use std::sync::Arc;
 use std::thread::ThreadId;
-use yachtbanyan::{GetError, Guard, Handle, Key, NoSeat, Old, OpenError, Options, OwnedGuard};
-use yachtbanyan::{Reason, Refused, Table, MOST_SLOTS};
+use yachtbanyan::{GetError, Guard, Handle, Key, NoSeat, NoSlot, Old, OpenError, Options};
+use yachtbanyan::{OwnedGuard, Reason, Refused, RemoveError, Table, MOST_SLOTS};
 
 /// Counts how often it was dropped, and notes where.
 #[derive(Debug)]
@@ -197,6 +197,34 @@ fn a_table_that_is_too_large_or_too_small_is_refused() {
     let none = GetError::NoSeat(NoSeat::Guard { in_use: 496 });
     assert_eq!(largest.get_owned_at(0).unwrap_err(), none);
     drop(guards);
+}
+
+#[test]
+fn each_error_has_words_of_its_own() {
+    let (slot, slots) = (3, 2);
+    let (none, seat) = (NoSlot { slot, slots }, NoSeat::Reader { in_use: 1 });
+    let of_slot = "slot 3 is out of range: the table has slots 0 to 1";
+    let of_seat = "1 reader is in use; Options::readers sets at most 1022";
+    let words = ["slot 3 is empty", "slot 3 has another value", of_slot, of_seat];
+    let errors = [
+        GetError::Empty { slot },
+        GetError::Stale { slot },
+        GetError::NoSlot(none),
+        GetError::NoSeat(seat),
+    ];
+    for (error, words) in errors.into_iter().zip(words) {
+        let (removal, reason) = (RemoveError::from(error), Reason::from(error));
+        assert_eq!([error.to_string(), removal.to_string(), reason.to_string()], [words; 3]);
+    }
+    let refused = [
+        (Reason::Full { slots: 1 }, "the only slot has a value"),
+        (Reason::Full { slots }, "all 2 slots have values"),
+        (Reason::Again, "other threads are filling or emptying slots"),
+        (Reason::Making, "the handle is making a value for insert_with"),
+    ];
+    assert!(refused.iter().all(|(reason, words)| reason.to_string() == *words));
+    assert_eq!(OpenError::NoMemory.to_string(), "an allocation failed");
+    assert_eq!(OpenError::Handles(65).to_string(), "65 handles: a table has 1 to 64");
 }
 
 #[test]
