@@ -72,11 +72,17 @@ static void threads_post(void) {
 }
 
 static void words(void) {
-    WANT(!strcmp(yacht_direct_strerror(YACHT_DIRECT_FULL), "no slot is free"));
-    WANT(!strcmp(yacht_direct_strerror(1234), "not a number of yachtdirect.h"));
+    static const struct {
+        int number;
+        const char *words;
+    } said[] = {
+        {0, "done"}, {1, "the slot is to be closed"}, {-6, "no slot is free"}, {-8, "an argument is out of its range"},
+        {-9, "an allocation failed"}, {-10, "the life of the key is over"}, {-11, "the open is not completed"},
+        {-12, "the file is open"}, {-13, "the life was ended"}, {-14, "the close is not completed"},
+        {-15, "too many requests are in flight"}, {-16, "there are too many users"}, {1234, "not a number of yachtdirect.h"},
+    };
+    for (size_t nth = 0; nth < sizeof said / sizeof *said; nth++) WANT(!strcmp(yacht_direct_strerror(said[nth].number), said[nth].words));
     WANT(!strcmp(yacht_direct_version(), YACHT_DIRECT_VERSION));
-    for (int it = YACHT_DIRECT_CLOSE; it >= YACHT_DIRECT_TOO_MANY_USERS; it--)
-        WANT(it == -7 || (it > -6 && it < 0) || strcmp(yacht_direct_strerror(it), "not a number of yachtdirect.h"));
 }
 
 static void failing_allocations(void) {

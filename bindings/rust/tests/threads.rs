@@ -1,17 +1,26 @@
 //! Threads over one table: each value is read only while it is alive, and dropped once by the end.
-//! Of those that remove or replace one key, one does. `YACHTBANYAN_ROUNDS` sets the rounds of a
-//! thread.
+//! Of those that remove or replace one key, one does. A look-up that others overtake drops the
+//! value that it saw first. `YACHTBANYAN_ROUNDS` sets the rounds of a thread, and
+//! `YACHTBANYAN_DROPS` the number of such drops after which the test ends.
 mod support;
 
+use std::cell::Cell;
 use std::collections::HashSet;
 use std::sync::atomic::{AtomicBool, AtomicU64, AtomicUsize, Ordering::Relaxed, Ordering::SeqCst};
 use std::sync::Mutex;
+use std::time::{Duration, Instant};
 use support::{begin, join, together, Job};
 use yachtbanyan::{GetError, Guard, Handle, Key, NoSeat, Old, Options, Reason, Table};
 
 static MADE: AtomicUsize = AtomicUsize::new(0);
 static DROPPED: AtomicUsize = AtomicUsize::new(0);
 static WRONG: AtomicUsize = AtomicUsize::new(0);
+/// The drops within `get_at` and within `get_owned_at`, which returned another value.
+static WITHIN: [AtomicUsize; 2] = [const { AtomicUsize::new(0) }; 2];
+
+thread_local! {
+    static LOOKS_UP: Cell<Option<usize>> = const { Cell::new(None) };
+}
 
 /// A value that is written plainly, so that a sanitizer sees a read or a drop that is not ordered
 /// after it.
@@ -40,6 +49,9 @@ impl Drop for Value {
         self.number += 1;
         *self.again += 1;
         DROPPED.fetch_add(1, SeqCst);
+        if let Some(kind) = LOOKS_UP.get() {
+            WITHIN[kind].fetch_add(1, SeqCst);
+        }
     }
 }
 
@@ -239,6 +251,66 @@ fn end_each_key_once(slots: u32, rounds: u64) {
     assert!(issued as u64 > rounds / 40, "{slots} slots, {issued} keys");
 }
 
+/// Looks up in a way that notes the drops within it.
+fn within<R>(kind: usize, look: impl FnOnce() -> R) -> R {
+    LOOKS_UP.set(Some(kind));
+    let found = look();
+    LOOKS_UP.set(None);
+    found
+}
+
+/// Looks slot 0 up 63 times for each replacement, in each way, until the test ends.
+fn look_hot(handle: &Handle<Value>, ends: &AtomicBool) {
+    let table = handle.table();
+    while !ends.load(SeqCst) {
+        for number in 0..63 {
+            match number % 5 {
+                0 => within(0, || handle.get_at(0)).unwrap().check(),
+                1 => within(1, || table.get_owned_at(0)).unwrap().check(),
+                2 => assert!(handle.contains(0)),
+                3 => assert!(table.contains(0).unwrap()),
+                // a call by the key of no value looks the slot up as well
+                _ => assert!(table.remove(Key::from_bits(0)).is_err()),
+            }
+        }
+        handle.replace_at(0, Value::new(7)).unwrap();
+    }
+}
+
+/// Returns the longest time of a test that takes two minutes if no process waits for a processor:
+/// few look-ups overlap if some do.
+fn longest() -> Duration {
+    let load = std::fs::read_to_string("/proc/loadavg").unwrap_or_default();
+    let waiting: f64 = load.split(' ').next().unwrap().parse().unwrap_or(0.0);
+    let processors = std::thread::available_parallelism().map_or(1, usize::from);
+    Duration::from_secs(120).mul_f64((waiting / processors as f64).max(1.0))
+}
+
+/// Has four threads look one slot up until look-ups have dropped enough values. More than 20 values
+/// are never alive: the one at the slot, and three of each thread.
+fn overtake(enough: usize) {
+    let table = Options::new(1).handles(8).open().unwrap();
+    table.insert(Value::new(7)).unwrap();
+    let (began, ends) = (Instant::now(), AtomicBool::new(false));
+    let alive = || MADE.load(SeqCst).saturating_sub(DROPPED.load(SeqCst));
+    let is_enough = || WITHIN.iter().all(|it| it.load(SeqCst) >= enough);
+    let mut jobs: Vec<Job<'_>> = Vec::new();
+    for _ in 0..4 {
+        let (handle, ends) = (table.handle().unwrap(), &ends);
+        jobs.push(Box::new(move || look_hot(&handle, ends)));
+    }
+    jobs.push(Box::new(|| {
+        while !is_enough() && alive() <= 20 && began.elapsed() < longest() {
+            std::thread::sleep(Duration::from_millis(10));
+        }
+        ends.store(true, SeqCst);
+    }));
+    together(jobs);
+    println!("{WITHIN:?} values dropped in get_at and in get_owned_at");
+    assert_eq!(alive(), 1, "a value is lost");
+    assert!(is_enough(), "few look-ups were overtaken");
+}
+
 fn run(table: &Table<Value>, threads: u64, rounds: u64) {
     let mut jobs: Vec<Job<'_>> = Vec::new();
     for number in 0..threads {
@@ -252,8 +324,8 @@ fn run(table: &Table<Value>, threads: u64, rounds: u64) {
 // A program of its own, since ThreadSanitizer reports races of the test harness, which isn't
 // compiled for it.
 fn main() {
-    let rounds =
-        std::env::var("YACHTBANYAN_ROUNDS").ok().and_then(|it| it.parse().ok()).unwrap_or(20_000);
+    let number = |name, or| std::env::var(name).map_or(or, |it| it.parse().unwrap());
+    let rounds = number("YACHTBANYAN_ROUNDS", 20_000);
     for (slots, threads) in [(2, 4), (8, 3), (256, 4)] {
         let options = Options::new(slots).handles(threads + 1).guards(threads);
         let table = options.open().unwrap();
@@ -272,6 +344,7 @@ fn main() {
     for slots in [1, 2, 4, 16] {
         end_each_key_once(slots, rounds);
     }
+    overtake(number("YACHTBANYAN_DROPS", 20) as usize);
     assert_eq!(MADE.load(SeqCst), DROPPED.load(SeqCst));
     assert_eq!(WRONG.load(SeqCst), 0);
 }
