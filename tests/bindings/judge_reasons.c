@@ -1,18 +1,24 @@
 /* The reason of a log in C: its last step, less room than it needs, and each allocation failing in
  * turn. tests/reasons.py checks its steps. */
-#include "judge_log.h"
 #include "refusing.h"
+#include <string.h>
+#include <yachtjudge.h>
 
 enum { ROOM = 64 };
 static const char catalogue[] = "file a 61\n";
-static judge_log held;
+/* A look finds a file that a close removed before the look was called. */
+static const yacht_request requests[] = {{.kind = YACHT_REQUEST_OPEN}, {.kind = YACHT_REQUEST_CLOSE}};
+static const yacht_event events[] = {
+    {.kind = YACHT_EVENT_CALL, .call = 1, .count = 1}, {.kind = YACHT_EVENT_DONE, .call = 1, .member = 1},
+    {.kind = YACHT_EVENT_CALL, .call = 2, .first = 1, .count = 1}, {.kind = YACHT_EVENT_DONE, .call = 2, .member = 1},
+    {.kind = YACHT_EVENT_LOOK, .call = 3}, {.kind = YACHT_EVENT_FOUND, .call = 3, .by_call = 1, .by_member = 1},
+};
 static yacht_step steps[ROOM];
 static yacht_reason reason;
 
 static uint32_t explain(uint64_t at, size_t room) {
     memset(steps, '?', sizeof steps), memset(&reason, '?', sizeof reason);
-    return yacht_explain_events((const uint8_t *)catalogue, strlen(catalogue), 1, held.requests, held.requests_length, held.entries,
-                                held.entries_length, held.bytes, held.bytes_length, held.events, held.events_length, at, steps, room, &reason);
+    return yacht_explain_events((const uint8_t *)catalogue, strlen(catalogue), 1, requests, 2, &(int32_t){0}, 0, (const uint8_t *)catalogue, 0, events, 6, at, steps, room, &reason);
 }
 
 static int is_untouched(size_t nth) { return steps[nth].rule == 0x3f3f3f3f; }
@@ -21,10 +27,7 @@ static int has_details(uint64_t all, uint64_t at, uint32_t fault, uint32_t line)
     return reason.steps == all && reason.at == at && reason.fault == fault && reason.line == line;
 }
 
-/* A look finds a file that a close removed before the look was called. */
 static void stale(void) {
-    char lines[] = "call 2 open a at 0\ndone 2.1 0\ncall 3 close 0\ndone 3.1 0\ncall 4 look 0\ndone 4.1 0 2.1.0";
-    read_log(&held, catalogue, lines);
     uint32_t number = explain(5, ROOM);
     uint64_t all = reason.steps;
     WANT(number == YACHT_NOT_LEGAL && all > 5 && all < ROOM && has_details(all, 0, 0, 0) && is_untouched(all));

@@ -15,27 +15,25 @@ static yacht_judgement judgement;
 /* Calls the library with the arguments of a row, and room for as many bytes and texts. */
 static uint32_t call(size_t room, size_t count) {
     const judge_row *it = row;
-    const judge_log *log = &it->log;
+    uint32_t states = (uint32_t)it->states, memory = (uint32_t)it->memory;
     memset(words, '?', room + 1);
     switch (it->kind) {
-    case JUDGE:
-        return yacht_judge(it->script.bytes, it->script.length, it->text.bytes, it->text.length, it->states, it->memory, words, room, &verdict);
-    case LIST:
-        return yacht_outcomes(it->script.bytes, it->script.length, it->states, it->memory, words, room, lengths, count, &found);
+    case JUDGE: return yacht_judge(it->script, it->script_length, it->text, it->text_length, states, memory, words, room, &verdict);
+    case LIST: return yacht_outcomes(it->script, it->script_length, states, memory, words, room, lengths, count, &found);
     default:
-        return yacht_judge_events(it->script.bytes, it->script.length, it->slots, log->requests, log->requests_length, log->entries, log->entries_length,
-                                  log->bytes, log->bytes_length, log->events, log->events_length, it->states, it->memory, &judgement);
+        return yacht_judge_events(it->script, it->script_length, (uint32_t)it->slots, it->requests, it->requests_length, it->entries, it->entries_length,
+                                  it->bytes, it->bytes_length, it->events, it->events_length, states, memory, &judgement);
     }
 }
 
 static void judges(void) {
-    size_t whole = row->note.length, rooms[] = {whole + 1, whole, whole / 2, 0};
+    size_t whole = row->note_length, rooms[] = {whole + 1, whole, whole / 2, 0};
     for (size_t nth = 0; nth < sizeof rooms / sizeof *rooms; nth++) {
         size_t written = rooms[nth] < whole ? rooms[nth] : whole;
         memset(&verdict, '?', sizeof verdict);
         WANT(call(rooms[nth], 0) == row->number);
         WANT(verdict.commands == row->commands && verdict.at == row->at && verdict.submission == row->submission && verdict.line == row->line);
-        WANT(verdict.note == whole && !memcmp(words, row->note.bytes, written) && words[written] == '?');
+        WANT(verdict.note == whole && !memcmp(words, row->note, written) && words[written] == '?');
     }
 }
 
@@ -47,13 +45,13 @@ static int are_of_row(void) {
     size_t at = 0;
     for (size_t nth = 0; nth < found.count; at += lengths[nth++]) {
         size_t begin = 0, other = 0;
-        while (other < row->count && (is_taken[other] || row->lengths[other] != lengths[nth] || memcmp(row->text.bytes + begin, words + at, lengths[nth]))) {
+        while (other < row->lengths_length && (is_taken[other] || row->lengths[other] != lengths[nth] || memcmp(row->text + begin, words + at, lengths[nth]))) {
             begin += row->lengths[other++];
         }
-        if (other == row->count) return 0;
+        if (other == row->lengths_length) return 0;
         is_taken[other] = 1;
     }
-    return at == found.bytes && (row->number != YACHT_ALL || found.count == row->count);
+    return at == found.bytes && (row->number != YACHT_ALL || found.count == row->lengths_length);
 }
 
 static void lists(void) {
@@ -82,12 +80,12 @@ static void refused(void) {
         allowed = -1;
         is_refused |= answer == YACHT_JUDGE_NO_MEMORY;
     }
-    WANT(answer == row->number && (is_refused || !row->script.length || row->number > YACHT_NO_ROOM));
+    WANT(answer == row->number && (is_refused || !row->script_length || row->number > YACHT_NO_ROOM));
 }
 
 int main(void) {
     int is_stand_in = getenv("JUDGE_ROWS") != NULL;
-    read_judge_rows("bindings/rust_judge/tests/rows.txt");
+    read_judge_rows();
     for (size_t nth = 0; nth < judge_rows_length; nth++) {
         row = &judge_rows[nth];
         if (row->is_refused && !is_stand_in) continue;

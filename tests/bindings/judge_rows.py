@@ -12,6 +12,8 @@ from pathlib import Path
 
 import yachtjudge
 import yachtlog
+from judge_tables import ROWS, expanded
+from judge_tables import rows as all_rows
 from rows import end, raised, raises, want
 from yachtjudge import BadEvent, BadScript, LogVerdict, NoMemory, Outcomes, Verdict, judge, judge_events, outcomes
 
@@ -22,30 +24,11 @@ WORDS = ["legal", "not legal", "undecided"]
 FAULTS = "wrong-number", "not-one-chain", "not-called", "out-of-turn", "answered-twice", "not-held", "still-open"
 FLAWS = "unknown-event", "unknown-request", "unknown-flags", "unknown-file", "past-the-end"
 is_stand_in = "JUDGE_ROWS" in os.environ
-ROWS = (ROOT / "bindings/rust_judge/tests/rows.txt").read_text().splitlines()
-
-
-def expanded(field):
-    """Returns the bytes of a field."""
-    field = re.sub(r"\{(\d+):([^}]*)\}", lambda it: int(it[1]) * it[2], field).replace("|", "\n")
-    return re.sub(rb"%(..)", lambda it: bytes.fromhex(it[1].decode()), field.encode())
 
 
 def rows():
-    """Yields each row: its kind, whether only a stand-in answers it, the script above it, and its fields."""
-    script, above, is_refused = b"", "", False
-    for line in ROWS:
-        kind, *fields = line.split("\t")
-        is_refused |= kind == "refused"
-        if is_refused and not is_stand_in:
-            return
-        if kind == "script":
-            script = expanded(fields[0])
-        elif kind in ("judge", "list", "log"):
-            if kind == "log":
-                above = fields[3] = above if fields[3] == "=" else fields[3]
-            numbers = [int(it) for it in fields[0].split()]
-            yield kind, is_refused, script, numbers, int(fields[1]), fields[2:]
+    """Returns the rows, without those that only a stand-in answers unless this is one."""
+    return [it for it in all_rows() if is_stand_in or not it[1]]
 
 
 def result(call):

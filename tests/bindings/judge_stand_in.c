@@ -3,31 +3,20 @@
  * makes of each answer. JUDGE_ROWS is the path of the rows. */
 #include "judge_rows.h"
 
-static int is_same(part it, const uint8_t *bytes, size_t length) { return it.length == length && !memcmp(it.bytes, bytes, length); }
+static int is_same(const void *its, size_t its_length, const void *bytes, size_t length) { return its_length == length && !memcmp(its, bytes, length); }
 
-/* Returns the row with these arguments. */
-static const judge_row *row_of(int kind, const uint8_t *script, size_t script_length, uint32_t states, uint32_t memory, int (*holds)(const judge_row *)) {
-    if (!judge_rows_length) read_judge_rows(getenv("JUDGE_ROWS"));
-    for (size_t nth = 0; nth < judge_rows_length; nth++) {
-        const judge_row *it = &judge_rows[nth];
-        if ((int)it->kind == kind && is_same(it->script, script, script_length) && it->states == states && it->memory == memory && holds(it)) return it;
-    }
-    fprintf(stderr, "judge_stand_in.c: no row has these arguments: kind %d, states %u, memory %u\n", kind, states, memory);
+static _Thread_local judge_row given;
+
+/* Returns the row with these arguments, and those of `given`. */
+static const judge_row *row_of(uint64_t kind, const uint8_t *script, size_t script_length, uint32_t states, uint32_t memory, int (*holds)(const judge_row *)) {
+    if (!judge_rows) read_judge_rows();
+    for (const judge_row *it = judge_rows; it < judge_rows + judge_rows_length; it++)
+        if (it->kind == kind && is_same(it->script, it->script_length, script, script_length) && it->states == states && it->memory == memory && holds(it)) return it;
+    fprintf(stderr, "judge_stand_in.c: no row has these arguments: kind %u, states %u, memory %u\n", (unsigned)kind, states, memory);
     abort();
 }
 
-static _Thread_local struct {
-    const uint8_t *text;
-    size_t text_length;
-    uint32_t slots;
-    const yacht_request *requests;
-    const int32_t *entries;
-    const uint8_t *bytes;
-    const yacht_event *events;
-    size_t requests_length, entries_length, bytes_length, events_length;
-} given;
-
-static int has_text(const judge_row *it) { return is_same(it->text, given.text, given.text_length); }
+static int has_text(const judge_row *it) { return is_same(it->text, it->text_length, given.text, given.text_length); }
 static int is_any(const judge_row *it) { return it != NULL; }
 
 static int is_event(const yacht_event *it, const yacht_event *other) {
@@ -42,16 +31,13 @@ static int is_request(const yacht_request *it, const yacht_request *other) {
 }
 
 static int has_log(const judge_row *it) {
-    const judge_log *log = &it->log;
-    if (it->slots != given.slots || log->events_length != given.events_length || log->requests_length != given.requests_length) return 0;
-    if (log->entries_length != given.entries_length || memcmp(log->entries, given.entries, given.entries_length * sizeof(int32_t))) return 0;
-    if (log->bytes_length != given.bytes_length || memcmp(log->bytes, given.bytes, given.bytes_length)) return 0;
-    for (size_t nth = 0; nth < given.events_length; nth++) {
-        if (!is_event(&log->events[nth], &given.events[nth])) return 0;
-    }
-    for (size_t nth = 0; nth < given.requests_length; nth++) {
-        if (!is_request(&log->requests[nth], &given.requests[nth])) return 0;
-    }
+    if (it->slots != given.slots || it->events_length != given.events_length || it->requests_length != given.requests_length) return 0;
+    if (!is_same(it->entries, it->entries_length * sizeof(int32_t), given.entries, given.entries_length * sizeof(int32_t))) return 0;
+    if (!is_same(it->bytes, it->bytes_length, given.bytes, given.bytes_length)) return 0;
+    for (size_t nth = 0; nth < given.events_length; nth++)
+        if (!is_event(&it->events[nth], &given.events[nth])) return 0;
+    for (size_t nth = 0; nth < given.requests_length; nth++)
+        if (!is_request(&it->requests[nth], &given.requests[nth])) return 0;
     return 1;
 }
 
@@ -59,19 +45,20 @@ uint32_t yacht_judge(const uint8_t *script, size_t script_length, const uint8_t 
                      uint8_t *note, size_t note_length, yacht_verdict *verdict) {
     given.text = text, given.text_length = text_length;
     const judge_row *it = row_of(JUDGE, script, script_length, states, memory, has_text);
-    *verdict = (yacht_verdict){it->commands, it->at, it->note.length, it->submission, it->line};
-    memcpy(note, it->note.bytes, note_length < it->note.length ? note_length : it->note.length);
-    return it->number;
+    yacht_verdict made = {it->commands, it->at, it->note_length, (uint32_t)it->submission, (uint32_t)it->line};
+    *verdict = made;
+    memcpy(note, it->note, note_length < it->note_length ? note_length : it->note_length);
+    return (uint32_t)it->number;
 }
 
 uint32_t yacht_outcomes(const uint8_t *script, size_t script_length, uint32_t states, uint32_t memory, uint8_t *texts, size_t texts_length,
                         uint64_t *lengths, size_t lengths_length, yacht_texts *found) {
     const judge_row *it = row_of(LIST, script, script_length, states, memory, is_any);
-    *found = (yacht_texts){it->count, it->text.length, it->line};
-    if (it->text.length > texts_length || it->count > lengths_length) return YACHT_NO_ROOM;
-    memcpy(texts, it->text.bytes, it->text.length);
-    if (it->count) memcpy(lengths, it->lengths, it->count * sizeof *lengths);
-    return it->number;
+    *found = (yacht_texts){it->lengths_length, it->text_length, (uint32_t)it->line};
+    if (it->text_length > texts_length || it->lengths_length > lengths_length) return YACHT_NO_ROOM;
+    memcpy(texts, it->text, it->text_length);
+    if (it->lengths_length) memcpy(lengths, it->lengths, it->lengths_length * sizeof *lengths);
+    return (uint32_t)it->number;
 }
 
 /* what is passed of a log */
@@ -80,11 +67,11 @@ uint32_t yacht_outcomes(const uint8_t *script, size_t script_length, uint32_t st
         size_t entries_length, const uint8_t *bytes, size_t bytes_length, const yacht_event *events, size_t events_length
 
 uint32_t yacht_judge_events(LOG_PASSED, uint32_t states, uint32_t memory, yacht_judgement *judgement) {
-    given.slots = slots, given.requests = requests, given.entries = entries, given.bytes = bytes, given.events = events;
-    given.requests_length = requests_length, given.entries_length = entries_length, given.bytes_length = bytes_length, given.events_length = events_length;
+    given = (judge_row){.slots = slots, .requests = requests, .requests_length = requests_length, .entries = entries, .entries_length = entries_length,
+                        .bytes = bytes, .bytes_length = bytes_length, .events = events, .events_length = events_length};
     const judge_row *it = row_of(LOG, script, script_length, states, memory, has_log);
-    *judgement = (yacht_judgement){it->at, it->fault, it->line};
-    return it->number;
+    *judgement = (yacht_judgement){it->at, (uint32_t)it->fault, (uint32_t)it->line};
+    return (uint32_t)it->number;
 }
 
 /* no row has the two further questions: nothing is decided by whole updates. Only a log without
