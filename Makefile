@@ -90,22 +90,16 @@ prove:
 test:
 	@tests/all
 
+# each runs the check of its name, as tests/all.txt has it, once what that needs is built
+limits compare workers meetings allocation-failures allocations steps mistakes checks break must-spend layout:
+	@tests/one --now $@
+
 examples:
-	@scripts/build-program
-	@tests/check-examples bin/fixfiles
+	@tests/one --now examples
 	@tests/check-page bin/fixfiles
 
-limits:
-	@scripts/build-program
-	@tests/check-limits bin/fixfiles
-
-compare:
-	@scripts/build-program
-	@tests/compare bin/fixfiles
-
 texts:
-	@scripts/build-program
-	@scripts/build-program check_cli fixcheck
+	@scripts/build-program fx_cli fixfiles check_cli fixcheck
 	@tests/check-verdicts bin/fixcheck
 	@tests/check-fixcheck bin/fixcheck bin/fixfiles 2000
 	@tests/check-outcomes bin/fixcheck
@@ -114,56 +108,15 @@ pictures:
 	@scripts/build-program check_cli fixcheck
 	@tests/check-pictures bin/fixcheck --draw
 
-workers:
-	@scripts/build-program
-	@tests/check-workers bin/fixfiles
-
-meetings:
-	@scripts/build-program
-	@scripts/build-program check_cli fixcheck
-	@tests/check-meetings bin/fixfiles bin/fixcheck
-
-allocation-failures:
-	@scripts/build-program
-	@scripts/build-program check_cli fixcheck
-	@scripts/build-program bench_tables bench_tables
-	@tests/check-allocation-failures bin/fixfiles bin/fixcheck bin/bench_tables
-
-steps:
-	@tests/check-steps
-
-mistakes:
-	@tests/check-mistakes
-
-checks:
-	@scripts/build-program
-	@scripts/build-program check_cli fixcheck
-	@tests/check-checks bin/fixfiles bin/fixcheck
-
-break:
-	@tests/check-break
-
-must-spend:
-	@tests/check-must-spend
-
-allocations:
-	@scripts/build-program
-	@scripts/build-program bench_tables bench_tables
-	@tests/check-allocations bin/fixfiles bin/bench_tables
-
 wrong-bodies:
 	@tests/check-wrong-bodies --prover
 	@tests/wrong-bodies $$CRATES
-
-layout:
-	@tests/check-layout
 
 style:
 	@tests/check-style
 
 bench:
-	@scripts/build-program
-	@scripts/build-program bench_tables bench_tables
+	@scripts/build-program fx_cli fixfiles bench_tables bench_tables
 	@bench/bench bin/fixfiles bin/bench_tables
 	@scripts/build-libraries yachtjudge
 	-@bench/measure-logs --targets
@@ -193,21 +146,18 @@ kernel:
 
 conform:
 	@scripts/need number python
-	@scripts/run scripts.lanes --plan check_cli fixcheck fx_judge_c libfx_judge_c.x86_64.a
 	@scripts/build-program check_cli fixcheck
 	@scripts/build-libraries yachtjudge || true
 	@kernel/conform --scripts "$${N:-500}"
 
 dist:
-	@scripts/build-program
-	@scripts/build-program check_cli fixcheck
+	@scripts/build-program fx_cli fixfiles check_cli fixcheck
 	@scripts/build-libraries
 	@scripts/dist bin/fixfiles bin/fixcheck
 	@if command -v aarch64-linux-gnu-gcc > /dev/null; then scripts/dist --arm; fi
 
 install:
-	@scripts/build-program
-	@scripts/build-program check_cli fixcheck
+	@scripts/build-program fx_cli fixfiles check_cli fixcheck
 	@scripts/build-libraries
 	@scripts/install
 

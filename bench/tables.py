@@ -7,7 +7,7 @@ import re
 import statistics
 
 from bench.ratios import read_kept, title
-from scripts.crate_times import minutes
+from scripts.crates import minutes
 from scripts.repository import ROOT, read, write
 
 # the part of a wrong table's logs that are not legal, from which on their size shows the fault

@@ -309,10 +309,8 @@ def command():
     times = checked_plays(options.plays)
     if options.build:
         words = "fx_cli", "fixfiles", "check_cli", "fixcheck"
-        subprocess.run([f"{ROOT}/scripts/run", "scripts.lanes", "--plan", *words], check=False)
-        for both in (words[:2], words[2:]):
-            if subprocess.run([f"{ROOT}/scripts/build-program", *both], check=False).returncode:
-                return 1
+        if subprocess.run([f"{ROOT}/scripts/build-program", *words], check=False).returncode:
+            return 1
     for program in (options.fixfiles, options.fixcheck):
         if not os.path.exists(program):
             print(f"litmus: {kernels.missing_program(program, 'litmus')}", file=sys.stderr)

@@ -1,14 +1,16 @@
-"""lanes CRATE NAME: proves the crates that a program depends on, builds the program, and leaves it at bin/NAME, for
-scripts/build-program.
-lanes --plan CRATE NAME..: prints how long that takes of several programs, before the first one begins, or nothing if each of them is
-newer than all sources.
+"""lanes CRATE NAME [CRATE NAME..]: proves the crates that programs or static libraries depend on, builds these, and leaves each at bin/NAME,
+for scripts/build-program.
+lanes static [--gate BEGAN LOG] CRATE MACHINE..: proves and builds the static library of a crate for x86_64 or aarch64, or both, if it is
+older than a source, and keeps it at bin/libCRATE.MACHINE.a. The crate is proved in a copy, over the libraries of the crates below, and for a
+second machine over what was proved for the first. With --gate the libraries are the gate's: it proves the crates but builds no static
+library, and this waits until it has proved those below. BEGAN is a file older than the gate, LOG the gate's output.
+lanes keep FILE CRATE NAME: copies what was built from CRATE to bin/NAME, as old as FILE, which was made before the build began.
 
-Crates that don't depend on each other are proved in parallel, as far as memory goes. The crates on the longest paths to the program
+Crates that don't depend on each other are proved in parallel, as far as memory goes. The crates on the longest paths to the programs
 share the processors; each other crate has one job at a lower priority. The toolchain locks the folders of a crate and of its
 dependencies while it proves, so one crate is proved in place, and the others in copies (scripts/proved.py). Prints on standard error
-what is proved and how long the rest is expected to take: on a terminal a line that is updated, else a line a minute. The estimate is
-scaled by the last crates of this run. It is a lower bound ("at least") before the first crate has ended, and while a crate takes
-longer than expected. What the prover prints goes to build/program.log."""
+what is proved and how long the rest is expected to take: on a terminal a line that is updated, else a line a minute. What the prover prints
+goes to build/program.log, and each verdict to a log of build, for scripts/dist."""
 import fcntl
 import os
 import re
@@ -20,25 +22,21 @@ import tempfile
 import time
 
 from scripts import refusals
-from scripts.crate_times import KEPT, UNMEASURED, behind, crates, expected, in_words, measured, needed, spread_in_words, static_libraries
-from scripts.proved import copy_crates, take_back
+from scripts.crates import PROCESSORS, UNMEASURED, Estimate, crates, measured, needed, static_libraries, weights
+from scripts.proved import Gate, copy_crates, take_back
 from scripts.repository import ROOT, SOURCES, files_of, is_newer
 
 LOG = "build/program.log"
-STARTED = "build/program.started"
 VERDICTS = "build/verdicts.log"
 DONE_OF = re.compile(r"^(?:checked .*, |so far: )(\d+ of \d+)", re.MULTILINE)
 # the KiB of memory that each crate needs which is proved
 ROOM_OF_ONE = 4 << 20
-PROCESSORS = len(os.sched_getaffinity(0))
 # more jobs than this don't prove a crate faster
 MOST_JOBS = 4
-# a path to the program counts as a longest one from this part of the longest path on
+# a path to a program counts as a longest one from this part of the longest path on
 NEARLY = 0.75
-# the seconds that a measured processor second takes, before a crate of this run has ended
-CLOCK = 0.65 if PROCESSORS >= 4 else 0.9
-# the number of crates by which the estimate is scaled
-RECENT = 3
+# the words of the toolchain that choose a machine
+TARGETS = {"x86_64": [], "aarch64": ["--target", "aarch64-unknown-linux-gnu"]}
 
 
 def memory():
@@ -55,12 +53,27 @@ def is_kept(name, below, kept):
     return all(it in kept for it in below[name]) and is_newer(f"crates/{name}/out/rlib/{name}.rlib", files_of(name, *SOURCES))
 
 
+def keep(folder, crate, name, began):
+    """Copies what was built in a crate's folder to bin. It gets the time at which the build began, so that a source that was changed since
+    counts as newer."""
+    os.makedirs("bin", exist_ok=True)
+    new, built = f"bin/{name}.{os.getpid()}", f"{folder}/out/{crate}"
+    shutil.copy(built if os.path.exists(built) else f"{folder}/out/lib{crate}.a", new)
+    os.utime(new, (began, began))
+    os.replace(new, f"bin/{name}")
+
+
+def note_verdict(path, name, said):
+    with open(path, "a", encoding="utf-8") as log:
+        log.write("\n".join([f"== {name}", *re.findall(r"^logic=.*", said, re.MULTILINE)[-1:], ""]))
+
+
 class Job:
     """A crate that is being proved, in a process group of its own: in place, or in a copy with the crates below (`is_apart`). Its folder is
     locked as the toolchain does it, so that another run there waits. It has a lower priority unless it is on a longest path (`is_far`)."""
 
     def __init__(self, name, words, is_far, is_apart):
-        self.name, self.is_far, self.path, self.begin = name, is_far, f"build/{name}.log", time.monotonic()
+        self.name, self.path, self.begin = name, f"build/{name}.log", time.monotonic()
         self.copy = tempfile.TemporaryDirectory(prefix=f"{name}-") if is_apart else None
         if self.copy:
             self.lock = os.open(f"crates/{name}", os.O_RDONLY)
@@ -79,9 +92,6 @@ class Job:
             self.copy.cleanup()
             self.copy = None
 
-    def seconds(self):
-        return time.monotonic() - self.begin
-
     def said(self):
         with open(self.path, encoding="utf-8", errors="replace") as log:
             return log.read()
@@ -90,12 +100,6 @@ class Job:
         """Returns its progress in words."""
         done = DONE_OF.findall(self.said())
         return f"{self.name} {done[-1]} functions" if done else self.name
-
-    def left(self, whole):
-        """Returns the seconds that it still takes, if it takes `whole`, and whether it has taken longer: then as long again as it is
-        late."""
-        passed = self.seconds()
-        return abs(whole - passed) + KEPT, passed >= whole
 
     def end(self):
         """Ends it, and the processes that it has started."""
@@ -109,50 +113,32 @@ class Job:
 
 
 class Lanes:
-    """The crates of a program, or of several, which are proved in lanes. The last root is the program that is built."""
+    """The crates of programs, which are proved in lanes. `roots` has the name of each program by its crate."""
 
-    def __init__(self, *roots):
-        self.root, self.below = roots[-1], crates()
-        wanted = {it for root in roots for it in needed(root, self.below)}
+    def __init__(self, roots):
+        self.roots, self.below, self.began = roots, crates(), time.time()
+        wanted, known, kept = {it for root in roots for it in needed(root, self.below)}, measured(), set()
         self.those = [it for it in self.below if it in wanted]
-        self.lanes = max(min(PROCESSORS, memory() // ROOM_OF_ONE), 1)
-        known, self.kept, self.seconds = measured(), set(), {}
         for it in self.those:
-            if it not in roots and is_kept(it, self.below, self.kept):
-                self.kept.add(it)
-            self.seconds[it] = KEPT if it in self.kept else known.get(it, (UNMEASURED,))[0]
-        self.weight = behind(self.those, self.below, self.seconds)
-        self.left, self.jobs, self.done, self.is_interrupted = list(self.those), [], 0, False
-        # the seconds of each crate that has ended, and its measured ones
-        self.ended, self.shown, self.begin = [], 0, time.monotonic()
+            if it not in roots and is_kept(it, self.below, kept):
+                kept.add(it)
+        seconds = {it: 0 if it in kept else known.get(it, (UNMEASURED,))[0] for it in self.those}
+        self.lanes = max(min(PROCESSORS, memory() // ROOM_OF_ONE), 1)
+        self.estimate, self.weight = Estimate(seconds, self.below, self.lanes), weights(seconds, self.below)
+        self.left, self.jobs, self.done, self.is_interrupted = list(self.those), [], set(), False
+        self.tell(f"Proving and building {' and '.join(roots.values())}, {len(self.those) - len(kept)} of {len(self.those)} crates: "
+                  f"that takes {self.estimate.range()} here.")
 
     def tell(self, text, end="\n"):
         clear = "\r\033[K" if sys.stderr.isatty() else ""
         sys.stderr.write(f"{clear}{text}{end}")
         sys.stderr.flush()
 
-    def scale(self):
-        """Returns the seconds that a second of scripts/seconds.txt takes here, by the last crates of this run on a longest path."""
-        last = self.ended[-RECENT:]
-        return sum(it for it, _ in last) / sum(it for _, it in last) if last else CLOCK
-
-    def expected(self):
-        """Returns how long the rest takes, in words."""
-        scale, running, is_least = self.scale(), {}, not self.ended
-        for it in self.jobs:
-            running[it.name], is_late = it.left(self.seconds[it.name] * scale)
-            is_least |= is_late
-        return in_words(expected({it: self.seconds[it] * scale for it in self.left}, running, self.below, self.lanes), is_least)
-
-    def range(self):
-        """Returns how long all takes, in words, before the first crate has begun."""
-        return spread_in_words(self.seconds, self.below, self.lanes)
-
     def words(self, name, jobs):
         """Returns the command that proves a crate with that many jobs. Of a library the statements are kept and not the proofs, as in the
-        gate, so that dependent crates have less to read. The program is built by a run on an empty script, which prints nothing, or
+        gate, so that dependent crates have less to read. A program is built by a run on an empty script, which prints nothing, or
         by a run that prints its help if it needs arguments."""
-        if name != self.root:
+        if name not in self.roots:
             return ["rt", "lib", "--jobs", str(jobs), "--statements"]
         if name in static_libraries():
             return ["rt", "lib", "--jobs", str(jobs)]
@@ -180,32 +166,26 @@ class Lanes:
             self.tell("", "")
             refusals.main(job.path)
             return False
-        # for scripts/dist
-        with open(VERDICTS, "a", encoding="utf-8") as log:
-            log.write("\n".join([f"== {job.name}", *re.findall(r"^logic=.*", job.said(), re.MULTILINE)[-1:], ""]))
+        note_verdict(VERDICTS, job.name, job.said())
+        if job.name in self.roots:
+            keep(f"crates/{job.name}", job.name, self.roots[job.name], self.began)
         os.remove(job.path)
-        self.done += 1
-        if job.is_far and job.name not in self.kept:
-            self.ended.append((job.seconds(), self.seconds[job.name]))
-        self.tell(f"  {job.name}, crate {self.done} of {len(self.those)}: {job.seconds():.0f} s")
+        self.done.add(job.name)
+        self.tell(f"  {job.name}, crate {len(self.done)} of {len(self.those)}: {time.monotonic() - job.begin:.0f} s")
         return True
 
     def show(self):
-        """Updates the line of a terminal each second, or prints a line a minute."""
-        if not self.jobs or time.monotonic() - self.begin < self.shown * (1 if sys.stderr.isatty() else 60):
+        """Updates the line of a terminal, or prints a line a minute."""
+        if not self.jobs or not (sys.stderr.isatty() or self.estimate.is_due()):
             return
-        now, minutes = ", ".join(it.now() for it in self.jobs), self.shown
-        self.shown += 1
+        line = f"{len(self.done)} of {len(self.those)} crates proved, {self.estimate.left(self.done)} left: {', '.join(it.now() for it in self.jobs)}"
         if sys.stderr.isatty():
-            line = f"  {now}: {self.done} of {len(self.those)} crates proved, {self.expected()} left"
-            self.tell(line[: shutil.get_terminal_size().columns - 1], "")
-        elif minutes:
-            self.tell(f"  after {minutes} min: {self.done} of {len(self.those)} crates proved, {self.expected()} left: {now}")
+            self.tell(f"  {line}"[: shutil.get_terminal_size().columns - 1], "")
+        else:
+            self.tell(f"  after {self.estimate.minutes} min: {line}")
 
     def prove(self):
         """Returns whether all crates were proved. Stops at the first that isn't, or if the user interrupts it."""
-        left = len(self.those) - len(self.kept)
-        self.tell(f"Proving and building the program, {left} of {len(self.those)} crates: that takes {self.range()} here.")
         while self.left or self.jobs:
             self.start()
             time.sleep(0.2)
@@ -218,39 +198,21 @@ class Lanes:
             self.show()
         return True
 
-    def end(self):
-        for job in self.jobs:
-            job.end()
 
-
-def is_built(name):
-    """Checks whether a program is newer than all sources, as scripts/build-program does."""
-    return is_newer(f"bin/{name}", ["crates.txt", "HANDLES", *files_of("*", *SOURCES)])
-
-
-def plan(words):
-    roots = [crate for crate, name in zip(words[::2], words[1::2]) if not is_built(name)]
-    if len(roots) > 1 and shutil.which("rt"):
-        lanes = Lanes(*roots)
-        those = f"{', '.join(roots[:-1])} and {roots[-1]} need {len(lanes.those) - len(lanes.kept)} crates that are not proved"
-        lanes.tell(f"Proving and building {len(roots)} programs, one after another: {those}. That takes {lanes.range()} here.")
-    return 0
-
-
-def main(root, name):
-    lanes = Lanes(root)
+def build(roots):
+    lanes = Lanes(roots)
 
     def interrupt(*_):
         lanes.is_interrupted = True
 
     for number in (signal.SIGINT, signal.SIGTERM, signal.SIGHUP):
         signal.signal(number, interrupt)
-    for path in (LOG, STARTED):
-        with open(path, "w", encoding="utf-8"):
-            pass
+    with open(LOG, "w", encoding="utf-8"):
+        pass
     if lanes.prove():
-        return subprocess.run(["scripts/keep-program", STARTED, root, name], check=False).returncode
-    lanes.end()
+        return 0
+    for job in lanes.jobs:
+        job.end()
     if lanes.is_interrupted:
         lanes.tell("\nInterrupted: no program was built. The same command begins again with the crates that are not proved yet.")
         return 130
@@ -258,6 +220,54 @@ def main(root, name):
     return 1
 
 
+def has_all_below(gate, those):
+    """Waits until the gate has proved these crates, or has ended, and returns whether it has proved them."""
+    while True:
+        has_ended = gate.has_ended()
+        if gate.proved().issuperset(those):
+            return True
+        if has_ended:
+            return False
+        time.sleep(2)
+
+
+def build_static(room, name, machine, began):
+    """Builds the static library in a copy, and keeps it. Returns the status of the prover."""
+    folder = f"{room}/crates/{name}"
+    how = {"stdin": subprocess.DEVNULL, "stdout": subprocess.PIPE, "stderr": subprocess.STDOUT, "errors": "replace"}
+    # one job: every further job loads the crates below again
+    ran = subprocess.run(["rt", "lib", "--jobs", "1", *TARGETS[machine]], cwd=folder, check=False, **how)
+    if ran.returncode:
+        sys.stderr.write(ran.stdout[-4000:])
+        return ran.returncode
+    keep(folder, name, f"lib{name}.{machine}.a", began)
+    os.makedirs("build", exist_ok=True)
+    note_verdict(f"build/verdicts.{machine}.log", name, ran.stdout)
+    return 0
+
+
+def static(words):
+    gate = Gate(*words[1:3]) if words[:1] == ["--gate"] else None
+    name, *machines = (words[3:] if gate else words) or [""]
+    if not machines or any(it not in TARGETS for it in machines):
+        sys.exit(__doc__)
+    began, those = gate.began if gate else time.time(), needed(name, crates())
+    sources = ["crates.txt", "HANDLES", *(it for crate in those for it in files_of(crate, *SOURCES))]
+    machines = [it for it in machines if not is_newer(f"bin/lib{name}.{it}.a", sources)]
+    if machines and gate and not has_all_below(gate, those[:-1]):
+        print(f"lanes: the gate has not proved each crate below {name}", file=sys.stderr)
+        return 1
+    with tempfile.TemporaryDirectory(prefix=f"{name}-") as room:
+        if machines:
+            copy_crates(room, gate, name)
+        return next((status for it in machines if (status := build_static(room, name, it, began))), 0)
+
+
 def command():
     os.chdir(ROOT)
-    return plan(sys.argv[2:]) if sys.argv[1] == "--plan" else main(*sys.argv[1:])
+    what, *words = sys.argv[1:]
+    if what == "static":
+        return static(words)
+    if what == "keep":
+        return keep(f"crates/{words[1]}", *words[1:], os.path.getmtime(words[0]))
+    return build(dict(zip(sys.argv[1::2], sys.argv[2::2])))

@@ -5,12 +5,10 @@ import shutil
 import subprocess
 import sys
 
-from scripts.crate_times import crates, needed
+from scripts.crates import VERDICT, crates, needed
 from scripts.repository import ROOT, SOURCES, files_of, read, write
 
 PARTS = (*SOURCES, "out")
-# how the gate ends
-VERDICT = re.compile(r"^\d+ passed, \d+ failed$", re.MULTILINE)
 
 
 class Gate:

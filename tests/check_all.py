@@ -15,7 +15,7 @@ from scripts.programs import in_parallel
 from scripts.repository import ROOT, read, write
 
 # what tests/all calls beside the checks
-SCRIPTS = "need", "keep-program", "build-libraries", "tell-progress"
+SCRIPTS = "need", "run", "build-libraries"
 # checks that others run, by the file of the other
 INSIDE = {"claims": "layout", "edits": "layout", "links": "layout", "wrong bodies": "layout"}
 # a check that make test does not run
@@ -50,7 +50,18 @@ FAULTS = (
     ("scripts/need", "\n", f"\n# {'long ' * 20}\n", "lines of comments have more than 100 columns"),
     ("crates/fx_order/src/chain.rt", "\n", "\n// Op::Open, Op::Read, Op::Close, Op::Update, Op::Open\n", "other crates match on the kind of a request"),
     ("Makefile", "help-all: help", "help-all: helps", "make alone does not list its targets"),
-    ("docs/inside/MODEL.md", "(../use/LIMITS.md)", "(../use/LIMIT.md)", "check-links"),
+    ("docs/inside/MODEL.md", "(../use/LIMITS.md)", "(../use/LIMIT.md)", "docs/inside/MODEL.md leads to ../use/LIMIT.md, which is not there"),
+    ("docs/inside/PROOFS.md", "`CountedTable::look`, `release`", "`CountedTable::lock`, `release`", "there is no CountedTable::lock"),
+    ("docs/inside/PROOFS.md", "`fits`, `steps`; `draw`", "`fits`, `stops`; `draw`", "take has no clause stops"),
+    ("docs/inside/PROOFS.md", "at most 1, 2, 4, 3, 3, 2 and 1 atomic", "at most 1, 2, 5, 3, 3, 2 and 1 atomic", "not right: put in 5 steps"),
+    ("docs/inside/PROOFS.md", "| fx_ring | Ring, Submission |", "| fx_ring | Submission |", "the reading list should have "),
+    ("docs/use/CHECKING.md", "line 7 of the script; line 2 of the text: expected 1.1.1", "line 7 of the script; line 3 of the text: expected 1.1.1",
+     "docs/use/CHECKING.md has 5 lines of examples/judged/explained.judged"),
+    ("man/conform.1", "by default 500", "by default 501", "not right: conform, by default 501"),
+    ("README.md", "fixcheck --all examples", "fixcheck --al examples", "README.md: not right: fixcheck --al"),
+    ("README.md", " minutes of proofs", "0 minutes of proofs", "README.md: bench/write-tables writes"),
+    ("docs/use/SPEED.md", "0.9", "0.8", "docs/use/SPEED.md: bench/write-tables writes"),
+    ("docs/use/LIMITS.md", "-tables machine", "-tables other", "docs/use/LIMITS.md: bench/write-tables writes"),
     ("tests/counts.py", "import shutil\n", "import shutil\nimport wave\n", "pyflakes3 finds a fault"),
     ("tests/one", "status=$?\n", "status=$?\nexport it=$(true)\n", "shellcheck finds a fault"),
 )
@@ -95,9 +106,8 @@ def ran(room, case):
 def check_all(checks):
     with tempfile.TemporaryDirectory(prefix="all-") as room:
         commands = lay_out(room)
-    called = [it for it in commands if it != "scripts/tell-progress"]
-    cases = [("", "", "well")] + [(it, "", "well") for it in [*called, "tests/check-examples by-rattle"]]
-    cases += [("", it, "well") for it in called if it.startswith("tests/")] + [("", "tests/check-steps few", "well")]
+    cases = [("", "", "well")] + [(it, "", "well") for it in [*commands, "tests/check-examples by-rattle"]]
+    cases += [("", it, "well") for it in commands if it.startswith("tests/")] + [("", "tests/check-steps few", "well")]
     cases += [("", "", it) for it in GATES if it != "well"]
     kept = {file_of(it) for it in kept_numbers() if it == name_of(it) and " without " not in it and it not in (*INSIDE, APART)}
     checks.want(kept == {f"tests/{it}" for it in listed()}, f"tests/all runs other checks than have numbers in tests/cases.txt: {sorted(kept)}")
@@ -165,7 +175,7 @@ def check_layout(checks):
         if tool in TOOLS and not shutil.which(tool):
             checks.skip(1, tool)
             continue
-        checks.want(it.returncode == 1 and f"layout: {complaint}" in it.stdout, f"check-layout doesn't find the fault of {file}: {complaint}")
+        checks.want(it.returncode == 1 and f" {complaint}" in it.stdout, f"check-layout doesn't find the fault of {file}: {complaint}")
 
 
 def command():

@@ -4,15 +4,13 @@ preconditions; that its reading list has the files and lines that the headline's
 examples in README.md and docs/inside/LIBRARY.md; that each refusal in crates/WRONG_BODIES.md exists; the types and functions that any page
 names; the atomic steps of calls in docs/inside/PROOFS.md; the options of each command, and the defaults of the scripts' manual pages; the
 kept outputs of fixcheck that docs/use/CHECKING.md shows; and the tables and minutes that bench/write-tables writes. So it finds a page that
-is older than the code. Each kind of claims has some, and a wrong page of each is refused.
+is older than the code. Each kind of claims has some (tests/check-all has a wrong page of each).
 
 A claim is written '`f`, `g`: `x`, `y`; `h`: `z`': f and g both have the clauses x and y, and h has z. Without clauses it refers to
 the whole contract. A word with a capital letter is a definition that the contract cites."""
 import collections
 import contextlib
-import copy
 import glob
-import io
 import os
 import re
 from typing import NamedTuple
@@ -27,8 +25,8 @@ from scripts.repository import ROOT, SOURCES, files_of, read
 PROOFS, BODIES = "docs/inside/PROOFS.md", "crates/WRONG_BODIES.md"
 CALLER = "Preconditions of the public calls"
 # the least number of claims of each kind
-LEAST = {"tables": 600, "conditions": 85, "reading list": 4, "promises": 6, "wrong bodies": 480, "quotes": 170,
-         "atomic steps": 13, "defaults": 8, "options": 20, "wrong claims": 3, "pages": 450, "measurements": 29, "kept outputs": 8}
+LEAST = {"tables": 600, "conditions": 85, "reading list": 1, "promises": 6, "wrong bodies": 480, "quotes": 170,
+         "atomic steps": 12, "defaults": 7, "options": 19, "pages": 450, "measurements": 26, "kept outputs": 4}
 # the kept outputs of which docs/use/CHECKING.md shows lines, and how many
 QUOTED = {"examples/judged/explained.judged": 6, "examples/judged/submissions.judged": 5, "examples/questions/replaced_under_a_reader.texts": 7,
           "examples/questions/open_any_beside_a_close.texts": 6}
@@ -207,38 +205,29 @@ def defaults(page):
         yield f"{name}, by default {number}", number.replace(",", "") in numbers
 
 
-# what a page claims of steps, options and defaults: the pages, and a wrong page of each kind
+# what a page claims of steps, options and defaults, and the pages
 NUMBERS = {
-    "atomic steps": (atomic_steps, [PROOFS], "| at most 2 and block + 2 atomic steps | `LastingTable::release`, `put`: `steps` |"),
-    "defaults": (defaults, ["man/conform.1", "man/draw-history.1", "man/judge-linux.1", "man/litmus.1"], ".Nm conform\nby default\n501; by default 1,201"),
-    "options": (options, ["README.md", "CHANGELOG.md", "examples/README.md", *sorted(glob.glob("docs/*/*.md", root_dir=ROOT))],
-                "    fixcheck --al\n`fixfiles --history`\n    conform --ruler NAME # any\n"),
+    "atomic steps": (atomic_steps, [PROOFS]),
+    "defaults": (defaults, ["man/conform.1", "man/draw-history.1", "man/judge-linux.1", "man/litmus.1"]),
+    "options": (options, ["README.md", "CHANGELOG.md", "examples/README.md", *sorted(glob.glob("docs/*/*.md", root_dir=ROOT))]),
 }
 
 
 def numbers(claims):
-    for kind, (claimed, pages, wrong) in NUMBERS.items():
-        claims.kind = kind
+    for claims.kind, (claimed, pages) in NUMBERS.items():
         for page in pages:
             for what, holds in claimed(newest(read(page)) if page == "CHANGELOG.md" else read(page)):
                 claims.want(holds, f"{page}: not right: {what}")
-        found = list(claimed(wrong))
-        claims.want(len(found) > 1 and not any(holds for _, holds in found), f"of wrong {kind} it is said: {found}")
-
-
-def is_written(path, text):
-    """Checks whether a page has the tables and the minutes that bench/write-tables writes."""
-    with contextlib.suppress(KeyError, ValueError):
-        return tables.written(path, text) == text
 
 
 def measurements(claims):
-    """Each page is as bench/write-tables writes it, and each table is on one page. Pages with another number are refused."""
+    """Each page has the tables and the minutes that bench/write-tables writes, and each table is on one page."""
     for path in tables.pages():
-        claims.want(is_written(path, read(path)), f"{path}: bench/write-tables writes another table, or other minutes")
+        is_written = False
+        with contextlib.suppress(KeyError, ValueError):
+            is_written = tables.written(path, read(path)) == read(path)
+        claims.want(is_written, f"{path}: bench/write-tables writes another table, or other minutes")
     claims.want(sorted(tables.named()) == sorted(tables.TABLES), f"the pages have the tables {sorted(tables.named())}, and not {sorted(tables.TABLES)}")
-    for path, old, new in (("README.md", " minutes of proofs", "0 minutes of proofs"), ("docs/use/SPEED.md", "0.9", "0.8"), ("docs/use/LIMITS.md", "-tables machine", "-tables other")):
-        claims.want(old in read(path) and not is_written(path, read(path).replace(old, new, 1)), f"{path} with {new!r} in place of {old!r} is taken for a right one")
 
 
 def refuses(name, refusal):
@@ -295,22 +284,13 @@ def reached():
     return found, sum(not re.match(r"\s*$| *--|(pub )?(use|mod) ", it) for spec in found for it in read(spec).split("\n"))
 
 
-def is_list_of(part, files, lines):
-    """Whether a section has a row for each crate, with its files by their names, and both numbers."""
-    listed = [f"crates/{crate}/specs/{name}.antt" for _, (crate, names) in rows(part) if re.search("fx_|table_", crate) for name in names.split(", ")]
-    return sorted(listed) == sorted(files) and f"{len(files)} files with {lines} lines of definitions" in " ".join(part.split())
-
-
 def reading_list(claims):
-    """The reading list of docs/inside/PROOFS.md has these files and numbers. Lists with a file less or other numbers are refused."""
+    """The reading list of docs/inside/PROOFS.md has a row for each crate, with its files by their names, and both numbers."""
     (files, lines), part = reached(), section(read(PROOFS), "## Reading list")
-    names = ", ".join(sorted(os.path.basename(it)[:-5] for it in files))
+    listed = [f"crates/{crate}/specs/{name}.antt" for _, (crate, names) in rows(part) if re.search("fx_|table_", crate) for name in names.split(", ")]
     wanted = f"{len(files)} files with {lines} lines of definitions"
-    claims.want(is_list_of(part, files, lines), f"{PROOFS}: the reading list should have {wanted}: {names}")
-    row, numbers = "| fx_ring | Ring, Submission |", "2 files with 9 lines of definitions"
-    for page, is_right in ((f"{numbers}\n{row}", True), (f"{numbers}\n{row.replace('Ring, ', '')}", False), (f"{numbers.replace('9', '8')}\n{row}", False)):
-        made = is_list_of(page, ["crates/fx_ring/specs/Ring.antt", HEADLINE], 9)
-        claims.want(made == is_right, f"of a reading list that is {'right' if is_right else 'wrong'} the opposite is said: {page}")
+    names = ", ".join(sorted(os.path.basename(it)[:-5] for it in files))
+    claims.want(sorted(listed) == sorted(files) and wanted in " ".join(part.split()), f"{PROOFS}: the reading list should have {wanted}: {names}")
 
 
 def promises_of_readme(claims, headings):
@@ -348,37 +328,24 @@ def quotes(claims):
     claims.want(all(found.values()), "README.md, docs/inside/LIBRARY.md and docs/inside/PROOFS.md quote no law, or no example")
 
 
-def quoted_lines(page, text):
-    """Returns how many lines of a page's indented blocks have a number and are in a text."""
-    words = " ".join(text.split())
-    return sum(bool(re.search(r"\d", it)) and " ".join(it.split()) in words for block in blocks(page) for it in block)
-
-
 def kept_outputs(claims):
-    """docs/use/CHECKING.md shows lines of kept outputs of fixcheck, and with another number fewer."""
-    page = read("docs/use/CHECKING.md")
-    for path, count in QUOTED.items():
-        claims.want(quoted_lines(page, read(path)) >= count, f"docs/use/CHECKING.md has {quoted_lines(page, read(path))} lines of {path}, and not {count}")
-        claims.want(quoted_lines(page.replace("1 ", "3 "), read(path)) < count, f"docs/use/CHECKING.md with other numbers has as many lines of {path}")
-
-
-def wrong_pages(claims):
-    """Claims that are wrong, each of which is refused."""
-    for names, clauses in ((["no_such_function"], []), (["PlainTable::release"], ["no_such_clause"]), (["fx_order::no_such_law"], [])):
-        tried = copy.copy(claims)
-        tried.kinds = collections.Counter()
-        with contextlib.redirect_stdout(io.StringIO()):
-            tried.claim("a wrong page", names, clauses, list(claims.found))
-        claims.want(tried.wrong == claims.wrong + 1, f"the wrong claim {names} {clauses} is taken for a right one")
+    """docs/use/CHECKING.md shows lines of kept outputs of fixcheck, that have a number."""
+    shown = [" ".join(it.split()) for block in blocks(read("docs/use/CHECKING.md")) for it in block if re.search(r"\d", it)]
+    for path, wanted in QUOTED.items():
+        words = " ".join(read(path).split())
+        count = sum(it in words for it in shown)
+        claims.want(count >= wanted, f"docs/use/CHECKING.md has {count} lines of {path}, and not {wanted}")
 
 
 def command():
     claims = Claims()
     headings, told = tables_of_proofs(claims)
-    for claims.kind, what in (("conditions", lambda: claims.conditions(told)), ("reading list", lambda: reading_list(claims)),
-                              ("promises", lambda: promises_of_readme(claims, headings)), ("wrong bodies", lambda: wrong_bodies(claims)),
-                              ("quotes", lambda: quotes(claims)), ("kept outputs", lambda: kept_outputs(claims)), ("measurements", lambda: measurements(claims)), ("wrong claims", lambda: wrong_pages(claims))):
-        what()
+    claims.kind = "conditions"
+    claims.conditions(told)
+    for claims.kind, what in (("reading list", reading_list), ("wrong bodies", wrong_bodies), ("quotes", quotes), ("kept outputs", kept_outputs), ("measurements", measurements)):
+        what(claims)
+    claims.kind = "promises"
+    promises_of_readme(claims, headings)
     numbers(claims)
     claims.kind = "pages"
     for path in ("README.md", "CHANGELOG.md", *(it for way in ("*/*.md", "docs/*/*.md") for it in sorted(glob.glob(way, root_dir=ROOT)))):

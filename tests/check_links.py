@@ -28,7 +28,7 @@ def pages(root):
 def targets_of_make():
     """Returns the targets that have a rule, and those that `make help` and `make help-all` list."""
     makefile = read("Makefile")
-    return set(re.findall(r"^([\w-]+):(?!=)", makefile, re.MULTILINE)), set(re.findall(r"@echo ' *make ([\w-]+)", makefile))
+    return {it for those in re.findall(r"^([\w -]+):(?!=)", makefile, re.MULTILINE) for it in those.split()}, set(re.findall(r"@echo ' *make ([\w-]+)", makefile))
 
 
 @functools.cache

@@ -26,7 +26,7 @@ import time
 
 from scripts import edits
 from scripts.checks import last_line
-from scripts.crate_times import crates
+from scripts.crates import crates
 from scripts.proved import Gate, copy_crates, prove
 from scripts.refusals import refused_functions, unknown_lines
 from scripts.repository import ROOT, read, write

@@ -1,0 +1,172 @@
+"""The crates of crates.txt, and how long their proofs take, by scripts/seconds.txt.
+
+crates measure [CRATE..]: measures the CPU seconds of crates, each proved by one job from nothing, and of their tests, and writes them to
+scripts/seconds.txt, and the minutes of the pages (bench/write-tables). It works in a copy of the repository that reuses the proved crates
+below. Without CRATE it measures all: about two hours.
+crates progress LOG: prints on standard error how long the gate is expected to take here, and then once a minute how much of it is done, by
+its LOG, and how long the rest takes. Ends with the gate, or with the process that started this one."""
+import contextlib
+import os
+import re
+import resource
+import shutil
+import subprocess
+import sys
+import tempfile
+import time
+
+from scripts.repository import ROOT, files_of, read, read_bytes, write
+
+FILE = "scripts/seconds.txt"
+PROCESSORS = len(os.sched_getaffinity(0))
+# the seconds of a crate that was not measured
+UNMEASURED = 100
+# how the gate ends, and what it prints of a crate
+VERDICT = re.compile(r"^\d+ passed, \d+ failed$", re.MULTILINE)
+PROVED = re.compile(r"^(?:rt: )?(\w+)(: its tests)?(?: are)? (?:proved$|is kept:)", re.MULTILINE)
+
+
+def crates():
+    """Returns each crate of crates.txt with the crates that it depends on, in the order of the file."""
+    found = {}
+    for line in read("crates.txt").splitlines():
+        left, colon, right = line.partition("#")[0].partition(":")
+        if colon:
+            found[left.split()[0]] = right.split()
+    return {name: [it for it in below if it in found] for name, below in found.items()}
+
+
+def static_libraries():
+    """Returns the crates of crates.txt that are static libraries, for C."""
+    return set(re.findall(r"^(\w+) staticlib:", read("crates.txt"), re.MULTILINE))
+
+
+def measured():
+    """Returns the measured processor seconds of each crate: of its proof, and of its tests."""
+    rows = (line.split() for line in read(FILE).splitlines() if re.match(r"\w", line))
+    return {name: (int(proof), int(tests)) for name, proof, tests in rows}
+
+
+def needed(root, below):
+    """Returns the crates that `root` depends on, and `root` as the last."""
+    wanted = {root}
+    for name in reversed(below):
+        if name in wanted:
+            wanted |= set(below[name])
+    return [it for it in below if it in wanted]
+
+
+def weights(seconds, below):
+    """Returns for each crate the seconds from its start to the end of the last one, if a lane is always free."""
+    found = {}
+    for name in reversed(seconds):
+        found[name] = seconds[name] + max((found[it] for it in found if name in below[it]), default=0)
+    return found
+
+
+def expected(seconds, below, lanes):
+    """Returns how many seconds crates take in that many lanes, those on the longest paths first."""
+    weight, left, running, clock = weights(seconds, below), dict(seconds), {}, 0
+    while left or running:
+        free = [it for it in left if not any(low in left or low in running for low in below[it])]
+        for name in sorted(free, key=lambda it: -weight[it])[: lanes - len(running)]:
+            running[name] = clock + left.pop(name)
+        clock = min(running.values())
+        running = {name: end for name, end in running.items() if end > clock}
+    return clock
+
+
+def in_words(seconds, is_least=False):
+    """Returns some seconds in words: an estimate, or a lower bound."""
+    minutes = max(round(seconds / 60), 1)
+    amount = "a minute" if minutes == 1 else f"{minutes} minutes"
+    return f"at least {amount}" if is_least else "less than a minute" if seconds < 50 else f"about {amount}"
+
+
+class Estimate:
+    """How long crates take that are proved in some lanes: their measured seconds, scaled by those that have passed."""
+
+    def __init__(self, seconds, below, lanes):
+        self.seconds, self.below, self.lanes = seconds, below, lanes
+        self.whole, self.begin, self.minutes = expected(seconds, below, lanes), time.monotonic(), 0
+
+    def range(self):
+        """Returns as a range of minutes how long all take: if no lane is ever free, and if each crate has one lane."""
+        first, last = max(round(sum(self.seconds.values()) / self.lanes / 60), 1), max(round(self.whole / 60), 1)
+        return f"{first} to {last} minutes" if first < last else in_words(self.whole).removeprefix("about ")
+
+    def left(self, done):
+        """Returns how long the rest takes, in words: a lower bound if no crate has ended."""
+        rest = expected({it: seconds for it, seconds in self.seconds.items() if it not in done}, self.below, self.lanes)
+        scale = (time.monotonic() - self.begin) / (self.whole - rest) if rest < self.whole else 1
+        return in_words(rest * scale, rest == self.whole)
+
+    def is_due(self):
+        """Checks whether a minute has passed since the last one."""
+        before, self.minutes = self.minutes, int(time.monotonic() - self.begin) // 60
+        return self.minutes > before
+
+
+def minutes(*roots):
+    """Returns how long it takes to prove these crates and all that they depend on, or all crates with their tests, on 4 cores."""
+    below, known = crates(), measured()
+    those = {it for root in roots for it in needed(root, below)} or set(below)
+    return Estimate({it: sum(known.get(it, (UNMEASURED, 0))) for it in below if it in those}, below, 4).range()
+
+
+def show_progress(path):
+    parent, below, known, said = os.getppid(), crates(), measured(), ""
+    seconds = {it: known.get(it, (UNMEASURED, 0))[0] for it in below}
+    # the tests of a crate depend on it
+    for name in [it for it in below if known.get(it, (0, 0))[1]]:
+        seconds[f"{name}: its tests"], below[f"{name}: its tests"] = known[name][1], [name]
+    estimate = Estimate(seconds, below, PROCESSORS)
+    print(f"The gate proves {len(seconds)} crates and tests: that takes {estimate.range()} here.", file=sys.stderr, flush=True)
+    while os.getppid() == parent and not VERDICT.search(said):
+        time.sleep(1)
+        said = read_bytes(os.path.abspath(path)).decode(errors="replace") if os.path.exists(path) else ""
+        if estimate.is_due():
+            done = {name + tests for name, tests in PROVED.findall(said)}
+            print(f"  after {estimate.minutes} min: {len(done & {*seconds})} of {len(seconds)} proved, {estimate.left(done)} left", file=sys.stderr, flush=True)
+
+
+def spent(folder, *words):
+    """Returns the processor seconds of a command, which must succeed."""
+    before = sum(resource.getrusage(resource.RUSAGE_CHILDREN)[:2])
+    ran = subprocess.run(words, cwd=folder, stdin=subprocess.DEVNULL, stdout=subprocess.PIPE, stderr=subprocess.STDOUT, text=True, check=False)
+    if ran.returncode:
+        sys.exit(f"{' '.join(words)} in {folder} ended with status {ran.returncode}:\n{ran.stdout[-2000:]}")
+    return round(sum(resource.getrusage(resource.RUSAGE_CHILDREN)[:2]) - before)
+
+
+def seconds_of(room, name, below):
+    """Returns the seconds of the crate's proof, and of its tests."""
+    folder = f"{room}/crates/{name}"
+    for it in below:
+        spent(f"{room}/crates/{it}", "rt", "lib", "--statements")
+    shutil.rmtree(f"{folder}/out", ignore_errors=True)
+    verb = ["run", "--", "--help"] if os.path.exists(f"{folder}/args") else ["run"]
+    proof = spent(folder, "rt", *(verb if os.path.exists(f"{folder}/src/main.rt") else ["lib", "--jobs", "1", "--statements"]))
+    has_tests = any("#[test]" in read(it) for it in files_of(name, "src"))
+    return proof, spent(folder, "rt", "check", "--test", "--jobs", "1") if has_tests else 0
+
+
+def measure(names):
+    from bench import tables
+
+    below, known = crates(), measured()
+    with tempfile.TemporaryDirectory() as room:
+        for it in ("crates", "crates.txt", "HANDLES"):
+            subprocess.run(["cp", "-a", f"{ROOT}/{it}", room], check=True)
+        for name in names or below:
+            known[name] = seconds_of(room, name, below[name])
+            print(f"{name} {known[name][0]} {known[name][1]}", flush=True)
+            head = [it for it in read(FILE).splitlines() if it.startswith("#")]
+            write(FILE, "".join(f"{it}\n" for it in [*head, *(f"{it} {known[it][0]} {known[it][1]}" for it in below if it in known)]))
+    tables.command()
+
+
+def command():
+    what, *words = sys.argv[1:]
+    with contextlib.suppress(KeyboardInterrupt):
+        {"measure": lambda: measure(words), "progress": lambda: show_progress(*words)}[what]()
