@@ -6,30 +6,15 @@
  * rounds the median, the least and the greatest. It is the time of this thread and of the kernel in
  * it, without a machine of lives. */
 #define _GNU_SOURCE
-#include <arpa/inet.h>
-#include <errno.h>
 #include <fcntl.h>
-#include <liburing.h>
-#include <stdio.h>
-#include <stdlib.h>
-#include <string.h>
-#include <sys/socket.h>
 #include <time.h>
-#include <unistd.h>
 
-enum { MOST_ROUNDS = 1000, BYTES = 64, SLOTS = 16, BACKLOG = 64 };
+#include "../kernel/direct/rings.h"
 
-static struct io_uring ring;
-static int listener;
-static struct sockaddr_in address;
+enum { MOST_ROUNDS = 1000, BYTES = 64, SLOTS = 16 };
+
+static struct rig rig;
 static char buffer[2][BYTES], path[] = "/tmp/descriptors-XXXXXX";
-
-static void must(int holds, const char *what) {
-	if (holds)
-		return;
-	fprintf(stderr, "measure-descriptors: %s: %s\n", what, strerror(errno));
-	exit(2);
-}
 
 static double now(void) {
 	struct timespec time;
@@ -38,31 +23,25 @@ static double now(void) {
 }
 
 /* Submits, and waits for this number of completions. Returns the result of the last one. */
-static int submit(unsigned count) {
+static int submitted(unsigned count) {
 	struct io_uring_cqe *cqe;
 	int result = -1;
-	must(io_uring_submit_and_wait(&ring, count) >= 0, "io_uring_submit_and_wait");
+	must(io_uring_submit_and_wait(&rig.ring, count) >= 0, "io_uring_submit_and_wait");
 	while (count--) {
-		must(!io_uring_wait_cqe(&ring, &cqe), "io_uring_wait_cqe");
+		must(!io_uring_wait_cqe(&rig.ring, &cqe), "io_uring_wait_cqe");
 		result = cqe->res;
 		must(result >= 0, "a request");
-		io_uring_cqe_seen(&ring, cqe);
+		io_uring_cqe_seen(&rig.ring, cqe);
 	}
 	return result;
 }
 
-static struct io_uring_sqe *request(void) { return io_uring_get_sqe(&ring); }
-
-static int dial(void) {
-	int peer = socket(AF_INET, SOCK_STREAM, 0);
-	must(peer >= 0 && !connect(peer, (void *)&address, sizeof address), "connect");
-	return peer;
-}
+static struct io_uring_sqe *request(void) { return io_uring_get_sqe(&rig.ring); }
 
 static double requests(int is_direct, int count) {
-	int both[2] = { dial(), accept(listener, NULL, NULL) }, flag = is_direct ? IOSQE_FIXED_FILE : 0;
+	int both[2] = { dial(&rig), accept(rig.listener, NULL, NULL) }, flag = is_direct ? IOSQE_FIXED_FILE : 0;
 	if (is_direct)
-		must(io_uring_register_files_update(&ring, 0, both, 2) == 2, "io_uring_register_files_update");
+		must(io_uring_register_files_update(&rig.ring, 0, both, 2) == 2, "io_uring_register_files_update");
 	double begin = now();
 	for (int i = 0; i < count; i++) {
 		struct io_uring_sqe *sqe = request();
@@ -71,12 +50,12 @@ static double requests(int is_direct, int count) {
 		sqe = request();
 		io_uring_prep_recv(sqe, is_direct ? 1 : both[1], buffer[1], BYTES, 0);
 		sqe->flags |= flag;
-		submit(2);
+		submitted(2);
 	}
 	double time = now() - begin;
 	close(both[0]), close(both[1]);
 	if (is_direct)
-		must(io_uring_register_files_update(&ring, 0, (int[]){ -1, -1 }, 2) == 2, "io_uring_register_files_update");
+		must(io_uring_register_files_update(&rig.ring, 0, (int[]){ -1, -1 }, 2) == 2, "io_uring_register_files_update");
 	return time / count;
 }
 
@@ -84,32 +63,32 @@ static void one_life(int is_direct) {
 	int flag = is_direct ? IOSQE_FIXED_FILE : 0;
 	struct io_uring_sqe *sqe = request();
 	if (is_direct)
-		io_uring_prep_accept_direct(sqe, listener, NULL, NULL, 0, 0);
+		io_uring_prep_accept_direct(sqe, rig.listener, NULL, NULL, 0, 0);
 	else
-		io_uring_prep_accept(sqe, listener, NULL, NULL, SOCK_CLOEXEC);
-	int file = submit(1);
+		io_uring_prep_accept(sqe, rig.listener, NULL, NULL, SOCK_CLOEXEC);
+	int file = submitted(1);
 	file = is_direct ? 0 : file;
 	sqe = request();
 	io_uring_prep_recv(sqe, file, buffer[1], BYTES, 0);
 	sqe->flags |= flag;
-	submit(1);
+	submitted(1);
 	sqe = request();
 	io_uring_prep_shutdown(sqe, file, SHUT_RDWR);
 	sqe->flags |= flag;
-	submit(1);
+	submitted(1);
 	sqe = request();
 	if (is_direct)
 		io_uring_prep_close_direct(sqe, 0);
 	else
 		io_uring_prep_close(sqe, file);
-	submit(1);
+	submitted(1);
 }
 
 /* The peer's own calls aren't timed. */
 static double lives(int is_direct, int count) {
 	double time = 0;
 	for (int i = 0; i < count; i++) {
-		int peer = dial();
+		int peer = dial(&rig);
 		must(write(peer, buffer[0], BYTES) == BYTES, "write");
 		double begin = now();
 		one_life(is_direct);
@@ -127,18 +106,18 @@ static void file_by_a_chain(void) {
 	io_uring_prep_read(sqe, 0, buffer[1], BYTES, 0);
 	sqe->flags |= IOSQE_FIXED_FILE | IOSQE_IO_HARDLINK;
 	io_uring_prep_close_direct(request(), 0);
-	submit(3);
+	submitted(3);
 }
 
 /* Only the open's answer says which descriptor the others are to use. */
 static void file_by_two_submissions(void) {
 	io_uring_prep_openat(request(), AT_FDCWD, path, O_RDONLY | O_CLOEXEC, 0);
-	int file = submit(1);
+	int file = submitted(1);
 	struct io_uring_sqe *sqe = request();
 	io_uring_prep_read(sqe, file, buffer[1], BYTES, 0);
 	sqe->flags |= IOSQE_IO_HARDLINK;
 	io_uring_prep_close(request(), file);
-	submit(2);
+	submitted(2);
 }
 
 static double files(int is_direct, int count) {
@@ -171,27 +150,18 @@ static void measure(const char *name, double play(int, int), int count, int roun
 }
 
 static void measure_ring(const char *name, unsigned flags, int rounds) {
-	int error = io_uring_queue_init(SLOTS, &ring, flags);
-	if (!error)
-		error = io_uring_register_files_sparse(&ring, SLOTS);
-	errno = -error;
-	must(!error, "a ring");
+	open_rig(&rig, flags, SLOTS);
 	printf("%s\n", name);
 	measure("request", requests, 20000, rounds);
 	measure("life", lives, 4000, rounds);
 	measure("file", files, 20000, rounds);
-	io_uring_queue_exit(&ring);
+	close_rig(&rig);
 }
 
 int main(int count, char **words) {
 	int rounds = count > 1 ? atoi(words[1]) : 21, file = mkstemp(path);
-	socklen_t size = sizeof address;
 	must(rounds > 0 && rounds <= MOST_ROUNDS, "the rounds");
 	must(file >= 0 && write(file, buffer[0], BYTES) == BYTES, "a file");
-	address = (struct sockaddr_in){ .sin_family = AF_INET, .sin_addr.s_addr = htonl(INADDR_LOOPBACK) };
-	listener = socket(AF_INET, SOCK_STREAM, 0);
-	must(listener >= 0 && !bind(listener, (void *)&address, size) && !listen(listener, BACKLOG), "listen");
-	must(!getsockname(listener, (void *)&address, &size), "getsockname");
 	measure_ring("a ring without flags", 0, rounds);
 	measure_ring("a ring with a single issuer", IORING_SETUP_SINGLE_ISSUER | IORING_SETUP_DEFER_TASKRUN, rounds);
 	close(file);

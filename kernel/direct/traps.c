@@ -5,17 +5,10 @@
  *
  * What must not come is waited for during 150 ms. So on a machine that is stopped for longer, a
  * line may say that nothing came where something comes. */
-#include <errno.h>
 #include <fcntl.h>
 #include <pthread.h>
 #include <stdarg.h>
-#include <stdio.h>
-#include <stdlib.h>
-#include <string.h>
-#include <sys/socket.h>
-#include <unistd.h>
 
-#include "../refused.h"
 #include "rings.h"
 
 #ifndef IORING_SETUP_DEFER_TASKRUN
