@@ -55,7 +55,7 @@ FAULTS = (
     ("docs/inside/PROOFS.md", "`fits`, `steps`; `draw`", "`fits`, `stops`; `draw`", "take has no clause stops"),
     ("docs/inside/PROOFS.md", "at most 1, 2, 4, 3, 3, 2 and 1 atomic", "at most 1, 2, 5, 3, 3, 2 and 1 atomic", "not right: put in 5 steps"),
     ("docs/inside/PROOFS.md", "| fx_ring | Ring, Submission |", "| fx_ring | Submission |", "the reading list should have "),
-    ("docs/use/CHECKING.md", "line 7 of the script; line 2 of the text: expected 1.1.1", "line 7 of the script; line 3 of the text: expected 1.1.1",
+    ("docs/use/CHECKING.md", "and 1.5.1.0 a.txt are both left", "and 1.6.1.0 a.txt are both left",
      "docs/use/CHECKING.md has 5 lines of examples/judged/explained.judged"),
     ("man/conform.1", "by default 500", "by default 501", "not right: conform, by default 501"),
     ("README.md", "fixcheck --all examples", "fixcheck --al examples", "README.md: not right: fixcheck --al"),
