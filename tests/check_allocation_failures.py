@@ -1,10 +1,7 @@
 """check-allocation-failures PROGRAM [FIXCHECK [CALLS]] [--few]: plays scripts on the program with each of its allocations failing in
 turn, and checks that the result is one of the outcomes of tests/allocation_failures.py: no abort, no signal, no other status, no part
-of a command's text.
-
-tests/counts.py defines an allocation, and which of many fail. FIXCHECK judges texts in the same way: it must print the whole
-verdict, or end with status 5 after the verdict's first lines. CALLS, the program bench_tables, makes each call of
-tests/failing_calls.py so, and must print the answers that the call documents. With --few it plays one short script."""
+of a command's text. FIXCHECK judges texts in the same way, and CALLS, the program bench_tables, makes each call of tests/failing_calls.py.
+With --few it plays one short script. tests/counts.py defines an allocation, and which of many fail."""
 import os
 
 from tests.allocation_failures import Outcomes, scripts

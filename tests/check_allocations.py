@@ -1,14 +1,7 @@
 """check-allocations FIXFILES BENCH_TABLES: counts, by tests/watch.c, the allocations of calls that must make none, on which contracts are
-silent.
-
-FIXFILES plays submissions of 1,000 equal chains over each table, on one worker and on two. What it allocates while it reads the script is
-what it allocates for the same script with a bad last line, of which nothing is played. The rest must be that of a few chains: an allocation
-of a request, of a call on the table or of a close would be 1,000 more. A read of a byte makes room for it, once each. A call between
-submissions that is refused, or that changes the range, allocates for its line alone.
-
-BENCH_TABLES makes 15,000 or more calls on each shared table, and must allocate for its setting alone. Of calls that open and close a table
-or a ring it makes as many allocations as are kept here, so that none of these allocates once more. A call that ends with a failed
-allocation, and abandons its ring, makes no further one but for its last line."""
+silent. FIXFILES plays submissions of 1,000 equal chains over each table, on one worker and on two: what it allocates beyond the reading of the
+script must be that of a few chains. BENCH_TABLES makes 15,000 or more calls on each shared table, and must allocate for its setting alone;
+of calls that open and close a table or a ring it makes as many allocations as are kept here, and none after a failed one."""
 
 from scripts.checks import Counted, arguments
 from scripts.programs import built

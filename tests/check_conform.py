@@ -1,11 +1,7 @@
-"""check-conform FIXCHECK: tests kernel/conform and kernel/litmus.
-
-conform is run on correct players, which must pass: one that prints what the model prints, one that plays chains concurrently, and this
-kernel, if there is an io_uring. The kernel must show each difference that docs/use/LINUX.md lists of its version, play chains concurrently,
-and refuse invalid scripts. conform is run on wrong players too, and must report the rule, the script and the line: players that end a
-read when its file is removed, fail, hang, print for ever, or are wrong only with --async or only where chains contend, and kernel/play.c changed so that
-it loses a tag or ignores hard links. Each report must be valid KTAP, with the result of every script and correct totals. Invalid
-arguments must be refused. The rows of tests/litmus_rows.py test litmus."""
+"""check-conform FIXCHECK: tests kernel/conform and kernel/litmus. conform is run on correct players, which must pass, among them this kernel, if
+there is an io_uring, which must show each difference that docs/use/LINUX.md lists of its version; and on wrong players (tests/players.py,
+changes of kernel/*.c), of which it must report the rule, the script and the line. Each report must be valid KTAP, with the result of every
+script and correct totals. The rows of tests/litmus_rows.py test litmus."""
 import os
 import platform
 import re

@@ -1,22 +1,8 @@
-"""check-fixcheck PROGRAM FIXFILES [COUNT [SEED]] [--few]: tests the verdicts of fixcheck, the PROGRAM.
-
-- The text of each example is legal, and a bad script is refused as fixfiles refuses it.
-- Each text that FIXFILES prints for COUNT random scripts, on 1, 2, 3 and 16 workers and over both tables, is legal. The model prints
-  the same text if it does the requests one at a time in the printed orders (model/replay.py). The history that --history prints is
-  legal and results in the text (model/told_history.py).
-- A text with a spoiled line, of each kind of tests/spoiled_lines.py, is legal exactly if model/orders.py finds an order for it, by an
-  exhaustive search. There must be enough of both. A refusal names the command of that line, and in nine of ten texts the line. In one
-  of a hundred it may name a later command: the rules may allow the spoiled line with another free slot or another order, which a
-  later command contradicts. The lines that a refusal names as a conflict have no order by themselves, whatever the other requests
-  answer, by an exhaustive search. If fixcheck found them by a search of its own, each is needed for that (model/contradictions.py).
-- With --keep-going, each submission of a text is a break in which a read has bytes of no file, and no other command; the rest is legal.
-- At most one text of five hundred is undecided; and, with few states, no text of one worker whose chains contend for few slots.
-- Texts at the limits and of the sizes between them are legal. A part with too many states hides no other part that has no order, nor a
-  slot that has none.
-- Texts of chains that 4 or 16 workers play at few slots, a request of one of them at a time, are legal, within 200,000 states.
-- With --few it runs the parts and a few of the others.
-
-tests/check-verdicts tests how a verdict is printed, and the arguments. This check also expects the number of cases of each kind."""
+"""check-fixcheck PROGRAM FIXFILES [COUNT [SEED]] [--few]: tests the verdicts of fixcheck, the PROGRAM: on the examples, on texts at the limits, of
+the sizes between them and of parts, on the texts that FIXFILES prints for COUNT random scripts, on 1, 2, 3 and 16 workers and over both
+tables, and on these texts with a spoiled line of each kind of tests/spoiled_lines.py. The model, which does requests one at a time, judges
+what fixcheck prints. At most one text of five hundred is undecided, and there are enough texts of each kind. With --few it runs the parts
+and a few of the others. tests/check-verdicts tests how a verdict is printed, and the arguments."""
 import collections
 import functools
 import random

@@ -1,21 +1,7 @@
 """check-flights [COUNT [SEED]]: compares the verified judge of logs (bindings/python/yachtlog.py) with a search of all orders
-(model/tiny_flights.py) on COUNT tiny random logs, as they happened and spoiled. A log that the judge refuses must not be legal for the
-search either. Of a log that isn't legal, the beginning before the judge's line must be legal, and the one with it must not be. No log may be
-undecided. Each wrong judge of WRONG and WRONG_VERDICTS must differ on some log.
-
-By whole updates, which kernel/conform asks for, the judge must find on a third as many logs, of updates, what the search of all orders finds
-in which nothing comes between the accesses of an update. Without whole updates it must differ on some of these logs.
-
-Each step of the reason of a log that is not legal must follow from the log, and the last one must be a contradiction, by tests/reasons.py,
-which shares nothing with the library. That program must refuse a reason without one of its steps, and for the lines before the wrong one.
-Enough logs must have a reason. The rows of tests/reason_rows.py must hold: for each rule, steps that follow, and steps that don't.
-
-The rows of tests/log_lines.py must hold: what is a log, and how yachtlog.py ends. Each wrong module of that file must fail on a row.
-
-This machine's kernel must keep the rules of kernel/conform of calls in flight, on LOGS logs of each. More than half of them must have calls
-that overlap. Logs of changed recorders, which show what a wrong kernel would show, must not be legal, also if one of
-LOGS is wrong; nor those of a recorder that fails or is cut off; nor a log with an update of two steps, but only where whole updates are
-asked for."""
+(model/tiny_flights.py) on COUNT tiny random logs, as they happened and spoiled, and on a third as many by whole updates. tests/reasons.py, which
+shares nothing with the library, checks the reasons. The rows of tests/reason_rows.py and tests/log_lines.py must hold. This machine's kernel
+must keep the rules of kernel/conform of calls in flight, on LOGS logs of each. Wrong judges, modules and recorders must each be noticed."""
 import collections
 import os
 import re

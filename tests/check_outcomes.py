@@ -1,17 +1,7 @@
 """check-outcomes FIXCHECK [COUNT [SEED]] [--few]: checks that `fixcheck --all` lists every text that the rules allow, and no
-other.
-
-- For COUNT tiny random scripts the list has each text once, and the same ones as model/interleavings.py, which plays every order.
-  The model prints the text if it does the requests one at a time in the printed orders (model/replay.py).
-- A list with a text left out, one too many, or one twice, is reported. With few states a list says that it is one of some texts, and
-  has no others.
-- For each request of those scripts FIXCHECK --may lists the answers that it has in the listed texts, each with orders that result in
-  it; with fewer states no others. A place without a request is refused. A list without one of the answers is reported.
-- The kept text of each example is listed.
-- The kept texts of each question in examples/questions are those listed, and each kept order results in its text.
-- With --few it asks fixcheck about few requests.
-
-tests/check-meetings has fixcheck judge the texts of threads in turns. The number of scripts and texts of each kind is checked."""
+other, and `fixcheck --may` each answer: of COUNT tiny random scripts, which model/interleavings.py plays in every order, of the examples and of
+the questions of examples/questions. Wrong lists are reported. With --few it asks fixcheck about few requests. tests/check-meetings has
+fixcheck judge the texts of threads in turns."""
 import collections
 import contextlib
 import functools

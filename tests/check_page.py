@@ -1,9 +1,5 @@
-"""check-page PROGRAM [FIXCHECK]: plays the samples of the pages on the program: the scripts of README.md and docs/use/SCRIPT.md, which must
-print the text beside or after them, and the script of each row of the table of faults, which must be refused for that fault on
-its last line. The printed lines in docs/inside/LIBRARY.md must be those that are kept of it, and the history in docs/inside/PROOFS.md that of
-model/picture. The tutorial of docs/use/RECORDING.md is followed by its commands, over the library. The reproducer of
-docs/use/BAD_ENTRY.md, the judge of docs/use/C.md and the crate without the library, by docs/use/RUST.md, are run. The loop of docs/use/DIRECT.md
-is that of bindings/c/echo.c, which serves 200 clients and is stopped. With FIXCHECK it looks at
+"""check-page PROGRAM [FIXCHECK]: plays and runs what the pages show: scripts, commands, the table of faults, the tutorial of
+docs/use/RECORDING.md, the programs of docs/use/BAD_ENTRY.md, C.md, RUST.md and DIRECT.md, and kept outputs. With FIXCHECK it looks at
 man/fixfiles.1 and man/fixcheck.1 too: their options, which are those of the completions too, their numbers and statuses are those of the
 programs' help, their examples are played, and mandoc, where it is there, finds nothing to complain of."""
 import os

@@ -1,10 +1,10 @@
 """check-verdicts PROGRAM [--few]: checks that fixcheck, the PROGRAM, prints what examples/judged has for each script and text, with its
 exit status; its arguments, and what it can't read or write; and what it prints for texts that are too long or too odd to be kept as
-lines. --few leaves out what tests/spoil.c can't replace: failing writes. check-allocation-failures looks at lacks of memory.
+lines. --few leaves out what tests/spoil.c can't replace: failing writes.
 
 A file NAME.judged has indented lines under the headings `script`, `text` and `fixcheck OPTIONS, status N`: for the script and text
-above, fixcheck prints these lines, and nothing on standard error. With the heading `judge-linux OPTIONS, status N` it is
-kernel/judge-linux that prints them. A line that begins with `#` is a comment."""
+above, fixcheck, or with `judge-linux` kernel/judge-linux, prints these lines, and nothing on standard error. A line that begins with `#` is a
+comment."""
 import contextlib
 import errno
 import glob

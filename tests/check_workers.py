@@ -1,10 +1,7 @@
 """check-workers PROGRAM [--few]: checks that the program plays with the requested number of workers and over the requested table, and
-writes each command's text at once. tests/watch.c, which is preloaded, counts the threads that it starts: a submission has the
-requested number of workers, but no more than it has chains, and one of them is the program's own thread. The table in use shows in
-the memory requested for each file number: the lock-free table has a word and a place for each, and a list of them that is moved; the
-table guarded by one word has none of these. Workers without a chain take no memory, since the table has no pass for them. Submissions
-that are played together share one table, so each takes little memory. The size of each write shows that a command's text is written
-at once."""
+writes each command's text at once. tests/watch.c, which is preloaded, counts threads, bytes and writes. The table in use shows in the memory
+requested for each file number: the lock-free table has a word and a place for each, and a list of them that is moved; the table guarded by
+one word has none of these."""
 
 from tests.allocation_failures import Outcomes
 from scripts.checks import Counted, arguments

@@ -1,9 +1,7 @@
 """compare PROGRAM [COUNT [SEED]] [--few | --large]: plays random scripts on the program and on model/model.py, and compares text,
-status and standard error. Half of the scripts are good; in the others some bytes, words or lines were changed, and the fault and its
-line are compared too. Then it plays the largest submissions, of 1,023 chains of 16 members: that of `large_submission` in
-tests/limits.py and some random ones, and each with one chain too many. Last it plays the examples, the scripts of tests/limits.py and
-each beginning of a script: so the model agrees with their texts, which were derived by hand. With --few it plays only the random
-scripts, and keeps none; with --large only one of the largest submissions. The number of cases of each kind is checked."""
+status and standard error. In half of the scripts some bytes, words or lines were changed. Then it plays the largest submissions, and last the
+examples, the scripts of tests/limits.py and each beginning of a script: so the model agrees with their texts, which were derived by hand.
+With --few it plays only the random scripts, and keeps none; with --large only one of the largest submissions."""
 import itertools
 import random
 
