@@ -22,98 +22,61 @@
 #include <sys/wait.h>
 #include <unistd.h>
 
-struct text {
-    char *bytes;
-    size_t length;
-};
+static const char *how;
 
-static void give_up(const char *why) {
-    perror(why);
+static int is(const char *change) { return !strcmp(how, change); }
+
+static void must(int holds, const char *what) {
+    if (holds) return;
+    perror(what);
     exit(99);
-}
-
-/* What was written to the file. */
-static struct text text_of(FILE *file) {
-    struct text text;
-    if (fseek(file, 0, SEEK_END) != 0)
-        give_up("spoil: seek");
-    text.length = ftell(file);
-    text.bytes = malloc(text.length + 1);
-    rewind(file);
-    if (text.bytes == NULL || fread(text.bytes, 1, text.length, file) != text.length)
-        give_up("spoil: read");
-    return text;
-}
-
-static void change_byte(struct text *text) {
-    size_t end = text->length - (text->bytes[text->length - 1] == '\n');
-    if (end > 0)
-        text->bytes[end - 1] ^= 1;
-    else
-        text->length = 0;
-}
-
-static void leave_line_out(struct text *text) {
-    size_t end = text->length - 1;
-    while (end > 0 && text->bytes[end - 1] != '\n')
-        end--;
-    text->length = end;
-}
-
-static void change(const char *how, struct text *text, struct text *message, int *status) {
-    if (strcmp(how, "status") == 0)
-        *status = *status == 0;
-    if (strcmp(how, "byte") != 0 && strcmp(how, "line") != 0 && strcmp(how, "message") != 0)
-        return;
-    struct text *it = text->length == 0 || strcmp(how, "message") == 0 ? message : text;
-    if (it->length == 0) {
-        it->bytes[0] = '\n';
-        it->length = 1;
-    } else if (strcmp(how, "line") == 0) {
-        leave_line_out(it);
-    } else {
-        change_byte(it);
-    }
 }
 
 static void halve_memory(void) {
     struct rlimit limit;
-    if (getrlimit(RLIMIT_AS, &limit) != 0)
-        give_up("spoil: limit");
-    if (limit.rlim_cur == RLIM_INFINITY)
-        return;
-    limit.rlim_cur /= 2;
-    if (setrlimit(RLIMIT_AS, &limit) != 0)
-        give_up("spoil: limit");
+    must(!getrlimit(RLIMIT_AS, &limit), "spoil: limit");
+    if (limit.rlim_cur != RLIM_INFINITY) limit.rlim_cur /= 2;
+    must(!setrlimit(RLIMIT_AS, &limit), "spoil: limit");
+}
+
+/* Writes what a file has, changed or not. */
+static void pass_on(FILE *from, FILE *to, int is_changed) {
+    size_t size = ftell(from), end;
+    char *bytes = malloc(size + 1);
+    rewind(from);
+    must(bytes && fread(bytes, 1, size, from) == size, "spoil: read");
+    bytes[size] = '\n';
+    end = size - (size && bytes[size - 1] == '\n');
+    if (is_changed && !size)
+        size = 1;
+    else if (is_changed && is("line"))
+        for (size--; size && bytes[size - 1] != '\n';) size--;
+    else if (is_changed)
+        end ? (void)(bytes[end - 1] ^= 1) : (void)(size = 0);
+    fwrite(bytes, 1, size, to);
 }
 
 int main(int count, char **words) {
-    const char *program = getenv("SPOILED"), *how = getenv("SPOIL");
     FILE *out = tmpfile(), *error = tmpfile();
     int status;
     (void)count;
-    if (program == NULL || how == NULL || out == NULL || error == NULL)
-        give_up("spoil: SPOILED and SPOIL");
+    how = getenv("SPOIL"), words[0] = getenv("SPOILED");
+    must(words[0] && how && out && error, "spoil: SPOILED and SPOIL");
     pid_t child = fork();
     if (child == 0) {
         dup2(fileno(out), STDOUT_FILENO);
         dup2(fileno(error), STDERR_FILENO);
-        words[0] = (char *)program;
-        if (strcmp(how, "words") == 0)
-            words[1] = NULL;
-        if (strcmp(how, "memory") == 0)
-            halve_memory();
-        execvp(program, words);
-        give_up("spoil: exec");
+        if (is("words")) words[1] = NULL;
+        if (is("memory")) halve_memory();
+        execvp(words[0], words);
+        must(0, "spoil: exec");
     }
-    if (child < 0 || waitpid(child, &status, 0) < 0)
-        give_up("spoil: fork");
+    must(child > 0 && waitpid(child, &status, 0) > 0, "spoil: fork");
     status = WIFEXITED(status) ? WEXITSTATUS(status) : 128 + WTERMSIG(status);
-    struct text text = text_of(out), message = text_of(error);
-    change(how, &text, &message, &status);
-    while (strcmp(how, "end") == 0)
-        pause();
-    fwrite(text.bytes, 1, text.length, stdout);
-    fwrite(message.bytes, 1, message.length, stderr);
-    return status;
+    while (is("end")) pause();
+    must(!fseek(out, 0, SEEK_END) && !fseek(error, 0, SEEK_END), "spoil: seek");
+    int in_text = (is("byte") || is("line")) && ftell(out), in_message = is("message") || ((is("byte") || is("line")) && !in_text);
+    pass_on(out, stdout, in_text);
+    pass_on(error, stderr, in_message);
+    return is("status") ? status == 0 : status;
 }
