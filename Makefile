@@ -96,24 +96,22 @@ limits compare workers meetings allocation-failures allocations steps mistakes c
 
 examples:
 	@tests/one --now examples
-	@tests/check-page bin/fixfiles
+	@scripts/run tests.check_page bin/fixfiles
 
 texts:
-	@scripts/build-program fx_cli fixfiles check_cli fixcheck
-	@tests/check-verdicts bin/fixcheck
-	@tests/check-fixcheck bin/fixcheck bin/fixfiles 2000
-	@tests/check-outcomes bin/fixcheck
+	@tests/one --now verdicts
+	@tests/one --now fixcheck bin/fixcheck bin/fixfiles 2000
+	@tests/one --now outcomes
 
 pictures:
-	@scripts/build-program check_cli fixcheck
-	@tests/check-pictures bin/fixcheck --draw
+	@tests/one --now pictures bin/fixcheck --draw
 
 wrong-bodies:
-	@tests/check-wrong-bodies --prover
-	@tests/wrong-bodies $$CRATES
+	@scripts/run tests.check_wrong_bodies --prover
+	@scripts/run tests.wrong_bodies $$CRATES
 
 style:
-	@tests/check-style
+	@scripts/run tests.check_style
 
 bench:
 	@scripts/build-program fx_cli fixfiles bench_tables bench_tables

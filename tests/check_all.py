@@ -106,7 +106,7 @@ def ran(room, case):
 def check_all(checks):
     with tempfile.TemporaryDirectory(prefix="all-") as room:
         commands = lay_out(room)
-    cases = [("", "", "well")] + [(it, "", "well") for it in [*commands, "tests/check-examples by-rattle"]]
+    cases = [("", "", "well")] + [(it, "", "well") for it in [*commands, "scripts/run check_examples"]]
     cases += [("", it, "well") for it in commands if it.startswith("tests/")] + [("", "tests/check-steps few", "well")]
     cases += [("", "", it) for it in GATES if it != "well"]
     kept = {file_of(it) for it in kept_numbers() if it == name_of(it) and " without " not in it and it not in (*INSIDE, APART)}

@@ -85,10 +85,11 @@ SAID = (
 def ran(programs, spoiled, change, line):
     """Returns the status and the lines of a command that plays a program with a change; no status if it doesn't end."""
     name, *words = [{**programs, "SPOIL": SPOIL}.get(it, it) for it in line.split()]
+    names = [name] if os.path.exists(f"{ROOT}/{name}") else ["scripts/run", name.replace("/", ".").replace("-", "_")]
     variables = {**os.environ, "SPOILED": programs[spoiled], "SPOIL": change}
     how = {"stdin": subprocess.DEVNULL, "stdout": subprocess.PIPE, "stderr": subprocess.STDOUT, "timeout": 300, "cwd": ROOT}
     try:
-        it = subprocess.run([f"{ROOT}/{name}", *words], env=variables, text=True, check=False, **how)
+        it = subprocess.run([*names, *words], env=variables, text=True, check=False, **how)
     except subprocess.TimeoutExpired as hang:
         return None, [f"no end within {hang.timeout:g} s"]
     return it.returncode, it.stdout.splitlines() or [""]

@@ -237,7 +237,7 @@ def refuses(name, refusal):
     if refusal.startswith(f"{examples.TABLE} "):
         return any(it.name == f"faults/{refusal.split()[1]}" for it in examples.rows())
     if refusal.startswith(("examples/", "tests/")):
-        return os.path.exists(f"{ROOT}/{refusal}")
+        return any(os.path.exists(f"{ROOT}/{it}") for it in (refusal, f"{refusal.replace('-', '_')}.py"))
     if "::" in refusal:
         return is_test(refusal)
     crate, _, kind = refusal.partition("/")

@@ -100,7 +100,9 @@ class Links(Counted):
         places = [ROOT, f"{ROOT}/{os.path.dirname(page)}", f"{ROOT}/crates", *(f"{ROOT}/{it}" for it in ROOMS)]
         crates = [crate] if crate else os.listdir(f"{ROOT}/crates")
         places += [f"{ROOT}/crates/{it}" for it in crates]
-        if any(os.path.exists(f"{place}/{name}{ending}") for place in places for ending in ("", ".antt")):
+        # a check is named as a command, and its code may be a module
+        names = [name, f"{name}.antt", *([f"{name.replace('-', '_')}.py"] if name.startswith(("check-", "tests/")) else [])]
+        if any(os.path.exists(f"{place}/{it}") for place in places for it in names):
             return True
         return "/" not in name and any(name in kept_under(it) for it in crates)
 

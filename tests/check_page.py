@@ -60,10 +60,18 @@ def sample_of(page):
     return those[at : at + 2]
 
 
-def is_drawn(page):
-    """Whether a block of the page is the history that model/picture draws."""
-    status, drawn, _ = run([f"{ROOT}/model/picture"])
-    return status == 0 and drawn in texts_of(page)
+def is_history(lines):
+    """Checks whether lines show the state of a.txt, which is at slot 0, after each event: by the table of steps in docs/inside/MODEL.md, and each
+    event is allowed."""
+    place, holds = "at slot 0", 0
+    for line in lines:
+        event = re.match(r"\w+ +(\w+)\(", line)[1]
+        is_allowed = {"Look": place == "at slot 0", "Put": place == "at slot 0", "Release": holds > 0, "Close": (place, holds) == ("removed", 0)}[event]
+        place = {"Put": "removed", "Close": "closed"}.get(event, place)
+        holds += {"Look": 1, "Release": -1}.get(event, 0)
+        if not is_allowed or not line.endswith(f"a.txt is {place}" + (place != "closed") * f", held {('by nobody', 'once')[holds]}"):
+            return False
+    return place == "closed"
 
 
 def numbers_in(text):
@@ -263,7 +271,8 @@ def command():
     judge_in_c(checks)
     for it, (script, text) in {"README.md": sample_of_readme(), "docs/use/SCRIPT.md": sample_of("docs/use/SCRIPT.md")}.items():
         checks.want(run([program], script) == (0, text, ""), f"the sample of {it} prints another text")
-    checks.want(is_drawn("docs/inside/PROOFS.md"), "the history of docs/inside/PROOFS.md isn't the one that model/picture prints")
+    drawn = [it for it in blocks(read("docs/inside/PROOFS.md")) if it[0].startswith("reader ")]
+    checks.want(len(drawn) == 1 and is_history(drawn[0]), "the history of docs/inside/PROOFS.md is wrong")
     printed, shown = read("crates/example_library/stdout"), texts_of("docs/inside/LIBRARY.md")
     checks.want(any(printed.endswith(it) for it in shown if it.count("\n") > 3), "docs/inside/LIBRARY.md ends with another text of example_library")
     checks.want(printed.splitlines(True)[0] in shown, "docs/inside/LIBRARY.md has another text of first.rt")

@@ -1,13 +1,12 @@
 """check-wrong-bodies [--prover]: checks that tests/wrong-bodies distinguishes accepted edits from refused ones if several are tried in
 one check. Two of four edits of fx_baton change nothing: one in a function that may wait, and one in a function that calls a refused
-one. These must be reported as ACCEPTED, the other two as refused, each in its function. The output of scripts/refusals.py is checked
-too, and that each wrong body of NAMED has an edit, or a row in crates/WRONG_BODIES.md with what else refuses it.
+one. These must be reported as ACCEPTED, the other two as refused, each in its function. The output of scripts/refusals.py is
+checked too.
 
 The prover's output is RECORDED, which it printed for these edits; with --prover it comes from the prover itself, in a copy of the
 crates."""
 import contextlib
 import io
-import re
 import sys
 import tempfile
 
@@ -53,16 +52,6 @@ TOLD = ["fx_baton::calls::retired is not proved:", "fx_baton::calls::BatonTableF
         "    src/calls.rt:211: it is not proved that what the function ensures holds when it returns"]
 # and without the line of a goal
 BY_HAND = "    proofs/calls/BatonTableFileTable/clear/Answers.antt:22:5: error: `give_back-requires`: the two types first differ"
-# the wrong bodies that the design names
-NAMED = """look_counts_beside_the_slot retire_ignores_holders node_word_starts_at_one both_hand_the_file_out neither_hands_the_file_out
-    update_drops_what_it_replaced put_denies_a_replacement full_after_one_scan control_word_without_bias end_before_swap
-    slots_resolved_at_submission short_read_goes_on canceled_member_runs all_members_canceled look_answers_the_file_last_seen
-    look_answers_the_opening_file pass_works_on_a_copy pass_invents_events draw_repeats_a_chain draw_skips_a_chain
-    update_applied_up_to_bad_entry refused_open_is_closed read_of_the_file_the_chain_opened read_of_another_slot
-    unregister_leaves_a_file tear_down_leaves_a_file leading_zero_accepted look_tries_again look_never_spent look_spent_early
-    hard_link_restarts_a_severed_chain tag_given_at_removal tag_of_the_new_file""".split()
-TESTED = """one_thread_plays_all submit_opens_no_table submit_shares_out_chains_itself every_read_out_of_memory submit_always_out_of_memory
-    run_always_read_fault open_always_out_of_memory allocation_scans_for_ever""".split()
 # the prover's lines by the edits that are in the text
 NOTHING = ["nothing_in_a_wait", "nothing_in_a_caller"]
 RECORDED = {frozenset(EDITS): (BOTH_REFUSED, 1), frozenset(): (ALL_PROVED, 0), frozenset(NOTHING): (ALL_PROVED, 0),
@@ -109,10 +98,6 @@ def command():
     place = wrong_bodies.function_at("impl A<B> for Table {\n    fn f() {\n        1\n    }\n}\n", 40)
     is_found = own and not other and place == ("A", "Table", "f")
     checks.want(is_found, "a method isn't known by its type if that is in another file")
-    stored = edits.names("wrong-bodies", "must-fail")
-    rows = {name for line in re.findall(r"^\| (`.*?) \|", read("crates/WRONG_BODIES.md"), re.MULTILINE) for name in re.findall(r"`(\w+)`", line)}
-    for name in (*NAMED, *TESTED):
-        checks.want(name in rows and (name in stored or name in TESTED), f"the wrong body {name} has no edit, or no row in crates/WRONG_BODIES.md")
     is_unknown = unknown_lines(["fn fx_baton::calls::retired: looked at"])
     checks.want(is_unknown, "a line that the prover doesn't write today is taken for a known one")
     return checks.end()
