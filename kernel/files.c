@@ -1,7 +1,6 @@
 #include "files.h"
 
 #include "events.h"
-#include "tags.h"
 
 #include <stdio.h>
 #include <stdlib.h>
@@ -21,6 +20,43 @@ struct installation {
 static struct installation *installations;
 static size_t count, room;
 static size_t first;		/* all before it are finished */
+
+/* the tags that the kernel has posted, and that aren't written yet */
+static unsigned long long *told;
+static size_t told_count, told_room;
+
+void keep_tag(const struct io_uring_cqe *cqe) {
+	if (cqe->res || cqe->flags)
+		die_of("the completion of a tag has a result or flags");
+	told = with_room(told, told_count, &told_room, sizeof *told);
+	told[told_count++] = cqe->user_data;
+}
+
+void wait_for_tags(struct io_uring *ring, unsigned wanted) {
+	struct __kernel_timespec second = { .tv_sec = 1 };
+	struct io_uring_cqe *cqe;
+	while (!(told_count < wanted ? io_uring_wait_cqe_timeout(ring, &cqe, &second) : io_uring_peek_cqe(ring, &cqe))) {
+		keep_tag(cqe);
+		io_uring_cqe_seen(ring, cqe);
+	}
+}
+
+/* Takes a kept tag. Returns 0 if it isn't there. */
+static int take_tag(unsigned long long tag) {
+	for (size_t at = 0; at < told_count; at++) {
+		if (told[at] == tag) {
+			told[at] = told[--told_count];
+			return 1;
+		}
+	}
+	return 0;
+}
+
+/* Writes the kept tags that were not taken, though no file of theirs was seen closed. */
+static void write_other_tags(void) {
+	while (told_count)
+		printf("tag %llu\n", told[--told_count]);
+}
 
 void write_name(size_t number, char name[NAME_BYTES]) { snprintf(name, NAME_BYTES, "%zu", number); }
 

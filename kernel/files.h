@@ -3,6 +3,8 @@
 #ifndef FILES_H
 #define FILES_H
 
+#include <liburing.h>
+
 #include "script.h"
 
 enum { NAME_BYTES = 24 };
@@ -37,11 +39,18 @@ void settle(int ring);
 /* Checks whether a file is open, after `settle`. */
 int is_any_open(void);
 
+/* Keeps the tag of a completion that belongs to no request. */
+void keep_tag(const struct io_uring_cqe *cqe);
+
+/* Waits at most a second until `count` tags are kept that weren't written, and then keeps all that
+ * are there. */
+void wait_for_tags(struct io_uring *ring, unsigned count);
+
 /* Returns how many installed files with a tag were closed since the last closed lines. */
 unsigned tags_to_come(void);
 
 /* Writes a line for each installed file that was closed since the last time, in the order of marks,
- * and then one for each of their tags that the kernel has posted (`tags.h`). */
+ * and then one for each of their tags that the kernel has posted. */
 void write_closes(const struct script *script);
 
 #endif

@@ -46,7 +46,6 @@
 #include "files.h"
 #include "refused.h"
 #include "submission.h"
-#include "tags.h"
 
 enum { BAD_SCRIPT = 3, NO_IO_URING = 77, UNSAID = 78, LEAST_ROOM = 256 };
 

@@ -8,7 +8,6 @@
 
 #include "events.h"
 #include "files.h"
-#include "tags.h"
 
 /* A request, its place, and what it needs until it has completed. */
 struct member {

@@ -2,8 +2,6 @@
 #ifndef SUBMISSION_H
 #define SUBMISSION_H
 
-#include <liburing.h>
-
 #include "files.h"
 
 /* A list of the script as descriptors of this process, opened for it. */

@@ -22,9 +22,9 @@ from kernel.rules import Linux
 
 # changes of kernel/*.c
 WRONG_SOURCES = {
-    "loses a tag": ("tags.c", "\ttold[count++] =", "\tstatic int is_lost;\n\tif (!is_lost++)\n\t\treturn;\n\ttold[count++] ="),
+    "loses a tag": ("files.c", "\ttold[told_count++] =", "\tstatic int is_lost;\n\tif (!is_lost++)\n\t\treturn;\n\ttold[told_count++] ="),
     "ignores that a link is hard": ("submission.c", "IOSQE_IO_HARDLINK", "IOSQE_IO_LINK"),
-    "takes tags for the next numbers": ("tags.c", "= cqe->user_data;", "= cqe->user_data + 1;"),
+    "takes tags for the next numbers": ("files.c", "= cqe->user_data;", "= cqe->user_data + 1;"),
 }
 # a difference of Linux 6.1, and the text of its script there
 LEFT = "file_left_in_the_table_posts_no_tag"

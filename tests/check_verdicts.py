@@ -50,6 +50,11 @@ INDENTED = "".join(f"    {it}" for it in read(TEXT).splitlines(True))
 ONE_TEXT = f"1 text, if no allocation fails\n\ntext 1\n{INDENTED}order 1: 1.1.1 1.1.2 1.1.3\n".encode()
 
 
+def often(count):
+    """So many submissions, each with a read that finds the file that was there, or the one that replaces it."""
+    return [line for it in range(count) for line in ("read 0 0 1", f"update 0 {1 - it % 2}", "submit")]
+
+
 def blocks_of(path):
     """The headings of a file, each with its lines."""
     found = []
@@ -115,32 +120,24 @@ class Verdicts(Counted):
             self.file(path)
 
     def odd_lines(self):
-        """Lines that no text file of examples/judged can have."""
-        script = self.path("script", b"sparse 1\n")
-        place = b"not legal: command 1, line 1 of the script; line 1 of the text: expected sparse 0, found "
-        for text, found in [
-            (b"", b"nothing"), (b"\n", b"nothing"), (b"sparse 0", b"sparse 0 without a line end"), (b"sparse 0\r\n", b"sparse 0\\x0d"), (b"sparse 0 \n", b"sparse 0\\x20"),
-            (b"a\xff\t\n", b"a\\xff\\x09"), (b"\x00\x1f ~\x7f\x80", b"\\x00\\x1f ~\\x7f\\x80 without a line end"),
+        """Lines that no text file of examples/judged can have: of a script, a text, the place, the expected line, and the one found."""
+        ends = " without a line end; the text ends within this line"
+        opens, closes = b"file a 61\nsparse 1\nopen a at 0\nclose 0\nsubmit\n", b"file a.txt 6a\nregister 0\nunregister\n"
+        reads, sparse = b"file a 6a\nregister 0\nread 0 0 1\nsubmit\n", b"sparse 1\n"
+        for script, text, place, wanted, found in [
+            *((sparse, text, (1, 1, 1), "sparse 0", found) for text, found in (
+                (b"", "nothing"), (b"\n", "nothing"), (b"sparse 0", "sparse 0 without a line end"), (b"sparse 0\r\n", "sparse 0\\x0d"), (b"sparse 0 \n", "sparse 0\\x20"),
+                (b"a\xff\t\n", "a\\xff\\x09"), (b"\x00\x1f ~\x7f\x80", "\\x00\\x1f ~\\x7f\\x80 without a line end"))),
+            (opens, b"sparse 0\n1.1.1 -", (2, 5, 2), "1.1.1 with 0", f"1.1.1 -{ends}"),
+            (opens, b"sparse 0\n1.1.1 0\n1.2.1 0\nclosed 1.1.1.0 a", (2, 5, 4), "a whole line", f"closed 1.1.1.0 a{ends}"),
+            (closes, b"register 0\nunregister 0\nclosed r1.0 a", (2, 3, 3), "closed r1.0 a.txt", f"closed r1.0 a{ends}"),
+            (reads, b"register 0\n1.1.1 OK\n", (2, 4, 2), "1.1.1 with 1 6a of a or -12", "1.1.1 OK; its result can't be read"),
+            (reads, b"register 0\n1.1.1 1 6A\n", (2, 4, 2), "1.1.1 with 1 6a of a or -12", "1.1.1 1 6A; bytes are printed in lower case"),
+            # the last line of a script may have no end
+            (b"sparse 1\nunregister", b"sparse 0\n", (2, 2, 2), "unregister 0", "nothing"),
         ]:
-            self.want_told(f"the text {text}", [script, "-"], (1, place + found + b"\n", b""), text)
-        opens = self.path("opens", b"file a 61\nsparse 1\nopen a at 0\nclose 0\nsubmit\n")
-        wanted = b"not legal: command 2, line 5 of the script; line 2 of the text: expected 1.1.1 with 0, found 1.1.1 - without a line end; the text ends within this line\n"
-        self.want_told("a text that ends within a completion", [opens, "-"], (1, wanted, b""), b"sparse 0\n1.1.1 -")
-        wanted = (b"not legal: command 2, line 5 of the script; line 4 of the text: expected a whole line, "
-                  b"found closed 1.1.1.0 a without a line end; the text ends within this line\n")
-        self.want_told("a text that ends within a closed file", [opens, "-"], (1, wanted, b""), b"sparse 0\n1.1.1 0\n1.2.1 0\nclosed 1.1.1.0 a")
-        closes = self.path("closes", b"file a.txt 6a\nregister 0\nunregister\n")
-        wanted = (b"not legal: command 2, line 3 of the script; line 3 of the text: expected closed r1.0 a.txt, "
-                  b"found closed r1.0 a without a line end; the text ends within this line\n")
-        self.want_told("a text that ends within a call's closed file", [closes, "-"], (1, wanted, b""), b"register 0\nunregister 0\nclosed r1.0 a")
-        reads = self.path("reads", b"file a 6a\nregister 0\nread 0 0 1\nsubmit\n")
-        for line, why in (("1.1.1 OK", "its result can't be read"), ("1.1.1 1 6A", "bytes are printed in lower case")):
-            wanted = f"not legal: command 2, line 4 of the script; line 2 of the text: expected 1.1.1 with 1 6a of a or -12, found {line}; {why}\n"
-            self.want_told(f"the line {line}", [reads, "-"], (1, wanted.encode(), b""), f"register 0\n{line}\n".encode())
-        # the last line of a script may have no end
-        script = self.path("script", b"sparse 1\nunregister")
-        wanted = b"not legal: command 2, line 2 of the script; line 2 of the text: expected unregister 0, found nothing\n"
-        self.want_told("a script without a last line end", [script, "-"], (1, wanted, b""), b"sparse 0\n")
+            said = "not legal: command {}, line {} of the script; line {} of the text: expected ".format(*place) + f"{wanted}, found {found}\n"
+            self.want_told(f"the text {text} of {script}", [self.path("odd", script), "-"], (1, said.encode(), b""), text)
 
     def arguments(self):
         missing = os.path.join(self.folder, "none")
@@ -189,10 +186,8 @@ class Verdicts(Counted):
             self.want_told(f"{words}", words, wanted)
         script = self.path("script", b"file a 61\nsparse 1\n")
         place = b"not legal: command 1, line 2 of the script; line 1 of the text: expected sparse 0, found file a 61\n"
-        note = f"fixcheck: {script} is a script, and not what a script printed\n".encode()
-        self.want_told("a script given as the text", [script, script], (1, place, note))
-        wanted = 3, b"", b"fixcheck: standard input: line 1: unknown-command\n"
-        self.want_told("a bad script on standard input", ["-", TEXT], wanted, b"x\n")
+        self.want_told("a script given as the text", [script, script], (1, place, f"fixcheck: {script} is a script, and not what a script printed\n".encode()))
+        self.want_told("a bad script on standard input", ["-", TEXT], (3, b"", b"fixcheck: standard input: line 1: unknown-command\n"), b"x\n")
 
     def endless(self):
         """A script is read no further than shows that it is too long, and a text no further than the memory that it may have."""
@@ -313,10 +308,10 @@ class Verdicts(Counted):
         twice = self.path("twice", lines("file a 61", "file b 62", "register 0", *reads, "update 0 1", "submit", *reads, "update 0 0", "submit").encode())
         self.want_list("all texts of reads, twice", ["--all=0", twice], 0, 0, f"{4 ** TWICE} texts, {all_of}; the first 0:")
         self.want_list("the first text of reads, twice", ["--all=1", twice], 0, 0, f"{4 ** TWICE} texts, {all_of}; the first 1:")
-        path = self.path("often", lines("file a 61", "file b 62", "register 0", *self.often(OFTEN)).encode())
+        path = self.path("often", lines("file a 61", "file b 62", "register 0", *often(OFTEN)).encode())
         self.want_list("the first of many texts", ["--all=1", path], 0, 0, f"{2 ** OFTEN} texts, {all_of}; the first 1:", **limited(LIST_MIB * 1024))
         self.first_of_rings()
-        path = self.path("too often", lines("file a 61", "file b 62", "register 0", *self.often(64)).encode())
+        path = self.path("too often", lines("file a 61", "file b 62", "register 0", *often(64)).encode())
         self.want_list("texts that aren't counted", ["--all=1", path], 6, 0, rf"at least {2 ** 64 - 1} texts, {all_of}; the first 1:")
         head = rf"{4 ** TWICE} texts, {all_of}; the first [1-9]\d{{3,4}}:"
         self.want_list("texts of reads, twice, that 8 MiB don't hold", ["--memory=8", f"--all={4 ** TWICE}", twice], 0, 0, head, **limited(LIST_MIB * 1024))
@@ -328,10 +323,6 @@ class Verdicts(Counted):
         path = self.path("rings", lines(f"file a {'6a' * BYTES}", f"sparse {ANY}", *opens, "submit", "unregister", *after).encode())
         head = f"{math.factorial(ANY)} texts, if no allocation fails; the first 1:"
         self.want_list("the first text of many rings", ["--memory=32", "--all=1", path], 0, 0, head, **limited(ANY_MIB * 1024))
-
-    def often(self, count):
-        """So many submissions, each with a read that finds the file that was there, or the one that replaces it."""
-        return [line for it in range(count) for line in ("read 0 0 1", f"update 0 {1 - it % 2}", "submit")]
 
     def want_list(self, what, words, status, nth, line, **how):
         """A list ends with this status, and its nth line is this."""

@@ -5,7 +5,6 @@
 #include <liburing.h>
 
 #include "links.h"
-#include "log.h"
 
 enum { SLOTS = 3, LONGEST_CHAIN = 3, LONGEST_LIST = SLOTS, LONGEST_READ = 3, LINE_BYTES = 1024, PLACE_BITS = 4 };
 

@@ -3,6 +3,7 @@
 
 #include <fcntl.h>
 #include <pthread.h>
+#include <stdarg.h>
 #include <stdio.h>
 #include <string.h>
 #include <sys/ioctl.h>
@@ -23,6 +24,50 @@ static struct { char name[PATH_BYTES]; } *seen;	/* the links whose closes have n
 static size_t seen_count, seen_room;
 static const char *contents[FILES] = { "a", "bb", "ccc", "dddd" };
 static _Thread_local unsigned long long state;
+
+struct line {
+	char *text;
+	struct member_name of;	/* of a close; else the call is 0 */
+};
+
+static pthread_mutex_t lines_lock = PTHREAD_MUTEX_INITIALIZER;
+static struct line *lines;
+static size_t line_count, line_room;
+static struct member_name *left_out;
+static size_t left_out_count, left_out_room;
+
+void append_close(struct member_name of, const char *format, ...) {
+	char *text;
+	va_list words;
+	va_start(words, format);
+	if (vasprintf(&text, format, words) < 0)
+		die_of("out of memory");
+	va_end(words);
+	pthread_mutex_lock(&lines_lock);
+	lines = with_room(lines, line_count, &line_room, sizeof *lines);
+	lines[line_count++] = (struct line){ .text = text, .of = of };
+	pthread_mutex_unlock(&lines_lock);
+}
+
+void leave_out_closes(struct member_name of) {
+	pthread_mutex_lock(&lines_lock);
+	left_out = with_room(left_out, left_out_count, &left_out_room, sizeof *left_out);
+	left_out[left_out_count++] = of;
+	pthread_mutex_unlock(&lines_lock);
+}
+
+static int is_left_out(struct member_name of) {
+	for (size_t at = 0; of.call && at < left_out_count; at++)
+		if (left_out[at].call == of.call && left_out[at].member == of.member)
+			return 1;
+	return 0;
+}
+
+void write_log(void) {
+	for (size_t at = 0; at < line_count; at++)
+		if (!is_left_out(lines[at].of))
+			puts(lines[at].text);
+}
 
 void seed_random(unsigned long long seed) { state = seed * 2654435761u + 1; }
 

@@ -1,11 +1,29 @@
 /* The catalogue as real files or named pipes (events.h), with a link for each installation, so that
- * a close names a single installation. */
+ * a close names a single installation; and the log of calls in flight (docs/inside/FLIGHT.md): its
+ * lines in the order of their appends. */
 #ifndef LINKS_H
 #define LINKS_H
 
-#include "log.h"
-
 enum { FILES = 4, MOST_PIPES = 64, PATH_BYTES = 64 };
+
+/* A member of a chain: the number of the call, and the place in the chain, both from 1 on. */
+struct member_name {
+	int call, member;
+};
+
+/* Appends the line of a close of a file that this member installs or tried to install. Threads may
+ * append at once; one lock orders their lines. */
+void append_close(struct member_name of, const char *format, ...) __attribute__((format(printf, 2, 3)));
+
+/* Appends another line. */
+#define append(...) append_close((struct member_name){ 0, 0 }, __VA_ARGS__)
+
+/* Leaves out the closes of this member's files. Linux opens and closes the file of a refused open,
+ * and files of a refused update never were in the table. */
+void leave_out_closes(struct member_name of);
+
+/* Writes all lines to standard output. Call it once all threads that append have ended. */
+void write_log(void);
 
 /* Makes the folder, and the files of the catalogue, or with `pipes` none yet. Returns 0 if this
  * system has no inotify. */

@@ -27,7 +27,6 @@
 #include "../script.h"
 #include "chain.h"
 #include "links.h"
-#include "log.h"
 
 enum { BAD_ARGUMENT = 2, NO_IO_URING = 77, ENTRIES = 256, MOST_OPEN = 3, UPDATES = 3, TURN_MICROSECONDS = 200, IDLE = 50 };
 /* In a waiting read the kernel has a tenth of a second to do too much, and so has the observer to
