@@ -1,16 +1,12 @@
-"""clauses [--names OLD=NEW ..] [--spoil] REVISION [CRATE..]: compares each public function's signature and contract, each public type, and each
+"""clauses [--names OLD=NEW ..] REVISION [CRATE..]: compares each public function's signature and contract, each public type, and each
 definition of specs/ with those of a revision. It prints what is gone, new or different, and ends with status 1 if a contract, a type or
 a definition of the revision is gone or different. OLD=NEW names a word that was renamed: it is replaced in the revision's text before
 the comparison. A function is public if it is `pub`, or of a `pub trait`, or of an `impl` of a trait with clauses. Clauses that moved, in
-another order or layout, are the same clauses. With --spoil it compares the revision with itself, and with each of its contracts without
-one clause, in memory, and expects a complaint about each of the latter."""
+another order or layout, are the same clauses."""
 import argparse
-import contextlib
-import io
 import re
 import subprocess
 
-from scripts.checks import Counted
 from scripts.repository import ROOT, files_of, read
 
 FUNCTION = re.compile(r'( *)(pub )?(?:const |unsafe )*(?:extern "C" )?fn (\w+)')
@@ -147,34 +143,12 @@ def compare(old, new):
     return wrong
 
 
-def spoiled(found):
-    """Yields these items with one contract that lacks a clause, for each contract that has one."""
-    for key, all_said in found.items():
-        for number, said in enumerate(all_said):
-            if key[1] == "function" and len(said) > 1:
-                yield key, {**found, key: sorted([*all_said[:number], said[:-1], *all_said[number + 1 :]])}
-
-
-def spoil(revision, crates):
-    checks, old = Counted("clauses"), of_revision(revision, crates)
-    with contextlib.redirect_stdout(io.StringIO()):
-        same = compare(old, old)
-        passed = [key for key, new in spoiled(old) if compare(old, new) != 1]
-    checks.want(same == 0, f"{revision} differs from itself")
-    for key, _ in spoiled(old):
-        checks.want(key not in passed, f"a contract of {key[0]} {key[2]} without a clause is not noticed")
-    return checks.end()
-
-
 def command():
     parser = argparse.ArgumentParser(usage=__doc__)
     parser.add_argument("--names", nargs="*", default=[])
-    parser.add_argument("--spoil", action="store_true")
     parser.add_argument("revision")
     parser.add_argument("crates", nargs="*")
     options = parser.parse_args()
-    if options.spoil:
-        return spoil(options.revision, options.crates)
     old = renamed(of_revision(options.revision, options.crates), dict(it.split("=") for it in options.names))
     new = items(options.crates, read, files_of("*", "src", "specs"))
     wrong = compare(old, new)

@@ -1,16 +1,16 @@
 """lanes CRATE NAME [CRATE NAME..]: proves the crates that programs or static libraries depend on, builds these, and leaves each at bin/NAME,
 for scripts/build-program.
 lanes static [--gate BEGAN LOG] CRATE MACHINE..: proves and builds the static library of a crate for x86_64 or aarch64, or both, if it is
-older than a source, and keeps it at bin/libCRATE.MACHINE.a. The crate is proved in a copy, over the libraries of the crates below, and for a
-second machine over what was proved for the first. With --gate the libraries are the gate's: it proves the crates but builds no static
-library, and this waits until it has proved those below. BEGAN is a file older than the gate, LOG the gate's output.
+older than a source, and keeps it at bin/libCRATE.MACHINE.a: in a copy, over the libraries of the crates below. With --gate the libraries are
+the gate's: it proves the crates but builds no static library, and this waits until it has proved those below. BEGAN is a file older than
+the gate, LOG the gate's output.
 lanes keep FILE CRATE NAME: copies what was built from CRATE to bin/NAME, as old as FILE, which was made before the build began.
 
 Crates that don't depend on each other are proved in parallel, as far as memory goes. The crates on the longest paths to the programs
 share the processors; each other crate has one job at a lower priority. The toolchain locks the folders of a crate and of its
 dependencies while it proves, so one crate is proved in place, and the others in copies (scripts/proved.py). Prints on standard error
-what is proved and how long the rest is expected to take: on a terminal a line that is updated, else a line a minute. What the prover prints
-goes to build/program.log, and each verdict to a log of build, for scripts/dist."""
+what is proved and how long the rest is expected to take. What the prover prints goes to build/program.log, and each verdict to a log of
+build, for scripts/dist."""
 import fcntl
 import os
 import re

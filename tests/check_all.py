@@ -4,12 +4,15 @@ looks at fewer cases than it plans, and each way in which the gate fails, tests/
 
 Checks that are written in bash are tried too: each counts a wrong case, and ends with its number of cases. check-must-spend fails if
 the checker rejects nothing, and check-layout on files with a fault."""
+import contextlib
+import io
 import os
 import re
 import shutil
 import subprocess
 import tempfile
 
+from scripts import clauses
 from scripts.checks import Counted, kept_numbers, name_of
 from scripts.programs import in_parallel
 from scripts.repository import ROOT, read, write
@@ -66,6 +69,9 @@ FAULTS = (
     ("tests/one", "status=$?\n", "status=$?\nexport it=$(true)\n", "shellcheck finds a fault"),
 )
 TOOLS = "pyflakes3", "shellcheck"
+# a source: scripts/clauses must notice a field, a precondition or a clause that is left out
+SOURCE = ("pub struct Made {\n", "    pub it: u32,\n", "}\nimpl Made {\n    pub fn make(it: u32) -> u32\n", "        requires small { it < 9 }\n",
+          "        ensures same { result ≡ it }\n", "    {\n        it\n    }\n}\n")
 
 
 def file_of(check):
@@ -178,8 +184,17 @@ def check_layout(checks):
         checks.want(it.returncode == 1 and f" {complaint}" in it.stdout, f"check-layout doesn't find the fault of {file}: {complaint}")
 
 
+def check_clauses(checks):
+    texts = ["".join(it for nth, it in enumerate(SOURCE) if nth != left_out) for left_out in (None, 1, 3, 4)]
+    whole, *others = (clauses.items((), lambda _, text=text: text, ["crates/made/src/made.rt"]) for text in texts)
+    with contextlib.redirect_stdout(io.StringIO()):
+        found = [clauses.compare(whole, it) for it in (whole, *others)]
+    checks.want(found == [0, 1, 1, 1], f"scripts/clauses finds {found} differences where no line, or one, is left out")
+
+
 def command():
     checks = Counted("all")
+    check_clauses(checks)
     check_all(checks)
     check_bash(checks)
     check_parts(checks)

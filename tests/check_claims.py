@@ -1,10 +1,7 @@
-"""check-claims: compares the pages with the sources. Checked are: each function in the tables of docs/inside/PROOFS.md, and that it has the
-clauses of its row; that each promise of README.md links to such a table; that each public call with a `requires` is among its
-preconditions; that its reading list has the files and lines that the headline's definition reaches; each quoted line of a law, and of the
-examples in README.md and docs/inside/LIBRARY.md; that each refusal in crates/WRONG_BODIES.md exists; the types and functions that any page
-names; the atomic steps of calls in docs/inside/PROOFS.md; the options of each command, and the defaults of the scripts' manual pages; the
-kept outputs of fixcheck that docs/use/CHECKING.md shows; and the tables and minutes that bench/write-tables writes. So it finds a page that
-is older than the code. Each kind of claims has some (tests/check-all has a wrong page of each).
+"""check-claims: compares the pages with the sources: functions, clauses, preconditions, types and names; the reading list; quoted lines of laws,
+examples and outputs; the refusals of crates/WRONG_BODIES.md; atomic steps, options and defaults; and the tables and minutes that
+bench/write-tables writes. So it finds a page that is older than the code. Each kind of claims has some (tests/check-all has a wrong page of
+each).
 
 A claim is written '`f`, `g`: `x`, `y`; `h`: `z`': f and g both have the clauses x and y, and h has z. Without clauses it refers to
 the whole contract. A word with a capital letter is a definition that the contract cites."""

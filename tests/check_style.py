@@ -2,10 +2,8 @@
 (style.txt) in pages, manual pages, comments, heads of scripts and names in code; sentences of a page with more than 25 words; titles and
 comments that begin with What, Whether, Which, How or That. Code samples, names in backticks and the targets of links don't count.
 
-It also prints names that stand for two things in the product: types of crates/*/src that other modules can use, functions that several
-crates export, and definitions of crates/*/specs. The tables count as one crate, since a part of one has the name of the same part of
-another. And no module has the name of an item that its crate exports, which the toolchain refuses only after the crates below are
-proved. `make style` runs it; make test doesn't."""
+It also prints names that stand for two things in the product: types that other modules can use, functions that several crates export,
+definitions, and modules with the name of an item that their crate exports. The tables count as one crate. `make style` runs it."""
 import glob
 import os
 import re

@@ -1,18 +1,13 @@
-"""wrong-bodies [--named] [--beside N] [--gate BEGAN LOG] [NAME..]: tries the edits of crates/*/wrong-bodies.txt, for which the gate has
-no time: all, those of a crate, or CRATE/EDIT. With --named it tries only those of the first table of crates/WRONG_BODIES.md that
+"""wrong-bodies [--named] [--beside N] [--gate BEGAN LOG] [NAME..]: tries the edits of crates/*/wrong-bodies.txt (scripts/edits.py), for which the
+gate has no time: all, those of a crate, or CRATE/EDIT. With --named it tries only those of the first table of crates/WRONG_BODIES.md that
 nothing but the prover refuses, as `make test` does. It tries N crates at a time. wrong-bodies --fit only checks that each edit can be
-applied, also those of must-fail/.
-With --gate it runs beside the gate; BEGAN is a file older than the gate, LOG the gate's output: a crate's edits are tried once the gate
-has proved the crates below, over those libraries and by one job. The gate itself reports whether the crate is proved without an edit.
+applied, also those of must-fail/. With --gate it runs beside the gate; BEGAN is a file older than the gate, LOG the gate's output: a crate's
+edits are tried once the gate has proved the crates below, over those libraries and by one job.
 
 Each edit changes the meaning of a body, and the prover must refuse the function. A caller knows only the contract of a function, so
-edits of different functions don't affect each other and are tried in one check. The edited functions are checked, and those that
-they call. An edit that isn't refused in its function is tried again alone, in a check of the whole crate, and then a refusal anywhere
-counts, and is printed with its place: a body without a contract is refused at its caller. scripts/refusals.py finds the refused
-function. The edits are applied to a copy of the crates outside the repository; the prover's output of each check is kept in
-build/wrong-bodies/.
-
-scripts/edits.py has the form of an edit. Each text to be replaced is in its file once."""
+edits of different functions don't affect each other and are tried in one check, in a copy of the crates. An edit that isn't refused in its
+function is tried again alone, in a check of the whole crate, and then a refusal anywhere counts, and is printed with its place: a body
+without a contract is refused at its caller. The prover's output of each check is kept in build/wrong-bodies/."""
 import argparse
 import collections
 import concurrent.futures
