@@ -250,6 +250,6 @@ int main(void) {
     made_within();
     an_empty_slot_is_found();
     words();
-    refused_openings();
+    for (; is_alone < 2; is_alone++) refused_openings();
     return report("table");
 }
