@@ -114,13 +114,12 @@ style:
 	@scripts/run tests.check_style
 
 bench:
-	@scripts/build-program fx_cli fixfiles bench_tables bench_tables
-	@bench/bench bin/fixfiles bin/bench_tables
+	@scripts/build-program
+	@bench/bench bin/fixfiles
 	@scripts/build-libraries yachtjudge
 	-@bench/measure-logs --targets
 
 bench-rust:
-	@scripts/build-program bench_tables bench_tables
 	@scripts/build-libraries yachtbanyan yachtdirect
 	@bench/bench-rust
 

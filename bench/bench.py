@@ -1,8 +1,7 @@
-"""bench PROGRAM TABLES: compares the program with bench/plain.rs, a plain Rust program that does the same. It prints the instructions of
+"""bench PROGRAM: compares the program with bench/plain.rs, a plain Rust program that does the same. It prints the instructions of
 playing scripts, each as a multiple of the plain program's, and fails only if the two write different texts. They are counted by
 callgrind (valgrind), of a tenth of each script's submissions, less those of the same script with a bad line at its end, which is read
-and not played. Then a submission is timed on 1, 2 and 4 workers by wall-clock time, which other work changes, and the opening of the
-shared tables, by TABLES, the program of crates/bench_tables, alternately."""
+and not played. Then a submission is timed on 1, 2 and 4 workers by wall-clock time, which other work changes."""
 import os
 import re
 import shutil
@@ -11,7 +10,6 @@ import sys
 import tempfile
 import time
 
-from bench import ratios
 from scripts.checks import arguments
 from tests.limits import heaviest_submission, large_text, lines, linked
 from scripts.programs import BUILD
@@ -112,24 +110,8 @@ def measure_crews(program):
     print(f"bench:   meanwhile the load was {os.getloadavg()[0]:.1f}", flush=True)
 
 
-def table_time(program, table, work, threads):
-    """The nanoseconds that a table takes for the work, by the program of crates/bench_tables."""
-    row = f"{table} {work} {threads}"
-    ran = subprocess.run([program], env={**os.environ, "TABLE_BENCH_ROW": row}, capture_output=True, text=True)
-    if ran.returncode != 0:
-        sys.exit(f"bench: {program} could not time {row}")
-    return int(ran.stdout)
-
-
-def measure_tables(program):
-    for name, work in (it for it in ratios.rows() if it[1].startswith("open ")):
-        for threads in 1, 2, 4:
-            rounds = [{it: table_time(program, it, work, threads) for it in ("counted", "baton")} for _ in range(RUNS)]
-            ratios.tell("bench", ratios.title(name, threads), rounds, 1)
-
-
 def command():
-    given = arguments(__doc__, "program tables")
+    given = arguments(__doc__, "program")
     for tool in "rustc", "valgrind":
         if shutil.which(tool) is None:
             sys.exit(f"bench: there is no {tool} here: nothing is measured")
@@ -137,7 +119,6 @@ def command():
     subprocess.run(["rustc", "-O", "--edition", "2021", "-o", f"{BUILD}/plain", f"{ROOT}/bench/plain.rs"], check=True)
     differ = count_instructions(given.program, f"{BUILD}/plain")
     measure_crews(given.program)
-    measure_tables(given.tables)
     if differ:
         print(f"bench: {differ} texts differ")
     return 1 if differ else 0

@@ -1,28 +1,24 @@
 """Prints the ratios of the tables' times, each the median over its rounds. As a program, it reads the rounds that bench_rust prints. With
 `--keep TABLE,..` it prints the times of these tables instead, a line for each row, to be kept in a file."""
 import itertools
-import os
 import re
 import statistics
 import sys
 
-
-def rows():
-    """The name of each row, and the words of its work: a kind and a number of slots."""
-    with open(f"{os.path.dirname(os.path.abspath(__file__))}/rows.txt", encoding="utf-8") as file:
-        return [line.rstrip("\n").split(": ") for line in file]
+# the number of this project's tables in a row, and of plain ones
+MOST = 4
 
 
 def title(name, threads):
     return f"{name}, {threads} {'thread' if threads == 1 else 'threads'}"
 
 
-def tell(who, what, rounds, most):
-    """Prints a line for each of the first `most` tables: its times by those of each table after it."""
+def tell(what, rounds):
+    """Prints a line for each of the first tables, at most `MOST`: its times by those of each table after it."""
     tables = list(rounds[0])
-    for at, own in enumerate(tables[:-1][:most]):
+    for at, own in enumerate(tables[:-1][:MOST]):
         ratios = (f"{it} {statistics.median(times[own] / times[it] for times in rounds):.2f}" for it in tables[at + 1 :])
-        print(f"{who}: {what}: {own} / {', '.join(ratios)}", flush=True)
+        print(f"bench-rust: {what}: {own} / {', '.join(ratios)}", flush=True)
 
 
 def read_rounds(lines):
@@ -52,4 +48,4 @@ def command():
         keep(sys.stdin, sys.argv[2].split(","))
     else:
         for name, threads, rounds in read_rounds(sys.stdin):
-            tell("bench-rust", title(name, threads), rounds, 5)
+            tell(title(name, threads), rounds)

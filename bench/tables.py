@@ -160,12 +160,6 @@ def of_others():
     ])
 
 
-def of_counted():
-    """Returns the ratios of the table of a submission to plain words, row by row."""
-    titles = dict.fromkeys(row for row, _ in read_kept(read("bench/counted.txt").splitlines()))
-    return lines([("CountedTable /", "plain words"), *((row, f"{ratio('bench/counted.txt', row, 'counted', 'counted words'):.2f}") for row in titles)])
-
-
 def of_program():
     """Returns the instructions of fixfiles by those of plain Rust, and the times of more workers by those of one."""
     rows = [("script", "fixfiles / plain")]
@@ -174,8 +168,7 @@ def of_program():
     name = "1,023 chains of 16 at one of 256 slots each"
     those = found(text, rf"^bench: {name}, \d+ times: .*?words, ([\d.]+) times that on 2 and ([\d.]+) times")
     workers.append((name, *(f"{statistics.median(map(float, it)):.2f}" for it in zip(*those))))
-    opening = span(found(text, r"opening and closing, .*: counted / baton ([\d.]+)"), 0)
-    return f"{lines(rows)}\n\n{lines(workers)}\n\n{lines([('opening and closing for 1,023 chains: CountedTable / BatonTable', opening)])}"
+    return f"{lines(rows)}\n\n{lines(workers)}"
 
 
 def of_judge():
@@ -286,7 +279,7 @@ def quoted(path, pattern):
 
 
 TABLES = {
-    "calls": of_calls, "counted": of_counted, "crate": of_crate, "descriptors": of_descriptors, "fixcheck": of_fixcheck, "judge": of_judge, "lasting": of_lasting,
+    "calls": of_calls, "crate": of_crate, "descriptors": of_descriptors, "fixcheck": of_fixcheck, "judge": of_judge, "lasting": of_lasting,
     "lives": of_lives, "machine": of_machine, "memory": of_memory, "others": of_others, "program": of_program,
     "rare-calls": of_rare_calls, "searches": of_searches, "stale-looks": of_stale_looks, "summary": summary, "tails": of_tails, "vm": of_vm,
     "conform": lambda: quoted("bench/conform.txt", r"^# scripts: .*|^# Totals: .*"),

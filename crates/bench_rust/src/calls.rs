@@ -13,9 +13,7 @@ const FULL: usize = 128;
 const SHAPE: Shape = Shape {
     slots: 256,
     full: FULL,
-    in_range: true,
     threads: 1,
-    installs: 1,
 };
 
 fn file() -> File {

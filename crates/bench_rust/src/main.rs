@@ -1,9 +1,9 @@
-//! Times the two proved lock-free tables, one of them also by the Rust crate in bindings/, next to
-//! plain, unproved Rust tables of the same words, and all next to arc-swap, crossbeam-epoch and
-//! sharded-slab, in turn in one process. Each line has the times of one round, for
-//! `bench/ratios.py`. With the argument `tails` it prints how long single calls take instead,
-//! and with `searches` how long the crate needs in tables that are nearly full. With `memory` it
-//! prints how many bytes tables of the crate take. With `calls` it makes one call in a loop.
+//! Times the proved lock-free table, also by the Rust crate in bindings/, next to a plain, unproved
+//! Rust table of the same words, and all next to arc-swap, crossbeam-epoch and sharded-slab, in
+//! turn in one process. Each line has the times of one round, for `bench/ratios.py`. With the
+//! argument `tails` it prints how long single calls take instead, and with `searches` how long the
+//! crate needs in tables that are nearly full. With `memory` it prints how many bytes tables of the
+//! crate take. With `calls` it makes one call in a loop.
 mod access;
 mod bindings;
 mod calls;
@@ -11,13 +11,11 @@ mod exports;
 mod lasting_words;
 mod memory;
 mod others;
-mod proved;
 mod searches;
 mod slabs;
 mod table;
 mod tails;
 mod timing;
-mod words;
 mod work;
 
 use bindings::{Lasting, LastingKeys};
@@ -26,16 +24,15 @@ use lasting_words::LastingWords;
 use others::{Epochs, Swaps};
 use slabs::{Keys, Slabs};
 use timing::time;
-use words::Words;
 use work::{Row, Work};
 
 const ROWS: &str = include_str!("../../../bench/rows.txt");
 
 const LARGE_ROWS: &str = include_str!("../../../bench/large_rows.txt");
 
-/// The function that measures and prints one round of a row, by its name, its words, the row and
-/// the number of threads.
-type Round = fn(&str, &str, Row, usize);
+/// The function that measures and prints one round of a row, by its name, the row and the number of
+/// threads.
+type Round = fn(&str, Row, usize);
 
 /// Prints the seconds that each table needs for a row.
 fn print(name: &str, threads: usize, times: &[(&str, f64)]) {
@@ -47,13 +44,11 @@ fn print(name: &str, threads: usize, times: &[(&str, f64)]) {
 }
 
 /// Measures each of the tables at a row of `bench/rows.txt`.
-fn round(name: &str, words: &str, row: Row, threads: usize) {
+fn round(name: &str, row: Row, threads: usize) {
     let times = [
         ("lasting", time::<Exports>(row, threads)),
         ("Rust crate", time::<Lasting>(row, threads)),
         ("lasting words", time::<LastingWords<1>>(row, threads)),
-        ("counted", proved::time(words, threads)),
-        ("counted words", time::<Words>(row, threads)),
         ("arc-swap load", time::<Swaps<false>>(row, threads)),
         ("arc-swap load_full", time::<Swaps<true>>(row, threads)),
         ("crossbeam-epoch", time::<Epochs>(row, threads)),
@@ -64,8 +59,8 @@ fn round(name: &str, words: &str, row: Row, threads: usize) {
 
 /// Measures the table, by the calls that the crate makes and by the crate itself, and its peers at
 /// a row of `bench/large_rows.txt`, unless that has too few slots for the threads.
-fn large_round(name: &str, _: &str, row: Row, threads: usize) {
-    if matches!(row.work, Work::Chain { .. }) && row.own_slots(threads) == 0 {
+fn large_round(name: &str, row: Row, threads: usize) {
+    if matches!(row.work, Work::Chain) && row.own_slots(threads) == 0 {
         return;
     }
     let times = [
@@ -85,7 +80,7 @@ fn measure(rows: &str, round: Round, threads: usize, rounds: usize, part: &str) 
         let Some(row) = Row::of(words).filter(|_| name.contains(part)) else {
             continue;
         };
-        (0..rounds).for_each(|_| round(name, words, row, threads));
+        (0..rounds).for_each(|_| round(name, row, threads));
     }
 }
 

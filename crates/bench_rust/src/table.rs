@@ -18,17 +18,13 @@ pub const FILE: File = File { entry: 0, mark: 0 };
 #[repr(align(64))]
 pub struct Line<T>(pub T);
 
-/// The shape that a table is opened with.
+/// The shape that a table is opened with. Its slots are the allocation range.
 #[derive(Clone, Copy)]
 pub struct Shape {
     pub slots: usize,
     /// The number of slots, from the first one on, that have a file.
     pub full: usize,
-    /// The flag that the slots are the allocation range; otherwise the range is empty.
-    pub in_range: bool,
     pub threads: usize,
-    /// The greatest number of files that each thread installs.
-    pub installs: usize,
 }
 
 /// A table as it is measured: a call that opens together with the one that ends it.

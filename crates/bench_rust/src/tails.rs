@@ -85,9 +85,7 @@ fn print<T: Table>(name: &str, writers: usize) {
     let table = T::open(Shape {
         slots: SLOTS,
         full: SLOTS / 2,
-        in_range: true,
         threads,
-        installs,
     });
     let (barrier, ends) = (Barrier::new(threads), AtomicBool::new(false));
     let (looks, written) = std::thread::scope(|scope| {

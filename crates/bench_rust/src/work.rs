@@ -1,5 +1,4 @@
-//! The work of a thread on a table while it is measured: the same as the proved program does, slot
-//! by slot.
+//! The work of a thread on a table while it is measured.
 use crate::table::{File, Table, READ_LEN};
 use std::hint::black_box;
 
@@ -13,17 +12,15 @@ pub struct Row {
 }
 
 impl Row {
-    /// Returns the row of these words: a kind of work, a number of slots, and in
-    /// `bench/large_rows.txt` the number of full slots.
+    /// Returns the row of these words: a kind of work, a number of slots, and the number of full
+    /// slots unless all are full.
     pub fn of(words: &str) -> Option<Row> {
         let mut words = words.split(' ');
         let work = Work::named(words.next()?)?;
         let slots = words.next()?.parse().ok()?;
-        let full = match (words.next(), work) {
-            (Some(word), _) => word.parse().ok()?,
-            (None, Work::Chain { .. } | Work::Opening) => 0,
-            (None, Work::Allocate | Work::Serve) => slots - 16,
-            (None, Work::Look | Work::Mixed) => slots,
+        let full = match words.next() {
+            Some(word) => word.parse().ok()?,
+            None => slots,
         };
         Some(Row { work, slots, full })
     }
@@ -50,7 +47,7 @@ pub enum Work {
     Mixed,
     /// Installs a file at a slot that only this thread uses, looks it up, reads and releases it,
     /// and takes and retires it.
-    Chain { in_range: bool },
+    Chain,
     /// Installs a file at an empty slot of the range, and takes and retires it.
     Allocate,
     /// Installs a file at an empty slot, looks it up, reads and releases it, and takes and retires
@@ -61,14 +58,12 @@ pub enum Work {
 }
 
 impl Work {
-    /// Returns the work of a word of `bench/rows.txt`, unless only the proved tables are timed at
-    /// it.
+    /// Returns the work of a word of `bench/rows.txt`.
     pub fn named(word: &str) -> Option<Work> {
         match word {
             "look" => Some(Work::Look),
             "mix" => Some(Work::Mixed),
-            "outside" => Some(Work::Chain { in_range: false }),
-            "inside" => Some(Work::Chain { in_range: true }),
+            "inside" => Some(Work::Chain),
             "allocate" => Some(Work::Allocate),
             "serve" => Some(Work::Serve),
             "opening" => Some(Work::Opening),
@@ -81,14 +76,14 @@ impl Work {
         match self {
             Work::Look => 200_000,
             Work::Mixed => 10 * INSTALLS,
-            Work::Chain { .. } | Work::Allocate | Work::Serve => INSTALLS,
+            Work::Chain | Work::Allocate | Work::Serve => INSTALLS,
             Work::Opening => 50,
         }
     }
 }
 
 /// The number of files that a thread installs.
-pub const INSTALLS: usize = 15_000;
+const INSTALLS: usize = 15_000;
 
 pub fn next(random: u32) -> u32 {
     random.wrapping_mul(1_664_525).wrapping_add(1_013_904_223)
@@ -116,7 +111,7 @@ pub fn work<T: Table>(table: &T, row: Row, threads: usize, thread: usize) {
             Work::Look | Work::Mixed => {
                 black_box(table.look(pass, slot));
             }
-            Work::Chain { .. } => {
+            Work::Chain => {
                 let slot = row.own_slot(threads, thread, i);
                 table.put(pass, slot, file());
                 table.read(pass, slot, &catalogue, &mut into);
