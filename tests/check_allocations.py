@@ -1,6 +1,6 @@
 """check-allocations FIXFILES BENCH_TABLES: counts, by tests/watch.c, the allocations of calls that must make none, on which contracts are
 silent. FIXFILES plays submissions of 1,000 equal chains over each table, on one worker and on two: what it allocates beyond the reading of the
-script must be that of a few chains. BENCH_TABLES makes 15,000 or more calls on each shared table, and must allocate for its setting alone;
+script must be that of a few chains. BENCH_TABLES makes 30,000 or more calls on each shared table, and must allocate for its setting alone;
 of calls that open and close a table or a ring it makes as many allocations as are kept here, and none after a failed one."""
 
 from scripts.checks import Counted, arguments
@@ -31,8 +31,9 @@ CALLS = (
 ONCE = {"add - 0": 8, "prepare - 5": 3, "open words 1": 8, "open baton 1": 9, "tags - 0": 16}
 # the allocations of such a call that end it if they fail
 ENDING = "tags - 0", range(2, 17)
-# the work of bench/rows.txt, with the number of slots
-BENCHED = "look 16", "mix 16", "outside 256", "inside 256", "allocate 256"
+# the kind of work, the number of slots, and how many calls find, read, install or take a file:
+# each of 200,000 or 150,000, or three or two of 15,000
+WORKS = ("look", 16, 200_000), ("mix", 16, 150_000), ("outside", 256, 45_000), ("inside", 256, 45_000), ("allocate", 256, 30_000)
 
 
 class Checks(Counted):
@@ -59,10 +60,11 @@ class Checks(Counted):
             for call, each in those.items():
                 self.want_each(each, call, (), *HEAD, *more, *[call] * TIMES)
 
-    def benched(self, table):
-        for row in BENCHED:
-            ran = counted([self.bench_tables], "", TABLE_BENCH_ROW=f"{table} {row} 1")
-            self.want(ran.ended[0] == 0 and 0 < ran.allocations <= MOST, f"{table} {row} ends with status {ran.ended[0]} after {ran.allocations} allocations")
+    def works(self, table):
+        for work, slots, calls in WORKS:
+            ran = counted([self.bench_tables], f"{work} {table} {slots}\n")
+            wanted = 0, f"{work}: {calls} calls\nend\n"
+            self.want(ran.ended[:2] == wanted and 0 < ran.allocations <= MOST, f"{work} {table} {slots} ends with {ran.ended} after {ran.allocations} allocations")
 
     def once(self):
         for line, wanted in ONCE.items():
@@ -82,7 +84,7 @@ def command():
         for workers in WORKERS:
             checks.chains(table, workers)
     checks.calls()
-    for table in ("counted", "baton"):
-        checks.benched(table)
+    for table in TABLES:
+        checks.works(table)
     checks.once()
     return checks.end()

@@ -24,12 +24,12 @@ class Ran(NamedTuple):
     ended: tuple
 
 
-def counted(command, script, failing=0, **variables):
-    """Returns the counts of a run with these variables, in which the allocation of that number fails, from 1 on."""
+def counted(command, script, failing=0):
+    """Returns the counts of a run in which the allocation of that number fails, from 1 on."""
     with tempfile.NamedTemporaryFile() as file:
         file.write(bytes(8 * (NUMBERS + WRITES)))
         file.flush()
-        how = preloaded("watch", COUNTS=file.name, FAILING_ALLOCATION=str(failing), **variables)
+        how = preloaded("watch", COUNTS=file.name, FAILING_ALLOCATION=str(failing))
         ended = run(command, script, **how)
         file.seek(0)
         numbers = [int.from_bytes(file.read(8), sys.byteorder) for _ in range(NUMBERS + WRITES)]

@@ -1,11 +1,11 @@
 //! Makes calls whose allocations are refused from outside, and prints their results. After an
 //! allocation failure a call is made again. tests/check-allocation-failures passes one call to the
 //! program, and judges what it prints. Contracts say what a failed call leaves. Begin reading at
-//! `rings.rt`.
+//! `rings.rt`. Other lines name work whose calls make no allocation (`work.rt`).
 mod rings;
 mod tables;
 
-use crate::Host;
+use crate::{Host, work};
 use fx_base::CloseList;
 use fx_baton::BatonTable;
 use fx_counted::CountedTable;
@@ -16,8 +16,8 @@ use std::fmt::Debug;
 // The number of attempts of a call: a second one after an allocation failure.
 const ATTEMPTS: u32 = 2;
 
-// A call; the table, if it is a call on a shared table; and the number of workers, passes, file
-// numbers or catalogue entries, as the call needs.
+// A call; the table, if it is a call on a shared table; and the number of workers, passes, slots,
+// file numbers or catalogue entries, as the call needs.
 type Asked<'a> = (&'a str, &'a str, u32);
 
 // Returns the call that a line asks for, or `None`.
@@ -67,7 +67,7 @@ fn make_on<T: FileTable, H: Host>(rt: &H, call: &str, count: u32) -> Option<()> 
         "open" => tables::open::<T, H>(rt, rt.alloc(), count),
         "submit" => rings::submit::<T, H>(rt, rt.alloc(), count),
         "submit_open" => rings::submit_open::<T, H>(rt, rt.alloc()),
-        _ => None,
+        _ => work::play::<T, H>(rt, rt.alloc(), call, count),
     }
 }
 
@@ -78,7 +78,6 @@ fn make<H: Host>(rt: &H, asked: Asked<'_>) -> Option<()> {
         "add" => tables::add(rt, alloc, count),
         "prepare" => tables::prepare(rt, alloc, count),
         "tags" => rings::tags(rt, alloc),
-        "measured" => crate::try_tables(rt, alloc),
         _ => match table {
             "words" => make_on::<CountedTable, H>(rt, call, count),
             "baton" => make_on::<BatonTable, H>(rt, call, count),

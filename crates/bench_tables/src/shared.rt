@@ -1,22 +1,15 @@
-//! The calls of a shared table as the measured work makes them: an installation and a removal
-//! each retire the file that was there. A call does nothing at a slot that the table doesn't have,
-//! and neither does an installation if the pass has no file numbers left. Measurements are chosen
-//! so that neither happens.
+//! The calls of a shared table as the work makes them: an installation and a removal each retire
+//! the file that was there. A call returns 1, or 0 if it did nothing: it found no file, the table
+//! doesn't have the slot, or the pass has no file number left.
 ghost use Rattle.std.specs.Prelude.{◌<◌, ◌≤◌, IsTrue, vec_capacity};
 ghost use Rattle.fx_table.specs.Pass.{IsIdle};
 
-use crate::work::READ_LEN;
 use fx_base::{Catalogue, OpenFile};
-use fx_plain::PlainTable;
 use fx_table::FileTable;
 use std::sync::Wait;
 
-/// Discards the files of a table, and returns their number.
-pub(crate) fn discard_all(plain: PlainTable) -> usize {
-    let files = plain.full();
-    plain.abandon();
-    files as usize
-}
+/// The number of bytes of a read.
+pub(crate) const READ_LEN: u32 = 64;
 
 // Discards a file that a call returned, if any.
 fn discard(file: Option<OpenFile>) {
@@ -38,16 +31,17 @@ fn can_install<T: FileTable>(table: &T, pass: &mut T::Pass) -> bool
 }
 
 /// Looks a slot up and releases the file there.
-#[inline(always)]
-pub(crate) fn look<T: FileTable, R: Wait>(rt: &R, table: &T, pass: &mut T::Pass, slot: u32)
+pub(crate) fn look<T: FileTable, R: Wait>(rt: &R, table: &T, pass: &mut T::Pass, slot: u32) -> u32
     requires { T.fits table.now pass.old × IsIdle (T.view pass.old) }
     ensures { T.fits table.now pass.new × IsIdle (T.view pass.new) }
 {
     if slot < table.size() {
         if let Ok(hold) = table.look(rt, pass, slot) {
             discard(table.release(rt, pass, hold));
+            return 1;
         }
     }
+    0
 }
 
 /// Looks a slot up, reads from the file there, and releases it.
@@ -58,7 +52,7 @@ pub(crate) fn read<T: FileTable, R: Wait>(
     catalogue: &Catalogue,
     slot: u32,
     into: &mut Vec<u8>,
-)
+) -> u32
     requires ready { T.fits table.now pass.old × IsIdle (T.view pass.old) }
     requires room { READ_LEN ≤ vec_capacity into.old }
     ensures ready { T.fits table.now pass.new × IsIdle (T.view pass.new) }
@@ -69,8 +63,10 @@ pub(crate) fn read<T: FileTable, R: Wait>(
             into.clear();
             catalogue.read_into(hold.entry, 0, READ_LEN, into);
             discard(table.release(rt, pass, hold));
+            return u32::from(into.len() == READ_LEN as usize);
         }
     }
+    0
 }
 
 /// Installs a file at a slot and retires the one that was there.
@@ -80,17 +76,18 @@ pub(crate) fn put<T: FileTable, R: Wait>(
     pass: &mut T::Pass,
     slot: u32,
     file: OpenFile,
-)
+) -> u32
     requires { T.fits table.now pass.old × IsIdle (T.view pass.old) }
     ensures { T.fits table.now pass.new × IsIdle (T.view pass.new) }
 {
     if slot >= table.size() || !can_install(table, pass) {
         file.discard();
-        return;
+        return 0;
     }
     if let Some(retired) = table.put(rt, pass, slot, file) {
         discard(table.retire(rt, pass, retired));
     }
+    1
 }
 
 /// Installs a file at an empty slot of the allocation range, and returns the slot.
@@ -117,13 +114,15 @@ pub(crate) fn put_any<T: FileTable, R: Wait>(
 }
 
 /// Empties a slot and retires the file that was there.
-pub(crate) fn take<T: FileTable, R: Wait>(rt: &R, table: &T, pass: &mut T::Pass, slot: u32)
+pub(crate) fn take<T: FileTable, R: Wait>(rt: &R, table: &T, pass: &mut T::Pass, slot: u32) -> u32
     requires { T.fits table.now pass.old × IsIdle (T.view pass.old) }
     ensures { T.fits table.now pass.new × IsIdle (T.view pass.new) }
 {
     if slot < table.size() {
         if let Ok(retired) = table.take(rt, pass, slot) {
             discard(table.retire(rt, pass, retired));
+            return 1;
         }
     }
+    0
 }

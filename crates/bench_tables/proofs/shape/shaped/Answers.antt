@@ -1,5 +1,5 @@
 use Rattle.bench_tables.proofs.Vacant.{vacant_settled}
-use Rattle.bench_tables.proofs.measure.shaped.Goals as goal
+use Rattle.bench_tables.proofs.shape.shaped.Goals as goal
 
 pub prepare-requires-clause-settled : goal.prepare-requires-clause-settled
 prepare-requires-clause-settled c = vacant_settled _ c.in-Ok.ensures.state
