@@ -7,7 +7,7 @@ use Rattle.fx_plain.specs.declared.event.Action.{Action}
 use Rattle.fx_plain.specs.declared.event.Event.{Event}
 use Rattle.fx_plain.specs.declared.event.File.{File}
 use Rattle.fx_plain.specs.declared.event.Action.TheVariants.{Release}
-use Rattle.fx_table.specs.Calls.{Adds, LookedUp, ReleasesFile, Use}
+use Rattle.fx_table.specs.Calls.{Adds, HasRetired, LookedUp, ReleasesFile, Use}
 use Rattle.fx_table.specs.Opening.{Opening}
 use Rattle.fx_table.specs.Pass.{PassView, event_of}
 use Rattle.fx_table.specs.declared.values.Doing.{Doing}
@@ -26,9 +26,7 @@ use Rattle.fx_lasting.specs.declared.view.Start.{Start}
 use Rattle.fx_server.specs.FileNumbers.{after_draw, after_keep, number_drawn, without_kept}
 use Rattle.fx_server.specs.Files.{file_with}
 use Rattle.fx_server.specs.FilesNumbers.{DrawsItsNumbers, WasDrawn, number_of_file}
-use Rattle.fx_server.specs.Workers.{RetiresAs, its_pass}
-use Rattle.fx_server.specs.declared.answers.Removal.{Removal}
-use Rattle.fx_server.specs.declared.answers.Removal.TheVariants.{Closed, InUse, Nothing}
+use Rattle.fx_server.specs.Workers.{its_pass}
 use Rattle.fx_server.specs.declared.file_numbers.FileNumbers.{FileNumbers}
 use Rattle.fx_server.specs.Worker.{TableWorker}
 use Rattle.fx_server.proofs.FilesNumbers.{one_draw}
@@ -175,10 +173,9 @@ pub released_none : (o : Opening) (v : PassView) (g : File) (out : Option Identi
 released_none o v g None w it = added_none o v _ _ _ w it (refl, tt)
 released_none o v g (Some file) w it = added_none o v _ _ _ w it.1 (refl, (refl, tt))
 
-pub retired_none : (o : Opening) (v : PassView) (retired : Retired) (removal : Removal) (w : PassView) → RetiresAs o v retired removal w → AddsNone v w
-retired_none o v retired Nothing w it = absurd it
-retired_none o v retired InUse w it = added_none o v _ _ _ w it.2.1 tt
-retired_none o v retired (Closed tag) w it = added_none o v _ _ _ w it.2.2.1 (refl, tt)
+pub retired_none : (o : Opening) (v : PassView) (retired : Retired) (file : Option Identity) (w : PassView) → HasRetired o v retired file w → AddsNone v w
+retired_none o v retired None w it = added_none o v _ _ _ w it.2.1 tt
+retired_none o v retired (Some file) w it = added_none o v _ _ _ w it.2.1 (refl, tt)
 
 pub held_none : (k : Start) (v : PassView) (key : Key) (hold : Hold) (freed released : Option Identity) (w : PassView) → HeldByKey k v key hold freed released w → AddsNone v w
 held_none k v key hold freed released w it = both_none v it.between w (looked_none (opening_of k) v key.slot (Ok hold) freed it.between it.held.looked)

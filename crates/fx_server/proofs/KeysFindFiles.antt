@@ -1,5 +1,5 @@
 -- Files in use have numbers of their own, and so a key finds its file.
-use Rattle.std.proofs.Common.{◌≡◌, ◌⊎◌, inl, inr, ℕ, zero, suc, ◌+◌, ◌<◌, ◌++◌, List, [], ◌∷◌, map, length, Option, Some, None, Ok, refl, sym, ap, subst, ◌∙◌, arith}
+use Rattle.std.proofs.Common.{ℤ, pos, ◌≡◌, ◌⊎◌, inl, inr, ℕ, zero, suc, ◌+◌, ◌<◌, ◌++◌, List, [], ◌∷◌, map, length, Option, Some, None, Ok, refl, sym, ap, subst, ◌∙◌, arith}
 use Rattle.std.proofs.lemmas.Bool.{eq-eqb, ne_eqb}
 use mathlib.Core.Logic.{dite}
 use native.Mathlib.Decide.{ℕ_discrete, dec_le}
@@ -18,20 +18,29 @@ use Rattle.fx_table.specs.declared.values.Doing.TheVariants.{Holding}
 use Rattle.fx_table.specs.declared.values.Hold.{Hold}
 use Rattle.fx_lasting.specs.Tables.{opening_of, opening_of_table}
 use Rattle.fx_lasting.specs.declared.key.Key.{Key}
-use Rattle.fx_server.specs.ByKey.{FindsByKey}
+use Rattle.fx_lasting.specs.declared.answers.PutEmpty.{PutEmpty}
+use Rattle.fx_lasting.specs.declared.answers.PutEmpty.TheVariants.{Installed}
+use Rattle.fx_lasting.specs.declared.tried.TriedPut.{TriedPut}
+use Rattle.fx_lasting.specs.declared.tried.TriedPut.TheVariants.{At}
+use Rattle.fx_lasting.specs.range.Tries.{TriedSo}
+use Rattle.fx_lasting.specs.slots.AtEmpty.{HasPutEmpty}
+use Rattle.fx_lasting.specs.slots.ByKey.{LookedByKey}
+use Rattle.fx_server.specs.Answers.{UsesIfTried, empty_code, tried_code}
+use Rattle.fx_server.specs.ByKey.{GetsAs}
+use Rattle.fx_server.specs.Files.{file_with}
 use Rattle.fx_server.specs.FilesNumbers.{DrawsItsNumbers, HaveDrawnNumbers, KeepsItsNumbers, number_of_file}
 use Rattle.fx_server.specs.KeysFindFiles.{AKeyFindsItsFile, FilesInUseHaveTheirNumbers, AreExportCalls, IsInUse, ReturnsKey, inserts, replaces_at, replaces, puts_empty}
-use Rattle.fx_server.specs.Outcomes.{found_outcome}
-use Rattle.fx_server.specs.Workers.{hold_in, its_pass, its_start}
+use Rattle.fx_server.specs.Outcomes.{IsDone}
+use Rattle.fx_server.specs.Workers.{hold_in, its_opening, its_pass, its_start}
 use Rattle.fx_server.specs.declared.answers.CoreOutcome.{CoreOutcome}
-use Rattle.fx_server.specs.declared.answers.CallAnswer.{CallAnswer}
-use Rattle.fx_server.specs.declared.answers.FoundFile.{FoundFile}
+use Rattle.fx_server.specs.declared.codes.TheConstants.{DONE}
 use Rattle.fx_server.specs.Worker.{TableWorker}
 use Rattle.fx_server.proofs.DrawnByCalls.{Grows, grows_then, installed_earlier, installed_later, number_of_new}
 use Rattle.fx_server.proofs.EndsOfKeys.{installed_at}
 use Rattle.fx_server.proofs.ExportsNumbers.{Makes, call_grows, exports_keep, inserted, put_in_empty, renewed, replaced_at}
 use Rattle.fx_server.proofs.FilesNumbers.{own_numbers}
 use Rattle.fx_server.proofs.OpenedNumbers.{opened_draw, opened_pass}
+use Rattle.fx_server.proofs.Outcomes.{no_fault, no_refusal, no_refusal_at}
 
 next_place : (place : ℕ) → 1 + place ≡ suc place
 next_place place = omega arith
@@ -116,29 +125,68 @@ looked_found o v w slot hold (Some file) f it holds = let same : it.2.0 ≡ f = 
     subst (λ (own : List Event). HasFound own f) (sym it.2.2.own) (inr (slot, ap (λ (z : File). Look slot (Some z)) same))
 
 -- the file that a call installed which returned this key
-key_makes : (w w' : TableWorker) (tag : ℕ) (key : Key) → ReturnsKey w tag key w' → Makes w w' tag key.number
-key_makes w w' tag key (inserts answer number done is) = inserted w w' tag (record { slot = key.slot; number = key.number }) (rw is at done.allocated)
-key_makes w w' tag key (replaces_at answer out done placed is its) =
-    subst (Makes w w' tag) its (replaced_at w w' key.slot tag placed (rw is at done.placed))
-key_makes w w' tag key (replaces old answer out done placed is its) = let next = rw is at done.placed in
-    subst (Makes w w' tag) its (renewed w w' (record { slot = key.slot; number = old }) tag placed.number placed.removal done.call.freed done.call.released next.1)
-key_makes w w' tag key (puts_empty answer done is its) = subst (Makes w w' tag) its (put_in_empty w w' key.slot tag tt (rw is at done.placed))
+tried_makes : (w w' : TableWorker) (tag number slot : ℕ) (result : TriedPut) → tried_code result ≡ pos slot → UsesIfTried w result number w'
+    → TriedSo (its_opening w) (its_pass w) (file_with tag w.numbers.next) result (its_pass w') → Makes w w' tag number
+tried_makes w w' tag number slot (At at) is uses it = subst (Makes w w' tag) (sym uses.0) (inserted w w' tag at it)
+tried_makes w w' tag number slot _ is uses it = absurd (cc is)
 
--- the tag that a look-up returned
-found_tag : (call : CallAnswer FoundFile) (found : FoundFile) → call.result ≡ Ok found → (found_outcome call).tag ≡ found.tag
-found_tag call found is = rw is refl
+filled_makes : (w w' : TableWorker) (slot tag : ℕ) (result : PutEmpty) → IsDone (empty_code result)
+    → HasPutEmpty (its_start w) w.pass slot (file_with tag w.numbers.kept) result w'.pass → Makes w w' tag w.numbers.kept
+filled_makes w w' slot tag Installed done it = put_in_empty w w' slot tag it
+filled_makes w w' slot tag _ done it = absurd (cc done.1)
+
+key_makes : (w w' : TableWorker) (tag : ℕ) (key : Key) → ReturnsKey w tag key w' → Makes w w' tag key.number
+key_makes w w' tag key (inserts answer number it is its) = subst (Makes w w' tag) its (elim it.allocated [
+  | inl one ↦ tried_makes w w' tag number key.slot one.result (sym one.its_answer ∙ is) one.uses one.tries
+  | inr refused ↦ absurd (no_refusal w answer refused.2 (key.slot, is))
+])
+key_makes w w' tag key (replaces_at answer out it is its) = elim it.placed [
+  | inl one ↦ subst (Makes w w' tag) (sym one.uses.0 ∙ its) (replaced_at w w' key.slot tag answer out one)
+  | inr refused ↦ absurd (no_refusal_at w key.slot answer refused.2 is)
+]
+key_makes w w' tag key (replaces old answer out it is its) = elim it.placed [
+  | inl one ↦ subst (Makes w w' tag) (sym one.uses.0 ∙ its) (renewed w w' (record { slot = key.slot; number = old }) tag answer out one)
+  | inr (inl kept) ↦ absurd (no_fault kept.why answer kept.its_answer is)
+  | inr (inr refused) ↦ absurd (no_refusal w answer refused.2 is)
+]
+key_makes w w' tag key (puts_empty answer it is its) = subst (Makes w w' tag) its (elim it.placed [
+  | inl one ↦ filled_makes w w' key.slot tag one.result (is.0, sym one.its_answer ∙ is.1) one.tries
+  | inr (_, inl none) ↦ absurd (cc (sym none.0 ∙ is.1))
+  | inr (_, inr refused) ↦ absurd (no_refusal w answer refused is)
+])
+
+-- the file that a look-up by key found, and its tag
+record Got (u : TableWorker) (key : Key) (tag : ℕ) (u' : TableWorker) : Type 0 where
+  hold : Hold
+  freed : Option Identity
+  released : Option Identity
+  looked : LookedByKey (its_start u) (its_pass u) key (Ok hold) freed released (its_pass u')
+  its_tag : (f : File) → (its_pass u').doing ≡ Holding f hold → tag ≡ f.identity.tag
+
+got : (u u' : TableWorker) (key : Key) (answer : ℤ) (out : CoreOutcome) → GetsAs u key answer out u' → answer ≡ DONE → Got u key out.tag u'
+got u u' key answer out it is = elim it.found [
+  | inl (held, _, found, looks) ↦ record {
+    hold = hold_in held;
+    freed = looks.freed;
+    released = looks.released;
+    looked = looks.looked;
+    its_tag = λ f holds. (found.label f holds).0;
+  }
+  | inr (inl none) ↦ absurd (no_fault none.why answer none.its_answer (0, is))
+  | inr (inr refused) ↦ absurd (cc (sym refused.2.0 ∙ is))
+]
 
 pub finds_its_file : AKeyFindsItsFile
-finds_its_file slots installing opened now h w w' u u' tag key answer out got found use' made returns gets is =
+finds_its_file slots installing opened now h w w' u u' tag key answer out use' made returns gets gets_as is =
     let m = key_makes w w' tag key returns in
-    let it : FindsByKey u key (Ok found) got.call.freed got.call.released u' = rw is at got.found in
-    let looked = it.2.looked in
+    let it = got u u' key answer out gets_as is in
+    let looked = it.looked in
     let f = looked.0 in
     let own = their_numbers slots installing opened now h use' in
     let start = start_of (opening_of_table use'.opens.table) in
     let empty : (s : ℕ) → start.at s ≡ None = λ s. ap (λ (o : Opening). (start_of o).at s) use'.opens.opening
     ∙ ap (λ (st : State). file_numbered (st.at s) s) use'.opens.empty in
-    let saw : HasFound (its_pass u').own f = looked_found (opening_of (its_start u)) (its_pass u) (its_pass u') key.slot (hold_in it.0) it.2.out f looked.2.looked looked.2.holds in
+    let saw : HasFound (its_pass u').own f = looked_found (opening_of (its_start u)) (its_pass u) (its_pass u') key.slot it.hold it.freed f looked.2.looked looked.2.holds in
     let more = grows_by gets.after.0 u' (now gets.place) gets.after.1 in
     let f_in : IsInstalled h f = found_installed start h f empty use'.legal.leads.0 (found_whole (suc gets.place) h f
     (subst (λ (l : List Event). HasFound l f) (sym (its_part slots installing opened now h use' gets.place gets.low ∙ more.own)) (found_earlier (its_pass u').own more.since f saw))) in
@@ -152,9 +200,8 @@ finds_its_file slots installing opened now h w w' u u' tag key answer out got fo
     let same : f ≡ m.new = own f m.new f_in g_in (λ none. looked.1.0 (sym looked.1.1 ∙ none)) (looked.1.1 ∙ sym its) in
     record {
       file = f;
-      hold = hold_in it.0;
+      hold = it.hold;
       installed = record { since = m.one.grows.since; made = m.one.grows.own; there = subst (IsInstalled m.one.grows.since) (sym same) m.one.there };
       holds = looked.2.holds;
-      its_tag = ap (λ (o : CoreOutcome). o.tag) got.its_outcome ∙ (found_tag got.call found is
-          ∙ ((it.3 f looked.2.holds).0 ∙ (ap (λ (z : File). z.identity.tag) same ∙ ap (λ (z : Identity). z.tag) m.identity)));
+      its_tag = it.its_tag f looked.2.holds ∙ (ap (λ (z : File). z.identity.tag) same ∙ ap (λ (z : Identity). z.tag) m.identity);
     }

@@ -1,5 +1,4 @@
 pub mod AsBox
-pub mod ByKey
 pub mod Dealing
 pub mod DrawnByCalls
 pub mod EndingCalls
@@ -11,5 +10,6 @@ pub mod FromEnd
 pub mod KeysFindFiles
 pub mod Looking
 pub mod OpenedNumbers
+pub mod Outcomes
 pub mod Sending
 pub mod StaleKeys

@@ -1,7 +1,7 @@
 -- A call by key that says `Stale`: the slot had another file at a moment of the call.
 use Rattle.fx_table.proofs.Calls.{follows_shown, seen_further}
 use Rattle.fx_table.proofs.Words.{◌≡◌, inl, inr, ℕ, ◌++◌, List, [], ◌∷◌, map, refl, sym, ap, subst, ◌∙◌, append_assoc, dite, ℕ_discrete, eq-eqb, ne_eqb, Option, Some}
-use Rattle.std.proofs.Common.{None, Ok, Err}
+use Rattle.std.proofs.Common.{ℤ, None, Ok, Err}
 use Rattle.fx_base.specs.Identity.{Identity}
 use Rattle.fx_plain.specs.History.{◌▷◌, AllowsAll, IsSeenBy, action_of, part_of_pass, state_after}
 use Rattle.fx_plain.specs.State.{State}
@@ -27,10 +27,10 @@ use Rattle.fx_lasting.specs.declared.key_answers.KeyFault.{KeyFault}
 use Rattle.fx_lasting.specs.declared.key_answers.KeyFault.TheVariants.{Other}
 use Rattle.fx_lasting.specs.declared.view.Start.{Start}
 use Rattle.fx_lasting.specs.slots.Alone.{TakesAlone}
-use Rattle.fx_server.specs.ByKey.{IsRefused, key_refusal}
-use Rattle.fx_server.specs.declared.answers.ServerRefusal.TheVariants.{Stale}
+use Rattle.fx_server.specs.Outcomes.{dropped_or, fault_code}
+use Rattle.fx_server.specs.declared.codes.TheConstants.{IN_USE, STALE}
 use Rattle.fx_server.specs.StaleKeys.{HadAnother, IsAnother, StaleKeysHadAnother}
-use Rattle.fx_server.specs.Workers.{IsGood, its_pass, its_start}
+use Rattle.fx_server.specs.Workers.{IsGood, IsRefused, its_pass, its_start}
 use Rattle.fx_server.specs.Worker.{TableWorker}
 
 -- a history, split at its last event of a pass
@@ -132,32 +132,37 @@ module _ (w w' : TableWorker) (key : Key) (good : IsGood w) where
         (left_other (its_start w) key (its_pass w) left.holder.between (its_pass w') left.hold.node left.miss left.same left.was);
   }
 
-other_of : (why : KeyFault) → Stale ≡ key_refusal why → why ≡ Other
-other_of Other is = refl
-other_of _ is = absurd (cc is)
+other_of : (why : KeyFault) (answer : ℤ) → answer ≡ fault_code why → answer ≡ STALE → why ≡ Other
+other_of Other answer is stale = refl
+other_of _ answer is stale = absurd (cc (sym is ∙ stale))
 
--- a call that the worker refused says another reason
-not_refused : (w w' : TableWorker) (freed released : Option ℕ) → IsRefused w Stale freed released w' → ⊥
-not_refused w w' freed released it = elim it.2 [
-  | inl busy ↦ cc busy.0
-  | inr reader ↦ cc reader.0
-]
+-- a call that is done or that the worker refused says another reason
+not_stale : (answer : ℤ) (file : Option Identity) → answer ≡ dropped_or IN_USE file → answer ≡ STALE → ⊥
+not_stale answer None is stale = cc (sym is ∙ stale)
+not_stale answer (Some file) is stale = cc (sym is ∙ stale)
+
+not_refused : (w : TableWorker) (answer : ℤ) → IsRefused w answer → answer ≡ STALE → ⊥
+not_refused w answer (inl reader) stale = cc (sym reader.0 ∙ stale)
+not_refused w answer (inr busy) stale = cc (sym busy.0 ∙ stale)
 
 pub stale_keys : StaleKeysHadAnother
 stale_keys = record {
-  gets = λ w w' key answer out done is. elim (rw is at done.found) [
-    | inl none ↦ by_pass w w' key done.good none.looks.out none.looks.back
-        (subst (λ (why : KeyFault). LookedByKey (its_start w) (its_pass w) key (Err why) none.looks.out none.looks.back (its_pass w')) (other_of none.why none.its_reason) none.looks.looked)
-    | inr busy ↦ absurd (cc busy.0)
+  gets = λ w w' key answer out done is. elim done.found [
+    | inl found ↦ absurd (cc (sym found.1 ∙ is))
+    | inr (inl none) ↦ by_pass w w' key done.good none.looks.freed none.looks.released
+        (subst (λ (why : KeyFault). LookedByKey (its_start w) (its_pass w) key (Err why) none.looks.freed none.looks.released (its_pass w')) (other_of none.why answer none.its_answer is) none.looks.looked)
+    | inr (inr busy) ↦ absurd (cc (sym busy.2.0 ∙ is))
   ];
-  removes = λ w w' key answer out done is. elim (rw is at done.removed) [
-    | inl left ↦ by_alone w w' key done.good left.takes.out left.takes.back
-        (subst (λ (why : KeyFault). TakesAlone (its_start w) w.pass key (Err why) left.takes.out left.takes.back w'.pass) (other_of left.why left.its_reason) left.takes.takes)
-    | inr it ↦ absurd (not_refused w w' done.call.freed done.call.released it)
+  removes = λ w w' key answer out done is. elim done.removed [
+    | inl it ↦ absurd (not_stale answer it.retires.file it.retires.its_answer is)
+    | inr (inl left) ↦ by_alone w w' key done.good left.takes.freed left.takes.released
+        (subst (λ (why : KeyFault). TakesAlone (its_start w) w.pass key (Err why) left.takes.freed left.takes.released w'.pass) (other_of left.why answer left.its_answer is) left.takes.takes)
+    | inr (inr refused) ↦ absurd (not_refused w answer refused.2 is)
   ];
-  replaces = λ w w' key tag answer out done is. elim (rw is at done.placed).1 [
-    | inl kept ↦ by_alone w w' key done.good kept.puts.out kept.puts.back
-        (subst (λ (why : KeyFault). TakesAlone (its_start w) w.pass key (Err why) kept.puts.out kept.puts.back w'.pass) (other_of kept.why kept.its_reason) kept.puts.puts.1)
-    | inr it ↦ absurd (not_refused w w' done.call.freed done.call.released it)
+  replaces = λ w w' key tag answer out done is. elim done.placed [
+    | inl it ↦ absurd (not_stale answer it.retires.file it.retires.its_answer is)
+    | inr (inl kept) ↦ by_alone w w' key done.good kept.puts.freed kept.puts.released
+        (subst (λ (why : KeyFault). TakesAlone (its_start w) w.pass key (Err why) kept.puts.freed kept.puts.released w'.pass) (other_of kept.why answer kept.its_answer is) kept.puts.puts.1)
+    | inr (inr refused) ↦ absurd (not_refused w answer refused.2 is)
   ];
 }

@@ -1,47 +1,53 @@
--- The records that the exports ensure: the answer and the outcome that C gets are those of a call
--- of the worker. The worker stays in its table.
-use Rattle.std.specs.Prelude.{◌≡◌, ◌⊎◌, ℕ, ℤ, Option, Some, None, Result}
+-- The records that the exports ensure: what each number that C gets means, and what is written to
+-- `out`. The worker stays in its table.
+use Rattle.std.specs.Prelude.{◌≡◌, ◌⊎◌, ℕ, ℤ, pos, Option, Some, None, Result, Ok, Err}
 use Rattle.fx_base.specs.Identity.{Identity}
-use Rattle.fx_table.specs.Calls.{Released}
-use Rattle.fx_lasting.specs.declared.key.Key.{Key}
-use Rattle.fx_server.specs.ByKey.{FindsByKey, RemovesByKey, ReplacesByKeyNext}
-use Rattle.fx_server.specs.Installing.{DrawsNone, FindsNext, PutsNext, PutsAnyNext, PutsEmptyKept}
-use Rattle.fx_server.specs.Outcomes.{done_code, found_outcome, placed_code, placed_outcome}
-use Rattle.fx_server.specs.Outcomes.{release_code, removal_code, removed_outcome, slot_code}
-use Rattle.fx_server.specs.Outcomes.{slot_number, tag_or_zero}
-use Rattle.fx_server.specs.Workers.{IsGood, LooksUp, RemovesFrom, hold_in, its_opening, its_pass}
-use Rattle.fx_server.specs.Workers.{tag_in}
-use Rattle.fx_server.specs.declared.answers.CallAnswer.{CallAnswer}
+use Rattle.fx_table.specs.Calls.{LookedUp, Placed, Released, Taken}
+use Rattle.fx_table.specs.Opening.{Opening}
+use Rattle.fx_table.specs.Pass.{PassView}
+use Rattle.fx_table.specs.declared.values.Empty.{Empty as NoFile}
+use Rattle.fx_table.specs.declared.values.Hold.{Hold}
+use Rattle.fx_table.specs.declared.values.LookFault.{LookFault}
+use Rattle.fx_table.specs.declared.values.LookFault.TheVariants as fault
+use Rattle.fx_table.specs.declared.values.Retired.{Retired}
+use Rattle.fx_lasting.specs.Laws.{IsInRange as IsAllocated}
+use Rattle.fx_lasting.specs.declared.answers.FoundSlot.{FoundSlot}
+use Rattle.fx_lasting.specs.declared.answers.FoundSlot.TheVariants as found
+use Rattle.fx_lasting.specs.declared.answers.PutEmpty.{PutEmpty}
+use Rattle.fx_lasting.specs.declared.answers.PutEmpty.TheVariants as empty
+use Rattle.fx_lasting.specs.declared.tried.TriedPut.{TriedPut}
+use Rattle.fx_lasting.specs.declared.tried.TriedPut.TheVariants as tried
+use Rattle.fx_lasting.specs.range.Tries.{TriedSo}
+use Rattle.fx_lasting.specs.slots.AtEmpty.{GivesUpFor, HasPutEmpty, HasSearched}
+use Rattle.fx_server.specs.FileNumbers.{after_keep, without_kept}
+use Rattle.fx_server.specs.Files.{file_with}
+use Rattle.fx_server.specs.Outcomes.{LastUses, dropped_or, tag_of}
+use Rattle.fx_server.specs.Workers.{DrawsNone, HasFound, HasFoundNone, HasNoSlot, IsBusy}
+use Rattle.fx_server.specs.Workers.{IsRefused, IsRefusedAt, RetiresAs, UsesNumber, hold_in}
+use Rattle.fx_server.specs.Workers.{its_opening, its_pass, its_start}
 use Rattle.fx_server.specs.declared.answers.CoreOutcome.{CoreOutcome}
-use Rattle.fx_server.specs.declared.answers.FoundFile.{FoundFile}
-use Rattle.fx_server.specs.declared.answers.Placed.{Placed}
-use Rattle.fx_server.specs.declared.answers.PlacedAt.{PlacedAt}
-use Rattle.fx_server.specs.declared.answers.Removal.{Removal}
-use Rattle.fx_server.specs.declared.answers.ServerRefusal.{ServerRefusal}
-use Rattle.fx_server.specs.declared.codes.TheConstants.{IDLE}
+use Rattle.fx_server.specs.declared.answers.TheConstants.{NO_OUTCOME}
+use Rattle.fx_server.specs.declared.codes.TheConstants.{AGAIN, DONE, EMPTY, FULL, IDLE, NO_SLOT}
+use Rattle.fx_server.specs.declared.codes.TheConstants.{STALE}
 use Rattle.fx_server.specs.declared.worker.Held.{Held}
 use Rattle.fx_server.specs.Worker.{TableWorker}
+
+-- the worker's pass looked a slot of the table up
+pub record LooksAt (w : TableWorker) (slot : ℕ) (found : Result Hold LookFault) (out : CoreOutcome)
+    (w' : TableWorker) : Type 0 where
+  pub freed : Option Identity
+  pub tags : LastUses out freed None
+  pub looked : LookedUp (its_opening w) (its_pass w) slot found freed (its_pass w')
 
 -- a look-up at a slot
 pub record GetsAtAs (w : TableWorker) (slot : ℕ) (answer : ℤ) (out : CoreOutcome)
     (w' : TableWorker) : Type 0 where
-  pub call : CallAnswer FoundFile
   pub table : w'.shared ≡ w.shared
-  pub looked : LooksUp w slot call w'
   pub numbers : DrawsNone w w'
-  pub its_answer : answer ≡ done_code call.result
-  pub its_outcome : out ≡ found_outcome call
-
--- a look-up by key
-pub record GetsAs (w : TableWorker) (key : Key) (answer : ℤ) (out : CoreOutcome)
-    (w' : TableWorker) : Type 0 where
-  pub call : CallAnswer FoundFile
-  pub good : IsGood w
-  pub table : w'.shared ≡ w.shared
-  pub found : FindsByKey w key call.result call.freed call.released w'
-  pub numbers : DrawsNone w w'
-  pub its_answer : answer ≡ done_code call.result
-  pub its_outcome : out ≡ found_outcome call
+  pub looked : ((held : Held) × (answer ≡ DONE) × HasFound w' held out
+      × LooksAt w slot (Ok (hold_in held)) out w')
+      ⊎ ((answer ≡ EMPTY) × HasFoundNone w' out × LooksAt w slot (Err fault.Empty) out w')
+      ⊎ ((w' ≡ w) × (out ≡ NO_OUTCOME) × (HasNoSlot w slot answer ⊎ IsBusy w answer))
 
 -- a release: the file came out, and its tag is written, or it is still used; or the worker held
 -- none
@@ -49,77 +55,127 @@ pub record ReleasesAs (w : TableWorker) (answer : ℤ) (dropped : ℕ) (w' : Tab
     : Type 0 where
   pub table : w'.shared ≡ w.shared
   pub numbers : DrawsNone w w'
-  pub released : ((held : Held) × (out : Option Identity) × (w.held ≡ Some held)
-      × (w'.held ≡ None) × (answer ≡ release_code (tag_in out))
-      × (dropped ≡ tag_or_zero (tag_in out))
-      × Released (its_opening w) (its_pass w) (hold_in held) out (its_pass w'))
+  pub released : ((held : Held) × (file : Option Identity) × (w.held ≡ Some held)
+      × (w'.held ≡ None) × (answer ≡ dropped_or DONE file) × (dropped ≡ tag_of file)
+      × Released (its_opening w) (its_pass w) (hold_in held) file (its_pass w'))
       ⊎ ((answer ≡ IDLE) × (dropped ≡ 0) × (w.held ≡ None) × (w' ≡ w))
 
--- a round of an installation at any slot
-pub record InsertsAs (w : TableWorker) (tag : ℕ) (answer : ℤ) (number : ℕ) (w' : TableWorker)
-    : Type 0 where
-  pub result : Result PlacedAt ServerRefusal
-  pub table : w'.shared ≡ w.shared
-  pub allocated : PutsAnyNext w tag result w'
-  pub its_answer : answer ≡ slot_code result
-  pub its_number : number ≡ slot_number result
+-- a file that was at a slot is retired, if there was one
+abbrev pub RetiresAny : Opening → PassView → Option Retired → (answer : ℤ) → (tag : ℕ) → PassView
+    → Type 0
+RetiresAny o v None answer tag v' = (answer ≡ DONE) × (tag ≡ 0) × (v' ≡ v)
+RetiresAny o v (Some retired) answer tag v' = RetiresAs o v retired answer tag v'
+
+-- a file with this tag and the worker's next number is put at a slot, and what was there is retired
+pub record PutsAt (w : TableWorker) (slot tag : ℕ) (answer : ℤ) (out : CoreOutcome)
+    (w' : TableWorker) : Type 0 where
+  pub uses : UsesNumber w out.number w'
+  pub tags : LastUses out None None
+  pub retired : Option Retired
+  pub between : PassView
+  pub placed : Placed (its_opening w) (its_pass w) slot (file_with tag w.numbers.next) retired
+      between
+  pub retires : RetiresAny (its_opening w) between retired answer out.tag (its_pass w')
 
 -- an installation at a slot
 pub record ReplacesAtAs (w : TableWorker) (slot tag : ℕ) (answer : ℤ) (out : CoreOutcome)
     (w' : TableWorker) : Type 0 where
-  pub call : CallAnswer Placed
   pub table : w'.shared ≡ w.shared
-  pub placed : PutsNext w slot tag call.result w'
-  pub no_tags : (call.freed ≡ None) × (call.released ≡ None)
-  pub its_answer : answer ≡ placed_code call.result
-  pub its_outcome : out ≡ placed_outcome call
+  pub placed : PutsAt w slot tag answer out w'
+      ⊎ ((w' ≡ w) × (out ≡ NO_OUTCOME) × IsRefusedAt w slot answer)
 
--- a replacement by key
-pub record ReplacesAs (w : TableWorker) (key : Key) (tag : ℕ) (answer : ℤ) (out : CoreOutcome)
+-- the file of a slot is taken out and retired
+pub record TakesFrom (w : TableWorker) (slot : ℕ) (answer : ℤ) (out : CoreOutcome)
     (w' : TableWorker) : Type 0 where
-  pub call : CallAnswer Placed
-  pub good : IsGood w
-  pub table : w'.shared ≡ w.shared
-  pub placed : ReplacesByKeyNext w key tag call.result call.freed call.released w'
-  pub held : w'.held ≡ w.held
-  pub its_answer : answer ≡ placed_code call.result
-  pub its_outcome : out ≡ placed_outcome call
+  pub no_number : out.number ≡ 0
+  pub tags : LastUses out None None
+  pub retired : Retired
+  pub between : PassView
+  pub taken : Taken (its_opening w) (its_pass w) slot (Ok retired) between
+  pub retires : RetiresAs (its_opening w) between retired answer out.tag (its_pass w')
 
 -- a removal at a slot
 pub record RemovesAtAs (w : TableWorker) (slot : ℕ) (answer : ℤ) (out : CoreOutcome)
     (w' : TableWorker) : Type 0 where
-  pub call : CallAnswer Removal
   pub table : w'.shared ≡ w.shared
-  pub removed : RemovesFrom w slot call.result w'
   pub numbers : DrawsNone w w'
-  pub no_tags : (call.freed ≡ None) × (call.released ≡ None)
-  pub its_answer : answer ≡ removal_code call.result
-  pub its_outcome : out ≡ removed_outcome call
+  pub removed : TakesFrom w slot answer out w'
+      ⊎ ((answer ≡ EMPTY) × (out ≡ NO_OUTCOME) × ((empty : NoFile)
+      × Taken (its_opening w) (its_pass w) slot (Err empty) (its_pass w')))
+      ⊎ ((w' ≡ w) × (out ≡ NO_OUTCOME) × IsRefusedAt w slot answer)
 
--- a removal by key
-pub record RemovesAs (w : TableWorker) (key : Key) (answer : ℤ) (out : CoreOutcome)
-    (w' : TableWorker) : Type 0 where
-  pub call : CallAnswer Removal
-  pub good : IsGood w
+-- one round of an installation at any slot: its number, which is the slot or a reason, and the
+-- number of the file
+abbrev pub tried_code : TriedPut → ℤ
+tried_code (tried.At slot) = pos slot
+tried_code (tried.Full file) = FULL
+tried_code (tried.Again file) = AGAIN
+
+abbrev pub UsesIfTried : TableWorker → TriedPut → ℕ → TableWorker → Type 0
+UsesIfTried w (tried.At slot) number w' = UsesNumber w number w'
+UsesIfTried w _ number w' = (number ≡ 0) × DrawsNone w w'
+
+-- what the call of the table found
+pub record TriesAny (w : TableWorker) (tag : ℕ) (answer : ℤ) (number : ℕ) (w' : TableWorker)
+    : Type 0 where
+  pub result : TriedPut
+  pub its_answer : answer ≡ tried_code result
+  pub uses : UsesIfTried w result number w'
+  pub tries : TriedSo (its_opening w) (its_pass w) (file_with tag w.numbers.next) result
+      (its_pass w')
+  pub short : GivesUpFor (its_start w) w.pass result w'.pass
+
+pub record InsertsAs (w : TableWorker) (tag : ℕ) (answer : ℤ) (number : ℕ) (w' : TableWorker)
+    : Type 0 where
   pub table : w'.shared ≡ w.shared
-  pub removed : RemovesByKey w key call.result call.freed call.released w'
-  pub numbers : DrawsNone w w'
-  pub held : w'.held ≡ w.held
-  pub its_answer : answer ≡ removal_code call.result
-  pub its_outcome : out ≡ removed_outcome call
+  pub allocated : TriesAny w tag answer number w'
+      ⊎ ((w' ≡ w) × (number ≡ 0) × IsRefused w answer)
 
--- an empty slot, and the number that the worker keeps for a file there
+-- a search for an empty slot: its number, and the number that the worker keeps for a file there
+abbrev pub found_code : FoundSlot → ℤ
+found_code (found.At slot) = pos slot
+found_code found.Full = FULL
+found_code found.Again = AGAIN
+
+abbrev pub KeepsIfFound : TableWorker → FoundSlot → ℕ → TableWorker → Type 0
+KeepsIfFound w (found.At slot) number w' =
+    (number ≡ w.numbers.next) × (w'.numbers ≡ after_keep w.numbers)
+KeepsIfFound w _ number w' = (number ≡ 0) × DrawsNone w w'
+
+pub record Searches (w : TableWorker) (answer : ℤ) (number : ℕ) (w' : TableWorker)
+    : Type 0 where
+  pub result : FoundSlot
+  pub its_answer : answer ≡ found_code result
+  pub keeps : KeepsIfFound w result number w'
+  pub searched : HasSearched (its_start w) w.pass result w'.pass
+
 pub record FindsAs (w : TableWorker) (answer : ℤ) (number : ℕ) (w' : TableWorker) : Type 0 where
-  pub result : Result PlacedAt ServerRefusal
   pub table : w'.shared ≡ w.shared
-  pub found : FindsNext w result w'
-  pub its_answer : answer ≡ slot_code result
-  pub its_number : number ≡ slot_number result
+  pub found : Searches w answer number w' ⊎ ((w' ≡ w) × (number ≡ 0) × IsRefused w answer)
 
 -- an installation at an empty slot, with the number that the worker kept
+abbrev pub empty_code : PutEmpty → ℤ
+empty_code empty.Installed = DONE
+empty_code (empty.HasFile file) = STALE
+empty_code (empty.Lost file) = AGAIN
+
+pub record TriesEmpty (w : TableWorker) (slot tag : ℕ) (answer : ℤ) (w' : TableWorker)
+    : Type 0 where
+  pub result : PutEmpty
+  pub its_answer : answer ≡ empty_code result
+  pub tries : HasPutEmpty (its_start w) w.pass slot (file_with tag w.numbers.kept) result w'.pass
+
+-- the worker that keeps no number
+abbrev pub having_spent : TableWorker → TableWorker
+having_spent w = record w { numbers = without_kept w.numbers }
+
+-- the slot isn't in the allocation range
+abbrev pub HasNoSuchSlot : TableWorker → ℕ → ℤ → Type 0
+HasNoSuchSlot w slot answer = (answer ≡ NO_SLOT) × (IsAllocated (its_start w) slot → ⊥)
+
 pub record PutsEmptyAs (w : TableWorker) (slot tag : ℕ) (answer : ℤ) (w' : TableWorker)
     : Type 0 where
-  pub result : Result (Unit {0}) ServerRefusal
   pub table : w'.shared ≡ w.shared
-  pub placed : PutsEmptyKept w slot tag result w'
-  pub its_answer : answer ≡ done_code result
+  pub numbers : w'.numbers ≡ without_kept w.numbers
+  pub placed : TriesEmpty w slot tag answer w'
+      ⊎ ((w' ≡ having_spent w) × (HasNoSuchSlot w slot answer ⊎ IsRefused w answer))

@@ -1,5 +1,5 @@
 -- The end of a key: one event of one pass removes or replaces its file.
-use Rattle.std.specs.Prelude.{◌≡◌, ◌≢◌, ℕ, ℤ, List, Option, Some, None, Ok}
+use Rattle.std.specs.Prelude.{◌≡◌, ◌≢◌, ℕ, ℤ, List, Option, Some, None}
 use Rattle.fx_plain.specs.History.{◌▷◌, ◌▷▷◌, IsLegal}
 use Rattle.fx_plain.specs.Laws.{IsInstalled, IsStart}
 use Rattle.fx_plain.specs.State.{State}
@@ -10,11 +10,10 @@ use Rattle.fx_plain.specs.declared.event.File.{File}
 use Rattle.fx_lasting.specs.slots.ByKey.{IsKeyOf}
 use Rattle.fx_lasting.specs.nodes.Labels.{number_of_mark}
 use Rattle.fx_lasting.specs.declared.key.Key.{Key}
-use Rattle.fx_server.specs.Answers.{RemovesAs, ReplacesAs}
+use Rattle.fx_server.specs.ByKey.{RemovesAs, ReplacesAs}
+use Rattle.fx_server.specs.Outcomes.{IsDone}
 use Rattle.fx_server.specs.Workers.{its_pass}
 use Rattle.fx_server.specs.declared.answers.CoreOutcome.{CoreOutcome}
-use Rattle.fx_server.specs.declared.answers.Placed.{Placed}
-use Rattle.fx_server.specs.declared.answers.Removal.{Removal}
 use Rattle.fx_server.specs.Worker.{TableWorker}
 
 -- the file that an action removes from its slot
@@ -57,10 +56,8 @@ pub record HasEnded (key : Key) (w w' : TableWorker) : Type 0 where
 -- a removal by key that is done has ended the key, and so has a replacement
 abbrev pub DoneRemovalsEndKeys : Type 0
 DoneRemovalsEndKeys = (w w' : TableWorker) (key : Key) (answer : ℤ) (out : CoreOutcome)
-    (removal : Removal) (done : RemovesAs w key answer out w')
-    → done.call.result ≡ Ok removal → HasEnded key w w'
+    → RemovesAs w key answer out w' → IsDone answer → HasEnded key w w'
 
 abbrev pub DoneReplacementsEndKeys : Type 0
 DoneReplacementsEndKeys = (w w' : TableWorker) (key : Key) (tag : ℕ) (answer : ℤ)
-    (out : CoreOutcome) (placed : Placed) (done : ReplacesAs w key tag answer out w')
-    → done.call.result ≡ Ok placed → HasEnded key w w'
+    (out : CoreOutcome) → ReplacesAs w key tag answer out w' → IsDone answer → HasEnded key w w'

@@ -1,5 +1,6 @@
 -- A key finds its file: the one whose installation returned the key, or none.
-use Rattle.std.specs.Prelude.{◌≡◌, ◌⊎◌, ℕ, ℤ, ◌<◌, ◌≤◌, List, [], ◌∷◌, length, slice_index_or, Ok}
+use Rattle.std.specs.Prelude.{◌≡◌, ◌⊎◌, ℕ, ℤ, pos, ◌<◌, ◌≤◌, List, [], ◌∷◌, length}
+use Rattle.std.specs.Prelude.{slice_index_or}
 use Rattle.fx_plain.specs.History.{◌▷▷◌, IsLegal, part_of_pass}
 use Rattle.fx_plain.specs.Laws.{IsInstalled}
 use Rattle.fx_plain.specs.declared.event.Event.{Event}
@@ -11,16 +12,16 @@ use Rattle.fx_lasting.specs.Tables.{opening_of_table}
 use Rattle.fx_lasting.specs.WholeHistory.{IsPartOf}
 use Rattle.fx_lasting.specs.declared.key.Key.{Key}
 use Rattle.fx_lasting.specs.declared.life.layout.TheConstants.{MOST_INSTALLING}
-use Rattle.fx_server.specs.Answers.{FindsAs, GetsAs, GetsAtAs, InsertsAs, PutsEmptyAs, ReleasesAs}
-use Rattle.fx_server.specs.Answers.{RemovesAs, RemovesAtAs, ReplacesAs, ReplacesAtAs}
-use Rattle.fx_server.specs.ByKey.{key_of}
+use Rattle.fx_server.specs.Answers.{FindsAs, GetsAtAs, InsertsAs, PutsEmptyAs, ReleasesAs}
+use Rattle.fx_server.specs.Answers.{RemovesAtAs, ReplacesAtAs}
+use Rattle.fx_server.specs.ByKey.{GetsAs, RemovesAs, ReplacesAs, key_of}
 use Rattle.fx_server.specs.EndsOfKeys.{HaveTheirOwnKeys}
 use Rattle.fx_server.specs.FilesNumbers.{KeepsItsNumbers}
 use Rattle.fx_server.specs.Opened.{AreOpened}
+use Rattle.fx_server.specs.Outcomes.{IsDone}
 use Rattle.fx_server.specs.Workers.{its_pass}
 use Rattle.fx_server.specs.declared.answers.CoreOutcome.{CoreOutcome}
-use Rattle.fx_server.specs.declared.answers.FoundFile.{FoundFile}
-use Rattle.fx_server.specs.declared.answers.Placed.{Placed}
+use Rattle.fx_server.specs.declared.codes.TheConstants.{DONE}
 use Rattle.fx_server.specs.Worker.{TableWorker}
 
 -- a call of one of the exports, by a worker that is `w` before it and `w'` after it
@@ -87,17 +88,15 @@ pub record HasMade (opened : List TableWorker) (now : ℕ → TableWorker) (w w'
 -- a call installed a file with this tag, and returned the key: its slot, and the number that the
 -- call returned, or for `put_empty` the one that `find` returned
 pub data ReturnsKey (w : TableWorker) (tag : ℕ) (key : Key) (w' : TableWorker) : Type 0 where
-  inserts : (answer : ℤ) (number : ℕ) (done : InsertsAs w tag answer number w')
-      → done.result ≡ Ok (record { slot = key.slot; number = key.number })
-      → ReturnsKey w tag key w'
-  replaces_at : (answer : ℤ) (out : CoreOutcome)
-      (done : ReplacesAtAs w key.slot tag answer out w') (placed : Placed)
-      → done.call.result ≡ Ok placed → placed.number ≡ key.number → ReturnsKey w tag key w'
+  inserts : (answer : ℤ) (number : ℕ) → InsertsAs w tag answer number w'
+      → answer ≡ pos key.slot → number ≡ key.number → ReturnsKey w tag key w'
+  replaces_at : (answer : ℤ) (out : CoreOutcome) → ReplacesAtAs w key.slot tag answer out w'
+      → IsDone answer → out.number ≡ key.number → ReturnsKey w tag key w'
   replaces : (old : ℕ) (answer : ℤ) (out : CoreOutcome)
-      (done : ReplacesAs w (key_of key.slot old) tag answer out w') (placed : Placed)
-      → done.call.result ≡ Ok placed → placed.number ≡ key.number → ReturnsKey w tag key w'
-  puts_empty : (answer : ℤ) (done : PutsEmptyAs w key.slot tag answer w')
-      → done.result ≡ Ok tt → w.numbers.kept ≡ key.number → ReturnsKey w tag key w'
+      → ReplacesAs w (key_of key.slot old) tag answer out w'
+      → IsDone answer → out.number ≡ key.number → ReturnsKey w tag key w'
+  puts_empty : (answer : ℤ) → PutsEmptyAs w key.slot tag answer w' → IsDone answer
+      → w.numbers.kept ≡ key.number → ReturnsKey w tag key w'
 
 -- the file was installed by the call
 pub record WasInstalledBy (w w' : TableWorker) (f : File) : Type 0 where
@@ -119,8 +118,7 @@ pub record FindsItsFile (w w' : TableWorker) (tag : ℕ) (u' : TableWorker) (out
 abbrev pub AKeyFindsItsFile : Type 0
 AKeyFindsItsFile = (slots installing : ℕ) (opened : List TableWorker) (now : ℕ → TableWorker)
     (h : List Event) (w w' u u' : TableWorker) (tag : ℕ) (key : Key) (answer : ℤ)
-    (out : CoreOutcome) (got : GetsAs u key answer out u') (found : FoundFile)
-    → IsInUse slots installing opened now h
+    (out : CoreOutcome) → IsInUse slots installing opened now h
     → HasMade opened now w w' → ReturnsKey w tag key w'
-    → HasMade opened now u u' → got.call.result ≡ Ok found
+    → HasMade opened now u u' → GetsAs u key answer out u' → answer ≡ DONE
     → FindsItsFile w w' tag u' out

@@ -5,7 +5,6 @@ pub mod FileNumbers
 pub mod Files
 pub mod FilesNumbers
 pub mod Handle
-pub mod Installing
 pub mod KeysFindFiles
 pub mod Lending
 pub mod Opened

@@ -1,14 +1,14 @@
--- The answer `Stale` of a call by key: the slot had another file than that of the key at a moment
+-- The answer `STALE` of a call by key: the slot had another file than that of the key at a moment
 -- of the call.
-use Rattle.std.specs.Prelude.{◌≡◌, ◌≢◌, ℕ, ℤ, Option, Some, Err}
+use Rattle.std.specs.Prelude.{◌≡◌, ◌≢◌, ℕ, ℤ, Option, Some}
 use Rattle.fx_plain.specs.declared.event.File.{File}
 use Rattle.fx_lasting.specs.slots.ByNode.{WasSo}
 use Rattle.fx_lasting.specs.slots.ByKey.{IsKeyOf}
 use Rattle.fx_lasting.specs.declared.key.Key.{Key}
-use Rattle.fx_server.specs.Answers.{GetsAs, RemovesAs, ReplacesAs}
+use Rattle.fx_server.specs.ByKey.{GetsAs, RemovesAs, ReplacesAs}
 use Rattle.fx_server.specs.Workers.{its_pass, its_start}
 use Rattle.fx_server.specs.declared.answers.CoreOutcome.{CoreOutcome}
-use Rattle.fx_server.specs.declared.answers.ServerRefusal.TheVariants.{Stale}
+use Rattle.fx_server.specs.declared.codes.TheConstants.{STALE}
 use Rattle.fx_server.specs.Worker.{TableWorker}
 
 -- there is a file, and the key names another one or none
@@ -20,14 +20,11 @@ IsAnother key there = (f : File) × (there ≡ Some f)
 pub record HadAnother (w : TableWorker) (key : Key) (w' : TableWorker) : Type 0 where
   pub was : WasSo (its_start w) key.slot (IsAnother key) (its_pass w).front (its_pass w').front
 
--- a call by key says `Stale` only if the slot had another file at a moment of the call
+-- a call by key answers `STALE` only if the slot had another file at a moment of the call
 pub record StaleKeysHadAnother : Type 0 where
   pub gets : (w w' : TableWorker) (key : Key) (answer : ℤ) (out : CoreOutcome)
-      (done : GetsAs w key answer out w') → done.call.result ≡ Err Stale
-      → HadAnother w key w'
+      → GetsAs w key answer out w' → answer ≡ STALE → HadAnother w key w'
   pub removes : (w w' : TableWorker) (key : Key) (answer : ℤ) (out : CoreOutcome)
-      (done : RemovesAs w key answer out w') → done.call.result ≡ Err Stale
-      → HadAnother w key w'
+      → RemovesAs w key answer out w' → answer ≡ STALE → HadAnother w key w'
   pub replaces : (w w' : TableWorker) (key : Key) (tag : ℕ) (answer : ℤ) (out : CoreOutcome)
-      (done : ReplacesAs w key tag answer out w') → done.call.result ≡ Err Stale
-      → HadAnother w key w'
+      → ReplacesAs w key tag answer out w' → answer ≡ STALE → HadAnother w key w'

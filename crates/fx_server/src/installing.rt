@@ -1,84 +1,124 @@
 //! The installations of a worker. Each file that is installed gets the next number of the worker,
 //! or the one that the worker drew before and kept.
-ghost use Rattle.std.specs.Prelude.{◌≡◌, None};
-ghost use Rattle.fx_server.specs.Installing.{FindsNext, PutsAnyNext, PutsEmptyKept, PutsNext};
+ghost use Rattle.fx_server.specs.Answers.{FindsAs, InsertsAs, PutsEmptyAs, ReplacesAtAs};
 
-use crate::answers::{CallAnswer, Placed, PlacedAt, ServerRefusal};
+use crate::answers::{CoreOutcome, NO_OUTCOME, consume};
+use crate::codes::{AGAIN, BUSY, DONE, FULL, IN_USE, NO_SLOT, READER, STALE};
+use crate::shared::file_with;
 use crate::worker::TableWorker;
+use fx_lasting::{FoundSlot, PutEmpty, TriedPut};
 
 impl TableWorker {
-    /// Installs a file with this tag and the worker's next number at a slot. Returns what was
-    /// there, and the number.
-    ///
-    /// # Errors
-    /// `Busy`, `NoSlot`, `Reader`, in this order.
+    /// Installs a file with this tag and the worker's next number at a slot, as
+    /// `yacht_core_replace_at` says.
     #[inline(always)]
-    pub fn replace_at(&mut self, slot: u32, tag: u64) -> CallAnswer<Placed>
-        ensures table { self.new.shared ≡ self.old.shared }
-        ensures placed { PutsNext self.old slot tag result.result self.new }
-        ensures no_tags { (result.freed ≡ None) × (result.released ≡ None) }
+    pub fn replace_at(&mut self, slot: u32, tag: u64, out: &mut CoreOutcome) -> i64
+        ensures placed { ReplacesAtAs self.old slot tag result out.new self.new }
     {
-        let result = match self.replace_at_as(slot, tag, self.numbers.next) {
-            Ok(removal) => {
-                let number = self.numbers.draw();
-                Ok(Placed { removal, number })
+        *out = NO_OUTCOME;
+        if self.held.is_some() {
+            return BUSY;
+        }
+        let table = &self.shared.table;
+        if slot >= table.size() {
+            return NO_SLOT;
+        }
+        if !table.installs(&self.pass) {
+            return READER;
+        }
+        let file = file_with(tag, self.numbers.next);
+        let removed = table.put(&mut self.pass, slot, file);
+        out.number = self.numbers.draw();
+        match removed {
+            None => DONE,
+            Some(retired) => {
+                consume(table.retire(&mut self.pass, retired), IN_USE, &mut out.tag)
             }
-            Err(refusal) => Err(refusal),
-        };
-        CallAnswer {
-            result,
-            freed: None,
-            released: None,
         }
     }
 
-    /// Makes one round to install a file with this tag and the worker's next number at a free slot.
-    /// Returns the slot, and the number.
-    ///
-    /// # Errors
-    /// `Busy`, `Reader`, in this order; `Full` if at one step every slot had a file; `Again` if
-    /// neither was found: another worker emptied a slot meanwhile, changed an empty one, or was in
-    /// the middle of a call.
+    /// Makes one round to install a file with this tag and the worker's next number at a free slot,
+    /// as `yacht_core_insert` says.
     #[inline(always)]
-    pub fn insert(&mut self, tag: u64) -> Result<PlacedAt, ServerRefusal>
-        ensures table { self.new.shared ≡ self.old.shared }
-        ensures allocated { PutsAnyNext self.old tag result self.new }
+    pub fn insert(&mut self, tag: u64, number: &mut u64) -> i64
+        ensures allocated { InsertsAs self.old tag result number.new self.new }
     {
-        let slot = self.insert_as(tag, self.numbers.next)?;
-        let number = self.numbers.draw();
-        Ok(PlacedAt { slot, number })
+        *number = 0;
+        if self.held.is_some() {
+            return BUSY;
+        }
+        let table = &self.shared.table;
+        if !table.installs(&self.pass) {
+            return READER;
+        }
+        let file = file_with(tag, self.numbers.next);
+        match table.try_put_any(&mut self.pass, file) {
+            TriedPut::At(slot) => {
+                *number = self.numbers.draw();
+                slot as i64
+            }
+            TriedPut::Full(file) => {
+                file.discard();
+                FULL
+            }
+            TriedPut::Again(file) => {
+                file.discard();
+                AGAIN
+            }
+        }
     }
 
     /// Finds an empty slot, and draws the next number, which the worker keeps for the file that
-    /// `put_empty` installs. So a value can be made from its key. Returns the slot, which another
-    /// worker may fill before that, and the number.
-    ///
-    /// # Errors
-    /// `Busy`, `Reader`, in this order; `Full` if at one step every slot had a file; `Again` if
-    /// neither was found: another worker emptied a slot meanwhile, or was in the middle of a call.
+    /// `put_empty` installs, as `yacht_core_find` says. So a value can be made from its key.
     #[inline(always)]
-    pub fn find(&mut self) -> Result<PlacedAt, ServerRefusal>
-        ensures table { self.new.shared ≡ self.old.shared }
-        ensures found { FindsNext self.old result self.new }
+    pub fn find(&mut self, number: &mut u64) -> i64
+        ensures found { FindsAs self.old result number.new self.new }
     {
-        let slot = self.find_slot()?;
-        let number = self.numbers.keep();
-        Ok(PlacedAt { slot, number })
+        *number = 0;
+        if self.held.is_some() {
+            return BUSY;
+        }
+        let table = &self.shared.table;
+        if !table.installs(&self.pass) {
+            return READER;
+        }
+        match table.find(&mut self.pass) {
+            FoundSlot::At(slot) => {
+                *number = self.numbers.keep();
+                slot as i64
+            }
+            FoundSlot::Full => FULL,
+            FoundSlot::Again => AGAIN,
+        }
     }
 
-    /// Installs a file with this tag at a slot if it is empty. The file gets the number that the
-    /// worker kept, which it keeps no longer.
-    ///
-    /// # Errors
-    /// `Busy`, `NoSlot` if the slot isn't in the allocation range, `Reader`, in this order;
-    /// `Stale` if the slot had a file, `Again` if it was empty and its word changed during the
-    /// call.
+    /// Installs a file with this tag at a slot if it is empty, as `yacht_core_put_empty` says. The
+    /// file gets the number that the worker kept, which it keeps no longer.
     #[inline(always)]
-    pub fn put_empty(&mut self, slot: u32, tag: u64) -> Result<(), ServerRefusal>
-        ensures table { self.new.shared ≡ self.old.shared }
-        ensures placed { PutsEmptyKept self.old slot tag result self.new }
+    pub fn put_empty(&mut self, slot: u32, tag: u64) -> i64
+        ensures placed { PutsEmptyAs self.old slot tag result self.new }
     {
         let number = self.numbers.spend_kept();
-        self.put_empty_as(slot, tag, number)
+        if self.held.is_some() {
+            return BUSY;
+        }
+        let table = &self.shared.table;
+        if !table.allocates(slot) {
+            return NO_SLOT;
+        }
+        if !table.installs(&self.pass) {
+            return READER;
+        }
+        match table.put_empty(&mut self.pass, slot, file_with(tag, number)) {
+            PutEmpty::Installed => DONE,
+            PutEmpty::HasFile(file) => {
+                file.discard();
+                STALE
+            }
+            PutEmpty::Lost(file) => {
+                file.discard();
+                AGAIN
+            }
+        }
     }
 }

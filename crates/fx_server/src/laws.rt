@@ -23,9 +23,9 @@ pub fn a_key_ends_once()
     ensures replacements { DoneReplacementsEndKeys }
 {}
 
-/// States that a call by key says `Stale` only if the slot had another file than that of the key at
-/// a moment of the call: after what a pass of the worker had seen before it, and within what a pass
-/// of the worker has seen after it.
+/// States that a call by key answers `STALE` only if the slot had another file than that of the key
+/// at a moment of the call: after what a pass of the worker had seen before it, and within what a
+/// pass of the worker has seen after it.
 #[tactic(auto, using(crate::proofs::StaleKeys::stale_keys))]
 pub fn a_stale_key_had_another_file()
     ensures { StaleKeysHadAnother }

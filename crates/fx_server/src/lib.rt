@@ -17,9 +17,7 @@ mod handle;
 mod installing;
 pub mod laws;
 mod opening;
-pub mod outcomes;
 mod placing;
-mod putting;
 mod shared;
 mod worker;
 

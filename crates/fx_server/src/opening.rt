@@ -5,9 +5,9 @@ ghost use Rattle.std.specs.Arc.{arc_value};
 ghost use Rattle.fx_server.specs.Opened.{AreDealt, AreOpened, workers_in};
 ghost use Rattle.fx_server.specs.Workers.{IsInRange, IsReady};
 ghost use Rattle.fx_lasting.specs.declared.life.layout.TheConstants.{MOST_PASSES};
-ghost use Rattle.fx_server.specs.declared.answers.ServerRefusal.TheVariants.{BadArgument, NoMemory as RanOut};
+ghost use Rattle.fx_server.specs.declared.codes.TheConstants.{BAD_ARGUMENT, NO_MEMORY};
 
-use crate::answers::ServerRefusal;
+use crate::codes::{BAD_ARGUMENT, NO_MEMORY};
 use crate::file_numbers::FileNumbers;
 use crate::shared::Shared;
 use crate::worker::TableWorker;
@@ -19,29 +19,29 @@ use std::sync::Arc;
 /// They hold nothing. The first `installing`, 1 to 64, install files.
 ///
 /// # Errors
-/// `BadArgument` if a number is out of its range, `NoMemory` if an allocation fails.
+/// `BAD_ARGUMENT` if a number is out of its range, `NO_MEMORY` if an allocation fails.
 pub fn open(
     alloc: Global,
     slots: u32,
     workers: u32,
     installing: u32,
-) -> Result<Vec<Box<TableWorker>>, ServerRefusal>
+) -> Result<Vec<Box<TableWorker>>, i64>
     ensures opened { IfOk result (λ list.
         AreOpened slots workers installing (workers_in list.items)) }
     ensures count { IfOk result (λ list. length list.items ≡ workers) }
     ensures range { IfOk result (λ list. IsInRange slots workers installing) }
-    ensures out_of_range { result ≡ Err BadArgument → IsInRange slots workers installing → ⊥ }
-    ensures memory { IfErr result (λ refusal. (refusal ≡ BadArgument) ⊎ (refusal ≡ RanOut)) }
+    ensures out_of_range { result ≡ Err BAD_ARGUMENT → IsInRange slots workers installing → ⊥ }
+    ensures memory { IfErr result (λ code. (code ≡ BAD_ARGUMENT) ⊎ (code ≡ NO_MEMORY)) }
 {
     if slots < 1 || slots > MOST_SLOTS || workers < 1 || workers > MOST_PASSES {
-        return Err(ServerRefusal::BadArgument);
+        return Err(BAD_ARGUMENT);
     }
     if installing < 1 || installing > MOST_INSTALLING || installing > workers {
-        return Err(ServerRefusal::BadArgument);
+        return Err(BAD_ARGUMENT);
     }
     let opened = LastingTable::open_sparse(alloc, slots, (0, slots), workers, installing);
     let Ok((table, passes)) = opened else {
-        return Err(ServerRefusal::NoMemory);
+        return Err(NO_MEMORY);
     };
     let list = share(alloc, Shared { table }, passes, installing)?;
     Ok(list)
@@ -53,20 +53,20 @@ fn share(
     shared: Shared,
     passes: Vec<LastingPass>,
     installing: u32,
-) -> Result<Vec<Box<TableWorker>>, ServerRefusal>
+) -> Result<Vec<Box<TableWorker>>, i64>
     requires few { length passes.items ≤ MOST_PASSES }
     requires ready { All (IsReady shared.table) passes.items }
     ensures dealt { IfOk result (λ list.
         AreDealt shared passes.items installing (workers_in list.items)) }
-    ensures memory { IfErr result (λ refusal. refusal ≡ RanOut) }
+    ensures memory { IfErr result (λ code. code ≡ NO_MEMORY) }
 {
     let Ok(shared) = Arc::new(alloc, shared) else {
         spend(passes);
-        return Err(ServerRefusal::NoMemory);
+        return Err(NO_MEMORY);
     };
     let Ok(list) = Vec::with_capacity(alloc, passes.len()) else {
         spend(passes);
-        return Err(ServerRefusal::NoMemory);
+        return Err(NO_MEMORY);
     };
     deal(alloc, shared, passes, installing, list)
 }
@@ -78,24 +78,24 @@ fn deal(
     mut passes: Vec<LastingPass>,
     installing: u32,
     mut workers: Vec<Box<TableWorker>>,
-) -> Result<Vec<Box<TableWorker>>, ServerRefusal>
+) -> Result<Vec<Box<TableWorker>>, i64>
     requires none { length workers.items ≡ 0 }
     requires few { length passes.items ≤ MOST_PASSES }
     requires ready { All (IsReady (arc_value shared).table) passes.items }
     ensures dealt { IfOk result (λ list.
         AreDealt (arc_value shared) passes.items installing (workers_in list.items)) }
-    ensures memory { IfErr result (λ refusal. refusal ≡ RanOut) }
+    ensures memory { IfErr result (λ code. code ≡ NO_MEMORY) }
 {
     passes.reverse();
     while let Some(pass) = passes.pop() {
         let numbers = FileNumbers::first(installing, workers.len() as u32 + 1);
         let Ok(worker) = begin(alloc, &shared, pass, numbers) else {
             spend(passes);
-            return Err(ServerRefusal::NoMemory);
+            return Err(NO_MEMORY);
         };
         let Ok(()) = workers.push(worker) else {
             spend(passes);
-            return Err(ServerRefusal::NoMemory);
+            return Err(NO_MEMORY);
         };
     }
     passes.destroy_empty();

@@ -5,8 +5,7 @@ ghost use Rattle.fx_server.specs.Places.{OpensAs, workers_at};
 ghost use Rattle.fx_server.specs.Workers.{IsInRange};
 ghost use Rattle.fx_server.specs.declared.codes.TheConstants.{DONE, BAD_ARGUMENT, NO_MEMORY};
 
-use crate::answers::ServerRefusal;
-use crate::codes::{BAD_ARGUMENT, DONE, NO_MEMORY};
+use crate::codes::{BAD_ARGUMENT, DONE};
 use crate::handle::WorkerPlace;
 use crate::opening::open;
 use crate::worker::TableWorker;
@@ -39,7 +38,6 @@ pub fn open_places(alloc: Global, slots: u32, installing: u32, workers: &mut [Wo
             place_all(list, workers);
             DONE
         }
-        Err(ServerRefusal::BadArgument) => BAD_ARGUMENT,
-        Err(_) => NO_MEMORY,
+        Err(code) => code,
     }
 }

@@ -1,18 +1,16 @@
 //! A pass together with its table.
-ghost use Rattle.std.specs.Prelude.{◌≡◌, None, Ok, Err, IfOk, option_map};
-ghost use Rattle.fx_table.specs.Pass.{IsHoldOf, IsRetiredOf};
-ghost use Rattle.fx_lasting.specs.Tables.{view_of, opening_of_table, IsPassOfTable};
-ghost use Rattle.fx_server.specs.Answers.{ReleasesAs};
-ghost use Rattle.fx_server.specs.Workers.{HasNumber, LooksUp, Notes};
-ghost use Rattle.fx_server.specs.Workers.{RemovesFrom, RetiresAs};
+ghost use Rattle.std.specs.Prelude.{◌≡◌, Some};
+ghost use Rattle.fx_table.specs.Pass.{IsHoldOf};
+ghost use Rattle.fx_lasting.specs.Tables.{view_of, IsPassOfTable};
+ghost use Rattle.fx_server.specs.Answers.{GetsAtAs, ReleasesAs, RemovesAtAs};
+ghost use Rattle.fx_server.specs.Workers.{HasLabel, HasNumber};
 
-use crate::answers::{CallAnswer, FoundFile, Removal, ServerRefusal, refused};
-use crate::codes::{DONE, DROPPED, IDLE};
+use crate::answers::{CoreOutcome, NO_OUTCOME, consume};
+use crate::codes::{BUSY, DONE, EMPTY, IDLE, IN_USE, NO_SLOT, READER};
 use crate::file_numbers::FileNumbers;
 use crate::shared::Shared;
-use fx_base::OpenFile;
 use fx_lasting::{LastingPass, LastingTable};
-use fx_table::{Empty, Hold, LookFault as Fault, LookUp, Retired};
+use fx_table::{Hold, LookUp};
 use std::alloc::Global;
 use std::marker::Model;
 use std::sync::Arc;
@@ -62,27 +60,27 @@ impl Drop for TableWorker {
 }
 
 impl TableWorker {
-    /// Looks a slot up. The worker holds the file there until `release`.
+    /// Looks a slot up, as `yacht_core_get_at` says. The worker holds the file until `release`.
     #[inline(always)]
-    pub fn get_at(&mut self, slot: u32) -> CallAnswer<FoundFile>
-        ensures table { self.new.shared ≡ self.old.shared }
-        ensures numbers { self.new.numbers ≡ self.old.numbers }
-        ensures looked { LooksUp self.old slot result self.new }
+    pub fn get_at(&mut self, slot: u32, out: &mut CoreOutcome) -> i64
+        ensures found { GetsAtAs self.old slot result out.new self.new }
     {
-        let table = &self.shared.table;
+        *out = NO_OUTCOME;
         if self.held.is_some() {
-            return refused(ServerRefusal::Busy);
+            return BUSY;
         }
+        let table = &self.shared.table;
         if slot >= table.size() {
-            return refused(ServerRefusal::NoSlot);
+            return NO_SLOT;
         }
         let LookUp { found, freed } = table.look_up(&mut self.pass, slot);
-        let freed = tag_of(freed);
-        CallAnswer {
-            result: note(table, &mut self.pass, &mut self.held, found),
-            freed,
-            released: None,
-        }
+        consume(freed, DONE, &mut out.freed);
+        let Ok(hold) = found else {
+            return EMPTY;
+        };
+        out.number = table.number_of(&mut self.pass, &hold);
+        out.tag = note(table, &mut self.pass, &mut self.held, hold, out.number);
+        DONE
     }
 
     /// Releases the file that the worker holds, and writes its tag, if it was removed and nobody
@@ -96,122 +94,55 @@ impl TableWorker {
             return IDLE;
         };
         let hold = Hold { node, entry };
-        match tag_of(self.shared.table.release(&mut self.pass, hold)) {
-            None => DONE,
-            Some(tag) => {
-                *dropped = tag;
-                DROPPED
-            }
-        }
+        consume(
+            self.shared.table.release(&mut self.pass, hold),
+            DONE,
+            dropped,
+        )
     }
 
-    /// Empties a slot. Returns what was there, which is not `Nothing`.
-    ///
-    /// # Errors
-    /// `Busy`, `NoSlot`, `Reader`, in this order, or `Empty` if the slot has no file.
+    /// Empties a slot, as `yacht_core_remove_at` says.
     #[inline(always)]
-    pub fn remove_at(&mut self, slot: u32) -> CallAnswer<Removal>
-        ensures table { self.new.shared ≡ self.old.shared }
-        ensures numbers { self.new.numbers ≡ self.old.numbers }
-        ensures removed { RemovesFrom self.old slot result.result self.new }
-        ensures no_tags { (result.freed ≡ None) × (result.released ≡ None) }
+    pub fn remove_at(&mut self, slot: u32, out: &mut CoreOutcome) -> i64
+        ensures removed { RemovesAtAs self.old slot result out.new self.new }
     {
+        *out = NO_OUTCOME;
         if self.held.is_some() {
-            return refused(ServerRefusal::Busy);
+            return BUSY;
         }
         let table = &self.shared.table;
         if slot >= table.size() {
-            return refused(ServerRefusal::NoSlot);
+            return NO_SLOT;
         }
         if !table.installs(&self.pass) {
-            return refused(ServerRefusal::Reader);
+            return READER;
         }
-        match table.take(&mut self.pass, slot) {
-            Ok(retired) => CallAnswer {
-                result: Ok(retire(table, &mut self.pass, retired)),
-                freed: None,
-                released: None,
-            },
-            Err(Empty) => refused(ServerRefusal::Empty),
-        }
+        let Ok(retired) = table.take(&mut self.pass, slot) else {
+            return EMPTY;
+        };
+        consume(table.retire(&mut self.pass, retired), IN_USE, &mut out.tag)
     }
 }
 
-// Notes the hold that a look-up returned, if it found a file, and returns the file's tag and
-// number.
+// Notes the hold of a file with this number, and returns the file's tag.
 #[inline(always)]
 pub(crate) fn note(
     table: &LastingTable,
     pass: &mut LastingPass,
     held: &mut Option<Held>,
-    found: Result<Hold, Fault>,
-) -> Result<FoundFile, ServerRefusal>
-    requires fits { IsPassOfTable table.now pass.old }
-    requires holds { IfOk found (λ hold. IsHoldOf (view_of pass.old) hold) }
-    ensures fits { IsPassOfTable table.now pass.new }
-    ensures same { view_of pass.new ≡ view_of pass.old }
-    ensures notes { Notes (view_of pass.old) found result held.new }
-{
-    match found {
-        Ok(hold) => {
-            let tag = table.tag_of(pass, &hold);
-            let number = table.number_of(pass, &hold);
-            let Hold { node, entry } = hold;
-            *held = Some(Held { node, entry });
-            Ok(FoundFile { tag, number })
-        }
-        Err(_) => {
-            *held = None;
-            Err(ServerRefusal::Empty)
-        }
-    }
-}
-
-// Notes the hold that a look-up by key returned, and returns the file's tag, and its number, which
-// is the key's.
-#[inline(always)]
-pub(crate) fn note_key(
-    table: &LastingTable,
-    pass: &mut LastingPass,
-    held: &mut Option<Held>,
     hold: Hold,
     number: u64,
-) -> FoundFile
+) -> u64
     requires fits { IsPassOfTable table.now pass.old }
     requires holds { IsHoldOf (view_of pass.old) hold }
     requires number { HasNumber (view_of pass.old) hold number }
     ensures fits { IsPassOfTable table.now pass.new }
     ensures same { view_of pass.new ≡ view_of pass.old }
-    ensures notes { Notes (view_of pass.old) (Ok hold) (Ok result) held.new }
+    ensures held { held.new ≡ Some (record { node = hold.node; entry = hold.entry }) }
+    ensures label { HasLabel (view_of pass.old) hold result number }
 {
     let tag = table.tag_of(pass, &hold);
     let Hold { node, entry } = hold;
     *held = Some(Held { node, entry });
-    FoundFile { tag, number }
-}
-
-// Consumes a file that came out, and returns its tag.
-#[inline(always)]
-pub(crate) fn tag_of(out: Option<OpenFile>) -> Option<u64>
-    ensures { result ≡ option_map (λ file. file.tag) out }
-{
-    let file = out?;
-    let tag = file.tag();
-    file.discard();
-    Some(tag)
-}
-
-// Retires a file that the pass removed.
-#[inline(always)]
-pub(crate) fn retire(table: &LastingTable, pass: &mut LastingPass, retired: Retired) -> Removal
-    requires fits { IsPassOfTable table.now pass.old }
-    requires removed { IsRetiredOf (view_of pass.old) retired }
-    ensures fits { IsPassOfTable table.now pass.new }
-    ensures retired { RetiresAs (opening_of_table table.now) (view_of pass.old) retired result
-        (view_of pass.new) }
-{
-    match tag_of(table.retire(pass, retired)) {
-        Some(tag) => Removal::Closed(tag),
-        None => Removal::InUse,
-    }
+    tag
 }

@@ -1,18 +1,13 @@
 //! The functions that C calls: one for each call that a user makes. Each borrows the handle of a
 //! worker, and calls the worker.
 ghost use Rattle.std.specs.Prelude.{◌≡◌, ◌≢◌, ◌⊎◌, length};
-ghost use Rattle.fx_server.specs.Answers.{FindsAs, GetsAs, GetsAtAs, InsertsAs, PutsEmptyAs};
-ghost use Rattle.fx_server.specs.Answers.{ReleasesAs, RemovesAs, RemovesAtAs, ReplacesAs};
-ghost use Rattle.fx_server.specs.Answers.{ReplacesAtAs};
-ghost use Rattle.fx_server.specs.ByKey.{key_of};
+ghost use Rattle.fx_server.specs.Answers.{FindsAs, GetsAtAs, InsertsAs, PutsEmptyAs, ReleasesAs};
+ghost use Rattle.fx_server.specs.Answers.{RemovesAtAs, ReplacesAtAs};
+ghost use Rattle.fx_server.specs.ByKey.{GetsAs, RemovesAs, ReplacesAs, key_of};
 ghost use Rattle.fx_server.specs.Places.{OpensAs};
 ghost use Rattle.fx_server.specs.Workers.{IsInRange};
 ghost use Rattle.fx_server.specs.declared.codes.TheConstants.{DONE, BAD_ARGUMENT, NO_MEMORY};
 
-use fx_server::outcomes::{
-    done_code, found_outcome, placed_code, placed_outcome, removal_code, removed_outcome,
-    slot_code, slot_number,
-};
 use fx_server::{CoreOutcome, Handle, WorkerPlace, open_places};
 use std::alloc::Global;
 
@@ -46,9 +41,7 @@ pub extern "C" fn yacht_core_close(worker: Handle) {
 pub extern "C" fn yacht_core_get_at(worker: &mut Handle, slot: u32, out: &mut CoreOutcome) -> i64
     ensures found { GetsAtAs worker.old.worker slot result out.new worker.new.worker }
 {
-    let look = worker.as_mut().get_at(slot);
-    *out = found_outcome(look);
-    done_code(look.result)
+    worker.as_mut().get_at(slot, out)
 }
 
 /// Looks up the file with this number at a slot. It returns as `yacht_core_get_at`, or `STALE` if
@@ -64,9 +57,7 @@ pub extern "C" fn yacht_core_get(
     ensures found { GetsAs worker.old.worker (key_of slot number) result out.new
         worker.new.worker }
 {
-    let look = worker.as_mut().get(slot, number);
-    *out = found_outcome(look);
-    done_code(look.result)
+    worker.as_mut().get(slot, number, out)
 }
 
 /// Releases the file that the worker holds. It returns `DONE`, `DROPPED` or `IDLE`. `dropped` is
@@ -84,9 +75,7 @@ pub extern "C" fn yacht_core_release(worker: &mut Handle, dropped: &mut u64) -> 
 pub extern "C" fn yacht_core_insert(worker: &mut Handle, tag: u64, number: &mut u64) -> i64
     ensures allocated { InsertsAs worker.old.worker tag result number.new worker.new.worker }
 {
-    let placed = worker.as_mut().insert(tag);
-    *number = slot_number(placed);
-    slot_code(placed)
+    worker.as_mut().insert(tag, number)
 }
 
 /// Installs a file with this tag and the worker's next number at a slot. It returns `DONE`,
@@ -101,9 +90,7 @@ pub extern "C" fn yacht_core_replace_at(
 ) -> i64
     ensures placed { ReplacesAtAs worker.old.worker slot tag result out.new worker.new.worker }
 {
-    let answer = worker.as_mut().replace_at(slot, tag);
-    *out = placed_outcome(answer);
-    placed_code(answer.result)
+    worker.as_mut().replace_at(slot, tag, out)
 }
 
 /// Replaces the file with this number at a slot by one with this tag and the worker's next number.
@@ -120,9 +107,7 @@ pub extern "C" fn yacht_core_replace(
     ensures placed { ReplacesAs worker.old.worker (key_of slot number) tag result out.new
         worker.new.worker }
 {
-    let answer = worker.as_mut().replace(slot, number, tag);
-    *out = placed_outcome(answer);
-    placed_code(answer.result)
+    worker.as_mut().replace(slot, number, tag, out)
 }
 
 /// Empties a slot. It returns `DROPPED`, `IN_USE`, `BUSY`, `NO_SLOT`, `READER` or `EMPTY`. `out`
@@ -131,9 +116,7 @@ pub extern "C" fn yacht_core_replace(
 pub extern "C" fn yacht_core_remove_at(worker: &mut Handle, slot: u32, out: &mut CoreOutcome) -> i64
     ensures removed { RemovesAtAs worker.old.worker slot result out.new worker.new.worker }
 {
-    let answer = worker.as_mut().remove_at(slot);
-    *out = removed_outcome(answer);
-    removal_code(answer.result)
+    worker.as_mut().remove_at(slot, out)
 }
 
 /// Removes the file with this number from a slot. It returns `DROPPED`, `IN_USE`, `EMPTY`, `STALE`,
@@ -148,9 +131,7 @@ pub extern "C" fn yacht_core_remove(
     ensures removed { RemovesAs worker.old.worker (key_of slot number) result out.new
         worker.new.worker }
 {
-    let answer = worker.as_mut().remove(slot, number);
-    *out = removed_outcome(answer);
-    removal_code(answer.result)
+    worker.as_mut().remove(slot, number, out)
 }
 
 /// Finds an empty slot, and draws the worker's next number, which the worker keeps for the file
@@ -160,9 +141,7 @@ pub extern "C" fn yacht_core_remove(
 pub extern "C" fn yacht_core_find(worker: &mut Handle, number: &mut u64) -> i64
     ensures found { FindsAs worker.old.worker result number.new worker.new.worker }
 {
-    let found = worker.as_mut().find();
-    *number = slot_number(found);
-    slot_code(found)
+    worker.as_mut().find(number)
 }
 
 /// Installs a file with this tag, and with the number that the worker kept, at a slot if it is
@@ -172,5 +151,5 @@ pub extern "C" fn yacht_core_find(worker: &mut Handle, number: &mut u64) -> i64
 pub extern "C" fn yacht_core_put_empty(worker: &mut Handle, slot: u32, tag: u64) -> i64
     ensures placed { PutsEmptyAs worker.old.worker slot tag result worker.new.worker }
 {
-    done_code(worker.as_mut().put_empty(slot, tag))
+    worker.as_mut().put_empty(slot, tag)
 }

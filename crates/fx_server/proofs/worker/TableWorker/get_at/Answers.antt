@@ -1,31 +1,43 @@
-use Rattle.std.proofs.Common.{refl}
+use Rattle.std.proofs.Common.{inl, refl, subst, sym, Ok, ◌∙◌}
 use Rattle.std.specs.Arc.{arc_value}
-use Rattle.fx_lasting.specs.Tables.{view_of, opening_of_table}
-use Rattle.fx_server.specs.Workers.{worker_of}
-use Rattle.fx_server.proofs.Looking.{looks, does_as_held}
+use Rattle.fx_table.specs.Calls.{LookedUp}
+use Rattle.fx_table.specs.Pass.{IsHoldOf, PassView}
+use Rattle.fx_lasting.specs.Tables.{opening_of_table, view_of}
+use Rattle.fx_server.specs.Workers.{HasLabel}
+use Rattle.fx_server.proofs.Looking.{holds}
+use Rattle.fx_server.proofs.worker.TableWorker.get_at.Goals.{After-number_of-out}
 use Rattle.fx_server.proofs.worker.TableWorker.get_at.Goals as goal
 
-pub invariant_of-self : goal.invariant_of-self
-invariant_of-self c =
-    let call = c.look_up-found in
-    let noted = c.note.ensures in
-    let t = c.deref.result.now.table in
-    record {
-      fits = rw (← c.deref.ensures) noted.fits;
-      does = rw noted.same (does_as_held (opening_of_table t) (view_of c.self.inside.pass)
-          (view_of call.new.pass) c.args.slot call.result.found call.result.freed c.note.result c.note.new.held noted.notes
-          call.ensures.never_spent call.ensures.looked);
-    }
+its_hold : (c : After-number_of-out) → IsHoldOf (view_of c.number_of-out.new.pass) c.in-Ok.hold
+its_hold c = let call = c.look_up-found in
+    subst (λ (v : PassView). IsHoldOf v c.in-Ok.hold) (sym c.number_of-out.ensures.same)
+    (holds (opening_of_table c.deref.result.now.table) (view_of c.self.inside.pass) (view_of call.new.pass) c.args.slot c.in-Ok.hold call.result.freed
+    (rw c.in-Ok.is at call.ensures.looked))
 
-pub returns-clause-looked : goal.returns-clause-looked
-returns-clause-looked c =
-    let i = c.self.inside in
-    let w = worker_of (arc_value i.shared) i.held i.numbers i.pass in
-    let call = c.look_up-found in
-    let noted = c.note.ensures in
-    rw (← c.self.view_is) (
-      looks w (record w { held = c.note.new.held; pass = c.note.new.pass }) c.args.slot call.result.found call.result.freed
-          c.note.result c.tag_of-freed.result (view_of call.new.pass) noted.same noted.notes call.ensures.never_spent c.tag_of-freed.ensures
-          (rw (← c.deref.ensures) call.ensures.looked),
+pub note-out-requires-clause-holds : goal.note-out-requires-clause-holds
+note-out-requires-clause-holds c = its_hold (goal.at.note-out-requires-clause-holds c).After-number_of-out
+
+pub invariant_of-self-2 : goal.invariant_of-self-2
+invariant_of-self-2 c = let noted = c.note-out.ensures in record {
+  fits = rw (← c.deref.ensures) noted.fits;
+  does = rw noted.held (subst (λ (v : PassView). IsHoldOf v c.in-Ok.hold) (sym noted.same) (its_hold (goal.at.invariant_of-self-2 c).After-number_of-out));
+}
+
+pub returns : goal.returns
+returns c = let noted = c.note-out.ensures in let call = c.look_up-found in record {
+  found = rw (← c.self.view_is) (record {
+    table = refl;
+    numbers = refl;
+    looked = inl (
+      record { node = c.in-Ok.hold.node; entry = c.in-Ok.hold.entry },
       refl,
-    )
+      record { holds = noted.held; label = subst (λ (v : PassView). HasLabel v c.in-Ok.hold c.note-out.result c.number_of-out.result) (sym noted.same) noted.label },
+      record {
+        freed = call.result.freed;
+        tags = record { its_freed = c.consume.ensures.tag; its_released = refl };
+        looked = subst (λ (v : PassView). LookedUp (opening_of_table (arc_value c.self.inside.shared).table) (view_of c.self.inside.pass) c.args.slot (Ok c.in-Ok.hold) call.result.freed v)
+            (sym (noted.same ∙ c.number_of-out.ensures.same)) (rw c.deref.ensures at (rw c.in-Ok.is at call.ensures.looked));
+      },
+    );
+  });
+}
