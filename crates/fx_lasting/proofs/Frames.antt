@@ -1,13 +1,12 @@
 -- A step of one seat leaves other seats, slots and nodes as they were.
-use Rattle.fx_lasting.proofs.Words.{alone_in, Placement, Renewing, Nearing, Relieving, HoldsBesides, ◌≡◌, ◌≢◌, ℕ, ◌+◌, ◌<◌, ◌≤◌, List, set, sym, refl}
-use Rattle.fx_lasting.proofs.Words.{ap, ◌∙◌, subst, arith, Option, Some, None, File, inl, inr, some, some-injective, get_elem?, set_here, set_else}
-use Rattle.fx_lasting.proofs.Words.{stands_at, ⊎_elim, ◌⊎◌, dite, ℕ_discrete, dec_le, SlotAgrees, NodeAgrees, OwnerAgrees, WorkAgrees, LogAgrees}
-use Rattle.fx_lasting.proofs.Words.{HoldAgrees, GuardAgrees, Does, GlanceAgrees, Heats, MayBeUncharged, in_stock, Contains, IsHot, HoldsAt, Home}
-use Rattle.fx_lasting.proofs.Words.{IsFileOfNode, IsVacant, IsBorn, full_name_in, count_in, word_of, hold_word_of, slots_of, nodes_of}
-use Rattle.fx_lasting.proofs.Words.{state_after_all, held_in, Nodes, Start, tally, Phase, free, placed, seated, leaving, retired, emptied, kept}
-use Rattle.fx_lasting.proofs.Words.{owner, Glance, Log, View, Work, Idle, Announced, Counted, Guarded, Owing, Yielding, Searching, Placing, Retiring}
-use Rattle.fx_lasting.proofs.Words.{Emptying, Keeping, Nothing, Hot, Cold, Heating, taken_of, owed, sum_by, suc, Deed, untouched, over, heated}
-use Rattle.fx_lasting.proofs.Words.{has_acted, has_heated, Written, Unlabelled, label_of, written_in, file_in, Bool, Event}
+use Rattle.fx_lasting.proofs.Words.{alone_in, Placement, Renewing, Nearing, Relieving, HoldsBesides, ◌≡◌, ◌≢◌, ℕ, ◌+◌, ◌<◌, ◌≤◌, List, set, sym, refl, ap, ◌∙◌}
+use Rattle.fx_lasting.proofs.Words.{subst, arith, Option, Some, None, File, inl, inr, some, some-injective, get_elem?, set_here, set_else, stands_at, ⊎_elim}
+use Rattle.fx_lasting.proofs.Words.{◌⊎◌, dite, ℕ_discrete, dec_le, SlotAgrees, NodeAgrees, OwnerAgrees, WorkAgrees, LogAgrees, HoldAgrees, GuardAgrees, Does}
+use Rattle.fx_lasting.proofs.Words.{GlanceAgrees, Heats, MayBeUncharged, in_stock, Contains, IsHot, HoldsAt, Home, IsFileOfNode, IsVacant, IsBorn, full_name_in}
+use Rattle.fx_lasting.proofs.Words.{count_in, word_of, hold_word_of, slots_of, nodes_of, state_after_all, held_in, Nodes, Start, tally, Phase, free, placed}
+use Rattle.fx_lasting.proofs.Words.{seated, leaving, retired, emptied, kept, owner, Glance, Log, View, Work, Idle, Announced, Counted, Guarded, Owing, Yielding}
+use Rattle.fx_lasting.proofs.Words.{Searching, Placing, Retiring, Emptying, Keeping, Nothing, Hot, Cold, Heating, taken_of, owed, sum_by, suc, Deed, untouched}
+use Rattle.fx_lasting.proofs.Words.{over, heated, has_acted, has_heated, Written, Unlabelled, label_of, written_in, file_in, Bool, Event}
 use Rattle.fx_lasting.proofs.Counts.{tally_same}
 use Rattle.fx_lasting.proofs.Keeping.{NodeIn, Turn, After, Homes, Keeps, NodesStep, LeavesFiles, LabelSame, labels_same, w, word_at, slot_word}
 

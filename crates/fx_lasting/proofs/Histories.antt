@@ -1,6 +1,6 @@
 -- Legal histories of a table.
-use Rattle.fx_lasting.proofs.Words.{◌≡◌, List, [], ◌∷◌, ◌++◌, refl, held_by, Event}
-use Rattle.fx_lasting.proofs.Words.{state_at_start, range_at_start, slots_of, state_after_all, Start, ReleasesItsOwn, map, action_of, IsHistory}
+use Rattle.fx_lasting.proofs.Words.{◌≡◌, List, [], ◌∷◌, ◌++◌, refl, held_by, Event, state_at_start, range_at_start, slots_of, state_after_all, Start}
+use Rattle.fx_lasting.proofs.Words.{ReleasesItsOwn, map, action_of, IsHistory}
 pub use Rattle.fx_table.proofs.Growing.{Grows, each_changed, grows_more, grows_none, grows_one, held_mine, part_mine}
 use Rattle.fx_plain.specs.Step.{Allows}
 use Rattle.fx_plain.proofs.Leading.{same_shape as shape_of_state}

@@ -1,21 +1,19 @@
 -- A pass between two calls, and what a call adds to it.
-use Rattle.fx_lasting.proofs.Words.{Renewing, Relieving, HoldsAlone, MeetsMore}
-use Rattle.fx_lasting.proofs.Words.{as_listed, get_elem?, some, ◌≡◌, ℕ, ◌+◌, ◌-◌, ◌≤◌, ◌<◌, ◌^◌, ◌⊎◌, List, [], sym, refl, ap, ◌∙◌, subst, arith}
-use Rattle.fx_lasting.proofs.Words.{Bool, true, false, Option, Some, None, Start, Sat, Work, Glance, Change, Nothing, Outside, Runs, IsAtWork}
-use Rattle.fx_lasting.proofs.Words.{as_swapped, nodes_of, set, part_of_pass, TableId, Idle, Counted, Guarded, Retiring, Keeping, LastingPass}
-use Rattle.fx_lasting.proofs.Words.{LastingTable, IsSeatOf, IsPassOf, IsPassOfTable, IsBetweenCalls, Knows, MayPlace, opening_of, view_of, pass_of}
-use Rattle.fx_lasting.proofs.Words.{pass_in, numbers_of_pass, doing_in, hold_at, retired_at, retiring_work, IsHistory, Action, ◌▷◌, Put, Take}
-use Rattle.fx_lasting.proofs.Words.{Release, Close, Look, File, Closed, numbered, full_name_in, count_in, LetsFileGo, option_map, Result, Ok, Err}
-use Rattle.fx_lasting.proofs.Words.{ok_or, is_some, not, ◌==◌, ◌≢◌, not-false, not-true, Use, no_use, one_number, one_look, Adds, IsNewFile}
-use Rattle.fx_lasting.proofs.Words.{Placed, Taken, ReleasesFile, LookedAfter, LookedUp, adds_then}
-use Rattle.fx_lasting.proofs.Words.{HoldsOn, new_round, LetsChargeGo, Announced, first_visit, heat_in, cond, inl, inr, Opening}
-use Rattle.fx_lasting.proofs.Words.{PassView, IsIdle, IsFileRemoval, Doing, DoesNothing, Holding, Hold, Retired, dite, dec_le, lt-ltb, IsIdleSeatOf}
-use Rattle.fx_lasting.proofs.Words.{HasNoFile, Searching, is_in, account, uncounted, group_of, Covered, groups_in, range_at_start}
+use Rattle.fx_lasting.proofs.Words.{Renewing, Relieving, HoldsAlone, MeetsMore, as_listed, get_elem?, some, ◌≡◌, ℕ, ◌+◌, ◌-◌, ◌≤◌, ◌<◌, ◌^◌, ◌⊎◌, List, [], sym}
+use Rattle.fx_lasting.proofs.Words.{refl, ap, ◌∙◌, subst, arith, Bool, true, false, Option, Some, None, Start, Sat, Work, Glance, Change, Nothing, Outside}
+use Rattle.fx_lasting.proofs.Words.{Runs, IsAtWork, as_swapped, nodes_of, set, part_of_pass, TableId, Idle, Counted, Guarded, Retiring, Keeping, LastingPass}
+use Rattle.fx_lasting.proofs.Words.{LastingTable, IsSeatOf, IsPassOf, IsPassOfTable, IsBetweenCalls, Knows, MayPlace, opening_of, view_of, pass_of, pass_in}
+use Rattle.fx_lasting.proofs.Words.{numbers_of_pass, doing_in, hold_at, retired_at, retiring_work, IsHistory, Action, ◌▷◌, Put, Take, Release, Close, Look}
+use Rattle.fx_lasting.proofs.Words.{File, Closed, numbered, full_name_in, count_in, LetsFileGo, option_map, Result, Ok, Err, ok_or, is_some, not, ◌==◌, ◌≢◌}
+use Rattle.fx_lasting.proofs.Words.{not-false, not-true, Use, no_use, one_number, one_look, Adds, IsNewFile, Placed, Taken, ReleasesFile, LookedAfter, LookedUp}
+use Rattle.fx_lasting.proofs.Words.{adds_then, HoldsOn, new_round, LetsChargeGo, Announced, first_visit, heat_in, cond, inl, inr, Opening, PassView, IsIdle}
+use Rattle.fx_lasting.proofs.Words.{IsFileRemoval, Doing, DoesNothing, Holding, Hold, Retired, dite, dec_le, lt-ltb, IsIdleSeatOf, HasNoFile, Searching, is_in}
+use Rattle.fx_lasting.proofs.Words.{account, uncounted, group_of, Covered, groups_in, range_at_start}
 use Rattle.fx_table.specs.declared.values.Doing.TheVariants.{Retiring as Retires}
 use Rattle.fx_table.specs.declared.values.Empty.{Empty}
 use Rattle.fx_table.specs.declared.values.LookFault.{LookFault}
 use Rattle.fx_table.specs.declared.values.LookFault.TheVariants.{Spent, Empty as EmptySlot}
-use Rattle.fx_lasting.specs.slots.PutAlone.{FreesFirst}
+use Rattle.fx_lasting.specs.slots.ReplaceByKey.{FreesFirst}
 use Rattle.fx_lasting.specs.slots.SwapSteps.{HasRemoved}
 use Rattle.fx_lasting.proofs.Running.{does_then, still_at_work, number_is, at_listed, at_swapped}
 
@@ -235,7 +233,7 @@ module _ {id : TableId} {k : Start} {p : LastingPass} (fits : IsPassOf id k p) w
 
 -- a removal by a close
 pub taken_so : (o : Opening) (v w : PassView) (slot : ℕ) (removed : Option Retired) (result : Result Retired Empty) (empty : Empty)
-    → result ≡ ok_or removed empty → HasRemoved o Take v slot removed w → Taken o v slot result w
+    → result ≡ ok_or removed empty → HasRemoved o v slot removed w → Taken o v slot result w
 taken_so o v w slot None result empty answer it = rw answer it
 taken_so o v w slot (Some x) result empty answer it = rw answer it
 
@@ -250,10 +248,10 @@ module _ (k : Start) (v : PassView) (slot found : ℕ) (w : PassView) where
   is_removal : (f : File) → IsFileRemoval o f (retired_at f (full_name_in found - 1) (count_in found))
   is_removal f = record { entry = refl; same = λ e. absurd (cc e) }
 
-  pub removed_so : (act : ℕ → Option File → Action) (file : Option File) (removed : Option Retired) → removed ≡ value_of file
-      → Adds o v ([] ▷ act slot file) (doing_in (retiring_work k found file)) no_use w → HasRemoved o act v slot removed w
-  removed_so act None removed is adds = rw is adds
-  removed_so act (Some f) removed is adds = rw is (f, is_removal f, adds)
+  pub removed_so : (file : Option File) (removed : Option Retired) → removed ≡ value_of file
+      → Adds o v ([] ▷ Take slot file) (doing_in (retiring_work k found file)) no_use w → HasRemoved o v slot removed w
+  removed_so None removed is adds = rw is adds
+  removed_so (Some f) removed is adds = rw is (f, is_removal f, adds)
 
   pub placed_so : (file : Option File) (removed : Option Retired) → removed ≡ value_of file → (n : ℕ) (its : Closed)
       → Adds o v ([] ▷ Put slot (numbered n its) file) (doing_in (retiring_work k found file)) one_number w → Placed o v slot its removed w

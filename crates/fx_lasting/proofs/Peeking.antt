@@ -1,6 +1,6 @@
 -- A load that leaves the pass as it was keeps the rule.
-use Rattle.fx_lasting.proofs.Words.{ℕ, List, [], refl, Option, none, keeps, step, Closed, Peeks, PeeksKeep, Goes, inl, arith, sum_by, lengths}
-use Rattle.fx_lasting.proofs.Words.{◌≡◌, ◌<◌, ◌≤◌, LastingTable, IsAtWork, Seat, View, Allows, Agrees, IsGroup, groups_in, group_place, group_len, range_at_start}
+use Rattle.fx_lasting.proofs.Words.{ℕ, List, [], refl, Option, none, keeps, step, Closed, Peeks, PeeksKeep, Goes, inl, arith, sum_by, lengths, ◌≡◌, ◌<◌, ◌≤◌}
+use Rattle.fx_lasting.proofs.Words.{LastingTable, IsAtWork, Seat, View, Allows, Agrees, IsGroup, groups_in, group_place, group_len, range_at_start}
 use Rattle.fx_lasting.specs.Effects.{IsGroupFull}
 use Rattle.table_range.proofs.GroupSlots.{group_back}
 use Rattle.table_range.proofs.Owing.{each_full}

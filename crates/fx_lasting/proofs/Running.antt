@@ -1,12 +1,11 @@
 -- Some steps in a row, and the seat after them.
-use Rattle.fx_lasting.proofs.Words.{TakesAs, HoldsBesides, HoldsOn, Placement, Renewing, Relieving, as_listed, as_asked, as_stocked, as_swapped, IsStockOf, Survey, true, set, set_here, set_else, length-set}
-use Rattle.fx_lasting.proofs.Words.{stands_at, get_elem?, some, some-injective, ◌≡◌, ◌≤◌, ℕ, ◌+◌, List, [], ◌++◌, map, sym, refl, ap, ◌∙◌, subst}
-use Rattle.fx_lasting.proofs.Words.{arith, ◌▷▷◌, Action, Event, Sat, Stepped, Goes, Runs, Change, IsAtWork, Log, first_log, ◌∷◌, ◌-◌, ◌<◌, ⊎_elim}
-use Rattle.fx_lasting.proofs.Words.{inl, dite, ℕ_discrete, eq-eqb, ne_eqb, Option, Some, None, Closed, File, ◌▷◌, Release, Close, Look, Idle, Owing}
-use Rattle.fx_lasting.proofs.Words.{Yielding, Counted, Cold, TakesOut, LettingGo, glance_after, LetsChargeGo, LetsFileGo, HasPlace, IsReleasing}
-use Rattle.fx_lasting.proofs.Words.{HasToLetGo, nodes_of, full_name_in, file_node_in, At, Glance, Work, Start, IsHistory, pass_in, pass_event}
-use Rattle.fx_lasting.proofs.Words.{part_of_pass, IsInside, rested, append_assoc, map-append, seen_further}
-use Rattle.fx_lasting.proofs.Words.{Bool}
+use Rattle.fx_lasting.proofs.Words.{TakesAs, HoldsBesides, HoldsOn, Placement, Renewing, Relieving, as_listed, as_asked, as_stocked, as_swapped, IsStockOf}
+use Rattle.fx_lasting.proofs.Words.{Survey, true, set, set_here, set_else, length-set, stands_at, get_elem?, some, some-injective, ◌≡◌, ◌≤◌, ℕ, ◌+◌, List, []}
+use Rattle.fx_lasting.proofs.Words.{◌++◌, map, sym, refl, ap, ◌∙◌, subst, arith, ◌▷▷◌, Action, Event, Sat, Stepped, Goes, Runs, Change, IsAtWork, Log}
+use Rattle.fx_lasting.proofs.Words.{first_log, ◌∷◌, ◌-◌, ◌<◌, ⊎_elim, inl, dite, ℕ_discrete, eq-eqb, ne_eqb, Option, Some, None, Closed, File, ◌▷◌, Release}
+use Rattle.fx_lasting.proofs.Words.{Close, Look, Idle, Owing, Yielding, Counted, Cold, TakesOut, LettingGo, glance_after, LetsChargeGo, LetsFileGo, HasPlace}
+use Rattle.fx_lasting.proofs.Words.{IsReleasing, HasToLetGo, nodes_of, full_name_in, file_node_in, At, Glance, Work, Start, IsHistory, pass_in, pass_event}
+use Rattle.fx_lasting.proofs.Words.{part_of_pass, IsInside, rested, append_assoc, map-append, seen_further, Bool}
 
 pub runs_one : {m m' : Sat} {xs : List Action} {w : Work} {g : Glance} {c : Change} → Stepped m xs w g c m' → Runs m xs w g c 1 m'
 runs_one {m} {m'} s = let begun : (pass_in m).steps + 0 ≤ (pass_in m').steps = (let e = s.begun in omega arith) in assumption (s, begun)

@@ -1,8 +1,8 @@
 -- The turn of a seat with one pass, and what each law of a step asks of it.
-use Rattle.fx_lasting.proofs.Words.{◌≡◌, ℕ, ◌+◌, ◌<◌, ◌≤◌, List, [], ◌∷◌, sym, subst, arith, get_or, Option, some, get_elem?}
-use Rattle.fx_lasting.proofs.Words.{Closed, Event, Bool, Allows, stepped, Act, Valid, carried_after, Agrees, slot_place, Shared, range_at_start, Sat}
-use Rattle.fx_lasting.proofs.Words.{HasPass, Change, Glance, Log, Start, View, Work, Watch, Survey, Labels, Written, tag_word_of, number_word_of}
-use Rattle.fx_lasting.proofs.Words.{MOST_SLOTS, NodeAgrees, Phase, count_in, nodes_of, owed, slots_of, state_after_all, sum_by, taken_of, word_of}
+use Rattle.fx_lasting.proofs.Words.{◌≡◌, ℕ, ◌+◌, ◌<◌, ◌≤◌, List, [], ◌∷◌, sym, subst, arith, get_or, Option, some, get_elem?, Closed, Event, Bool, Allows}
+use Rattle.fx_lasting.proofs.Words.{stepped, Act, Valid, carried_after, Agrees, slot_place, Shared, range_at_start, Sat, HasPass, Change, Glance, Log, Start}
+use Rattle.fx_lasting.proofs.Words.{View, Work, Watch, Survey, Labels, Written, tag_word_of, number_word_of, MOST_SLOTS, NodeAgrees, Phase, count_in, nodes_of}
+use Rattle.fx_lasting.proofs.Words.{owed, slots_of, state_after_all, sum_by, taken_of, word_of}
 use mathlib.Core.Option as maybe
 
 abbrev pub Homes : Type 0

@@ -1,11 +1,9 @@
 -- The names that these proofs cite, passed on from one place. Declares nothing.
-pub use Rattle.atomic_table.proofs.Lists.{set_here, set_else, at_set, at_map, exchanged, at_index, at_snoc, at_longer, set_again}
+pub use Rattle.atomic_table.proofs.Lists.{set_here, set_else, at_set, at_map, exchanged, at_index}
 pub use Rattle.atomic_table.specs.Seated.{TableId}
-pub use Rattle.atomic_table.specs.Table.{Act, keeps, Valid, stepped, carried_after, step, gives, rest, takes, Allows, Final, Seen, opening, Splits}
-pub use Rattle.atomic_table.specs.Table.{put_back}
+pub use Rattle.atomic_table.specs.Table.{Act, keeps, Valid, stepped, carried_after, step, gives, rest, takes, Allows, Final, Seen, opening, Splits, put_back}
 pub use Rattle.fx_base.specs.declared.open_file.Closed.{Closed}
-pub use Rattle.table_range.specs.Groups.{is_in, question_place, group_place, group_size, groups_in}
-pub use Rattle.table_range.specs.Groups.{group_at, group_of, group_start, group_len}
+pub use Rattle.table_range.specs.Groups.{is_in, question_place, group_place, group_size, groups_in, group_at, group_of, group_start, group_len}
 pub use Rattle.table_range.specs.Counts.{owing, uncounted, account, HasQuestionOf, HasVisitedFull, bit_of, lowered, raised, with_question}
 pub use Rattle.table_range.specs.declared.groups.TheConstants.{RANGE_END}
 pub use Rattle.fx_lasting.specs.holds.HoldsAgree.{IsIn, HoldAgrees, MayBeUncharged, GuardAgrees, GlanceAgrees, Heats, LogAgrees, ViewAgrees, HoldsAt}
@@ -19,49 +17,44 @@ pub use Rattle.fx_lasting.specs.Counts.{tally, owed}
 pub use Rattle.fx_lasting.specs.Ends.{LetsChargeGo, LetsFileGo, Parked, TakenOut}
 pub use Rattle.fx_lasting.specs.life.Cuts.{seats}
 pub use Rattle.table_seats.proofs.Gathered.{AreGathered}
-pub use Rattle.table_seats.proofs.Together.{HasLaws, Moves, find_pass, its_pass, its_range, not_there, of_one, total_same}
+pub use Rattle.table_seats.proofs.Together.{HasLaws, Moves, find_pass, its_pass, its_range, not_there}
 pub use Rattle.table_seats.specs.Seats.{dealt, first_alone, first_view, joined, new_logs, shown_view, spent, without_first}
 pub use Rattle.table_seats.specs.Together.{HasSeen, Together}
-pub use Rattle.fx_lasting.specs.Laws.{AimsKeep, TakesBesideKeep, ReplacesHeldKeep, HasToLetGo, IsOffCount, TakesOutKeep, ExchangesKeep, HasPass, GlancesKeep, AnnouncesKeep}
-pub use Rattle.fx_lasting.specs.Laws.{ConfirmsKeep, WithdrawsKeep, TakesOnceKeep, HeatsKeep, SplitsKeep, JoinsKeep, LowersKeep, RaisesKeep, AsksKeep}
-pub use Rattle.fx_lasting.specs.Laws.{ChecksKeep, BreaksKeep, BeginsKeep, CountsKeep, DecidesKeep, IsGroup, PeeksKeep, InstallsKeep, StepsDownKeep}
+pub use Rattle.fx_lasting.specs.Laws.{AimsKeep, TakesBesideKeep, ReplacesHeldKeep, HasToLetGo, IsOffCount, TakesOutKeep, ExchangesKeep, HasPass, GlancesKeep}
+pub use Rattle.fx_lasting.specs.Laws.{AnnouncesKeep, ConfirmsKeep, WithdrawsKeep, TakesOnceKeep, HeatsKeep, SplitsKeep, JoinsKeep, LowersKeep, RaisesKeep}
+pub use Rattle.fx_lasting.specs.Laws.{AsksKeep, ChecksKeep, BreaksKeep, BeginsKeep, CountsKeep, DecidesKeep, IsGroup, PeeksKeep, InstallsKeep, StepsDownKeep}
 pub use Rattle.fx_lasting.specs.Laws.{LettingGoKeeps, SeeksKeep, BirthsKeep, RestsKeep, VisitsKeep, ChargesKeep, ParksKeep, ResumesKeep, SettlesKeep}
-pub use Rattle.fx_lasting.specs.Laws.{HasItsPlace, RecallsTagKeep, TagsKeep, NumbersKeep, ReadsTagKeep, ReadsNumberKeep, RetiresKeep, IsInRange, ListsKeep, SkimsKeep}
-pub use Rattle.fx_lasting.specs.Laws.{IsPassed, SeesKeep, FinishesKeep, SwapsOutKeep}
-pub use Rattle.fx_lasting.specs.Laws.{MayAnnounce, EndsItsHoldKeep, SwapsHeldKeep, TakesHeldKeep}
+pub use Rattle.fx_lasting.specs.Laws.{HasItsPlace, RecallsTagKeep, TagsKeep, NumbersKeep, ReadsTagKeep, ReadsNumberKeep, RetiresKeep, IsInRange, ListsKeep}
+pub use Rattle.fx_lasting.specs.Laws.{SkimsKeep, IsPassed, SeesKeep, FinishesKeep, SwapsOutKeep, MayAnnounce, EndsItsHoldKeep, SwapsHeldKeep, TakesHeldKeep}
 pub use Rattle.fx_lasting.specs.nodes.LabelSteps.{RecallsTag, Tags, Numbers, ReadsTag, ReadsNumber}
-pub use Rattle.fx_lasting.specs.nodes.Labels.{number_of_mark, label_of, as_written, HasWritten}
+pub use Rattle.fx_lasting.specs.nodes.Labels.{number_of_mark, label_of, as_written}
 pub use Rattle.fx_lasting.specs.nodes.KeepSteps.{Parks, Resumes, SettlesNode}
-pub use Rattle.fx_lasting.specs.life.Layout.{list_place, slot_place, hold_place, node_place, stock_start, stock_for, stock_of}
-pub use Rattle.fx_lasting.specs.life.Layout.{stocks_back, tag_place, number_place}
-pub use Rattle.fx_lasting.specs.life.Layout.{PlacesAreInside, PlacesAreApart, LabelsAreApart, NodesAreInOneLine, IsNoLabel, words_for, nodes_for}
+pub use Rattle.fx_lasting.specs.life.Layout.{list_place, slot_place, hold_place, node_place, stock_start, stock_for, stock_of, stocks_back, tag_place}
+pub use Rattle.fx_lasting.specs.life.Layout.{number_place, PlacesAreInside, PlacesAreApart, LabelsAreApart, NodesAreInOneLine, IsNoLabel, words_for, nodes_for}
 pub use Rattle.fx_lasting.specs.life.Opens.{AreNamed, OpensWith}
 pub use Rattle.fx_lasting.specs.slots.Deeds.{Deed, untouched, over, heated, has_acted, has_heated}
-pub use Rattle.fx_lasting.specs.Fields.{heat_unit, count_in, heat_in, IsHot, cold_takes, birth_word, retirement_amount, announced, charge}
-pub use Rattle.fx_lasting.specs.Fields.{IsListedIn, full_name_in, file_node_in, file_word_of, empty_word_of, without_file, name_mask, most_carried}
-pub use Rattle.fx_lasting.specs.Fields.{MayCarry}
+pub use Rattle.fx_lasting.specs.Fields.{heat_unit, count_in, heat_in, IsHot, cold_takes, birth_word, retirement_amount, announced, charge, IsListedIn}
+pub use Rattle.fx_lasting.specs.Fields.{full_name_in, file_node_in, file_word_of, empty_word_of, without_file, name_mask, most_carried, MayCarry}
 pub use Rattle.fx_lasting.specs.Passes.{alone_in, node_of_number, HasNoFile, Shared, Sat, state_at_start, slots_of, range_at_start, nodes_of, first_stock}
-pub use Rattle.fx_lasting.specs.Passes.{word_of, hold_word_of, lengths, state_after_all, IsHistory, new_log, first_log, held_in, if_file}
-pub use Rattle.fx_lasting.specs.Passes.{held_of, taking, taken_of, tag_word_of, number_word_of, HoldsOn, contents_of, empty_slots}
-pub use Rattle.fx_lasting.specs.Passes.{HoldsAlone, HoldsBesides, IsRenewing, is_guarding}
+pub use Rattle.fx_lasting.specs.Passes.{word_of, hold_word_of, lengths, state_after_all, IsHistory, new_log, first_log, held_in, if_file, held_of, taking}
+pub use Rattle.fx_lasting.specs.Passes.{taken_of, tag_word_of, number_word_of, HoldsOn, contents_of, HoldsAlone, HoldsBesides, is_guarding}
 pub use Rattle.fx_lasting.specs.nodes.Stocks.{Whereabouts, at_slot, in_stock, IsInStock, NamesItsNode, IsStockOf, StockAgrees}
-pub use Rattle.fx_lasting.proofs.slot_lemmas.SlotWords.{name_of_file, same_full_name, name_made, full_name_made, file_entry_made, file_takes_made, file_heat_made}
-pub use Rattle.fx_lasting.proofs.slot_lemmas.SlotWords.{empty_name_made, empty_file_made, empty_takes_made, name_left, no_file_left, no_takes_left}
-pub use Rattle.fx_lasting.proofs.slot_lemmas.SlotWords.{mask_leaves_name, name_carried, full_name_carried, entry_carried, takes_carried, heat_carried}
-pub use Rattle.fx_lasting.proofs.slot_lemmas.SlotWords.{takes_are_few, one_less}
-pub use Rattle.std.specs.Prelude.{bit_and, sum_by, Contains, Ok, Err, Result, is_some, not, option_map, ok_or, is_err, ◌==◌, slice_set, vec_len}
-pub use Rattle.fx_lasting.specs.nodes.Phases.{Phase, owner, file_in, file_if_numbered, removed_in, written_in, free, placed, seated, leaving, retired}
-pub use Rattle.fx_lasting.specs.nodes.Phases.{emptied, kept}
+pub use Rattle.fx_lasting.proofs.slot_lemmas.SlotWords.{name_of_file, same_full_name, empty_name_made, empty_file_made, empty_takes_made, name_left}
+pub use Rattle.fx_lasting.proofs.slot_lemmas.SlotWords.{no_file_left, no_takes_left, mask_leaves_name, name_carried, full_name_carried, entry_carried}
+pub use Rattle.fx_lasting.proofs.slot_lemmas.SlotWords.{takes_carried, heat_carried, takes_are_few, one_less}
+pub use Rattle.std.specs.Prelude.{bit_and, sum_by, Contains, Ok, Err, Result, is_some, not, option_map, ok_or, ◌==◌, vec_len}
+pub use Rattle.fx_lasting.specs.nodes.Phases.{Phase, owner, file_in, file_if_numbered, removed_in, written_in, free, placed, seated, leaving, retired, emptied}
+pub use Rattle.fx_lasting.specs.nodes.Phases.{kept}
 pub use Rattle.fx_lasting.specs.Runs.{Runs}
-pub use Rattle.fx_lasting.specs.Tables.{hold_at, retired_at, doing_in, numbers_of_pass, pass_of, opening_of, view_of, IsBetweenCalls, Knows, IsSeatOf}
-pub use Rattle.fx_lasting.specs.Tables.{meetings, changes_at, MeetsMore, IsPassOf, opening_of_table, IsPassOfTable, first_passes, as_first}
+pub use Rattle.fx_lasting.specs.Tables.{hold_at, retired_at, doing_in, numbers_of_pass, pass_of, opening_of, view_of, IsBetweenCalls, Knows, IsSeatOf, meetings}
+pub use Rattle.fx_lasting.specs.Tables.{changes_at, MeetsMore, IsPassOf, IsPassOfTable, first_passes, as_first}
 pub use Rattle.fx_lasting.specs.declared.pass.LastingPass.{LastingPass}
 pub use Rattle.fx_lasting.specs.declared.table.LastingTable.{LastingTable}
 pub use Rattle.fx_lasting.specs.Effects.{TakesAs, At, rested, Lists, Skims, IsOnList, as_listed, round_at, round_from, new_round, Announces, Shows, Confirms}
-pub use Rattle.fx_lasting.specs.Effects.{Withdraws, glance_after, Takes, HeatsSlot, StepsDown, TakesOut, slot_of, pass_at, pass_event, pass_in}
-pub use Rattle.fx_lasting.specs.Effects.{IsInside, Stepped, Goes, Glances, Exchanges, LettingGo, Seeks, Births, Rests, Visits, Charges, Retires}
-pub use Rattle.fx_lasting.specs.Effects.{first_visit, retiring_work, Found, Installs, Removes, Turns, Asks, Peeks, as_asked, as_stocked}
-pub use Rattle.fx_lasting.specs.Effects.{IsWatching, MeetsOne, FindsChange, changes_in, IsOvertaken, HasGap, as_swapped, NamesANode, Lowers, Checks, Breaks, Raises, Begins, Counts, Decides, Sees}
+pub use Rattle.fx_lasting.specs.Effects.{Withdraws, glance_after, Takes, HeatsSlot, StepsDown, TakesOut, slot_of, pass_at, pass_event, pass_in, IsInside}
+pub use Rattle.fx_lasting.specs.Effects.{Stepped, Goes, Glances, Exchanges, LettingGo, Seeks, Births, Rests, Visits, Charges, Retires, first_visit}
+pub use Rattle.fx_lasting.specs.Effects.{retiring_work, Found, Installs, Removes, Turns, Asks, Peeks, as_asked, as_stocked, IsWatching, MeetsOne, FindsChange}
+pub use Rattle.fx_lasting.specs.Effects.{changes_in, IsOvertaken, HasGap, as_swapped, NamesANode, Lowers, Checks, Breaks, Raises, Begins, Counts, Decides, Sees}
 pub use Rattle.fx_lasting.specs.Effects.{HasAnnounced, HasItsHold, EndsItsHold, announcing, guarded_round, guarding, leaving_work, removal_work}
 pub use Rattle.fx_lasting.specs.holds.Visits.{HasVisited, round_to}
 pub use Rattle.fx_lasting.specs.nodes.Searches.{next_of}
@@ -76,39 +69,38 @@ pub use Rattle.fx_lasting.specs.declared.view.Round.{Round}
 pub use Rattle.fx_lasting.specs.declared.view.Start.{Start}
 pub use Rattle.fx_lasting.specs.declared.view.View.{View}
 pub use Rattle.fx_lasting.specs.declared.view.Watch.{Watch}
-pub use Rattle.fx_lasting.specs.slots.Watches.{ActsAt, ReplacesAt, AnotherDid, HasActed, HasReplaced, HasHeated, IsAsSeen, WatchAgrees, without_slot}
+pub use Rattle.fx_lasting.specs.slots.Watches.{ActsAt, ReplacesAt, AnotherDid, HasActed, HasReplaced, IsAsSeen, WatchAgrees, without_slot}
 pub use Rattle.fx_lasting.specs.declared.view.Work.{Work}
 pub use Rattle.fx_lasting.specs.declared.view.Work.TheVariants.{Idle, Announced, Counted, Guarded, Owing, Yielding, Searching, Placing, Renewing, Retiring}
 pub use Rattle.fx_lasting.specs.declared.view.Work.TheVariants.{Nearing, Relieving, Emptying, Keeping}
 pub use Rattle.fx_lasting.specs.declared.view.Written.{Written}
 pub use Rattle.fx_lasting.specs.declared.view.Placement.{Placement}
 pub use Rattle.fx_lasting.specs.declared.view.Written.TheVariants.{Nothing as Unlabelled, Tag, Label}
-pub use Rattle.fx_plain.proofs.Cells.{changed_here, changed_else, by_equality, read_default, named_same, each_set}
+pub use Rattle.fx_plain.proofs.Cells.{changed_here, changed_else, by_equality, read_default, named_same}
 pub use Rattle.fx_plain.specs.Contents.{state_of, Contents, slot_at, node_at, moved_node, removed_at, placed_at}
 pub use Rattle.fx_plain.specs.History.{◌▷◌, held_by, held_after, part_of_pass, IsSeenBy, action_of, ◌▷▷◌, ReleasesItsOwn}
-pub use Rattle.fx_plain.specs.State.{State, IsSettled, vacant, file_numbered, files_in_order, files_of}
+pub use Rattle.fx_plain.specs.State.{State, IsSettled, vacant, file_numbered}
 pub use Rattle.fx_plain.specs.Step.{changed_at, with_removed, after}
 pub use Rattle.fx_plain.specs.Table.{numbered, number_of, identity_of}
 pub use Rattle.fx_plain.specs.declared.event.Action.{Action}
 pub use Rattle.fx_plain.specs.declared.event.Action.TheVariants.{Look, Put, Clear, Take, Allocate, Close, Release, Full}
 pub use Rattle.fx_plain.specs.declared.event.Event.{Event}
 pub use Rattle.fx_plain.specs.declared.event.File.{File}
-pub use Rattle.fx_table.proofs.SumLemmas.{contains_head, contains_map, contains_only, stands_at, one_if, bit_here, bit_else, once_is, one_more_at}
-pub use Rattle.fx_table.proofs.SumLemmas.{one_less_at, counted_once, found_by, found_sum, sum_at, sum_two, sum_set, sum_le_at, sum_of, sum_zero_at}
-pub use Rattle.fx_table.proofs.SumLemmas.{sum_only, contains_tail, contains_none, contains_mapped, contains_reverse, contains_reversed, sum_zero}
-pub use Rattle.fx_table.proofs.SumLemmas.{sum_map, contains_alone, each_all, read_at}
+pub use Rattle.fx_table.proofs.SumLemmas.{contains_head, contains_map, contains_only, stands_at, one_if, bit_here, bit_else, once_is, one_more_at, one_less_at}
+pub use Rattle.fx_table.proofs.SumLemmas.{counted_once, found_sum, sum_at, sum_two, sum_set, sum_le_at, sum_of, sum_zero_at, sum_only, contains_tail}
+pub use Rattle.fx_table.proofs.SumLemmas.{contains_none, sum_zero, sum_map, contains_alone, each_all, read_at}
 pub use Rattle.fx_words.specs.Words.{name_in, entry_in, last_node}
-pub use Rattle.std.proofs.Common.{IsTrue, ◌↔◌, bit_or, eq-eqb, ne_eqb, length-append, true, map, get_or, IsSome, ◌*◌, get_or-set_other}
-pub use Rattle.std.proofs.Common.{get_or-set_same, ◌/◌, lt-ltb, le-ltb, Option, Some, None, IfSome, slice_index, ◌+◌, ◌-◌, ◌%◌, ◌^◌, false, eqb, inl, ◌++◌}
-pub use Rattle.std.proofs.Common.{◌⊎◌, inr, ⊎_elim, length-set, ◌≡◌, ◌≢◌, ℕ, zero, suc, ◌<◌, ◌≤◌, Bool, cond, nat_lt, List, [], ◌∷◌, length, set, sym}
-pub use Rattle.std.proofs.Common.{refl, ap, ◌∙◌, subst, arith, rules, All, take, drop, reverse, vec_capacity, nat_eq, suc-mul, add-one, append_assoc}
+pub use Rattle.std.proofs.Common.{IsTrue, ◌↔◌, bit_or, eq-eqb, ne_eqb, length-append, true, map, get_or, IsSome, ◌*◌, get_or-set_other, get_or-set_same, ◌/◌}
+pub use Rattle.std.proofs.Common.{lt-ltb, le-ltb, Option, Some, None, IfSome, slice_index, ◌+◌, ◌-◌, ◌%◌, ◌^◌, false, eqb, inl, ◌++◌, ◌⊎◌, inr, ⊎_elim}
+pub use Rattle.std.proofs.Common.{length-set, ◌≡◌, ◌≢◌, ℕ, zero, suc, ◌<◌, ◌≤◌, Bool, cond, nat_lt, List, [], ◌∷◌, length, set, sym, refl, ap, ◌∙◌, subst}
+pub use Rattle.std.proofs.Common.{arith, rules, All, reverse, vec_capacity, suc-mul, add-one, append_assoc}
 pub use Rattle.std.proofs.Math.Nat.{mul-le-mul_right, mod-eq_of_lt, le-mul_of_pos_right}
-pub use Rattle.std.proofs.lemmas.List.{length-map, set-get_or, length-reverse, append-nil, set-set, length-replicate, get_or_default}
+pub use Rattle.std.proofs.lemmas.List.{length-map, set-get_or, append-nil, set-set, length-replicate, get_or_default}
 pub use Rattle.std.proofs.lemmas.List.FromFn.{length-map-range_with_len, get_or-map-range_with_len, length-range_with_len}
-pub use Rattle.std.proofs.lemmas.List.Sums.{sum_by-append, sum_by-cons}
+pub use Rattle.std.proofs.lemmas.List.Sums.{sum_by-cons}
 pub use Rattle.std.specs.Int.{bit_at, w64, trailing_zeros}
 pub use Rattle.std.specs.List.{range_with_len, AllWithin}
-pub use Rattle.fx_table.proofs.FullSlots.{full_all, full_else, full_few, full_here}
+pub use Rattle.fx_table.proofs.FullSlots.{full_few}
 pub use Rattle.fx_table.specs.FullSlots.{full_in, if_full}
 pub use Rattle.fx_table.specs.Shells.{IsShell}
 pub use Rattle.fx_lasting.specs.life.Lives.{logs_in, IsNewPass, IsIdleSeatOf, AllAreIdle, Leaves}
@@ -117,21 +109,17 @@ pub use lib.ListN.{get_elem?}
 pub use mathlib.Core.Logic.{dite}
 pub use mathlib.Core.Option.{some, none, some-injective, some-ne-none}
 pub use native.Mathlib.Decide.{ℕ_discrete, dec_le}
-pub use Rattle.std.proofs.lemmas.List.Elements.{filter-append, All-contains, Contains-append_left, All-set, AllWithin-more_set}
-pub use Rattle.fx_table.proofs.Calls.{seen_further, adds_then, adds_nothing, seen_from_start, learned_so}
-pub use Rattle.fx_table.specs.Calls.{Adds, LookedUp, ReleasesFile, Released, Use, no_use, one_number, one_look, IsNewFile, Placed, Allocated, Cleared, Taken}
-pub use Rattle.fx_table.specs.Calls.{LookedAfter}
+pub use Rattle.std.proofs.lemmas.List.Elements.{All-contains, Contains-append_left, All-set, AllWithin-more_set}
+pub use Rattle.fx_table.proofs.Calls.{seen_further, adds_then, adds_nothing, learned_so}
+pub use Rattle.fx_table.specs.Calls.{Adds, LookedUp, ReleasesFile, Released, Use, no_use, one_number, one_look, IsNewFile, Placed, Taken, LookedAfter}
 pub use Rattle.fx_table.specs.Opening.{Opening, HasSameFiles}
-pub use Rattle.fx_table.specs.Pass.{PassView, IsFront, IsIdle, IsFileRemoval, event_of, new_pass, new_passes}
+pub use Rattle.fx_table.specs.Pass.{PassView, IsIdle, IsFileRemoval, new_pass, new_passes}
 pub use Rattle.fx_table.specs.Showing.{Learns}
 pub use Rattle.fx_table.specs.declared.values.Doing.{Doing}
 pub use Rattle.fx_table.specs.declared.values.Doing.TheVariants.{Holding, Idle as DoesNothing}
 pub use Rattle.fx_table.specs.declared.values.Hold.{Hold}
-pub use Rattle.fx_lasting.specs.slots.ByNode.{FitsMiss, WasSo, WasIn, SaysIf, SawIf, FailedIf, HasTriedIf}
-pub use Rattle.fx_lasting.specs.slots.ByNode.{WasOvertaken, WasOvertakenIn}
-pub use Rattle.fx_lasting.specs.slots.ByKey.{LookedByKey, HeldByKey, fault_for}
-pub use Rattle.fx_lasting.specs.slots.ByKey.{TriesKey}
-pub use Rattle.fx_lasting.specs.slots.ByKey.{KeysAreOfOneFile, KeysComeBack, HasShortNumber, key_of_bits}
+pub use Rattle.fx_lasting.specs.slots.ByNode.{FitsMiss, WasSo, WasIn, SaysIf, SawIf, FailedIf, HasTriedIf, WasOvertaken, WasOvertakenIn}
+pub use Rattle.fx_lasting.specs.slots.ByKey.{LookedByKey, HeldByKey, fault_for, TriesKey, KeysAreOfOneFile, KeysComeBack, HasShortNumber, key_of_bits}
 pub use Rattle.fx_lasting.specs.declared.answers.Miss.{Miss}
 pub use Rattle.fx_lasting.specs.declared.key_answers.KeyFault.{KeyFault}
 pub use Rattle.fx_table.specs.declared.values.Retired.{Retired}
@@ -148,12 +136,11 @@ pub use Rattle.fx_table.proofs.Chains.{IsReady, fits, one_dealt, all_dealt, AreD
 pub use Rattle.fx_table.proofs.Seats.{gathered, last_of}
 pub use Rattle.fx_lasting.specs.Bounds.{slot_word_in, node_word_in, AreBounded}
 pub use Rattle.fx_lasting.specs.life.Closing.{files_at_slots, with_slot}
-pub use Rattle.fx_table.proofs.Shells.{AreAtHome, AreStored, at_home, file_at, files_are, AreComing, none_came, none_named, some_came, none_there}
-pub use Rattle.fx_table.proofs.Shells.{file_put, Becomes, in_place, none_outside, none_left}
+pub use Rattle.fx_table.proofs.Shells.{AreAtHome, AreStored, at_home, file_at, files_are, AreComing, none_came, none_named, some_came, none_there, file_put}
+pub use Rattle.fx_table.proofs.Shells.{Becomes, in_place, none_left}
 pub use Rattle.std.proofs.Math.ListN.{get_or-eq_default, replicate}
-pub use Rattle.std.proofs.lemmas.Nat.Bits.{bit_at_or, bit_at-lt, bit_at-pow_same, bit_at-pow_other, and_pow, bit_at-zero, bit_at-trailing_zeros}
-pub use Rattle.std.proofs.lemmas.Nat.Bits.{bit_at_above}
-pub use Rattle.std.proofs.lemmas.Nat.{pow_below, div-mul-add, mod-mul-add, shr-shr}
+pub use Rattle.std.proofs.lemmas.Nat.Bits.{bit_at-zero, bit_at-trailing_zeros, bit_at_above}
+pub use Rattle.std.proofs.lemmas.Nat.{div-mul-add, mod-mul-add, shr-shr}
 pub use Rattle.fx_lasting.specs.slots.PutSteps.{Aims, TakesBeside, ReplacesHeld}
 pub use Rattle.fx_lasting.specs.slots.SwapSteps.{SwapsOut, HasEmptied, SwapsHeld, TakesHeld}
 pub use prog.Atomic.{either}

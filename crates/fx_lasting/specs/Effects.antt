@@ -12,7 +12,7 @@ use Rattle.fx_plain.specs.declared.event.File.{File}
 use Rattle.fx_plain.specs.declared.event.Event.{Event}
 use Rattle.fx_plain.specs.declared.event.Action.{Action}
 use Rattle.fx_plain.specs.declared.event.Action.TheVariants.{Look, Release, Put, Allocate, Full}
-use Rattle.fx_plain.specs.declared.event.Action.TheVariants.{Close}
+use Rattle.fx_plain.specs.declared.event.Action.TheVariants.{Close, Take}
 use Rattle.fx_words.specs.Words.{entry_in, name_in}
 use Rattle.fx_lasting.specs.slots.SlotAgrees.{Names}
 use Rattle.fx_lasting.specs.nodes.Labels.{label_of, as_written}
@@ -427,12 +427,11 @@ pub record Installs (st : At) (m : Sat) (found : ℕ) (m' : Sat) : Type 0 where
       (account (range_at_start m.0.start) (slot_of st.word) replaced) m'
   pub carried : m'.1 ≡ rest m.1
 
--- And, to an empty slot's word, by a clear or by a take
-pub record Removes (action : ℕ → Option File → Action)
-    (st : At) (m : Sat) (found : ℕ) (m' : Sat) : Type 0 where
+-- And, to an empty slot's word
+pub record Removes (st : At) (m : Sat) (found : ℕ) (m' : Sat) : Type 0 where
   pub file : Option File
   pub names : Found found file
-  pub stepped : Stepped m ([] ▷ action (slot_of st.word) file) (retiring_work m.0.start found file)
+  pub stepped : Stepped m ([] ▷ Take (slot_of st.word) file) (retiring_work m.0.start found file)
       m.0.glance (account (range_at_start m.0.start) (slot_of st.word) file) m'
   pub carried : m'.1 ≡ m.1
 

@@ -1,7 +1,6 @@
 -- Views of passes, and their sums.
 use Rattle.std.specs.Prelude.{◌≡◌, ℕ, ◌%◌, ◌⊎◌, ◌==◌, not, nat_lt, List, [], ◌∷◌, map, Option}
-use Rattle.std.specs.Prelude.{replicate, Some, None, length, if◌then◌else◌}
-use Rattle.std.specs.Prelude.{Bool, true, false}
+use Rattle.std.specs.Prelude.{replicate, Some, None, length, if◌then◌else◌, Bool, true, false}
 use Rattle.atomic_table.specs.Table.{State as TableState, Me}
 use Rattle.fx_base.specs.Identity.{Identity}
 use Rattle.fx_plain.specs.Contents.{Contents, state_of}

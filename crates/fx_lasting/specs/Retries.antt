@@ -10,12 +10,12 @@ use Rattle.fx_lasting.specs.Laws.{IsInRange}
 use Rattle.fx_lasting.specs.Passes.{range_at_start}
 use Rattle.fx_lasting.specs.Tables.{opening_of, view_of, changes_at, meetings, MeetsMore}
 use Rattle.fx_lasting.specs.range.Tries.{TriedSo}
-use Rattle.fx_lasting.specs.slots.Alone.{TakesAlone}
+use Rattle.fx_lasting.specs.slots.RemoveByKey.{TakesAlone}
 use Rattle.fx_lasting.specs.slots.AtEmpty.{GivesUpFor, HasPutEmpty, HasSearched}
-use Rattle.fx_lasting.specs.slots.PutAlone.{PutsAlone}
+use Rattle.fx_lasting.specs.slots.ReplaceByKey.{PutsAlone}
 use Rattle.fx_lasting.specs.slots.Watches.{HasReplaced}
 use Rattle.fx_lasting.specs.declared.answers.FoundSlot.TheVariants as found
-use Rattle.fx_lasting.specs.declared.answers.PutEmpty.TheVariants.{Lost}
+use Rattle.fx_lasting.specs.declared.answers.PutEmpty.TheVariants as empty
 use Rattle.fx_lasting.specs.declared.key.Key.{Key}
 use Rattle.fx_lasting.specs.declared.key_answers.KeyFault.TheVariants.{Again}
 use Rattle.fx_lasting.specs.declared.key_answers.PutOverKey.TheVariants.{Missed}
@@ -76,7 +76,7 @@ EachHasItsChange =
 -- an installation that lost an empty slot is such a call
 abbrev pub LostCallsAreOvertaken : Type 0
 LostCallsAreOvertaken = (k : Start) (p p' : LastingPass) (slot : ℕ) (file back : Identity)
-    → HasPutEmpty k p slot file (Lost back) p'
+    → HasPutEmpty k p slot file (empty.Again back) p'
     → IsOvertakenTry slot (view_of p).number (record { before = p; after = p' })
 
 -- so is a removal by key that returns `Again`

@@ -10,7 +10,7 @@ pub enum Miss {
     /// The slot had no file.
     Empty,
     /// The file at the slot was on another node.
-    Other,
+    Stale,
     /// The file at the slot was on the node, but the slot's word changed during the call.
     Again,
 }
@@ -30,9 +30,9 @@ pub enum PutEmpty {
     /// The slot has the file.
     Installed,
     /// The slot had a file. The new one comes back.
-    HasFile(OpenFile),
+    Stale(OpenFile),
     /// The slot was empty, but another pass changed its word during the call. The file comes back.
-    Lost(OpenFile),
+    Again(OpenFile),
 }
 
 /// The result of a search for an empty slot of the allocation range.

@@ -2,8 +2,8 @@
 //! as its clause says. They are inlined into their caller, except for a withdrawal, for the visits
 //! of a retirement, and for taking a file out of a node that isn't kept. These hints change no
 //! proof.
-ghost use Rattle.std.specs.Prelude.{◌≡◌, ◌≢◌, ◌+◌, ◌*◌, ◌-◌, ◌/◌, ◌<◌, ◌≤◌};
-ghost use Rattle.std.specs.Prelude.{false, Option, option_map, Err};
+ghost use Rattle.std.specs.Prelude.{◌≡◌, ◌≢◌, ◌+◌, ◌*◌, ◌-◌, ◌/◌, ◌<◌, ◌≤◌, false, Option};
+ghost use Rattle.std.specs.Prelude.{option_map, Err};
 ghost use Rattle.fx_plain.specs.declared.event.Action.TheVariants.{Take};
 ghost use Rattle.fx_plain.specs.declared.event.File.{File};
 ghost use Rattle.fx_table.specs.Calls.{Looked, LookedUp, Released, Placed, Taken, HasRetired};
@@ -218,8 +218,8 @@ impl LastingTable {
         requires idle { IsIdle (view_of pass.old) }
         requires slot { slot < size_of (opening_of_table self.now) }
         ensures fits { IsPassOfTable self.now pass.new }
-        ensures removed { HasRemoved (opening_of_table self.now) Take (view_of pass.old) slot
-            result (view_of pass.new) }
+        ensures removed { HasRemoved (opening_of_table self.now) (view_of pass.old) slot result
+            (view_of pass.new) }
         ensures steps { steps_taken pass.new ≤ steps_taken pass.old + 6 }
     {
         self.settle(pass);

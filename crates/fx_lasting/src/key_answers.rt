@@ -10,7 +10,7 @@ pub enum KeyFault {
     /// The slot is empty.
     Empty,
     /// The slot has another file than that of the key.
-    Other,
+    Stale,
     /// The slot has the file, but the slot's word changed during the call.
     Again,
 }
@@ -23,7 +23,7 @@ pub struct KeyLook {
     /// A removed file that the look-up was the last to use, to be closed.
     pub freed: Option<OpenFile>,
     /// A file that isn't that of the key, if it was removed while the call held it and nobody else
-    /// uses it now, to be closed. It is `None` unless `found` is `Other`.
+    /// uses it now, to be closed. It is `None` unless `found` is `Stale`.
     pub released: Option<OpenFile>,
 }
 

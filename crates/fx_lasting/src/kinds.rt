@@ -6,8 +6,8 @@ ghost use Rattle.fx_lasting.specs.life.Cuts.{seats as views};
 ghost use Rattle.fx_lasting.specs.Effects.{Glances, Lists, Announces, Confirms, Withdraws, Takes};
 ghost use Rattle.fx_lasting.specs.Effects.{HeatsSlot, StepsDown, LettingGo, Seeks, Births, Rests};
 ghost use Rattle.fx_lasting.specs.Effects.{EndsItsHold, Skims, Visits, Charges, Retires, Installs};
-ghost use Rattle.fx_lasting.specs.Effects.{Exchanges, Removes, Peeks, Sees, Lowers};
-ghost use Rattle.fx_lasting.specs.Effects.{Checks, Breaks, Raises, Begins, Asks, Counts, Decides};
+ghost use Rattle.fx_lasting.specs.Effects.{Exchanges, Removes, Peeks, Sees, Lowers, Checks, Breaks};
+ghost use Rattle.fx_lasting.specs.Effects.{Raises, Begins, Asks, Counts, Decides};
 ghost use Rattle.fx_lasting.specs.nodes.LabelSteps.{RecallsTag, Tags, Numbers, ReadsTag};
 ghost use Rattle.fx_lasting.specs.nodes.LabelSteps.{ReadsNumber};
 ghost use Rattle.fx_lasting.specs.nodes.KeepSteps.{Parks, Resumes, SettlesNode};
@@ -295,7 +295,7 @@ impl Play<Option<OpenFile>, View> for TakingHeld {
 pub struct Clearing;
 
 impl Play<Option<OpenFile>, View> for Clearing {
-    ghost then = { Removes Take };
+    ghost then = { Removes };
 }
 
 /// Swap: a slot is emptied. Its word names a node of the pass's stock, and the node that it named
@@ -303,7 +303,7 @@ impl Play<Option<OpenFile>, View> for Clearing {
 pub struct Swapping;
 
 impl Play<Option<OpenFile>, View> for Swapping {
-    ghost then = { SwapsOut Take };
+    ghost then = { SwapsOut };
 }
 
 /// Lower: a group's word counts one full slot less, before the pass empties that slot.

@@ -10,7 +10,7 @@ ghost use Rattle.fx_lasting.specs.Retries.{SearchesAreOvertaken};
 /// there or removed, or a word that the pass found changed since it had seen it. So a loop that
 /// repeats such a call ends, unless others change the slot again and again.
 ///
-/// A `LastingTable::put_empty` that answers `PutEmpty::Lost` was overtaken. So was a `take_key` or
+/// A `LastingTable::put_empty` that answers `PutEmpty::Again` was overtaken. So was a `take_key` or
 /// `put_over_key` that answers `KeyFault::Again`: each of these has found the word changed. A
 /// look-up of a hot slot changes no word. While one file is at a slot, look-ups change its word at
 /// most 16 times, and twice for each pass (`laws::words_are_bounded`).

@@ -186,7 +186,7 @@ pub key_none : (k : Start) (v : PassView) (key : Key) (found : Result Hold KeyFa
 key_none k v key (Ok hold) freed released w it = looked_none (opening_of k) v key.slot (Ok hold) freed w it.2.looked
 key_none k v key (Err fault.NoSlot) freed released w it = same_none v w it.1
 key_none k v key (Err fault.Empty) freed released w it = looked_none (opening_of k) v key.slot (Err EmptySlot) freed w it.0
-key_none k v key (Err fault.Other) freed released w it = both_none v it.between w
+key_none k v key (Err fault.Stale) freed released w it = both_none v it.between w
     (looked_none (opening_of k) v key.slot (Ok it.hold) freed it.between it.held.looked) (released_none (opening_of k) it.between it.file released w it.releases)
 key_none k v key (Err fault.Again) freed released w it = absurd it
 

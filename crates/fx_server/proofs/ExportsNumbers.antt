@@ -12,7 +12,7 @@ use Rattle.fx_lasting.specs.Tables.{opening_of, view_of}
 use Rattle.fx_lasting.specs.declared.answers.FoundSlot.{FoundSlot}
 use Rattle.fx_lasting.specs.declared.answers.FoundSlot.TheVariants as found
 use Rattle.fx_lasting.specs.declared.answers.PutEmpty.{PutEmpty}
-use Rattle.fx_lasting.specs.declared.answers.PutEmpty.TheVariants.{Installed, HasFile, Lost}
+use Rattle.fx_lasting.specs.declared.answers.PutEmpty.TheVariants as empty
 use Rattle.fx_lasting.specs.declared.key.Key.{Key}
 use Rattle.fx_lasting.specs.declared.key_answers.KeyFault.{KeyFault}
 use Rattle.fx_lasting.specs.declared.pass.LastingPass.{LastingPass}
@@ -20,7 +20,7 @@ use Rattle.fx_lasting.specs.declared.tried.TriedPut.{TriedPut}
 use Rattle.fx_lasting.specs.declared.tried.TriedPut.TheVariants.{At, Full, Again}
 use Rattle.fx_lasting.specs.declared.view.Start.{Start}
 use Rattle.fx_lasting.specs.range.Tries.{TriedSo}
-use Rattle.fx_lasting.specs.slots.Alone.{TakesAlone}
+use Rattle.fx_lasting.specs.slots.RemoveByKey.{TakesAlone}
 use Rattle.fx_lasting.specs.slots.AtEmpty.{HasPutEmpty, HasSearched}
 use Rattle.fx_server.specs.Answers.{GetsAtAs, KeepsIfFound, PutsAt, ReleasesAs, RemovesAtAs, RetiresAny, UsesIfTried}
 use Rattle.fx_server.specs.ByKey.{GetsAs, RemovesAs, RemovesByOne, ReplacesByOne}
@@ -125,7 +125,7 @@ replaced_at w w' slot tag answer out put = let new = put.placed.0 in record {
   identity = put.placed.1.identity;
 }
 
-pub put_in_empty : (w w' : TableWorker) (slot tag : ℕ) → HasPutEmpty (its_start w) w.pass slot (file_with tag w.numbers.kept) Installed w'.pass → Makes w w' tag w.numbers.kept
+pub put_in_empty : (w w' : TableWorker) (slot tag : ℕ) → HasPutEmpty (its_start w) w.pass slot (file_with tag w.numbers.kept) empty.Installed w'.pass → Makes w w' tag w.numbers.kept
 put_in_empty w w' slot tag it = let new = it.0 in record {
   new = new;
   one = added_one (opening_of (its_start w)) (its_pass w) (Allocate slot new) _ _ (its_pass w') new it.2 refl;
@@ -156,9 +156,9 @@ searched w w' number found.Again keeps' it = adds_none (added_none (opening_of (
 
 filled : (w w' : TableWorker) (slot tag : ℕ) (result : PutEmpty) → w'.numbers ≡ without_kept w.numbers
     → HasPutEmpty (its_start w) w.pass slot (file_with tag w.numbers.kept) result w'.pass → Changes w w'
-filled w w' slot tag Installed spent it = adds_kept tag (put_in_empty w w' slot tag it) spent
-filled w w' slot tag (HasFile file) spent it = spends_one (added_none (opening_of (its_start w)) (its_pass w) _ _ _ (its_pass w') it.1.adds tt) spent
-filled w w' slot tag (Lost file) spent it = spends_one (added_none (opening_of (its_start w)) (its_pass w) _ _ _ (its_pass w') it.1.adds tt) spent
+filled w w' slot tag empty.Installed spent it = adds_kept tag (put_in_empty w w' slot tag it) spent
+filled w w' slot tag (empty.Stale file) spent it = spends_one (added_none (opening_of (its_start w)) (its_pass w) _ _ _ (its_pass w') it.1.adds tt) spent
+filled w w' slot tag (empty.Again file) spent it = spends_one (added_none (opening_of (its_start w)) (its_pass w) _ _ _ (its_pass w') it.1.adds tt) spent
 
 changes : (w w' : TableWorker) → IsExportCall w w' → Changes w w'
 changes w w' (get_at slot answer out it) = adds_none (get_at_none w w' slot answer out it) it.numbers

@@ -24,9 +24,9 @@ use Rattle.fx_lasting.specs.declared.answers.Miss.{Miss}
 use Rattle.fx_lasting.specs.declared.answers.Miss.TheVariants as miss
 use Rattle.fx_lasting.specs.declared.key.Key.{Key}
 use Rattle.fx_lasting.specs.declared.key_answers.KeyFault.{KeyFault}
-use Rattle.fx_lasting.specs.declared.key_answers.KeyFault.TheVariants.{Other}
+use Rattle.fx_lasting.specs.declared.key_answers.KeyFault.TheVariants.{Stale}
 use Rattle.fx_lasting.specs.declared.view.Start.{Start}
-use Rattle.fx_lasting.specs.slots.Alone.{TakesAlone}
+use Rattle.fx_lasting.specs.slots.RemoveByKey.{TakesAlone}
 use Rattle.fx_server.specs.Outcomes.{dropped_or, fault_code}
 use Rattle.fx_server.specs.declared.codes.TheConstants.{IN_USE, STALE}
 use Rattle.fx_server.specs.StaleKeys.{HadAnother, IsAnother, StaleKeysHadAnother}
@@ -95,7 +95,7 @@ module _ (k : Start) (key : Key) where
   had_until a b c was more = record { history = was.history; later = was.later; seen = seen_further was.history b c was.seen more; there = was.there }
 
   -- the file that a look-up found, and that the key doesn't name
-  had_other : (v w : PassView) (freed released : Option Identity) → IsFront (opening_of k) v → LookedByKey k v key (Err Other) freed released w → Had v.front w.front
+  had_other : (v w : PassView) (freed released : Option Identity) → IsFront (opening_of k) v → LookedByKey k v key (Err Stale) freed released w → Had v.front w.front
   had_other v w freed released front it =
       let was = looked_was k key.slot it.file v it.between it.hold freed front it.held.looked it.held.holds in
       had_until v.front it.between.front w.front
@@ -104,7 +104,7 @@ module _ (k : Start) (key : Key) where
 
   -- a file on another node than that of the key's file, after that was found
   had_after : (vh wh w : PassView) (hold : Hold) (freed released : Option Identity) (held : HeldByKey k vh key hold freed released wh)
-      → WasSo k key.slot (FitsMiss k hold.node miss.Other) held.between.front w.front → Had vh.front w.front
+      → WasSo k key.slot (FitsMiss k hold.node miss.Stale) held.between.front w.front → Had vh.front w.front
   had_after vh wh w hold freed released held was = record {
     history = was.history;
     later = seen_further vh.front held.between.front was.history (looked_on (opening_of k) vh held.between key.slot hold freed held.held.looked) was.later;
@@ -112,28 +112,28 @@ module _ (k : Start) (key : Key) where
     there = (was.there.0, was.there.1, λ named. (held.file, held.its_key, λ same. was.there.2 (subst (λ (f : File). IsOn k hold.node f) same held.held.node)));
   }
 
-  left_other : (v between w : PassView) (node : ℕ) (m : Miss) → Other ≡ fault_for m → WasSo k key.slot (FitsMiss k node m) between.front w.front
-      → WasSo k key.slot (FitsMiss k node miss.Other) between.front w.front
-  left_other v between w node miss.Other is was = was
+  left_other : (v between w : PassView) (node : ℕ) (m : Miss) → Stale ≡ fault_for m → WasSo k key.slot (FitsMiss k node m) between.front w.front
+      → WasSo k key.slot (FitsMiss k node miss.Stale) between.front w.front
+  left_other v between w node miss.Stale is was = was
   left_other v between w node _ is was = cc
 
 module _ (w w' : TableWorker) (key : Key) (good : IsGood w) where
   -- a pass of the worker found the other file
-  by_pass : (out back : Option Identity) → LookedByKey (its_start w) (its_pass w) key (Err Other) out back (its_pass w') → HadAnother w key w'
+  by_pass : (out back : Option Identity) → LookedByKey (its_start w) (its_pass w) key (Err Stale) out back (its_pass w') → HadAnother w key w'
   by_pass out back looked = record {
     was = had_other (its_start w) key (its_pass w) (its_pass w') out back good.fits.front looked;
   }
 
   -- the pass alone left the slot as it was
-  by_alone : (out back : Option Identity) → TakesAlone (its_start w) w.pass key (Err Other) out back w'.pass → HadAnother w key w'
+  by_alone : (out back : Option Identity) → TakesAlone (its_start w) w.pass key (Err Stale) out back w'.pass → HadAnother w key w'
   by_alone out back (inl looked) = by_pass out back looked
   by_alone out back (inr left) = record {
     was = had_after (its_start w) key (its_pass w) (its_pass w') (its_pass w') left.hold out back left.holder
         (left_other (its_start w) key (its_pass w) left.holder.between (its_pass w') left.hold.node left.miss left.same left.was);
   }
 
-other_of : (why : KeyFault) (answer : ℤ) → answer ≡ fault_code why → answer ≡ STALE → why ≡ Other
-other_of Other answer is stale = refl
+other_of : (why : KeyFault) (answer : ℤ) → answer ≡ fault_code why → answer ≡ STALE → why ≡ Stale
+other_of Stale answer is stale = refl
 other_of _ answer is stale = absurd (cc (sym is ∙ stale))
 
 -- a call that is done or that the worker refused says another reason

@@ -22,9 +22,9 @@ use Rattle.fx_lasting.specs.slots.AtEmpty.{GivesUpFor, HasPutEmpty, HasSearched}
 use Rattle.fx_server.specs.FileNumbers.{after_keep, without_kept}
 use Rattle.fx_server.specs.Files.{file_with}
 use Rattle.fx_server.specs.Outcomes.{LastUses, dropped_or, tag_of}
-use Rattle.fx_server.specs.Workers.{DrawsNone, HasFound, HasFoundNone, HasNoSlot, IsBusy}
-use Rattle.fx_server.specs.Workers.{IsRefused, IsRefusedAt, RetiresAs, UsesNumber, hold_in}
-use Rattle.fx_server.specs.Workers.{its_opening, its_pass, its_start}
+use Rattle.fx_server.specs.Workers.{DrawsNone, HasFound, HasFoundNone, HasNoSlot, IsBusy, IsRefused}
+use Rattle.fx_server.specs.Workers.{IsRefusedAt, RetiresAs, UsesNumber, hold_in, its_opening}
+use Rattle.fx_server.specs.Workers.{its_pass, its_start}
 use Rattle.fx_server.specs.declared.answers.CoreOutcome.{CoreOutcome}
 use Rattle.fx_server.specs.declared.answers.TheConstants.{NO_OUTCOME}
 use Rattle.fx_server.specs.declared.codes.TheConstants.{AGAIN, DONE, EMPTY, FULL, IDLE, NO_SLOT}
@@ -156,8 +156,8 @@ pub record FindsAs (w : TableWorker) (answer : ℤ) (number : ℕ) (w' : TableWo
 -- an installation at an empty slot, with the number that the worker kept
 abbrev pub empty_code : PutEmpty → ℤ
 empty_code empty.Installed = DONE
-empty_code (empty.HasFile file) = STALE
-empty_code (empty.Lost file) = AGAIN
+empty_code (empty.Stale file) = STALE
+empty_code (empty.Again file) = AGAIN
 
 pub record TriesEmpty (w : TableWorker) (slot tag : ℕ) (answer : ℤ) (w' : TableWorker)
     : Type 0 where

@@ -1,6 +1,5 @@
 -- A key finds its file: the one whose installation returned the key, or none.
-use Rattle.std.specs.Prelude.{◌≡◌, ◌⊎◌, ℕ, ℤ, pos, ◌<◌, ◌≤◌, List, [], ◌∷◌, length}
-use Rattle.std.specs.Prelude.{slice_index_or}
+use Rattle.std.specs.Prelude.{◌≡◌, ◌⊎◌, ℕ, ℤ, pos, ◌<◌, ◌≤◌, List, [], ◌∷◌, length, slice_index_or}
 use Rattle.fx_plain.specs.History.{◌▷▷◌, IsLegal, part_of_pass}
 use Rattle.fx_plain.specs.Laws.{IsInstalled}
 use Rattle.fx_plain.specs.declared.event.Event.{Event}

@@ -20,7 +20,7 @@ dropped_or other (Some file) = DROPPED
 abbrev pub fault_code : KeyFault → ℤ
 fault_code fault.NoSlot = NO_SLOT
 fault_code fault.Empty = EMPTY
-fault_code fault.Other = STALE
+fault_code fault.Stale = STALE
 fault_code fault.Again = AGAIN
 
 -- the call is done: its number is not negative

@@ -51,7 +51,7 @@ pub(crate) fn fault_code(fault: KeyFault) -> i64
     match fault {
         KeyFault::NoSlot => NO_SLOT,
         KeyFault::Empty => EMPTY,
-        KeyFault::Other => STALE,
+        KeyFault::Stale => STALE,
         KeyFault::Again => AGAIN,
     }
 }

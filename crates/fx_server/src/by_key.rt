@@ -1,4 +1,5 @@
-//! The calls by key: the slot of a file and its number.
+//! The calls by key: the slot of a file and its number. A call that is refused returns the first of
+//! `BUSY`, `READER` and `NO_SLOT` that applies.
 ghost use Rattle.fx_server.specs.ByKey.{GetsAs, RemovesAs, ReplacesAs, key_of};
 
 use crate::answers::{CoreOutcome, NO_OUTCOME, consume, fault_code};

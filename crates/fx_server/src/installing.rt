@@ -1,5 +1,6 @@
 //! The installations of a worker. Each file that is installed gets the next number of the worker,
-//! or the one that the worker drew before and kept.
+//! or the one that the worker drew before and kept. A call that is refused returns the first of
+//! `BUSY`, `NO_SLOT` and `READER` that applies.
 ghost use Rattle.fx_server.specs.Answers.{FindsAs, InsertsAs, PutsEmptyAs, ReplacesAtAs};
 
 use crate::answers::{CoreOutcome, NO_OUTCOME, consume};
@@ -111,11 +112,11 @@ impl TableWorker {
         }
         match table.put_empty(&mut self.pass, slot, file_with(tag, number)) {
             PutEmpty::Installed => DONE,
-            PutEmpty::HasFile(file) => {
+            PutEmpty::Stale(file) => {
                 file.discard();
                 STALE
             }
-            PutEmpty::Lost(file) => {
+            PutEmpty::Again(file) => {
                 file.discard();
                 AGAIN
             }

@@ -146,9 +146,9 @@ fn change_some<H: Host>(
     assert!(rt; take(rt, table, pass, first) == Outcome::Removed);
     assert!(rt; take(rt, table, pass, first) == Outcome::Missed(KeyFault::Empty));
     let second = put(rt, table, pass, 2);
-    assert!(rt; take(rt, table, pass, first) == Outcome::Missed(KeyFault::Other));
+    assert!(rt; take(rt, table, pass, first) == Outcome::Missed(KeyFault::Stale));
     heat(rt, table, reader);
-    assert!(rt; take(rt, table, pass, first) == Outcome::Missed(KeyFault::Other));
+    assert!(rt; take(rt, table, pass, first) == Outcome::Missed(KeyFault::Stale));
     assert!(rt; take(rt, table, pass, second) == Outcome::Removed);
     assert!(rt; take(rt, table, pass, second) == Outcome::Missed(KeyFault::Empty));
     let third = put(rt, table, pass, 3);
@@ -156,11 +156,11 @@ fn change_some<H: Host>(
     let first = put(rt, table, pass, 4);
     let second = key_of(5);
     let third = key_of(6);
-    assert!(rt; replace(rt, table, pass, second, 5) == Outcome::Missed(KeyFault::Other));
+    assert!(rt; replace(rt, table, pass, second, 5) == Outcome::Missed(KeyFault::Stale));
     assert!(rt; replace(rt, table, pass, first, 5) == Outcome::Replaced);
-    assert!(rt; replace(rt, table, pass, first, 6) == Outcome::Missed(KeyFault::Other));
+    assert!(rt; replace(rt, table, pass, first, 6) == Outcome::Missed(KeyFault::Stale));
     heat(rt, table, reader);
-    assert!(rt; replace(rt, table, pass, first, 6) == Outcome::Missed(KeyFault::Other));
+    assert!(rt; replace(rt, table, pass, first, 6) == Outcome::Missed(KeyFault::Stale));
     assert!(rt; replace(rt, table, pass, second, 6) == Outcome::Replaced);
     heat(rt, table, reader);
     assert!(rt; replace(rt, table, pass, third, 7) == Outcome::Replaced);

@@ -1,8 +1,8 @@
 -- A pass that removed the file that it held by its hold word stores 0 there: nobody has charged the
 -- word, since it alone visits the node's passes.
-use Rattle.fx_lasting.proofs.Words.{Round, IsToVisit, NamesNode, StillNames, EndsItsHold, EndsItsHoldKeep, MayBeUncharged, ◌≡◌, ℕ, ◌+◌, ◌<◌, ◌≤◌}
-use Rattle.fx_lasting.proofs.Words.{List, [], refl, subst, arith, Option, none, keeps, Closed, File, Bool, true, false, slots_of, hold_word_of}
-use Rattle.fx_lasting.proofs.Words.{leaving, Work, Retiring, step, ⊎_elim, Goes, Agrees}
+use Rattle.fx_lasting.proofs.Words.{Round, IsToVisit, NamesNode, StillNames, EndsItsHold, EndsItsHoldKeep, MayBeUncharged, ◌≡◌, ℕ, ◌+◌, ◌<◌, ◌≤◌, List, []}
+use Rattle.fx_lasting.proofs.Words.{refl, subst, arith, Option, none, keeps, Closed, File, Bool, true, false, slots_of, hold_word_of, leaving, Work, Retiring}
+use Rattle.fx_lasting.proofs.Words.{step, ⊎_elim, Goes, Agrees}
 use Rattle.fx_lasting.proofs.Counts.{owed_at}
 use Rattle.fx_lasting.proofs.Keeping.{Turn, turn_of, After, word_at, slot_word, Made, by_turn, its_log, in_range, w, end}
 use Rattle.fx_lasting.proofs.node_lemmas.NodeSteps.{guards_else}

@@ -1,11 +1,10 @@
 -- Steps of a pass on its own hold word keep the rule: it announces a node, withdraws, or steps
 -- down.
-use Rattle.fx_lasting.proofs.Words.{◌≡◌, ℕ, ◌+◌, ◌<◌, List, [], ◌∷◌, sym, refl, ap, ◌∙◌, subst, arith, Option, none, keeps, Closed, File, Event}
-use Rattle.fx_lasting.proofs.Words.{Release, ◌▷◌, WorkAgrees, HoldAgrees, GuardAgrees, NamesNode, HoldsAt, state_after_all, nodes_of, hold_word_of}
-use Rattle.fx_lasting.proofs.Words.{held_in, held_of, if_file, taking, pass_event, Work, Idle, Announced, Guarded, Owing, Yielding, Hot, Announces}
-use Rattle.fx_lasting.proofs.Words.{Withdraws, StepsDown, AnnouncesKeep, WithdrawsKeep, StepsDownKeep, Goes, announced, step, inl, ⊎_elim, dite}
-use Rattle.fx_lasting.proofs.Words.{ℕ_discrete, one_less_at, bit_here, sum_at, IsInside, IsAllowed, true, ◌⊎◌, inr, alone_in, announcing, MayAnnounce}
-use Rattle.fx_lasting.proofs.Words.{Placement, Placing, Nearing, IsIn, placed}
+use Rattle.fx_lasting.proofs.Words.{◌≡◌, ℕ, ◌+◌, ◌<◌, List, [], ◌∷◌, sym, refl, ap, ◌∙◌, subst, arith, Option, none, keeps, Closed, File, Event, Release, ◌▷◌}
+use Rattle.fx_lasting.proofs.Words.{WorkAgrees, HoldAgrees, GuardAgrees, NamesNode, HoldsAt, state_after_all, nodes_of, hold_word_of, held_in, held_of, if_file}
+use Rattle.fx_lasting.proofs.Words.{taking, pass_event, Work, Idle, Announced, Guarded, Owing, Yielding, Hot, Announces, Withdraws, StepsDown, AnnouncesKeep}
+use Rattle.fx_lasting.proofs.Words.{WithdrawsKeep, StepsDownKeep, Goes, announced, step, inl, ⊎_elim, dite, ℕ_discrete, one_less_at, bit_here, sum_at, IsInside}
+use Rattle.fx_lasting.proofs.Words.{IsAllowed, true, ◌⊎◌, inr, alone_in, announcing, MayAnnounce, Placement, Placing, Nearing, IsIn, placed}
 use Rattle.fx_lasting.proofs.Histories.{grows_none, grows_one, legal_more, part_mine, held_mine}
 use Rattle.fx_lasting.proofs.Frames.{busy}
 use Rattle.fx_lasting.proofs.Keeping.{none_added, Turn, turn_of, word_at, slot_word, Made, by_turn, its_log, its_work, tells, w}

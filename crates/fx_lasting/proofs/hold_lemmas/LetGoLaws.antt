@@ -1,17 +1,16 @@
 -- A pass that subtracts a charge or a take from the word of a node keeps the rule.
-use Rattle.fx_lasting.proofs.Words.{◌≡◌, ◌≢◌, ℕ, ◌+◌, ◌-◌, ◌%◌, ◌^◌, ◌<◌, ◌≤◌, List, [], ◌∷◌, set, sym, refl, ap, ◌∙◌, subst, arith, Option, Some}
-use Rattle.fx_lasting.proofs.Words.{none, some, keeps, takes, Closed, ◌▷◌, File, Event, Release, Action, pass_event, NodeAgrees, OwnerAgrees}
-use Rattle.fx_lasting.proofs.Words.{MayBeUncharged, HoldsAt, WorkAgrees, state_after_all, slots_of, nodes_of, word_of, hold_word_of, held_in, held_of}
-use Rattle.fx_lasting.proofs.Words.{taken_of, taking, if_file, owed, count_in, Phase, seated, leaving, retired, owner}
-use Rattle.fx_lasting.proofs.Words.{file_in, removed_in, changed_at, changed_here, changed_else, Work, Idle, Counted, Owing, Yielding, Goes, TakesOut}
-use Rattle.fx_lasting.proofs.Words.{Sat, LettingGo, LettingGoKeeps, step, inl, inr, ⊎_elim, ◌⊎◌, dite, ℕ_discrete, eqb, one_if, sum_by, sum_at}
-use Rattle.fx_lasting.proofs.Words.{one_less_at, get_elem?, bit_here, bit_else, Agrees}
+use Rattle.fx_lasting.proofs.Words.{◌≡◌, ◌≢◌, ℕ, ◌+◌, ◌-◌, ◌%◌, ◌^◌, ◌<◌, ◌≤◌, List, [], ◌∷◌, set, sym, refl, ap, ◌∙◌, subst, arith, Option, Some, none, some}
+use Rattle.fx_lasting.proofs.Words.{keeps, takes, Closed, ◌▷◌, File, Event, Release, Action, pass_event, NodeAgrees, OwnerAgrees, MayBeUncharged, HoldsAt}
+use Rattle.fx_lasting.proofs.Words.{WorkAgrees, state_after_all, slots_of, nodes_of, word_of, hold_word_of, held_in, held_of, taken_of, taking, if_file, owed}
+use Rattle.fx_lasting.proofs.Words.{count_in, Phase, seated, leaving, retired, owner, file_in, removed_in, changed_at, changed_here, changed_else, Work, Idle}
+use Rattle.fx_lasting.proofs.Words.{Counted, Owing, Yielding, Goes, TakesOut, Sat, LettingGo, LettingGoKeeps, step, inl, inr, ⊎_elim, ◌⊎◌, dite, ℕ_discrete}
+use Rattle.fx_lasting.proofs.Words.{eqb, one_if, sum_by, sum_at, one_less_at, get_elem?, bit_here, bit_else, Agrees}
 use Rattle.fx_lasting.proofs.Counts.{owed_changed, owed_at}
 use Rattle.fx_lasting.proofs.Histories.{grows_one, legal_more, part_mine, held_mine}
 use Rattle.fx_lasting.proofs.Frames.{busy, owner_stays, covers_same}
 use Rattle.fx_lasting.proofs.Keeping.{none_added, Turn, turn_of, word_at, slot_word, Made, by_turn, its_log, its_work, in_range, w, end}
-use Rattle.fx_lasting.proofs.hold_lemmas.LettingGo.{IsLetGo, words₁, same_slots, open_after, stays_open, goes_open, out_after, IsGone, comes_out, takes_out, sub_wraps}
-use Rattle.fx_lasting.proofs.hold_lemmas.LettingGo.{taking_few, taken_now}
+use Rattle.fx_lasting.proofs.hold_lemmas.LettingGo.{IsLetGo, words₁, same_slots, open_after, stays_open, goes_open, out_after, IsGone, comes_out, takes_out}
+use Rattle.fx_lasting.proofs.hold_lemmas.LettingGo.{sub_wraps, taking_few, taken_now}
 use Rattle.fx_lasting.proofs.hold_lemmas.Unheld.{NodeNow, in_phase}
 
 -- The counts of the node become one less.

@@ -1,11 +1,11 @@
 -- A step that sets a pass's bit in the list keeps the rule.
-use Rattle.fx_lasting.proofs.Words.{Nearing, Relieving, ℕ, ◌≤◌, ◌^◌, List, Option, Closed, refl, inl, inr, arith, none, keeps, Announced}
-use Rattle.fx_lasting.proofs.Words.{Guarded, Retiring, true, bit_or, bit_of, list_place, step, length-set, dite}
-use Rattle.fx_lasting.proofs.Words.{ℕ_discrete, Work, IsAllowed, Lists, ListsKeep, [], Bool, ◌≡◌, ◌+◌, ◌%◌, ◌<◌, ◌∙◌, sym, false, Agrees, first_log}
+use Rattle.fx_lasting.proofs.Words.{Nearing, Relieving, ℕ, ◌≤◌, ◌^◌, List, Option, Closed, refl, inl, inr, arith, none, keeps, Announced, Guarded, Retiring}
+use Rattle.fx_lasting.proofs.Words.{true, bit_or, bit_of, list_place, step, length-set, dite, ℕ_discrete, Work, IsAllowed, Lists, ListsKeep, [], Bool, ◌≡◌, ◌+◌}
+use Rattle.fx_lasting.proofs.Words.{◌%◌, ◌<◌, ◌∙◌, sym, false, Agrees, first_log}
 use Rattle.fx_lasting.proofs.Histories.{grows_none}
 use Rattle.fx_lasting.proofs.Frames.{guards_same, covers_same, sees_same}
-use Rattle.fx_lasting.proofs.Keeping.{Turn, turn_of, After, word_at, Made, by_turn, its_log, its_work, in_range, w, end, met_same, none_added}
-use Rattle.fx_lasting.proofs.Keeping.{range_left, tells_as}
+use Rattle.fx_lasting.proofs.Keeping.{Turn, turn_of, After, word_at, Made, by_turn, its_log, its_work, in_range, w, end, met_same, none_added, range_left}
+use Rattle.fx_lasting.proofs.Keeping.{tells_as}
 use Rattle.fx_lasting.proofs.slot_lemmas.Watching.{watch_same}
 use Rattle.fx_lasting.proofs.Calm.{calm_after, calm_kept}
 use Rattle.fx_lasting.proofs.hold_lemmas.Lists.{ListGoesOn}

@@ -1,22 +1,20 @@
 -- A look-up loads the slot's word: at first, and again when it has announced a node.
-use Rattle.fx_lasting.proofs.Words.{Aims, AimsKeep, HasAnnounced, IsAllowed, IsIn, Nearing, Placement, Relieving, alone_in, guarding, placed}
+use Rattle.fx_lasting.proofs.Words.{Aims, IsIn, List, refl, Some, None, none, File, Look, Work, Idle, Cold, Goes, Shows, IsHot, Deed, false, Start, AimsKeep}
+use Rattle.fx_lasting.proofs.Words.{alone_in, guarding, IsOnList, first_log, arith, NamesNode, Announced, untouched, IsHistory, HasNoFile, HasAnnounced}
+use Rattle.fx_lasting.proofs.Words.{GuardAgrees, GlanceAgrees, state_after_all, GlancesKeep, ConfirmsKeep, full_name_in, hold_word_of, IsAllowed, Placement}
+use Rattle.fx_lasting.proofs.Words.{Relieving, subst, WorkAgrees, pass_event, has_heated, slot_place, ℕ_discrete, one_more_at, Nearing, IsSeated, slots_of}
+use Rattle.fx_lasting.proofs.Words.{nodes_of, held_in, if_file, file_in, Guarded, Heating, Nothing, Confirms, IsInside, placed, ℕ, Option, keeps, Closed, Event}
+use Rattle.fx_lasting.proofs.Words.{Heats, Names, taking, seated, Glance, Glances, heat_in, heated, ⊎_elim, Log, ◌≡◌, ◌≢◌, ◌+◌, ◌-◌, ◌<◌, [], ◌∷◌, sym, ap, ◌∙◌}
+use Rattle.fx_lasting.proofs.Words.{◌▷◌, Hot, over, step, inl, inr, ◌⊎◌, dite, Bool, true}
 use Rattle.fx_lasting.proofs.range_lemmas.GroupSteps.{its_inside}
-use Rattle.fx_lasting.proofs.Words.{IsOnList, Log, first_log, ◌≡◌, ◌≢◌, ℕ, ◌+◌, ◌-◌, ◌<◌, List, [], ◌∷◌, sym, refl, ap, ◌∙◌, subst, arith, Option}
-use Rattle.fx_lasting.proofs.Words.{Some, None, none, keeps, Closed, File, Event, Look, ◌▷◌, WorkAgrees, GuardAgrees, GlanceAgrees, Heats, NamesNode}
-use Rattle.fx_lasting.proofs.Words.{Names, IsSeated, state_after_all, slots_of, nodes_of, held_in, if_file, taking, pass_event, seated, file_in, Work}
-use Rattle.fx_lasting.proofs.Words.{Glance, Idle, Announced, Guarded, Hot, Cold, Heating, Nothing, Glances, Confirms, GlancesKeep, ConfirmsKeep, Goes}
-use Rattle.fx_lasting.proofs.Words.{Shows, IsHot, heat_in, Deed, untouched, over, heated, has_heated, full_name_in, slot_place, step, inl, inr}
-use Rattle.fx_lasting.proofs.Words.{⊎_elim, ◌⊎◌, dite, ℕ_discrete, one_more_at, Bool, true, false, hold_word_of, IsHistory, Start, IsInside}
-use Rattle.fx_lasting.proofs.Words.{HasNoFile}
 use Rattle.fx_lasting.proofs.Histories.{grows_none, grows_one, legal_more, part_mine, held_mine, same_shape}
 use Rattle.fx_lasting.proofs.Frames.{busy}
 use Rattle.fx_lasting.proofs.Counts.{tally_at}
-use Rattle.fx_lasting.proofs.Keeping.{Turn, turn_of, After, word_at, slot_word, Made, by_turn, its_log, its_work, in_range, tells, w}
+use Rattle.fx_lasting.proofs.Keeping.{Turn, turn_of, After, word_at, slot_word, Made, by_turn, its_log, its_work, in_range, tells, w, LeavesFiles, none_added}
 use Rattle.fx_lasting.specs.Laws.{Kind}
 use Rattle.fx_lasting.proofs.Calm.{read_after, Reads, read_kept}
 use Rattle.fx_lasting.proofs.node_lemmas.Choosing.{no_file, no_take, not_busy, holds_none}
 use Rattle.fx_lasting.proofs.Places.{slot_back}
-use Rattle.fx_lasting.proofs.Keeping.{LeavesFiles, none_added}
 
 module _ (turn : Turn) (s : ℕ) (inside : s < slots_of turn.v.start) where
   open turn use {st, v, r, id, x, here, one}

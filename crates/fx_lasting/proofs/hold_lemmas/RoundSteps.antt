@@ -1,8 +1,8 @@
 -- A step of a pass that retires a file: its round moves on, and the file's node stays with it.
-use Rattle.fx_lasting.proofs.Words.{false, Round, ◌≡◌, ◌≢◌, ℕ, ◌+◌, ◌^◌, ◌<◌, ◌≤◌, List, [], sym, refl, ap, ◌∙◌, subst, arith, Option, Closed, File}
-use Rattle.fx_lasting.proofs.Words.{WorkAgrees, HoldAgrees, GuardAgrees, StillNames, nodes_of, word_of, hold_word_of, held_in, if_file, taken_of}
-use Rattle.fx_lasting.proofs.Words.{taking, owed, Phase, leaving, owner, file_in, removed_in, changed_at, changed_here, Work, Retiring, inr, Goes, sum_set}
-use Rattle.fx_lasting.proofs.Words.{true, Bool, Agrees, Labels, label_of, written_in}
+use Rattle.fx_lasting.proofs.Words.{false, Round, ◌≡◌, ◌≢◌, ℕ, ◌+◌, ◌^◌, ◌<◌, ◌≤◌, List, [], sym, refl, ap, ◌∙◌, subst, arith, Option, Closed, File, WorkAgrees}
+use Rattle.fx_lasting.proofs.Words.{HoldAgrees, GuardAgrees, StillNames, nodes_of, word_of, hold_word_of, held_in, if_file, taken_of, taking, owed, Phase}
+use Rattle.fx_lasting.proofs.Words.{leaving, owner, file_in, removed_in, changed_at, changed_here, Work, Retiring, inr, Goes, sum_set, true, Bool, Agrees}
+use Rattle.fx_lasting.proofs.Words.{Labels, label_of, written_in}
 use Rattle.fx_lasting.proofs.Histories.{grows_none, each_changed}
 use Rattle.fx_lasting.proofs.Frames.{busy, does_now}
 use Rattle.fx_lasting.proofs.Keeping.{Turn, After, word_at, slot_word, its_log, its_work, tells, w, end, LabelSame, labels_same}

@@ -1,13 +1,12 @@
 -- A take of what a slot names, and the heat of a slot that had its takes.
-use Rattle.fx_lasting.proofs.Words.{alone_in, HoldAgrees, GuardAgrees, IsAllowed, HoldsAt, TakesAs, TakesBeside, TakesBesideKeep, Placement, Phase}
-use Rattle.fx_lasting.proofs.Words.{Start, as_written, Unlabelled, carried_after, subst, Renewing, ◌⊎◌, ◌≡◌, ◌≢◌, ℕ, ◌+◌, ◌%◌}
-use Rattle.fx_lasting.proofs.Words.{◌^◌, ◌<◌, ◌≤◌, List, [], ◌∷◌, sym, refl, ap, ◌∙◌, arith, Option, Some, None, none, keeps, Closed, File, Event}
-use Rattle.fx_lasting.proofs.Words.{Look, ◌▷◌, WorkAgrees, GlanceAgrees, Heats, state_after_all, slots_of, nodes_of, held_in, if_file, taken_of}
-use Rattle.fx_lasting.proofs.Words.{taking, pass_event, seated, file_in, Work, Glance, Idle, Counted, Cold, Heating, Deed, untouched, over, heated}
-use Rattle.fx_lasting.proofs.Words.{has_acted, has_heated, Nothing, Takes, HeatsSlot, TakesOnceKeep, HeatsKeep, IsHot, heat_in, name_in, full_name_in}
-use Rattle.fx_lasting.proofs.Words.{same_full_name, entry_in, count_in, cold_takes, glance_after, heat_unit, slot_place, step, inl, inr, ⊎_elim, dite}
-use Rattle.fx_lasting.proofs.Words.{ℕ_discrete, dec_le, one_more_at, Bool, true, false, cond, lt-ltb, le-ltb, tally, sum_set, changed_at}
-use Rattle.fx_lasting.proofs.Words.{changed_here, changed_else, one_if, bit_here, bit_else, IsInside, Placing}
+use Rattle.fx_lasting.proofs.Words.{alone_in, HoldAgrees, GuardAgrees, IsAllowed, HoldsAt, TakesAs, TakesBeside, TakesBesideKeep, Placement, Phase, Start}
+use Rattle.fx_lasting.proofs.Words.{as_written, Unlabelled, carried_after, subst, Renewing, ◌⊎◌, ◌≡◌, ◌≢◌, ℕ, ◌+◌, ◌%◌, ◌^◌, ◌<◌, ◌≤◌, List, [], ◌∷◌, sym, refl}
+use Rattle.fx_lasting.proofs.Words.{ap, ◌∙◌, arith, Option, Some, None, none, keeps, Closed, File, Event, Look, ◌▷◌, WorkAgrees, GlanceAgrees, Heats}
+use Rattle.fx_lasting.proofs.Words.{state_after_all, slots_of, nodes_of, held_in, if_file, taken_of, taking, pass_event, seated, file_in, Work, Glance, Idle}
+use Rattle.fx_lasting.proofs.Words.{Counted, Cold, Heating, Deed, untouched, over, heated, has_acted, has_heated, Nothing, Takes, HeatsSlot, TakesOnceKeep}
+use Rattle.fx_lasting.proofs.Words.{HeatsKeep, IsHot, heat_in, name_in, full_name_in, same_full_name, entry_in, count_in, cold_takes, glance_after, heat_unit}
+use Rattle.fx_lasting.proofs.Words.{slot_place, step, inl, inr, ⊎_elim, dite, ℕ_discrete, dec_le, one_more_at, Bool, true, false, cond, lt-ltb, le-ltb, tally}
+use Rattle.fx_lasting.proofs.Words.{sum_set, changed_at, changed_here, changed_else, one_if, bit_here, bit_else, IsInside, Placing}
 use Rattle.fx_lasting.proofs.range_lemmas.GroupSteps.{its_inside}
 use Rattle.fx_lasting.proofs.Counts.{tally_few, tally_one, tally_room, bit_few, few_cold}
 use Rattle.fx_lasting.proofs.Histories.{grows_none, grows_one, legal_more, part_mine, held_mine}

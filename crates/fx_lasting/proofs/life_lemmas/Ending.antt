@@ -1,10 +1,9 @@
 -- The end, when one seat has all passes again, and does nothing: everything is settled, and each
 -- file is at its slot.
-use Rattle.fx_lasting.proofs.Words.{contents_of, ◌≡◌, ℕ, suc, ◌<◌, ◌≤◌, map, sym, ap, ◌∙◌, subst, arith, Option, Some, None, sum_by, dite, some}
-use Rattle.fx_lasting.proofs.Words.{dec_le, get_elem?, Closed, State, IsSettled, File, sum_zero_at, ℕ_discrete, Does, OwnerAgrees, Agrees}
-use Rattle.fx_lasting.proofs.Words.{Shared, slots_of, nodes_of, state_after_all, state_at_start, held_of, if_file, taken_of, owed}
-use Rattle.fx_lasting.proofs.Words.{Phase, free, placed, seated, leaving, retired, emptied, kept, removed_in, Start, View, Work, HasNoFile, IsSeated}
-use Rattle.fx_lasting.proofs.Words.{action_of, refl, inside_behind, opens_inside, find_pass}
+use Rattle.fx_lasting.proofs.Words.{contents_of, ◌≡◌, ℕ, suc, ◌<◌, ◌≤◌, map, sym, ap, ◌∙◌, subst, arith, Option, Some, None, sum_by, dite, some, dec_le}
+use Rattle.fx_lasting.proofs.Words.{get_elem?, Closed, State, IsSettled, File, sum_zero_at, ℕ_discrete, Does, OwnerAgrees, Agrees, Shared, slots_of, nodes_of}
+use Rattle.fx_lasting.proofs.Words.{state_after_all, state_at_start, held_of, if_file, taken_of, owed, Phase, free, placed, seated, leaving, retired, emptied}
+use Rattle.fx_lasting.proofs.Words.{kept, removed_in, Start, View, Work, HasNoFile, IsSeated, action_of, refl, inside_behind, opens_inside, find_pass}
 use Rattle.fx_lasting.proofs.node_lemmas.Choosing.{no_file, no_take, not_busy, holds_none}
 use Rattle.fx_lasting.proofs.Frames.{busy, busy_alone}
 use Rattle.fx_lasting.proofs.Counts.{owed_found}

@@ -1,12 +1,11 @@
 -- Passes as they are dealt out, and all of them in one seat again: what the one history says of
 -- each.
-use Rattle.fx_lasting.proofs.Words.{pass_in, ◌≡◌, ℕ, ◌≤◌, List, [], ◌∷◌, sym, refl, ap, ◌∙◌, subst, arith, Option, All, TableId, map, length, reverse}
-use Rattle.fx_lasting.proofs.Words.{Closed, Sat, new_log, pass_of, view_of, IsPassOf, IsSeatOf, Knows, LastingPass, Log, Start, View, IsNewPass}
-use Rattle.fx_lasting.proofs.Words.{dealt, numbers_of_pass, first_stock, some, get_elem?, Contains, sum_by, Contents, state_of, IsSettled}
-use Rattle.fx_lasting.proofs.Words.{contains_head, contains_map, Agrees, logs_in, Shared, opening_of, state_after_all, first_log, HasNoFile, inl}
-use Rattle.fx_lasting.proofs.Words.{IsAtWork, IsHistory, true, false, Seat, first_alone, first_passes, as_first, ClosesTable, times_drawn}
-use Rattle.fx_lasting.proofs.Words.{HasSameFiles, PassView, new_pass, new_passes, IsReady, fits, contains_tail, contains_none, sum_zero, sum_map}
-use Rattle.fx_lasting.proofs.Words.{AreGathered, seats}
+use Rattle.fx_lasting.proofs.Words.{pass_in, LastingPass, first_stock, opening_of, first_alone, ClosesTable, times_drawn, HasSameFiles, AreGathered, ◌≡◌}
+use Rattle.fx_lasting.proofs.Words.{IsPassOf, IsSeatOf, IsNewPass, get_elem?, Contains, IsSettled, first_log, HasNoFile, IsHistory, new_passes, ℕ, ◌≤◌, [], ◌∷◌}
+use Rattle.fx_lasting.proofs.Words.{sym, refl, ap, ◌∙◌, All, map, Sat, Log, View, some, inl, true, false, Seat, fits, seats, List, numbers_of_pass}
+use Rattle.fx_lasting.proofs.Words.{contains_head, contains_map, state_after_all, first_passes, contains_tail, contains_none, subst, TableId, reverse, new_log}
+use Rattle.fx_lasting.proofs.Words.{pass_of, Contents, state_of, IsAtWork, as_first, PassView, new_pass, sum_zero, arith, Option, length, Closed, view_of}
+use Rattle.fx_lasting.proofs.Words.{Knows, Start, dealt, sum_by, Agrees, logs_in, Shared, IsReady, sum_map}
 use Rattle.table_seats.proofs.Gathered.{each_rests, whole as gathered_whole}
 use Rattle.table_seats.proofs.Moving.{alone_is_dealt}
 use Rattle.fx_table.proofs.Histories.{IsWhole, closes_table}

@@ -1,8 +1,8 @@
 -- A seat is split off, and one is joined back.
-use Rattle.fx_lasting.proofs.Words.{◌≡◌, ℕ, List, sym, refl, ap, ◌∙◌, subst, arith, ⊎_elim, sum_by, WorkAgrees, LogAgrees, Agrees, Shared, Outside}
-use Rattle.fx_lasting.proofs.Words.{Inside, Log, Start, View, Work, Idle, Glance, SplitsKeep, JoinsKeep, spent, held_in, if_file, taking}
-use Rattle.fx_lasting.proofs.Words.{get_elem?, some, set, set_here, set_else, at_set, stands_at, sum_set, Contains, HasNoFile, ViewAgrees, taken_of}
-use Rattle.fx_lasting.proofs.Words.{held_of, zero, suc, ◌∷◌, ◌≢◌, set-set, without_first, seats, joined, first_alone, Moves}
+use Rattle.fx_lasting.proofs.Words.{◌≡◌, ℕ, List, sym, refl, ap, ◌∙◌, subst, arith, ⊎_elim, sum_by, WorkAgrees, LogAgrees, Agrees, Shared, Outside, Inside, Log}
+use Rattle.fx_lasting.proofs.Words.{Start, View, Work, Idle, Glance, SplitsKeep, JoinsKeep, spent, held_in, if_file, taking, get_elem?, some, set, set_here}
+use Rattle.fx_lasting.proofs.Words.{set_else, at_set, stands_at, sum_set, Contains, HasNoFile, ViewAgrees, taken_of, held_of, zero, suc, ◌∷◌, ◌≢◌, set-set}
+use Rattle.fx_lasting.proofs.Words.{without_first, seats, joined, first_alone, Moves}
 use Rattle.fx_lasting.proofs.node_lemmas.Choosing.{no_file, no_take, not_busy, holds_none}
 use Rattle.fx_lasting.proofs.Frames.{busy_alone, busy, owner_map, owner_stays}
 use Rattle.table_range.proofs.Counting.{counts_same, moved_one}

@@ -1,9 +1,9 @@
 -- A pass shows what it has seen, and another pass learns it: the rule holds afterwards. Neither is
 -- an atomic step.
-use Rattle.fx_lasting.proofs.Words.{◌≡◌, ℕ, ◌+◌, ◌≤◌, [], ◌∷◌, set, sym, refl, ap, ◌∙◌, subst, arith, some, get_elem?, ⊎_elim, at_set, sum_set}
-use Rattle.fx_lasting.proofs.Words.{contains_only, Contains, IsSeenBy, part_of_pass, LogAgrees, ViewAgrees, Agrees, Shared, Log, Start, View}
-use Rattle.fx_lasting.proofs.Words.{IsInside, Runs, IsHistory, taken_of, held_of, first_log, view_of, StockAgrees, TableId, LastingPass, IsPassOf}
-use Rattle.fx_lasting.proofs.Words.{opening_of, contains_alone, learned_so, changes_in, Splits, Seat, Closed, Option, no_use, Learns, its_pass, seats, shown_view}
+use Rattle.fx_lasting.proofs.Words.{◌≡◌, ℕ, ◌+◌, ◌≤◌, [], ◌∷◌, set, sym, refl, ap, ◌∙◌, subst, arith, some, get_elem?, ⊎_elim, at_set, sum_set, contains_only}
+use Rattle.fx_lasting.proofs.Words.{Contains, IsSeenBy, part_of_pass, LogAgrees, ViewAgrees, Agrees, Shared, Log, Start, View, IsInside, Runs, IsHistory}
+use Rattle.fx_lasting.proofs.Words.{taken_of, held_of, first_log, view_of, StockAgrees, TableId, LastingPass, IsPassOf, opening_of, contains_alone, learned_so}
+use Rattle.fx_lasting.proofs.Words.{changes_in, Splits, Seat, Closed, Option, no_use, Learns, its_pass, seats, shown_view}
 use Rattle.fx_lasting.specs.life.Showing.{HasLearned}
 use Rattle.fx_lasting.proofs.Frames.{owner_same}
 use Rattle.table_range.proofs.Counting.{counts_same, moved_one}

@@ -1,6 +1,6 @@
 -- The words and places of a table that is opened with empty slots.
-use Rattle.fx_lasting.proofs.Words.{◌≡◌, ◌+◌, ◌≤◌, ℕ, List, sym, ap, ◌∙◌, arith, length, Option, None, Closed, Start, slots_of, nodes_of, MOST_SLOTS}
-use Rattle.fx_lasting.proofs.Words.{AreNamed, OpensWith, words_for, replicate, length-replicate, read_default, slice_index, in_place}
+use Rattle.fx_lasting.proofs.Words.{◌≡◌, ◌+◌, ◌≤◌, ℕ, List, sym, ap, ◌∙◌, arith, length, Option, None, Closed, Start, slots_of, nodes_of, MOST_SLOTS, AreNamed}
+use Rattle.fx_lasting.proofs.Words.{OpensWith, words_for, replicate, length-replicate, read_default, slice_index, in_place}
 
 pub same_size : (k : Start) → slots_of k ≡ k.size
 same_size k = length-replicate {A = Option ℕ} k.size None

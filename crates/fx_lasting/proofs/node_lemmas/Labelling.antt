@@ -1,20 +1,19 @@
 -- A pass stores the label of the file that it places, and loads that of the file that it holds.
-use Rattle.fx_lasting.proofs.Words.{IsIn, ◌≡◌, ◌≢◌, ℕ, ◌+◌, ◌<◌, ◌≤◌, List, [], set, sym, refl, ap, ◌∙◌, subst, arith, Option, Some, ⊎_elim}
-use Rattle.fx_lasting.proofs.Words.{none, keeps, step, length-set, get_or-set_other, get_or-set_same, Closed, File, Agrees, WorkAgrees, HoldsAt}
-use Rattle.fx_lasting.proofs.Words.{Labels, slots_of, nodes_of, slot_place, group_place, list_place, question_place, word_of, hold_word_of}
-use Rattle.fx_lasting.proofs.Words.{HoldsBesides, Renewing, Relieving, tag_word_of, number_word_of, held_in, taken_of, taking, HoldsOn, Phase, placed, owner, file_in}
-use Rattle.fx_lasting.proofs.Words.{written_in, changed_here, sum_set, Work, Placing, Placement, Written, as_written, Unlabelled, Tag}
-use Rattle.fx_lasting.proofs.Words.{Label, label_of, number_of_mark, Goes, Log, first_log, Tags, Numbers, ReadsTag, ReadsNumber, TagsKeep, RecallsTag, RecallsTagKeep}
-use Rattle.fx_lasting.proofs.Words.{NumbersKeep, ReadsTagKeep, ReadsNumberKeep}
+use Rattle.fx_lasting.proofs.Words.{IsIn, ◌≡◌, ◌≢◌, ℕ, ◌+◌, ◌<◌, ◌≤◌, List, [], set, sym, refl, ap, ◌∙◌, subst, arith, Option, Some, ⊎_elim, none, keeps, step}
+use Rattle.fx_lasting.proofs.Words.{length-set, get_or-set_other, get_or-set_same, Closed, File, Agrees, WorkAgrees, HoldsAt, Labels, slots_of, nodes_of}
+use Rattle.fx_lasting.proofs.Words.{slot_place, group_place, list_place, question_place, word_of, hold_word_of, HoldsBesides, Renewing, Relieving, tag_word_of}
+use Rattle.fx_lasting.proofs.Words.{number_word_of, held_in, taken_of, taking, HoldsOn, Phase, placed, owner, file_in, written_in, changed_here, sum_set, Work}
+use Rattle.fx_lasting.proofs.Words.{Placing, Placement, Written, as_written, Unlabelled, Tag, Label, label_of, number_of_mark, Goes, Log, first_log, Tags}
+use Rattle.fx_lasting.proofs.Words.{Numbers, ReadsTag, ReadsNumber, TagsKeep, RecallsTag, RecallsTagKeep, NumbersKeep, ReadsTagKeep, ReadsNumberKeep, inl}
 use Rattle.fx_lasting.proofs.Histories.{grows_none}
 use Rattle.fx_lasting.proofs.Frames.{busy, does_now, written_of}
 use Rattle.fx_lasting.proofs.hold_lemmas.Holds.{on_node}
 use Rattle.fx_lasting.proofs.range_lemmas.GroupSteps.{its_inside}
-use Rattle.fx_lasting.proofs.Keeping.{end_read, passed, Turn, turn_of, After, word_at, slot_word, LabelSame, Made, by_turn, its_log, its_work, tells, tells_less, w, end}
+use Rattle.fx_lasting.proofs.Keeping.{end_read, passed, Turn, turn_of, After, word_at, slot_word, LabelSame, Made, by_turn, its_log, its_work, tells}
+use Rattle.fx_lasting.proofs.Keeping.{tells_less, w, end}
 use Rattle.fx_lasting.proofs.Calm.{read_before, read_before_kept}
 use Rattle.fx_lasting.proofs.Peeking.{still}
 use Rattle.fx_lasting.proofs.hold_lemmas.Unheld.{in_phase}
-use Rattle.fx_lasting.proofs.Words.{inl}
 use Rattle.fx_lasting.proofs.node_lemmas.NodeSteps.{own_after, own_node_kept}
 
 -- the file that a pass holds beside the one that it places

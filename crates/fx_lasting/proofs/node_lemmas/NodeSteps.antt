@@ -1,15 +1,14 @@
 -- A step on one node, at which no slot changes: on its word and place, or on the hold word of a
 -- pass that names it.
-use Rattle.fx_lasting.proofs.Words.{◌≡◌, ◌≢◌, ℕ, ◌+◌, ◌<◌, ◌≤◌, List, [], set, length, sym, refl, ap, ◌∙◌, subst, arith, Option, Some, Bool, some}
-use Rattle.fx_lasting.proofs.Words.{get_elem?, held_by, changed_at, File, Event, NodeAgrees, OwnerAgrees, WorkAgrees, IsAllowed, Agrees, slots_of}
-use Rattle.fx_lasting.proofs.Words.{nodes_of, IsHistory, state_after_all, held_in, held_of, taken_of, taking, owed, Phase, free, seated, owner}
-use Rattle.fx_lasting.proofs.Words.{file_in, removed_in, View, Work, ⊎_elim, ◌⊎◌, inr, word_of, hold_word_of, count_in, name_in, full_name_in}
-use Rattle.fx_lasting.proofs.Words.{IsInStock, in_stock, sum_by, sum_set, HoldAgrees, GuardAgrees, MayBeUncharged, Glance, inl, IsSeenBy, part_of_pass}
-use Rattle.fx_lasting.proofs.Words.{Labels, written_in, None, if_file, retired}
+use Rattle.fx_lasting.proofs.Words.{◌≡◌, ◌≢◌, ℕ, ◌+◌, ◌<◌, ◌≤◌, List, [], set, length, sym, refl, ap, ◌∙◌, subst, arith, Option, Some, Bool, some, get_elem?}
+use Rattle.fx_lasting.proofs.Words.{held_by, changed_at, File, Event, NodeAgrees, OwnerAgrees, WorkAgrees, IsAllowed, Agrees, slots_of, nodes_of, IsHistory}
+use Rattle.fx_lasting.proofs.Words.{state_after_all, held_in, held_of, taken_of, taking, owed, Phase, free, seated, owner, file_in, removed_in, View, Work}
+use Rattle.fx_lasting.proofs.Words.{⊎_elim, ◌⊎◌, inr, word_of, hold_word_of, count_in, name_in, full_name_in, IsInStock, in_stock, sum_by, sum_set, HoldAgrees}
+use Rattle.fx_lasting.proofs.Words.{GuardAgrees, MayBeUncharged, Glance, inl, IsSeenBy, part_of_pass, Labels, written_in, None, if_file, retired}
 use Rattle.fx_lasting.proofs.Histories.{Grows, grows_none, each_changed}
 use Rattle.fx_lasting.proofs.Frames.{busy, owner_stays, slot_same, node_same, Leaves, keeps_other, sees_same, covers_same, guards_same}
-use Rattle.fx_lasting.proofs.Keeping.{Turn, After, as_it_was, Keeps, Homes, word_at, slot_word, step_kept, w, end, its_log, in_range, in_its_stock}
-use Rattle.fx_lasting.proofs.Keeping.{node_in, stocks_untouched, list_untouched, range_left, labels_same}
+use Rattle.fx_lasting.proofs.Keeping.{Turn, After, as_it_was, Keeps, Homes, word_at, slot_word, step_kept, w, end, its_log, in_range, in_its_stock, node_in}
+use Rattle.fx_lasting.proofs.Keeping.{stocks_untouched, list_untouched, range_left, labels_same}
 use Rattle.fx_lasting.proofs.Places.{LeavesElse}
 use Rattle.fx_lasting.proofs.slot_lemmas.Watching.{watch_same}
 

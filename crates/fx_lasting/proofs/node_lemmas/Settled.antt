@@ -1,7 +1,7 @@
 -- The node that a pass keeps: the pass after the steps that keep it or free it.
-use Rattle.fx_lasting.proofs.Words.{◌≡◌, ◌∙◌, ℕ, List, [], ◌∷◌, sym, ap, subst, Bool, true, false, None, some, get_elem?, part_of_pass, Sat, At, Work}
-use Rattle.fx_lasting.proofs.Words.{Runs, Emptying, Keeping, SettlesNode, Parks, doing_in, numbers_of_pass, pass_of, birth_word, rest, Parked}
-use Rattle.fx_lasting.proofs.Words.{MayCarry, IsTrue, ◌↔◌, ◌-◌, Idle, TakenOut, IsBetweenCalls, refl, PassView, IsIdle, DoesNothing}
+use Rattle.fx_lasting.proofs.Words.{◌≡◌, ◌∙◌, ℕ, List, [], ◌∷◌, sym, ap, subst, Bool, true, false, None, some, get_elem?, part_of_pass, Sat, At, Work, Runs}
+use Rattle.fx_lasting.proofs.Words.{Emptying, Keeping, SettlesNode, Parks, doing_in, numbers_of_pass, pass_of, birth_word, rest, Parked, MayCarry, IsTrue, ◌↔◌}
+use Rattle.fx_lasting.proofs.Words.{◌-◌, Idle, TakenOut, IsBetweenCalls, refl, PassView, IsIdle, DoesNothing}
 use Rattle.fx_table.specs.declared.limits.TheConstants.{PASS_LOOKS}
 use Rattle.fx_lasting.proofs.Running.{runs_one, runs_goes}
 

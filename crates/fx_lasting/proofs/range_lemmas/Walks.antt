@@ -1,6 +1,6 @@
 -- The steps from group to group lead to all groups: each has an inverse, modulo their number.
-use Rattle.fx_lasting.proofs.Words.{◌≡◌, ℕ, zero, suc, ◌+◌, ◌-◌, ◌*◌, ◌%◌, ◌<◌, ◌≤◌, List, [], ◌∷◌, get_or, Bool, true, false, cond, refl, sym, ap, ◌∙◌, subst, arith}
-use Rattle.fx_lasting.proofs.Words.{dite, ℕ_discrete, eqb, mod-eq_of_lt, le-mul_of_pos_right, suc-mul}
+use Rattle.fx_lasting.proofs.Words.{◌≡◌, ℕ, zero, suc, ◌+◌, ◌-◌, ◌*◌, ◌%◌, ◌<◌, ◌≤◌, List, [], ◌∷◌, get_or, Bool, true, false, cond, refl, sym, ap, ◌∙◌, subst}
+use Rattle.fx_lasting.proofs.Words.{arith, dite, ℕ_discrete, eqb, mod-eq_of_lt, le-mul_of_pos_right, suc-mul}
 use Rattle.std.proofs.Math.Nat.{mod-lt, mul_comm, mul_assoc, add-mod-mod, mod-add-mod, add-mul-mod_self_left}
 use Rattle.std.proofs.lemmas.Nat.{mul-mod_first, mul-mod_second}
 use Rattle.std.proofs.lemmas.Bool.{eqb-true}

@@ -1,20 +1,16 @@
 -- The exchanges while a slot names a node: what their steps leave, one after another.
-use Rattle.fx_lasting.proofs.Words.{◌-◌, ◌<◌, List, as_swapped, NamesANode, name_in, name_of_file, nodes_of}
-use Rattle.fx_lasting.proofs.Words.{IsAtWork, IsStockOf, as_stocked, set, ◌≡◌, ◌≢◌, ℕ, ◌+◌, ◌≤◌, [], sym, refl, ap, ◌∙◌, subst, arith, Option, Some}
-use Rattle.fx_lasting.proofs.Words.{None, Bool, true, false, File, Event, IsSeenBy, Action, ◌▷▷◌, full_name_in}
-use Rattle.fx_lasting.proofs.Words.{entry_in, count_in, Names, Start, Sat, At, Work, Glance, Change, Outside, Runs, Stepped, Sees}
-use Rattle.fx_lasting.proofs.Words.{retired_at, slot_of, pass_in, state_after_all, node_of_number, account, uncounted, is_in}
-use Rattle.fx_lasting.proofs.Words.{group_of, TableId, LastingPass, IsPassOf, opening_of, view_of, pass_of, Result, Ok, Err, seen_further, Adds}
-use Rattle.fx_lasting.proofs.Words.{no_use, IsIdle, IsFileRemoval, Doing, DoesNothing, Retired, FitsMiss, WasSo, WasIn, SaysIf}
-use Rattle.fx_lasting.proofs.Words.{SawIf, FailedIf, HasTriedIf, Miss, meetings, changes_at, changes_in}
+use Rattle.fx_lasting.proofs.Words.{◌-◌, ◌<◌, List, as_swapped, NamesANode, name_in, name_of_file, nodes_of, IsAtWork, IsStockOf, as_stocked, set, ◌≡◌, ◌≢◌, ℕ}
+use Rattle.fx_lasting.proofs.Words.{◌+◌, ◌≤◌, [], sym, refl, ap, ◌∙◌, subst, arith, Option, Some, None, Bool, true, false, File, Event, IsSeenBy, Action, ◌▷▷◌}
+use Rattle.fx_lasting.proofs.Words.{full_name_in, entry_in, count_in, Names, Start, Sat, At, Work, Glance, Change, Outside, Runs, Stepped, Sees, retired_at}
+use Rattle.fx_lasting.proofs.Words.{slot_of, pass_in, state_after_all, node_of_number, account, uncounted, is_in, group_of, TableId, LastingPass, IsPassOf}
+use Rattle.fx_lasting.proofs.Words.{opening_of, view_of, pass_of, Result, Ok, Err, seen_further, Adds, no_use, IsIdle, IsFileRemoval, Doing, DoesNothing}
+use Rattle.fx_lasting.proofs.Words.{Retired, FitsMiss, WasSo, WasIn, SaysIf, SawIf, FailedIf, HasTriedIf, Miss, meetings, changes_at, changes_in, inl}
 use Rattle.fx_lasting.proofs.slot_lemmas.Overtaking.{overtaken_by}
-use Rattle.fx_lasting.proofs.Running.{swapped_then, at_swapped, number_is, stock_is, still_at_work, runs_one, runs_then, runs_goes}
-use Rattle.fx_lasting.proofs.Running.{runs_within, does_then}
+use Rattle.fx_lasting.proofs.Running.{swapped_then, at_swapped, number_is, stock_is, still_at_work, runs_one, runs_then, runs_goes, runs_within, does_then}
 use Rattle.fx_lasting.specs.Ends.{Does}
 use Rattle.fx_lasting.specs.slots.ByNode.{TriedEmptying, TriedExchange}
 use Rattle.fx_lasting.specs.Laws.{Kind}
-use Rattle.fx_lasting.proofs.Words.{inl}
-use Rattle.fx_lasting.specs.declared.answers.Miss.TheVariants.{Empty, Other, Again}
+use Rattle.fx_lasting.specs.declared.answers.Miss.TheVariants.{Empty, Stale, Again}
 use Rattle.fx_lasting.proofs.Passing.{adds_so}
 
 same_node : (a b : ℕ) → a + 1 ≡ b + 1 → a ≡ b
@@ -32,8 +28,8 @@ module _ (k : Start) (node word : ℕ) where
   fits_not : (there : Option File) → Names (node_of_number k) word there → (miss : Miss) → SaysIf word node (Err miss) → FitsMiss k node miss there
   fits_not None names Empty says = refl
   fits_not (Some f) names Empty says = absurd (not_named _ _ names.0 says)
-  fits_not None names Other says = absurd (says.0 names)
-  fits_not (Some f) names Other says = (f, refl, λ on. says.1 (names.0 ∙ ap (λ (n : ℕ). n + 1) on))
+  fits_not None names Stale says = absurd (says.0 names)
+  fits_not (Some f) names Stale says = (f, refl, λ on. says.1 (names.0 ∙ ap (λ (n : ℕ). n + 1) on))
   fits_not there names Again says = absurd says
 
 -- what was so before more was seen, or after more was seen
@@ -169,7 +165,7 @@ pub missed_so : (k : Start) (slot node : ℕ) (m m₁ m₂ m₃ m₄ : Sat) (mis
 missed_so k slot node m m₁ m₂ m₃ m₄ Again first failed before all after = was_further (pass_in m₄).front first all
 missed_so k slot node m m₁ m₂ m₃ m₄ Empty first failed before all after =
     was_before (pass_in m).front before (was_further (pass_in m₄).front failed after)
-missed_so k slot node m m₁ m₂ m₃ m₄ Other first failed before all after =
+missed_so k slot node m m₁ m₂ m₃ m₄ Stale first failed before all after =
     was_before (pass_in m).front before (was_further (pass_in m₄).front failed after)
 
 -- The value of a removed file

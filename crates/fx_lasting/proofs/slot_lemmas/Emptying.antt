@@ -1,9 +1,9 @@
 -- A slot loses its file, whether the pass holds the file or nothing.
-use Rattle.fx_lasting.proofs.Words.{Round, ◌≡◌, ◌≢◌, ℕ, ◌<◌, List, sym, refl, ap, ◌∙◌, arith, Option, None, get_elem?, some, Closed, File}
-use Rattle.fx_lasting.proofs.Words.{Event, Action, State, changed_else, pass_event, part_of_pass, map, ◌++◌, Agrees, state_after_all, slots_of}
-use Rattle.fx_lasting.proofs.Words.{count_in, heat_in, full_name_in, name_in, taken_of, sum_set, Stepped, inl, IsOffCount, account, range_at_start}
-use Rattle.fx_lasting.proofs.Words.{removal_work, Whereabouts, IsInStock, as_swapped, first_log, without_file, name_left, no_file_left, no_takes_left}
-use Rattle.fx_lasting.proofs.Words.{empty_word_of, empty_name_made, empty_file_made, empty_takes_made, ◌-◌, IsInside}
+use Rattle.fx_lasting.proofs.Words.{Round, ◌≡◌, ◌≢◌, ℕ, ◌<◌, List, sym, refl, ap, ◌∙◌, arith, Option, None, get_elem?, some, Closed, File, Event, Action, State}
+use Rattle.fx_lasting.proofs.Words.{changed_else, pass_event, part_of_pass, map, ◌++◌, Agrees, state_after_all, slots_of, count_in, heat_in, full_name_in}
+use Rattle.fx_lasting.proofs.Words.{name_in, taken_of, sum_set, Stepped, inl, IsOffCount, account, range_at_start, removal_work, Whereabouts, IsInStock}
+use Rattle.fx_lasting.proofs.Words.{as_swapped, first_log, without_file, name_left, no_file_left, no_takes_left, empty_word_of, empty_name_made}
+use Rattle.fx_lasting.proofs.Words.{empty_file_made, empty_takes_made, ◌-◌, IsInside}
 use Rattle.fx_lasting.proofs.slot_lemmas.Swaps.{Ends, IsAlike, found, d_inside, d_untaken, swap_after, Swap, swap_kept}
 use Rattle.fx_lasting.proofs.node_lemmas.StockMoves.{StaysNamed, names_same, where_moved, stock_moved, names_moved, tells_swapped}
 use Rattle.fx_lasting.proofs.Frames.{owner_stays, node_same}

@@ -1,12 +1,11 @@
 -- The slot of a file that a pass holds: the hold may end with the step that removes the file. If
 -- the pass holds it by a take, the removal counts the takes without it; else the slot is hot, and
 -- the pass's hold word names the node still.
-use Rattle.fx_lasting.proofs.Words.{◌≡◌, ◌≢◌, ℕ, ◌+◌, ◌-◌, ◌<◌, List, ◌∷◌, sym, refl, ap, ◌∙◌, arith, subst, Option, Some, None, Bool, true, false}
-use Rattle.fx_lasting.proofs.Words.{File, Event, Release, State, pass_event, HoldsAt, IsHistory, node_of_number, state_after_all, slots_of, count_in}
-use Rattle.fx_lasting.proofs.Words.{heat_in, hold_word_of, full_name_in, entry_in, Names, seated, file_in, taken_of, taking, held_of, if_file}
-use Rattle.fx_lasting.proofs.Words.{held_in, sum_at, bit_here, one_less_at, Round, StillNames, NamesNode, MayBeUncharged, HasItsHold, ⊎_elim}
-use Rattle.fx_lasting.proofs.Words.{guarded_round, first_visit, new_round, removal_work, leaving_work, is_guarding, one_less}
-use Rattle.fx_lasting.proofs.Words.{[], ◌▷◌, ◌++◌, map, part_of_pass, held_after, Action, changed_at, with_removed, ActsAt}
+use Rattle.fx_lasting.proofs.Words.{◌≡◌, ◌≢◌, ℕ, ◌+◌, ◌-◌, ◌<◌, List, ◌∷◌, sym, refl, ap, ◌∙◌, arith, subst, Option, Some, None, Bool, true, false, File, Event}
+use Rattle.fx_lasting.proofs.Words.{Release, State, pass_event, HoldsAt, IsHistory, node_of_number, state_after_all, slots_of, count_in, heat_in, hold_word_of}
+use Rattle.fx_lasting.proofs.Words.{full_name_in, entry_in, Names, seated, file_in, taken_of, taking, held_of, if_file, held_in, sum_at, bit_here, one_less_at}
+use Rattle.fx_lasting.proofs.Words.{Round, StillNames, NamesNode, MayBeUncharged, HasItsHold, ⊎_elim, guarded_round, first_visit, new_round, removal_work}
+use Rattle.fx_lasting.proofs.Words.{leaving_work, is_guarding, one_less, [], ◌▷◌, ◌++◌, map, part_of_pass, held_after, Action, changed_at, with_removed, ActsAt}
 use Rattle.fx_lasting.proofs.Counts.{owed_at}
 use Rattle.fx_lasting.proofs.Histories.{legal_more, grows_one, grows_more, held_mine, part_mine}
 use Rattle.fx_lasting.proofs.Frames.{busy}

@@ -1,16 +1,16 @@
 -- A removal by a pass that holds the file: what its steps leave.
-use Rattle.fx_lasting.proofs.Words.{◌≡◌, ℕ, ◌<◌, List, [], sym, ap, ◌∙◌, subst, arith, Option, Some, None, set, get_elem?, some, inr, false}
-use Rattle.fx_lasting.proofs.Words.{File, Release, Take, Close, ◌▷◌, Start, Sat, Work, Glance, Outside, Counted, Runs, Names, IsStockOf, as_stocked}
-use Rattle.fx_lasting.proofs.Words.{as_swapped, pass_in, node_of_number, range_at_start, IsAtWork, Ok, Closed, Adds, adds_then, no_use, DoesNothing}
-use Rattle.fx_lasting.proofs.Words.{ReleasesFile, Released, LookedUp, Opening, PassView, Holding, Hold, TableId, LastingPass, IsPassOf}
-use Rattle.fx_lasting.proofs.Words.{IsBetweenCalls, opening_of, view_of, pass_of, Change, Doing, HasActed, HasTriedIf, Miss, KeyFault, TriesKey}
-use Rattle.fx_lasting.proofs.Words.{fault_for, MeetsMore, LookedByKey, HeldByKey, WasSo, FitsMiss, IsSeenBy, ⊎_elim, inl, IsOffCount, slots_of, refl}
-use Rattle.fx_lasting.proofs.Words.{Err, Result, empty_word_of, slot_of, Bool, Guarded, HasItsHold, HoldsAlone, is_guarding, leaving_work}
+use Rattle.fx_lasting.proofs.Words.{◌≡◌, ℕ, ◌<◌, List, [], sym, ap, ◌∙◌, subst, arith, Option, Some, None, set, get_elem?, some, inr, false, File, Release}
+use Rattle.fx_lasting.proofs.Words.{Take, Close, ◌▷◌, Start, Sat, Work, Glance, Outside, Counted, Runs, Names, IsStockOf, as_stocked, as_swapped, pass_in}
+use Rattle.fx_lasting.proofs.Words.{node_of_number, range_at_start, IsAtWork, Ok, Closed, Adds, adds_then, no_use, DoesNothing, ReleasesFile, Released}
+use Rattle.fx_lasting.proofs.Words.{LookedUp, Opening, PassView, Holding, Hold, TableId, LastingPass, IsPassOf, IsBetweenCalls, opening_of, view_of, pass_of}
+use Rattle.fx_lasting.proofs.Words.{Change, Doing, HasActed, HasTriedIf, Miss, KeyFault, TriesKey, fault_for, MeetsMore, LookedByKey, HeldByKey, WasSo}
+use Rattle.fx_lasting.proofs.Words.{FitsMiss, IsSeenBy, ⊎_elim, inl, IsOffCount, slots_of, refl, Err, Result, empty_word_of, slot_of, Bool, Guarded, HasItsHold}
+use Rattle.fx_lasting.proofs.Words.{HoldsAlone, is_guarding, leaving_work}
 use Rattle.fx_lasting.proofs.slot_lemmas.ByNode.{acts_then, at_once, begun_at, its_own, names_inside, with_stock, stock_moved, was_further}
 use Rattle.fx_lasting.proofs.Passing.{adds_so}
 use Rattle.fx_lasting.proofs.Running.{runs_within, swapped_then, number_is, own_stock, stock_is, still_at_work}
 use Rattle.fx_lasting.proofs.slot_lemmas.Watching.{acted_further}
-use Rattle.fx_lasting.specs.slots.Alone.{TriedOutHeld, LeftAlone}
+use Rattle.fx_lasting.specs.slots.RemoveByKey.{TriedOutHeld, LeftAlone}
 use Rattle.fx_lasting.specs.Ends.{Does}
 use Rattle.fx_lasting.specs.Laws.{Kind}
 use Rattle.fx_lasting.specs.slots.ByNode.{MayEmpty, TriedEmptying, TriedExchange, WonExchange}

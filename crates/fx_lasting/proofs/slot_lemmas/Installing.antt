@@ -1,11 +1,11 @@
 -- A slot gets the file that a pass places, whether the pass holds the slot's file or nothing.
-use Rattle.fx_lasting.proofs.Words.{Round, IsIn, part_of_pass, map, ◌++◌, ◌≡◌, ◌≢◌, ℕ, ◌+◌, ◌^◌, ◌<◌, List, set, sym, refl, ap, ◌∙◌, subst, arith}
-use Rattle.fx_lasting.proofs.Words.{Option, Some, some, get_elem?, false, inl, inr, ◌⊎◌, Closed, File, numbered, Event, Action, State, changed_at}
-use Rattle.fx_lasting.proofs.Words.{changed_here, changed_else, pass_event, Agrees, NodeAgrees, OwnerAgrees, state_after_all, slots_of, nodes_of}
-use Rattle.fx_lasting.proofs.Words.{word_of, count_in, file_word_of, taken_of, owed, sum_by, sum_set, Phase, placed, seated, removed_in, Change}
-use Rattle.fx_lasting.proofs.Words.{Stepped, account, range_at_start, Outside, set_here, set_else, length-set, removal_work, ◌-◌, ◌≤◌, Whereabouts}
-use Rattle.fx_lasting.proofs.Words.{IsInStock, as_swapped, first_log, name_in, Labels, Placement, written_in, label_of, as_written, most_carried}
-use Rattle.fx_lasting.proofs.Words.{takes_are_few, name_carried, full_name_carried, entry_carried, takes_carried, heat_carried}
+use Rattle.fx_lasting.proofs.Words.{Round, IsIn, part_of_pass, map, ◌++◌, ◌≡◌, ◌≢◌, ℕ, ◌+◌, ◌^◌, ◌<◌, List, set, sym, refl, ap, ◌∙◌, subst, arith, Option, Some}
+use Rattle.fx_lasting.proofs.Words.{some, get_elem?, false, inl, inr, ◌⊎◌, Closed, File, numbered, Event, Action, State, changed_at, changed_here, changed_else}
+use Rattle.fx_lasting.proofs.Words.{pass_event, Agrees, NodeAgrees, OwnerAgrees, state_after_all, slots_of, nodes_of, word_of, count_in, file_word_of, taken_of}
+use Rattle.fx_lasting.proofs.Words.{owed, sum_by, sum_set, Phase, placed, seated, removed_in, Change, Stepped, account, range_at_start, Outside, set_here}
+use Rattle.fx_lasting.proofs.Words.{set_else, length-set, removal_work, ◌-◌, ◌≤◌, Whereabouts, IsInStock, as_swapped, first_log, name_in, Labels, Placement}
+use Rattle.fx_lasting.proofs.Words.{written_in, label_of, as_written, most_carried, takes_are_few, name_carried, full_name_carried, entry_carried}
+use Rattle.fx_lasting.proofs.Words.{takes_carried, heat_carried}
 use Rattle.fx_lasting.proofs.slot_lemmas.Swaps.{Ends, IsAlike, found, NotOf, not_old, d_inside, d_untaken, swap_after, Swap, swap_kept}
 use Rattle.fx_lasting.proofs.Histories.{each_changed}
 use Rattle.fx_lasting.proofs.node_lemmas.StockMoves.{where_moved, stock_moved, names_moved, tells_swapped}

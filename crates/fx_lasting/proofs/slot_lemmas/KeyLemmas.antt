@@ -1,6 +1,6 @@
 -- Keys and their bits, and the marks that they are made of.
-use Rattle.fx_lasting.proofs.Words.{◌≡◌, ◌≢◌, ℕ, ◌+◌, ◌*◌, ◌/◌, ◌%◌, ◌^◌, ◌<◌, ◌≤◌, suc, sym, refl, ◌∙◌, arith, Some, None, lt-ltb, le-ltb, dite}
-use Rattle.fx_lasting.proofs.Words.{dec_le, eq-eqb, ne_eqb, number_of_mark, KeysAreOfOneFile, KeysComeBack, HasShortNumber, key_of_bits}
+use Rattle.fx_lasting.proofs.Words.{◌≡◌, ◌≢◌, ℕ, ◌+◌, ◌*◌, ◌/◌, ◌%◌, ◌^◌, ◌<◌, ◌≤◌, suc, sym, refl, ◌∙◌, arith, Some, None, lt-ltb, le-ltb, dite, dec_le}
+use Rattle.fx_lasting.proofs.Words.{eq-eqb, ne_eqb, number_of_mark, KeysAreOfOneFile, KeysComeBack, HasShortNumber, key_of_bits}
 use Rattle.fx_base.specs.declared.mark.Mark.{Mark}
 use Rattle.fx_base.specs.declared.mark.Mark.TheVariants.{Registered, Submitted}
 

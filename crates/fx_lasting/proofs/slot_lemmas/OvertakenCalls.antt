@@ -21,7 +21,7 @@ use Rattle.fx_lasting.proofs.slot_lemmas.Overtaking.{emptied_by}
 use Rattle.fx_table.specs.declared.values.Doing.TheVariants.{Idle as DoesNothing}
 use mathlib.Core.Logic.{dite}
 use native.Mathlib.Decide.{ℕ_discrete}
-use Rattle.fx_lasting.specs.slots.Alone.{LeftAlone}
+use Rattle.fx_lasting.specs.slots.RemoveByKey.{LeftAlone}
 use Rattle.fx_lasting.specs.slots.Watches.{ReplacesAt, HasReplaced}
 use Rattle.fx_lasting.specs.declared.key.Key.{Key}
 use Rattle.fx_lasting.specs.declared.key_answers.KeyFault.TheVariants.{Again}

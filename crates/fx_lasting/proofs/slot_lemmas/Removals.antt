@@ -1,9 +1,8 @@
 -- A pass that emptied a slot: what the step leaves, and the pass with the stock that it has then.
-use Rattle.fx_lasting.proofs.Words.{◌≡◌, ◌≤◌, ◌<◌, ℕ, ◌+◌, ◌-◌, List, [], set, refl, sym, ap, ◌∙◌, subst, Option, Bool, get_elem?, some, Action, ◌▷◌}
-use Rattle.fx_lasting.proofs.Words.{◌▷▷◌, Sat, Start, Work, Glance, Change, Runs, IsAtWork, IsStockOf, TableId, File, At, as_stocked}
-use Rattle.fx_lasting.proofs.Words.{pass_in, name_in, nodes_of, empty_word_of, retiring_work, account, range_at_start, slot_of, slot_place, Nothing}
-use Rattle.fx_lasting.proofs.Words.{Outside, LastingPass, IsSeatOf, IsPassOf, Knows, opening_of, view_of, pass_of, doing_in, Use}
-use Rattle.fx_lasting.proofs.Words.{Adds, Removes, SwapsOut, HasEmptied}
+use Rattle.fx_lasting.proofs.Words.{◌≡◌, ◌≤◌, ◌<◌, ℕ, ◌+◌, ◌-◌, List, [], set, refl, sym, ap, ◌∙◌, subst, Option, Bool, get_elem?, some, Action, ◌▷◌, ◌▷▷◌, Sat}
+use Rattle.fx_lasting.proofs.Words.{Start, Work, Glance, Change, Runs, IsAtWork, IsStockOf, TableId, File, At, as_stocked, pass_in, name_in, nodes_of}
+use Rattle.fx_lasting.proofs.Words.{empty_word_of, retiring_work, account, range_at_start, slot_of, slot_place, Nothing, Outside, LastingPass, IsSeatOf}
+use Rattle.fx_lasting.proofs.Words.{IsPassOf, Knows, opening_of, view_of, pass_of, doing_in, Use, Adds, Removes, SwapsOut, HasEmptied, Take}
 use Rattle.fx_lasting.proofs.Places.{slot_back}
 use Rattle.fx_lasting.proofs.Running.{runs_one, runs_then, runs_stocked, turns_then, number_is, own_stock, stock_is, still_at_work, at_swapped, at_work_as}
 use Rattle.fx_lasting.proofs.Passing.{adds_run, goes_on, rests_on, same_flags}
@@ -19,10 +18,10 @@ stocked_then s a b = runs_then (runs_stocked s a) b
 
 module _ {k : Start} {p : ℕ} {m : Sat} (at : IsAtWork k p m) (stock : List ℕ) (its : stock ≡ (pass_in m).stock) where
   -- the event of a step on a slot's word, as its table and slot have it
-  module _ (act : ℕ → Option File → Action) (slot found : ℕ) where
+  module _ (slot found : ℕ) where
     -- the name goes into the stock
-    pub by_swap : {st : At} {m' : Sat} → SwapsOut act st m found m' → st.word ≡ slot_place slot → (n entry named : ℕ) → get_elem? stock entry ≡ some n
-        → st.first ≡ empty_word_of n → named ≡ name_in found - 1 → HasEmptied k act slot found (set stock entry named) m m'
+    pub by_swap : {st : At} {m' : Sat} → SwapsOut st m found m' → st.word ≡ slot_place slot → (n entry named : ℕ) → get_elem? stock entry ≡ some n
+        → st.first ≡ empty_word_of n → named ≡ name_in found - 1 → HasEmptied k slot found (set stock entry named) m m'
     by_swap {st} {m'} did here n entry named there makes is =
         let inside : name_in found - 1 < nodes_of k = subst (λ (z : Start). name_in found - 1 < nodes_of z) at.pass.0 did.named.1 in
         let after = at_swapped at entry (name_in found - 1) inside in
@@ -34,26 +33,26 @@ module _ {k : Start} {p : ℕ} {m : Sat} (at : IsAtWork k p m) (stock : List ℕ
           names = did.names;
           its = subst (λ (n : ℕ). IsStockOf k n (set stock entry named)) (sym (number_is at))
               (subst (IsStockOf k p) (sym (stock_is after) ∙ same) after.stock);
-          runs = subst (λ (z : Start × ℕ × List ℕ). Runs (as_stocked z.2 m) ([] ▷ act z.1 did.file) (retiring_work z.0 found did.file) m.0.glance
+          runs = subst (λ (z : Start × ℕ × List ℕ). Runs (as_stocked z.2 m) ([] ▷ Take z.1 did.file) (retiring_work z.0 found did.file) m.0.glance
               (account (range_at_start z.0) z.1 did.file) 1 m') (λ i. (at.pass.0 i, slot_is i, same i)) (runs_one stepped);
         }
 
     -- the name stays at the slot
-    pub by_removal : {st : At} {m' : Sat} → Removes act st m found m' → st.word ≡ slot_place slot → HasEmptied k act slot found stock m m'
+    pub by_removal : {st : At} {m' : Sat} → Removes st m found m' → st.word ≡ slot_place slot → HasEmptied k slot found stock m m'
     by_removal {st} {m'} did here =
         let slot_is : slot_of st.word ≡ slot = ap slot_of here ∙ slot_back slot in
-        let run : Runs (as_stocked (pass_in m).stock m) ([] ▷ act (slot_of st.word) did.file) (retiring_work m.0.start found did.file) m.0.glance
+        let run : Runs (as_stocked (pass_in m).stock m) ([] ▷ Take (slot_of st.word) did.file) (retiring_work m.0.start found did.file) m.0.glance
         (account (range_at_start m.0.start) (slot_of st.word) did.file) 1 m' = assumption (runs_one did.stepped) in record {
           file = did.file;
           names = did.names;
           its = subst (λ (z : ℕ × List ℕ). IsStockOf k z.0 z.1) (λ i. (sym (number_is at) i, sym its i)) (own_stock at);
-          runs = subst (λ (z : Start × ℕ × List ℕ). Runs (as_stocked z.2 m) ([] ▷ act z.1 did.file) (retiring_work z.0 found did.file) m.0.glance
+          runs = subst (λ (z : Start × ℕ × List ℕ). Runs (as_stocked z.2 m) ([] ▷ Take z.1 did.file) (retiring_work z.0 found did.file) m.0.glance
               (account (range_at_start z.0) z.1 did.file) 1 m') (λ i. (at.pass.0 i, slot_is i, sym its i)) run;
         }
 
 -- the pass goes on
-module _ {k : Start} {p : ℕ} {m₁ m₂ : Sat} {act : ℕ → Option File → Action} {slot found : ℕ} {stock : List ℕ} (at : IsAtWork k p m₁)
-    (e : HasEmptied k act slot found stock m₁ m₂) where
+module _ {k : Start} {p : ℕ} {m₁ m₂ : Sat} {slot found : ℕ} {stock : List ℕ} (at : IsAtWork k p m₁)
+    (e : HasEmptied k slot found stock m₁ m₂) where
   pub emptied_stock : IsStockOf k p stock
   emptied_stock = subst (λ (n : ℕ). IsStockOf k n stock) (number_is at) e.its
 
@@ -62,8 +61,8 @@ module _ {k : Start} {p : ℕ} {m₁ m₂ : Sat} {act : ℕ → Option File → 
 
   -- between the two steps on its group's word, if there are such
   pub emptied_around : {m m₃ : Sat} {w : Work} {g : Glance} {c : Change} → Runs m [] w g c 3 m₁ → Runs m₂ [] m₂.0.work m₂.0.glance Outside 1 m₃
-      → Runs (as_stocked stock m) ([] ▷ act slot e.file) (retiring_work k found e.file) g Outside 5 m₃
-  emptied_around began ended = turns_then (stocked_then stock began (subst (λ (z : Glance). Runs (as_stocked stock m₁) ([] ▷ act slot e.file)
+      → Runs (as_stocked stock m) ([] ▷ Take slot e.file) (retiring_work k found e.file) g Outside 5 m₃
+  emptied_around began ended = turns_then (stocked_then stock began (subst (λ (z : Glance). Runs (as_stocked stock m₁) ([] ▷ Take slot e.file)
       (retiring_work k found e.file) z (account (range_at_start k) slot e.file) 1 m₂) began.glance e.runs)) ended
 
 -- a pass that has another stock now

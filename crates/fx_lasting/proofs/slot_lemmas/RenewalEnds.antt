@@ -1,19 +1,19 @@
 -- The ends of a replacement by key by one pass: what the pass adds to its view.
-use Rattle.fx_lasting.proofs.Words.{◌≡◌, ◌≢◌, ℕ, ◌+◌, ◌<◌, List, [], sym, refl, ap, ◌∙◌, subst, arith, Option, Some, None, Ok, Err, get_elem?, some, inl, inr, ⊎_elim}
-use Rattle.fx_lasting.proofs.Words.{Idle, HasActed, File, Look, Release, Put, Action, numbered, ◌▷◌, Start, Sat, Glance, Nothing, Outside, Runs, Placing, Placement, Closed}
-use Rattle.fx_lasting.proofs.Words.{Names, as_swapped, entry_in, count_in, pass_in, node_of_number, retiring_work, held_in, doing_in, hold_at, slots_of}
-use Rattle.fx_lasting.proofs.Words.{TableId, LastingPass, IsSeatOf, opening_of, view_of, pass_of, PassView, Hold, Adds, no_use, one_look, one_number, ReleasesFile, LetsFileGo}
-use Rattle.fx_lasting.proofs.Words.{Retired, LookedByKey, HeldByKey, TriesKey, fault_for, KeyFault, Miss, MeetsMore, adds_then, DoesNothing}
+use Rattle.fx_lasting.proofs.Words.{◌≡◌, ◌≢◌, ℕ, ◌+◌, ◌<◌, List, [], sym, refl, ap, ◌∙◌, subst, arith, Option, Some, None, Ok, Err, get_elem?, some, inl, inr}
+use Rattle.fx_lasting.proofs.Words.{⊎_elim, Idle, HasActed, File, Look, Release, Put, Action, numbered, ◌▷◌, Start, Sat, Glance, Nothing, Outside, Runs}
+use Rattle.fx_lasting.proofs.Words.{Placing, Placement, Closed, Names, as_swapped, entry_in, count_in, pass_in, node_of_number, retiring_work, held_in}
+use Rattle.fx_lasting.proofs.Words.{doing_in, hold_at, slots_of, TableId, LastingPass, IsSeatOf, opening_of, view_of, pass_of, PassView, Hold, Adds, no_use}
+use Rattle.fx_lasting.proofs.Words.{one_look, one_number, ReleasesFile, LetsFileGo, Retired, LookedByKey, HeldByKey, TriesKey, fault_for, KeyFault, Miss}
+use Rattle.fx_lasting.proofs.Words.{MeetsMore, adds_then, DoesNothing, Change, Close, Doing, Holding, LetsChargeGo, Work}
 use Rattle.fx_table.specs.declared.values.Doing.TheVariants.{Retiring as Retires}
 use Rattle.fx_lasting.proofs.slot_lemmas.ByNode.{was_further, removal_so, value_so}
 use Rattle.fx_lasting.proofs.slot_lemmas.Watching.{acted_further}
 use Rattle.fx_lasting.proofs.Running.{does_then, looks_then, file_then, swapped_then}
 use Rattle.fx_lasting.proofs.Passing.{adds_so, adds_run, frees_number, frees_then, lets_run}
 use Rattle.fx_lasting.proofs.node_lemmas.Labelling.{held_besides}
-use Rattle.fx_lasting.specs.slots.Alone.{LeftAlone}
+use Rattle.fx_lasting.specs.slots.RemoveByKey.{LeftAlone}
 use Rattle.fx_lasting.specs.slots.ByKey.{HoldsAtKey, IsKeyOf}
-use Rattle.fx_lasting.specs.slots.PutAlone.{FreesFirst, TakesOn, TriedRenewal, RenewsAlone, PutsAlone}
-use Rattle.fx_lasting.proofs.Words.{Change, Close, Doing, Holding, LetsChargeGo, Work}
+use Rattle.fx_lasting.specs.slots.ReplaceByKey.{FreesFirst, TakesOn, TriedRenewal, RenewsAlone, PutsAlone}
 use Rattle.fx_lasting.specs.declared.answers.Miss.TheVariants as reason
 use Rattle.fx_table.specs.declared.values.LookFault.TheVariants.{Empty as EmptySlot}
 use Rattle.fx_lasting.specs.declared.key.Key.{Key}
@@ -53,7 +53,7 @@ module _ {id : TableId} {k : Start} {p : LastingPass} (seated : IsSeatOf id k p)
 
   -- it released the file at once, which isn't that of the key
   pub was_other : (IsKeyOf key f → ⊥) → (m₃ : Sat) (r : Option Closed) → LetsFileGo m₂ f 4 r m₃
-      → LookedByKey k (view_of p) key (Err fault.Other) None r (pass_of m₃.0)
+      → LookedByKey k (view_of p) key (Err fault.Stale) None r (pass_of m₃.0)
   was_other other m₃ r lets = record {
     file = f;
     hold = hold_at f node;
@@ -154,7 +154,7 @@ module _ (k : Start) (u p p' : LastingPass) (key : Key) (freed : Option Closed) 
       → LookedByKey k (view_of u) key (Err why) freed r (view_of p')
   looked_before fault.NoSlot r other o = absurd (other refl)
   looked_before fault.Empty r other o = (frees_then k (view_of u) (view_of p) (view_of p') key.slot (Err EmptySlot) freed (λ bad. cc bad) before o.0, o.1)
-  looked_before fault.Other r other o = record {
+  looked_before fault.Stale r other o = record {
     file = o.file;
     hold = o.hold;
     between = o.between;
@@ -206,7 +206,7 @@ module _ (k : Start) (u p p' : LastingPass) (key : Key) (freed : Option Closed) 
       slot_there : (why : KeyFault) → LookedByKey k (view_of p) key (Err why) None r (view_of p') → LookedByKey k (view_of u) key (Err why) freed r (view_of p')
       slot_there fault.NoSlot looked = absurd (let a = looked.0 in omega arith)
       slot_there fault.Empty looked = looked_before fault.Empty r (λ bad. cc bad) looked
-      slot_there fault.Other looked = looked_before fault.Other r (λ bad. cc bad) looked
+      slot_there fault.Stale looked = looked_before fault.Stale r (λ bad. cc bad) looked
       slot_there fault.Again looked = absurd looked
 
 -- a pass that did nothing but see more, and then perhaps freed a file

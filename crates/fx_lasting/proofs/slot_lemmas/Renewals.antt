@@ -1,12 +1,11 @@
 -- A replacement by a pass that holds the slot's file keeps the rule: the hold ends with the step,
 -- and the removal counts the takes without the pass's own.
-use Rattle.fx_lasting.proofs.Words.{◌≡◌, ℕ, ◌+◌, ◌-◌, ◌^◌, ◌<◌, List, [], ◌∷◌, sym, refl, ap, ◌∙◌, subst, arith, Option, Some, none, some, ◌≤◌}
-use Rattle.fx_lasting.proofs.Words.{Action, changed_at, gives, rest, Closed, File, numbered, Event, Release, Put, ◌▷◌, State, WorkAgrees}
-use Rattle.fx_lasting.proofs.Words.{HoldsAt, IsIn, state_after_all, slots_of, slot_place, full_name_in}
-use Rattle.fx_lasting.proofs.Words.{file_word_of, label_of, as_written, placed, taking, held_in, bit_here, bit_else, Outside, Renewing, ReplacesHeld}
-use Rattle.fx_lasting.proofs.Words.{ReplacesHeldKeep, step, IsInStock, Bool, true, false, Round, HoldsBesides}
-use Rattle.fx_lasting.proofs.Words.{HoldAgrees, GuardAgrees, IsAllowed, Work, Placement, Relieving, ⊎_elim, hold_word_of, guarded_round, first_visit}
-use Rattle.fx_lasting.proofs.Words.{new_round, is_guarding, Stepped, as_swapped, account, range_at_start, name_in}
+use Rattle.fx_lasting.proofs.Words.{◌≡◌, state_after_all, full_name_in, file_word_of, ReplacesHeld, ReplacesHeldKeep, guarded_round, range_at_start, ℕ, ◌+◌}
+use Rattle.fx_lasting.proofs.Words.{◌-◌, ◌^◌, ◌<◌, ◌∷◌, sym, ap, ◌∙◌, ◌≤◌, rest, File, Put, ◌▷◌, IsIn, step, Bool, true, Work, List, refl, subst, arith, Some}
+use Rattle.fx_lasting.proofs.Words.{none, some, gives, Closed, Event, State, placed, taking, false, Round, ⊎_elim, [], Option, Action, Release, HoldsAt}
+use Rattle.fx_lasting.proofs.Words.{held_in, bit_here, bit_else, Outside, Renewing, Stepped, account, name_in, changed_at, numbered, WorkAgrees, slot_place}
+use Rattle.fx_lasting.proofs.Words.{HoldsBesides, GuardAgrees, hold_word_of, first_visit, is_guarding, slots_of, label_of, as_written, IsInStock, HoldAgrees}
+use Rattle.fx_lasting.proofs.Words.{IsAllowed, Placement, Relieving, new_round, as_swapped}
 use Rattle.fx_lasting.proofs.node_lemmas.StockMoves.{names_a_node}
 use Rattle.fx_lasting.proofs.Histories.{legal_more, same_shape}
 use Rattle.fx_lasting.proofs.Frames.{busy}

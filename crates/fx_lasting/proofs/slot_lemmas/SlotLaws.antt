@@ -1,12 +1,11 @@
 -- An installation, a take and an exchange keep the rule.
-use Rattle.fx_lasting.proofs.Words.{IsIn, Round, first_visit, new_round, ◌≡◌, ℕ, ◌+◌, ◌^◌, ◌<◌, List, [], ◌∷◌, set, sym, refl, ap, ◌∙◌, subst}
-use Rattle.fx_lasting.proofs.Words.{arith, Option, Some, None, none, some, keeps, gives, rest, get_elem?, false, Closed, File, numbered, Event}
-use Rattle.fx_lasting.proofs.Words.{Action, Put, Take, Allocate, ◌▷◌, State, with_removed, changed_at, pass_event, held_by, Agrees, WorkAgrees}
-use Rattle.fx_lasting.proofs.Words.{IsHistory, state_after_all, slots_of, nodes_of, slot_place, full_name_in, file_word_of, taking, held_in, if_file}
-use Rattle.fx_lasting.proofs.Words.{placed, Idle, Placing, Removes, Installs, Exchanges, Stepped, IsOffCount, IsInRange, TakesOutKeep}
-use Rattle.fx_lasting.proofs.Words.{InstallsKeep, ExchangesKeep, account, uncounted, group_of, range_at_start, Outside, Bool, true, step}
-use Rattle.fx_lasting.proofs.Words.{retiring_work, ◌*◌, ◌-◌, ◌≤◌, HasNoFile, IsInStock, as_swapped, first_log, name_in, name_mask, bit_and}
-use Rattle.fx_lasting.proofs.Words.{mask_leaves_name, mod-mul-add, le-mul_of_pos_right, Placement, label_of, as_written, put_back, ActsAt}
+use Rattle.fx_lasting.proofs.Words.{IsIn, List, refl, subst, arith, Some, None, none, some, keeps, gives, rest, false, File, Event, Take, State, placed, ActsAt}
+use Rattle.fx_lasting.proofs.Words.{Round, first_visit, changed_at, pass_event, WorkAgrees, full_name_in, file_word_of, TakesOutKeep, InstallsKeep, mod-mul-add}
+use Rattle.fx_lasting.proofs.Words.{new_round, get_elem?, IsHistory, slot_place, Exchanges, IsOffCount, IsInRange, uncounted, HasNoFile, as_swapped, as_written}
+use Rattle.fx_lasting.proofs.Words.{◌≡◌, ℕ, ◌+◌, ◌^◌, ◌<◌, ◌∷◌, set, sym, ap, ◌∙◌, Put, ◌▷◌, Idle, Bool, true, step, ◌*◌, ◌-◌, ◌≤◌}
+use Rattle.fx_lasting.proofs.Words.{[], Option, Closed, Action, Agrees, taking, held_in, if_file, Placing, Removes, Stepped, account, Outside, name_in, bit_and}
+use Rattle.fx_lasting.proofs.Words.{numbered, Allocate, slots_of, nodes_of, Installs, group_of, IsInStock, first_log, name_mask, Placement, label_of, put_back}
+use Rattle.fx_lasting.proofs.Words.{with_removed, held_by, state_after_all, ExchangesKeep, range_at_start, retiring_work, mask_leaves_name, le-mul_of_pos_right}
 use Rattle.fx_lasting.proofs.slot_lemmas.Emptying.{left, left_agrees, left_tells}
 use Rattle.fx_lasting.proofs.slot_lemmas.Installing.{put_after, put_agrees, put_tells}
 use Rattle.fx_lasting.proofs.node_lemmas.StockMoves.{names_a_node}
@@ -20,18 +19,15 @@ use Rattle.fx_lasting.proofs.hold_lemmas.Looking.{unnamed}
 use Rattle.fx_lasting.proofs.slot_lemmas.Swaps.{begins_first, found, found_so, Ends}
 use Rattle.fx_lasting.proofs.node_lemmas.Choosing.{no_file, no_take, not_busy, holds_none}
 
--- the action empties a slot, whatever it is for
-abbrev pub IsRemoval : (ℕ → Option File → Action) → Type 0
-IsRemoval act = (turn : Turn) (s : ℕ) → s < slots_of turn.v.start → let h = pass_event turn.x (act s ((state_after_all turn.v.start turn.r.history).at s)) ∷ turn.r.history in
+-- a take empties a slot
+pub taken : (turn : Turn) (s : ℕ) → s < slots_of turn.v.start → let h = pass_event turn.x (Take s ((state_after_all turn.v.start turn.r.history).at s)) ∷ turn.r.history in
     IsHistory turn.v.start h
     × (state_after_all turn.v.start h ≡ record (state_after_all turn.v.start turn.r.history) {
       at = changed_at (state_after_all turn.v.start turn.r.history).at s None;
       removed = with_removed (state_after_all turn.v.start turn.r.history).removed ((state_after_all turn.v.start turn.r.history).at s);
     })
     × (held_by h turn.x.number ≡ held_by turn.r.history turn.x.number)
-    × ActsAt s (act s ((state_after_all turn.v.start turn.r.history).at s))
-
-pub taken : IsRemoval Take
+    × ActsAt s (Take s ((state_after_all turn.v.start turn.r.history).at s))
 taken turn s inside = (
   legal_more turn.v.start turn.r.life.legal (let z = (same_shape turn.v.start turn.r.history).0 in (omega arith, refl)) tt,
   refl,
@@ -39,7 +35,7 @@ taken turn s inside = (
   refl,
 )
 
-module _ (act : ℕ → Option File → Action) (does : IsRemoval act) (turn : Turn) (s : ℕ) (inside : s < slots_of turn.v.start)
+module _ (turn : Turn) (s : ℕ) (inside : s < slots_of turn.v.start)
     (free_of : HasNoFile turn.v.work) (off : IsOffCount turn.v.start s turn.v.change) where
   open turn use {st, v, r, id, x, here, one}
 
@@ -49,11 +45,11 @@ module _ (act : ℕ → Option File → Action) (does : IsRemoval act) (turn : T
   abbrev pub its_round : Round
   its_round = new_round (first_visit v.start.passes (found turn s inside))
 
-  pub ends : Ends turn s inside old (found turn s inside) its_round 0 (pass_event x (act s old) ∷ r.history) None (state_after_all v.start r.history).fresh
-  ends = let o = its_log turn in let h = holds_none free_of o.hold in let e = does turn s inside in record {
+  pub ends : Ends turn s inside old (found turn s inside) its_round 0 (pass_event x (Take s old) ∷ r.history) None (state_after_all v.start r.history).fresh
+  ends = let o = its_log turn in let h = holds_none free_of o.hold in let e = taken turn s inside in record {
     grows = grows_one x.number r.history _ refl;
     legal = e.0;
-    acted = (r.history, pass_event x (act s old), ([], refl), ([], refl), refl, e.3);
+    acted = (r.history, pass_event x (Take s old), ([], refl), ([], refl), refl, e.3);
     holds = (state_after_all v.start r.history).holds;
     leads = e.1;
     held = e.2 ∙ (o.held ∙ no_file free_of);
@@ -67,20 +63,20 @@ module _ (act : ℕ → Option File → Action) (does : IsRemoval act) (turn : T
   }
 
   abbrev pub removal : After turn
-  removal = left turn s inside old refl (found turn s inside) (refl, refl) its_round (pass_event x (act s old) ∷ r.history) ends off
+  removal = left turn s inside old refl (found turn s inside) (refl, refl) its_round (pass_event x (Take s old) ∷ r.history) ends off
 
   pub removal_agrees : Agrees v.start (end turn removal)
-  removal_agrees = left_agrees turn s inside old refl (found turn s inside) (refl, refl) its_round (pass_event x (act s old) ∷ r.history) ends off
+  removal_agrees = left_agrees turn s inside old refl (found turn s inside) (refl, refl) its_round (pass_event x (Take s old) ∷ r.history) ends off
 
   pub removal_tells : (carried : List (ℕ × Option Closed))
-      → Stepped (v, carried) ([] ▷ act s old) (retiring_work v.start (found turn s inside) old) v.glance (account (range_at_start v.start) s old)
+      → Stepped (v, carried) ([] ▷ Take s old) (retiring_work v.start (found turn s inside) old) v.glance (account (range_at_start v.start) s old)
       (w turn removal, carried)
-  removal_tells carried = left_tells turn s inside old refl (found turn s inside) (refl, refl) its_round (pass_event x (act s old) ∷ r.history) ends off
-      carried ([] ▷ act s old) (part_mine r.history refl)
+  removal_tells carried = left_tells turn s inside old refl (found turn s inside) (refl, refl) its_round (pass_event x (Take s old) ∷ r.history) ends off
+      carried ([] ▷ Take s old) (part_mine r.history refl)
 
   pub removal_made : (slots : ℕ) (carried : List (ℕ × Option Closed))
       → found turn s inside < 18446744073709551616
-      → Made turn carried (slot_place s) (λ word. bit_and word name_mask) (Removes act (step slots (slot_place s) name_mask 0 none) (v, carried))
+      → Made turn carried (slot_place s) (λ word. bit_and word name_mask) (Removes (step slots (slot_place s) name_mask 0 none) (v, carried))
   removal_made slots carried fits = (
     w turn removal,
     keeps,
@@ -94,10 +90,10 @@ module _ (act : ℕ → Option File → Action) (does : IsRemoval act) (turn : T
     },
   )
 
-pub takes_out_keep : TakesOutKeep (Removes Take)
+pub takes_out_keep : TakesOutKeep Removes
 takes_out_keep k slots id i s m x has works inside off place = by_turn slots (λ k. (s < slots_of k) × IsOffCount k s m.0.change)
-    (λ _. slot_place s) (λ word. bit_and word name_mask) (λ i. Removes Take (step slots i name_mask 0 none) m) has (inside, off) place
-    (λ st r here is fits. removal_made Take taken (turn_of m x has.1 id st r here) s is.0 works is.1 slots m.1 fits)
+    (λ _. slot_place s) (λ word. bit_and word name_mask) (λ i. Removes (step slots i name_mask 0 none) m) has (inside, off) place
+    (λ st r here is fits. removal_made (turn_of m x has.1 id st r here) s is.0 works is.1 slots m.1 fits)
 
 -- a number that none had before, and which says the node
 pub fresh_number : (turn : Turn) {n : ℕ} → n < nodes_of turn.v.start → (m : ℕ) × (turn.r.nodes.next_number ≤ m) × (turn.r.node_of m ≡ n)

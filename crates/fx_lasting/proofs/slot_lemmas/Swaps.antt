@@ -1,19 +1,18 @@
 -- A swap of a slot's word: a file leaves the slot, if there was one, and the slot gets another or
 -- none.
-use Rattle.fx_lasting.proofs.Words.{Round, StillNames, removal_work, alone_in, IsToVisit, new_round, inl, true, Whereabouts}
-use Rattle.fx_lasting.proofs.Words.{IsInside, NamesItsNode, ◌≡◌, ◌≢◌, ℕ, suc, ◌+◌, ◌-◌, ◌^◌, ◌<◌, ◌≤◌, List, [], set, length, sym, refl}
-use Rattle.fx_lasting.proofs.Words.{ap, ◌∙◌, subst, arith, Option, Some, None, get_elem?, Bool, false, inr, ⊎_elim, ◌⊎◌, dite, ℕ_discrete, dec_le}
-use Rattle.fx_lasting.proofs.Words.{eq-eqb, ne_eqb, File, Event, State, held_by, with_removed, changed_at, changed_here, changed_else, Agrees}
-use Rattle.fx_lasting.proofs.Words.{NodeAgrees, OwnerAgrees, WorkAgrees, SlotAgrees, Names, IsSeated, HoldAgrees, GuardAgrees, MayBeUncharged}
-use Rattle.fx_lasting.proofs.Words.{IsAllowed, RangeCounts, Nodes, IsHistory, state_after_all, slots_of, nodes_of, range_at_start, slot_place}
-use Rattle.fx_lasting.proofs.Words.{word_of, hold_word_of, count_in, full_name_in, heat_in, IsHot, cold_takes, Deed, untouched, has_heated, owed}
-use Rattle.fx_lasting.proofs.Words.{taken_of, taking, held_in, held_of, if_file, sum_by, sum_set, Phase, free, placed, seated, leaving, owner}
-use Rattle.fx_lasting.proofs.Words.{file_in, removed_in, first_visit, Found, Work, Change, Idle, Retiring, length-set, Labels, Placement, written_in}
-use Rattle.fx_lasting.proofs.Words.{label_of, MOST_SLOTS, without_slot}
+use Rattle.fx_lasting.proofs.Words.{Round, refl, subst, arith, Some, None, Bool, false, Event, State, Names, Nodes, IsHot, Phase, owner, Found, Change, Labels}
+use Rattle.fx_lasting.proofs.Words.{StillNames, Whereabouts, List, OwnerAgrees, GuardAgrees, RangeCounts, hold_word_of, full_name_in, first_visit, without_slot}
+use Rattle.fx_lasting.proofs.Words.{removal_work, true, NamesItsNode, with_removed, changed_here, changed_else, MayBeUncharged, state_after_all, range_at_start}
+use Rattle.fx_lasting.proofs.Words.{alone_in, IsToVisit, new_round, get_elem?, IsAllowed, IsHistory, untouched, length-set, Placement, written_in, MOST_SLOTS}
+use Rattle.fx_lasting.proofs.Words.{inl, ℕ_discrete, changed_at, NodeAgrees, WorkAgrees, SlotAgrees, HoldAgrees, slot_place, cold_takes, has_heated, removed_in}
+use Rattle.fx_lasting.proofs.Words.{IsInside, held_by, IsSeated, slots_of, nodes_of, word_of, count_in, heat_in, taken_of, held_in, held_of, Retiring, label_of}
+use Rattle.fx_lasting.proofs.Words.{◌≡◌, ◌≢◌, ℕ, suc, ◌+◌, ◌-◌, ◌^◌, ◌<◌, ◌≤◌, [], set, sym, ap, ◌∙◌, inr, ◌⊎◌, dite, File, Deed, owed, free, Work, Idle}
+use Rattle.fx_lasting.proofs.Words.{length, Option, ⊎_elim, dec_le, eq-eqb, ne_eqb, Agrees, taking, if_file, sum_by, sum_set, placed, seated, leaving, file_in}
 use Rattle.fx_lasting.proofs.Counts.{tally_same, tally_none}
 use Rattle.fx_lasting.proofs.Histories.{Grows, each_changed}
 use Rattle.fx_lasting.proofs.Frames.{busy, does_now, slot_same, file_same, Leaves, keeps_other, guards_same, SlotGoesOn, sees_on, heats_on}
-use Rattle.fx_lasting.proofs.Keeping.{Turn, After, as_it_was, Homes, word_at, slot_word, sees_all, list_untouched, step_kept, w, end, its_log, in_range, labels_same}
+use Rattle.fx_lasting.proofs.Keeping.{Turn, After, as_it_was, Homes, word_at, slot_word, sees_all, list_untouched, step_kept, w, end, its_log, in_range}
+use Rattle.fx_lasting.proofs.Keeping.{labels_same}
 use Rattle.fx_lasting.proofs.Places.{slot_words, slot_here, slot_node, slot_else, slot_by, slot_hold, slot_list, slot_label, slot_alike}
 use Rattle.fx_lasting.proofs.node_lemmas.StockMoves.{StaysNamed}
 use Rattle.fx_lasting.proofs.slot_lemmas.Watching.{ActsThere, MovesOn, watch_none}

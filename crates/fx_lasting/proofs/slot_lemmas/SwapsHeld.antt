@@ -1,12 +1,11 @@
 -- A removal by a pass that holds the slot's file keeps the rule: the hold ends with the step, and
 -- the removal counts the takes without the pass's own.
-use Rattle.fx_lasting.proofs.Words.{◌≡◌, ℕ, ◌+◌, ◌-◌, ◌<◌, List, [], sym, refl, ap, ◌∙◌, subst, arith, Option, Some, None, none, some, keeps}
-use Rattle.fx_lasting.proofs.Words.{get_elem?, Closed, File, Event, Action, Release, Take, ◌▷◌, WorkAgrees, HoldsAt, node_of_number}
-use Rattle.fx_lasting.proofs.Words.{state_after_all, slots_of, slot_place, full_name_in, name_in, Names, taking, held_in, bit_here, bit_else, Counted}
-use Rattle.fx_lasting.proofs.Words.{Stepped, IsOffCount, account, range_at_start, step, IsInStock, as_swapped, first_log, empty_word_of}
-use Rattle.fx_lasting.proofs.Words.{without_file, SwapsHeld, TakesHeld, SwapsHeldKeep, TakesHeldKeep, Bool, true, false, Round, HoldsAlone, Guarded}
-use Rattle.fx_lasting.proofs.Words.{HoldAgrees, GuardAgrees, IsAllowed, Work, ⊎_elim, hold_word_of, guarded_round, first_visit, new_round}
-use Rattle.fx_lasting.proofs.Words.{leaving_work, is_guarding}
+use Rattle.fx_lasting.proofs.Words.{◌≡◌, HoldsAt, slots_of, name_in, held_in, bit_here, bit_else, Counted, Stepped, TakesHeld, IsAllowed, new_round, ℕ, ◌+◌}
+use Rattle.fx_lasting.proofs.Words.{◌-◌, ◌<◌, sym, ap, ◌∙◌, Some, None, none, some, File, Take, ◌▷◌, step, Bool, true, Work, List, WorkAgrees, full_name_in}
+use Rattle.fx_lasting.proofs.Words.{without_file, GuardAgrees, hold_word_of, first_visit, leaving_work, is_guarding, [], node_of_number, state_after_all}
+use Rattle.fx_lasting.proofs.Words.{range_at_start, empty_word_of, SwapsHeldKeep, TakesHeldKeep, guarded_round, refl, subst, arith, Option, keeps, Closed}
+use Rattle.fx_lasting.proofs.Words.{Event, Action, Names, taking, account, false, Round, Guarded, ⊎_elim, get_elem?, Release, slot_place, IsOffCount, IsInStock}
+use Rattle.fx_lasting.proofs.Words.{as_swapped, first_log, SwapsHeld, HoldsAlone, HoldAgrees}
 use Rattle.fx_lasting.proofs.node_lemmas.StockMoves.{names_a_node}
 use Rattle.fx_lasting.proofs.Histories.{legal_more, same_shape}
 use Rattle.fx_lasting.proofs.Frames.{busy}

@@ -1,7 +1,7 @@
 -- The words that a pass watches, after a step of its own or of another pass.
-use Rattle.fx_lasting.proofs.Words.{◌≡◌, ◌≢◌, ℕ, ◌<◌, ◌≤◌, ◌⊎◌, List, [], sym, refl, ◌∙◌, subst, arith, get_or, Event, IsSeenBy}
-use Rattle.fx_lasting.proofs.Words.{⊎_elim, inl, inr, true, heat_in, slot_place, question_place, slots_of, Start, Watch}
-use Rattle.fx_lasting.proofs.Words.{ActsAt, IsAsSeen, WatchAgrees, HasQuestionOf, seen_further, MOST_SLOTS, without_slot, ◌▷◌, Bool, Action, AnotherDid}
+use Rattle.fx_lasting.proofs.Words.{◌≡◌, ◌≢◌, ℕ, ◌<◌, ◌≤◌, ◌⊎◌, List, [], sym, refl, ◌∙◌, subst, arith, get_or, Event, IsSeenBy, ⊎_elim, inl, inr, true}
+use Rattle.fx_lasting.proofs.Words.{heat_in, slot_place, question_place, slots_of, Start, Watch, ActsAt, IsAsSeen, WatchAgrees, HasQuestionOf, seen_further}
+use Rattle.fx_lasting.proofs.Words.{MOST_SLOTS, without_slot, ◌▷◌, Bool, Action, AnotherDid}
 
 -- the pass of this number acted at the slot between two histories
 abbrev pub ActsThere : (number slot : ℕ) → List Event → List Event → Type 0

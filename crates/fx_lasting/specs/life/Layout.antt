@@ -1,6 +1,6 @@
 -- Where the words and the open files of a lasting table are.
-use Rattle.std.specs.Prelude.{◌≡◌, ◌≢◌, ℕ, ◌+◌, ◌-◌, ◌*◌, ◌/◌, ◌<◌, ◌≤◌, min, nat_lt}
-use Rattle.std.specs.Prelude.{if◌then◌else◌, zero, suc, List, [], ◌∷◌, ◌++◌}
+use Rattle.std.specs.Prelude.{◌≡◌, ◌≢◌, ℕ, ◌+◌, ◌-◌, ◌*◌, ◌/◌, ◌<◌, ◌≤◌, min, nat_lt, if◌then◌else◌}
+use Rattle.std.specs.Prelude.{zero, suc, List, [], ◌∷◌, ◌++◌}
 use Rattle.std.specs.List.{range_with_len}
 use Rattle.table_range.specs.Counts.{bit_of}
 use Rattle.table_range.specs.Groups.{question_place, group_place}

@@ -18,7 +18,7 @@ use Rattle.fx_lasting.specs.Laws.{IsInRange}
 use Rattle.fx_lasting.specs.declared.answers.FoundSlot.{FoundSlot}
 use Rattle.fx_lasting.specs.declared.answers.FoundSlot.TheVariants as found
 use Rattle.fx_lasting.specs.declared.answers.PutEmpty.{PutEmpty}
-use Rattle.fx_lasting.specs.declared.answers.PutEmpty.TheVariants.{Installed, HasFile, Lost}
+use Rattle.fx_lasting.specs.declared.answers.PutEmpty.TheVariants as empty
 use Rattle.fx_lasting.specs.declared.tried.TriedPut.{TriedPut}
 use Rattle.fx_lasting.specs.declared.tried.TriedPut.TheVariants.{At, Full as AllFull, Again}
 use Rattle.fx_lasting.specs.declared.pass.LastingPass.{LastingPass}
@@ -49,12 +49,12 @@ pub record WasLost (k : Start) (slot : ℕ) (p p' : LastingPass) : Type 0 where
 -- the file was installed at a slot of the range that was empty, or comes back. It comes back from a
 -- slot that was empty only if another pass changed the slot's word during the call
 abbrev pub HasPutEmpty : Start → LastingPass → ℕ → Identity → PutEmpty → LastingPass → Type 0
-HasPutEmpty k p slot file Installed p' = (new : File)
+HasPutEmpty k p slot file empty.Installed p' = (new : File)
     × IsNewFile (opening_of k) (view_of p) file new
     × Adds (opening_of k) (view_of p) ([] ▷ Allocate slot new) DoesNothing one_number (view_of p')
-HasPutEmpty k p slot file (HasFile back) p' =
+HasPutEmpty k p slot file (empty.Stale back) p' =
     (back ≡ file) × PutsNothing k (view_of p) slot true (view_of p')
-HasPutEmpty k p slot file (Lost back) p' =
+HasPutEmpty k p slot file (empty.Again back) p' =
     (back ≡ file) × PutsNothing k (view_of p) slot false (view_of p') × WasLost k slot p p'
 
 -- a slot of the range was empty after what was seen before, and within what is seen after

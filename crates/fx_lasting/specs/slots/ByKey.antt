@@ -19,7 +19,7 @@ use Rattle.fx_lasting.specs.declared.answers.Miss.{Miss}
 use Rattle.fx_lasting.specs.declared.answers.Miss.TheVariants as miss
 use Rattle.fx_lasting.specs.declared.key.Key.{Key}
 use Rattle.fx_lasting.specs.declared.key_answers.KeyFault.{KeyFault}
-use Rattle.fx_lasting.specs.declared.key_answers.KeyFault.TheVariants.{NoSlot, Empty, Other, Again}
+use Rattle.fx_lasting.specs.declared.key_answers.KeyFault.TheVariants.{NoSlot, Empty, Stale, Again}
 use Rattle.fx_lasting.specs.declared.pass.LastingPass.{LastingPass}
 use Rattle.fx_lasting.specs.declared.view.Start.{Start}
 
@@ -98,7 +98,7 @@ LookedByKey k v key (Err NoSlot) freed released w =
     (slots_of k ≤ key.slot) × (w ≡ v) × (freed ≡ None) × (released ≡ None)
 LookedByKey k v key (Err Empty) freed released w =
     LookedUp (opening_of k) v key.slot (Err EmptySlot) freed w × (released ≡ None)
-LookedByKey k v key (Err Other) freed released w = WasOther k v key freed released w
+LookedByKey k v key (Err Stale) freed released w = WasOther k v key freed released w
 LookedByKey k v key (Err Again) freed released w = ⊥
 
 -- the holder looked the file of the key up, and released it after the call's change
@@ -113,7 +113,7 @@ pub record HeldByKey (k : Start) (v : PassView) (key : Key) (hold : Hold)
 -- the reason why a call by key changed nothing, from that of its exchanges
 abbrev pub fault_for : Miss → KeyFault
 fault_for miss.Empty = Empty
-fault_for miss.Other = Other
+fault_for miss.Stale = Stale
 fault_for miss.Again = Again
 
 -- the holder had found the file of the key, and during the call the pass of the call found the
@@ -136,4 +136,4 @@ abbrev pub TriesKey : Start → PassView → Key → KeyFault → Option Identit
 TriesKey k vh key Again freed p p' = OvertakenByKey k vh key freed p p'
 TriesKey k vh key NoSlot freed p p' = Unit {0}
 TriesKey k vh key Empty freed p p' = Unit {0}
-TriesKey k vh key Other freed p p' = Unit {0}
+TriesKey k vh key Stale freed p p' = Unit {0}

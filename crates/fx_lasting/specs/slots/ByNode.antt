@@ -1,6 +1,6 @@
 -- The exchanges that empty or replace a slot while its word names the node of a held file.
-use Rattle.std.specs.Prelude.{◌≡◌, ◌≢◌, ℕ, ◌+◌, ◌<◌, List, [], Option, Some, None, Result}
-use Rattle.std.specs.Prelude.{Ok, Err, ◌⊎◌, ◌==◌, slice_set}
+use Rattle.std.specs.Prelude.{◌≡◌, ◌≢◌, ℕ, ◌+◌, ◌<◌, List, [], Option, Some, None, Result, Ok, Err}
+use Rattle.std.specs.Prelude.{◌⊎◌, ◌==◌, slice_set}
 use mathlib.Core.Option.{some, none}
 use prog.Atomic.{either}
 use Rattle.atomic_table.specs.Table.{step, Allows}
@@ -16,12 +16,11 @@ use Rattle.fx_lasting.specs.life.Layout.{slot_place}
 use Rattle.fx_lasting.specs.Passes.{Sat, node_of_number, state_after_all}
 use Rattle.fx_lasting.specs.Tables.{view_of, changes_at, meetings}
 use Rattle.fx_lasting.specs.nodes.Stocks.{IsInStock}
-use Rattle.fx_lasting.specs.Effects.{At, Sees, pass_in}
-use Rattle.fx_lasting.specs.Effects.{FindsChange, MeetsOne, slot_of}
+use Rattle.fx_lasting.specs.Effects.{At, Sees, pass_in, FindsChange, MeetsOne, slot_of}
 use Rattle.fx_lasting.specs.slots.Watches.{HasActed}
 use Rattle.fx_lasting.specs.declared.pass.LastingPass.{LastingPass}
 use Rattle.fx_lasting.specs.declared.answers.Miss.{Miss}
-use Rattle.fx_lasting.specs.declared.answers.Miss.TheVariants.{Empty, Other, Again}
+use Rattle.fx_lasting.specs.declared.answers.Miss.TheVariants.{Empty, Stale, Again}
 use Rattle.fx_lasting.specs.declared.answers.TakenIf.{TakenIf}
 use Rattle.fx_lasting.specs.declared.answers.TakenIf.TheVariants.{Removed, Missed}
 use Rattle.fx_lasting.specs.declared.view.Start.{Start}
@@ -33,7 +32,7 @@ IsOn k node f = node_of_number k f.number ≡ node
 -- a slot with this content is left as it is, for this reason
 abbrev pub FitsMiss : Start → ℕ → Miss → Option File → Type 0
 FitsMiss k node Empty there = there ≡ None
-FitsMiss k node Other there = (f : File) × (there ≡ Some f) × (IsOn k node f → ⊥)
+FitsMiss k node Stale there = (f : File) × (there ≡ Some f) × (IsOn k node f → ⊥)
 FitsMiss k node Again there = (f : File) × (there ≡ Some f) × IsOn k node f
 
 -- the slot was so at a moment after what was seen before, and within what is seen after
@@ -57,7 +56,7 @@ WasOvertaken k slot p p' = (changes_at slot p < changes_at slot p')
 abbrev pub HasTriedIf : Start → ℕ → Miss → LastingPass → LastingPass → Type 0
 HasTriedIf k slot Again p p' = WasOvertaken k slot p p'
 HasTriedIf k slot Empty p p' = Unit {0}
-HasTriedIf k slot Other p p' = Unit {0}
+HasTriedIf k slot Stale p p' = Unit {0}
 
 abbrev pub TriesTake : Start → ℕ → TakenIf → LastingPass → LastingPass → Type 0
 TriesTake k slot (Removed x) p p' = Unit {0}
@@ -67,7 +66,7 @@ TriesTake k slot (Missed miss) p p' = HasTriedIf k slot miss p p'
 abbrev pub SaysIf : ℕ → ℕ → Result ℕ Miss → Type 0
 SaysIf word node (Ok same) = (same ≡ word) × (full_name_in word ≡ node + 1)
 SaysIf word node (Err Empty) = full_name_in word ≡ 0
-SaysIf word node (Err Other) = (full_name_in word ≢ 0) × (full_name_in word ≢ node + 1)
+SaysIf word node (Err Stale) = (full_name_in word ≢ 0) × (full_name_in word ≢ node + 1)
 SaysIf word node (Err Again) = ⊥
 
 -- the slot was so when a pass made some steps
@@ -91,7 +90,7 @@ WasOvertakenIn slot m m' = FindsChange slot m m'
 abbrev pub FailedIf : Start → ℕ → ℕ → Miss → Sat → Sat → Type 0
 FailedIf k slot node Again m m' = WasOvertakenIn slot m m'
 FailedIf k slot node Empty m m' = WasIn k slot node Empty m m'
-FailedIf k slot node Other m m' = WasIn k slot node Other m m'
+FailedIf k slot node Stale m m' = WasIn k slot node Stale m m'
 
 -- the word that an exchange puts at a slot: a new one, or else the old one without its file
 abbrev pub word_put : Option ℕ → ℕ → ℕ

@@ -5,7 +5,6 @@ use mathlib.Core.Option.{some}
 use lib.ListN.{get_elem?}
 use Rattle.fx_plain.specs.History.{◌▷◌}
 use Rattle.fx_plain.specs.declared.event.File.{File}
-use Rattle.fx_plain.specs.declared.event.Action.{Action}
 use Rattle.fx_plain.specs.declared.event.Action.TheVariants.{Release, Take}
 use Rattle.fx_table.specs.Calls.{Adds, no_use}
 use Rattle.fx_table.specs.Opening.{Opening}
@@ -24,15 +23,14 @@ use Rattle.fx_lasting.specs.Effects.{At, Found, HasItsHold, NamesANode, Sees, St
 use Rattle.fx_lasting.specs.Effects.{as_swapped, leaving_work, pass_in, retiring_work, slot_of}
 use Rattle.fx_lasting.specs.declared.view.Start.{Start}
 
--- Swap, to the word of an empty slot that names a node of the stock, by a clear or by a take
-pub record SwapsOut (action : ℕ → Option File → Action)
-    (st : At) (m : Sat) (found : ℕ) (m' : Sat) : Type 0 where
+-- Swap, to the word of an empty slot that names a node of the stock
+pub record SwapsOut (st : At) (m : Sat) (found : ℕ) (m' : Sat) : Type 0 where
   pub file : Option File
   pub names : Found found file
   pub named : NamesANode m.0.start found
   pub stepped : (n entry : ℕ) → get_elem? (pass_in m).stock entry ≡ some n
       → st.first ≡ empty_word_of n
-      → Stepped (as_swapped entry (name_in found - 1) m) ([] ▷ action (slot_of st.word) file)
+      → Stepped (as_swapped entry (name_in found - 1) m) ([] ▷ Take (slot_of st.word) file)
       (retiring_work m.0.start found file) m.0.glance
       (account (range_at_start m.0.start) (slot_of st.word) file) m'
   pub carried : m'.1 ≡ m.1
@@ -63,17 +61,16 @@ pub record TakesHeld (st : At) (m : Sat) (found : ℕ) (m' : Sat) : Type 0 where
   pub loses : found ≢ st.first → Sees st m found m'
 
 -- a pass emptied a slot, whose word was this, and has this stock now
-pub record HasEmptied (k : Start) (action : ℕ → Option File → Action) (slot found : ℕ)
-    (stock : List ℕ) (m m' : Sat) : Type 0 where
+pub record HasEmptied (k : Start) (slot found : ℕ) (stock : List ℕ) (m m' : Sat)
+    : Type 0 where
   pub file : Option File
   pub names : Found found file
   pub its : IsStockOf k (pass_in m).number stock
-  pub runs : Runs (as_stocked stock m) ([] ▷ action slot file) (retiring_work k found file)
+  pub runs : Runs (as_stocked stock m) ([] ▷ Take slot file) (retiring_work k found file)
       m.0.glance (account (range_at_start k) slot file) 1 m'
 
 -- a call emptied a slot, and has the file that was there to retire
-abbrev pub HasRemoved : Opening → (ℕ → Option File → Action) → PassView → ℕ → Option Retired
-    → PassView → Type 0
-HasRemoved o action v slot None w = Adds o v ([] ▷ action slot None) DoesNothing no_use w
-HasRemoved o action v slot (Some x) w = (f : File) × IsFileRemoval o f x
-    × Adds o v ([] ▷ action slot (Some f)) (Retires f x) no_use w
+abbrev pub HasRemoved : Opening → PassView → ℕ → Option Retired → PassView → Type 0
+HasRemoved o v slot None w = Adds o v ([] ▷ Take slot None) DoesNothing no_use w
+HasRemoved o v slot (Some x) w = (f : File) × IsFileRemoval o f x
+    × Adds o v ([] ▷ Take slot (Some f)) (Retires f x) no_use w

@@ -1,6 +1,6 @@
 //! Closing a table, or letting it go.
-ghost use Rattle.std.specs.Prelude.{◌≡◌, ◌≤◌, ◌++◌, false, [], length, map, reverse};
-ghost use Rattle.std.specs.Prelude.{vec_len, vec_capacity, All};
+ghost use Rattle.std.specs.Prelude.{◌≡◌, ◌≤◌, ◌++◌, false, [], length, map, reverse, vec_len};
+ghost use Rattle.std.specs.Prelude.{vec_capacity, All};
 ghost use Rattle.fx_table.specs.Opening.{size_of};
 ghost use Rattle.fx_table.specs.Pass.{IsIdle};
 ghost use Rattle.fx_lasting.specs.life.Closing.{ClosesInto};

@@ -1,6 +1,6 @@
 //! Opening a table.
-ghost use Rattle.std.specs.Prelude.{◌≡◌, ℕ, ◌+◌, ◌<◌, ◌≤◌, [], length, map};
-ghost use Rattle.std.specs.Prelude.{All, IfOk, vec_len, vec_capacity};
+ghost use Rattle.std.specs.Prelude.{◌≡◌, ℕ, ◌+◌, ◌<◌, ◌≤◌, [], length, map, All, IfOk, vec_len};
+ghost use Rattle.std.specs.Prelude.{vec_capacity};
 ghost use Rattle.fx_plain.specs.State.{vacant};
 ghost use Rattle.fx_plain.specs.Contents.{state_of};
 ghost use Rattle.fx_table.specs.Opening.{lasting_opening, size_of};

@@ -5,8 +5,7 @@
 //! installation then needs neither a search nor a birth: the slot's word begins with as many takes
 //! as the node's word has lost, as if the next file had had them too. A call that needs a pass
 //! without a node settles first: it frees the node.
-ghost use Rattle.std.specs.Prelude.{◌≡◌, ◌+◌, ◌<◌, ◌≤◌, ℕ, ◌∷◌, [], true, false, Some};
-ghost use Rattle.std.specs.Prelude.{None, Bool};
+ghost use Rattle.std.specs.Prelude.{◌≡◌, ◌+◌, ◌<◌, ◌≤◌, ℕ, ◌∷◌, [], true, false, Some, None, Bool};
 ghost use mathlib.Core.Option.{some};
 ghost use lib.ListN.{get_elem?};
 ghost use Rattle.fx_base.specs.declared.open_file.Closed.{Closed};

@@ -30,7 +30,7 @@ impl LastingTable {
     /// number that no file has had, for an idle pass (`is_idle`) that installs files
     /// (`numbers_left`). It makes at most eight atomic steps more than the table has passes.
     /// Otherwise nothing changes, and the file comes back: the slot has a file, or another pass
-    /// changed its word during the call. A table with one pass never answers `Lost`.
+    /// changed its word during the call. A table with one pass never answers `Again`.
     pub fn put_empty(&self, pass: &mut LastingPass, slot: u32, file: OpenFile) -> PutEmpty
         requires fits { IsPassOfTable self.now pass.old }
         requires idle { IsIdle (view_of pass.old) }
@@ -42,7 +42,7 @@ impl LastingTable {
             steps_taken pass.new ≤ steps_taken pass.old + (passes + 8) }
     {
         if self.sees_file(&mut pass.seat, slot) {
-            return PutEmpty::HasFile(file);
+            return PutEmpty::Stale(file);
         }
         let stock = pass.stock.as_slice();
         let start = pass.next_entry;
@@ -56,7 +56,7 @@ impl LastingTable {
             pass.emptied.fill(slot);
             return PutEmpty::Installed;
         }
-        PutEmpty::Lost(self.take_out(&mut pass.seat, node))
+        PutEmpty::Again(self.take_out(&mut pass.seat, node))
     }
 
     // Reads whether the slot has a file, in one step.

@@ -17,7 +17,7 @@ impl LastingTable {
     /// the slot has another file, the pass releases that at once, and is idle again.
     ///
     /// # Errors
-    /// In `found`: `NoSlot`, `Empty`, or `Other` if the file at the slot isn't that of the key.
+    /// In `found`: `NoSlot`, `Empty`, or `Stale` if the file at the slot isn't that of the key.
     #[inline(always)]
     pub fn look_key(&self, pass: &mut LastingPass, key: Key) -> KeyLook
         requires fits { IsPassOfTable self.now pass.old }
@@ -53,7 +53,7 @@ impl LastingTable {
         }
         let released = self.release(pass, hold);
         KeyLook {
-            found: Err(KeyFault::Other),
+            found: Err(KeyFault::Stale),
             freed,
             released,
         }
@@ -66,7 +66,7 @@ pub(crate) fn fault_of(miss: Miss) -> KeyFault
 {
     match miss {
         Miss::Empty => KeyFault::Empty,
-        Miss::Other => KeyFault::Other,
+        Miss::Stale => KeyFault::Stale,
         Miss::Again => KeyFault::Again,
     }
 }

@@ -10,8 +10,8 @@
 ghost use Rattle.std.specs.Prelude.{◌≡◌, ℕ, ◌+◌, ◌<◌, ◌≤◌};
 ghost use Rattle.fx_words.specs.Words.{entry_in};
 ghost use Rattle.fx_lasting.specs.AtWork.{IsAtWork};
-ghost use Rattle.fx_lasting.specs.slots.ByNode.{SawIf, SaysIf};
-ghost use Rattle.fx_lasting.specs.slots.ByNode.{MayEmpty, MayExchange, TriedEmptying, SeesIfLost, TriedExchange, word_put};
+ghost use Rattle.fx_lasting.specs.slots.ByNode.{SawIf, SaysIf, MayEmpty, MayExchange};
+ghost use Rattle.fx_lasting.specs.slots.ByNode.{TriedEmptying, SeesIfLost, TriedExchange, word_put};
 ghost use Rattle.fx_lasting.specs.Fields.{count_in, full_name_in};
 ghost use Rattle.fx_lasting.specs.Effects.{pass_in};
 
@@ -141,7 +141,7 @@ pub(crate) fn named_by(word: u64, node: u32) -> Result<u64, Miss>
             if named == node {
                 Ok(word)
             } else {
-                Err(Miss::Other)
+                Err(Miss::Stale)
             }
         }
     }

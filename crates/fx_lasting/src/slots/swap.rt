@@ -37,7 +37,7 @@ impl LastingTable {
         requires off { IsOffCount self.now.table.shared.key slot seat.old.me.0.change }
         ensures table { seat.new.table_id ≡ seat.old.table_id }
         ensures places { seat.new.me.1 ≡ seat.old.me.1 }
-        ensures emptied { HasEmptied self.now.table.shared.key Take slot result
+        ensures emptied { HasEmptied self.now.table.shared.key slot result
             stock.new.items seat.old.me seat.new.me }
     {
         let shared = &self.table.shared;

@@ -1,5 +1,4 @@
-use Rattle.fx_lasting.proofs.Words.{◌≡◌, suc, ◌≤◌, ◌+◌, ◌-◌, ◌++◌, ◌∷◌, [], ℕ, List, length, ap, ◌∙◌, sym, arith, range_with_len}
-use Rattle.fx_lasting.proofs.Words.{length-range_with_len}
+use Rattle.fx_lasting.proofs.Words.{◌≡◌, suc, ◌≤◌, ◌+◌, ◌-◌, ◌++◌, ◌∷◌, [], ℕ, List, length, ap, ◌∙◌, sym, arith, range_with_len, length-range_with_len}
 use Rattle.fx_lasting.proofs.node_lemmas.FirstStocks.{row_more}
 use Rattle.fx_lasting.proofs.life.open.numbers_from.Goals as goal
 

@@ -1,5 +1,4 @@
-use Rattle.fx_lasting.proofs.Words.{◌≡◌, ◌+◌, ℕ, ap, ◌∙◌, subst, sym, arith, [], ◌▷◌, Look, None, Nothing, Cold, Hot, Runs, slot_of, full_name_in}
-use Rattle.fx_lasting.proofs.Words.{IsHot}
+use Rattle.fx_lasting.proofs.Words.{◌≡◌, ◌+◌, ℕ, ap, ◌∙◌, subst, sym, arith, [], ◌▷◌, Look, None, Nothing, Cold, Hot, Runs, slot_of, full_name_in, IsHot}
 use Rattle.fx_lasting.proofs.Calling.{slot_inside, slot_low}
 use Rattle.fx_lasting.proofs.Places.{slot_back}
 use Rattle.fx_lasting.proofs.Running.{runs_goes, no_name, its_name}

@@ -48,9 +48,9 @@ swap-found-requires c =
 pub returns-clause-emptied : goal.returns-clause-emptied
 returns-clause-emptied c =
     let a = (goal.at.returns-clause-emptied c).After-index in
-    by_swap c.requires.at.1 c.args.stock.now.items c.requires.stock Take c.args.slot c.swap-found.result c.swap-found.ensures.2
+    by_swap c.requires.at.1 c.args.stock.now.items c.requires.stock c.args.slot c.swap-found.result c.swap-found.ensures.2
     c.slot_place-place.ensures c.index.result.now c.args.entry c.node_named.result (there a) c.empty_word.ensures c.node_named.ensures
 
 pub returns-then-len-at-clause-emptied : goal.returns-then-len-at-clause-emptied
 returns-then-len-at-clause-emptied c =
-    by_removal c.requires.at.1 c.args.stock.now.items c.requires.stock Take c.args.slot c.fetch_and.result c.fetch_and.ensures.2 c.slot_place-place.ensures
+    by_removal c.requires.at.1 c.args.stock.now.items c.requires.stock c.args.slot c.fetch_and.result c.fetch_and.ensures.2 c.slot_place-place.ensures

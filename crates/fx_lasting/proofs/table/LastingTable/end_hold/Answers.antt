@@ -1,5 +1,5 @@
-use Rattle.fx_lasting.proofs.Words.{◌≡◌, ◌≢◌, ◌-◌, ◌<◌, ℕ, ap, ◌∙◌, subst, arith, refl, ne_eqb, [], Bool, Start, Runs, HasItsHold, leaving_work}
-use Rattle.fx_lasting.proofs.Words.{IsHot, heat_in, first_visit, Retiring, guarded_round, new_round, one_less, true, false, full_name_in, count_in, Round}
+use Rattle.fx_lasting.proofs.Words.{◌≡◌, ◌≢◌, ◌-◌, ◌<◌, ℕ, ap, ◌∙◌, subst, arith, refl, ne_eqb, [], Bool, Start, Runs, HasItsHold, leaving_work, IsHot, heat_in}
+use Rattle.fx_lasting.proofs.Words.{first_visit, Retiring, guarded_round, new_round, one_less, true, false, full_name_in, count_in, Round}
 use Rattle.fx_lasting.proofs.Calling.{hold_inside, hold_word}
 use Rattle.fx_lasting.proofs.hold_lemmas.EndingHold.{ends_hold_keep}
 use Rattle.fx_lasting.proofs.Running.{runs_goes, placed_none, runs_within}

@@ -1,5 +1,5 @@
-use Rattle.fx_lasting.proofs.Words.{◌≡◌, ℕ, ◌^◌, ◌∙◌, ap, sym, refl, subst, arith, bit_of, list_place, view_of, pass_of, false}
-use Rattle.fx_lasting.proofs.Words.{as_listed, Runs, Change, [], Doing, Adds, no_use, opening_of}
+use Rattle.fx_lasting.proofs.Words.{◌≡◌, ℕ, ◌^◌, ◌∙◌, ap, sym, refl, subst, arith, bit_of, list_place, view_of, pass_of, false, as_listed, Runs, Change, []}
+use Rattle.fx_lasting.proofs.Words.{Doing, Adds, no_use, opening_of}
 use Rattle.fx_lasting.proofs.Calling.{list_inside}
 use Rattle.fx_lasting.proofs.hold_lemmas.Listing.{lists_keep}
 use Rattle.fx_lasting.proofs.Passing.{adds_run, listed_seat, rests_on}

@@ -1,5 +1,5 @@
-use Rattle.fx_lasting.proofs.Words.{ℕ, [], ◌▷◌, subst, inl, inr, ⊎_elim, Work, Idle, Placing, Placement, Runs, Look, Some, Nothing, Cold}
-use Rattle.fx_lasting.proofs.Words.{HasAnnounced, MayAnnounce, announcing, guarding, rules, ◌≡◌, ◌+◌, ◌∙◌, full_name_in, IsHot, ap}
+use Rattle.fx_lasting.proofs.Words.{ℕ, [], ◌▷◌, subst, inl, inr, ⊎_elim, Work, Idle, Placing, Placement, Runs, Look, Some, Nothing, Cold, HasAnnounced}
+use Rattle.fx_lasting.proofs.Words.{MayAnnounce, announcing, guarding, rules, ◌≡◌, ◌+◌, ◌∙◌, full_name_in, IsHot, ap}
 use Rattle.fx_lasting.proofs.Calling.{hold_inside, hold_word, slot_inside}
 use Rattle.fx_lasting.proofs.hold_lemmas.HoldWords.{announces_keep}
 use Rattle.fx_lasting.proofs.hold_lemmas.Looking.{confirms_keep}

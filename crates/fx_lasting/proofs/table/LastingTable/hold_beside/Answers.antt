@@ -7,7 +7,7 @@ use Rattle.fx_lasting.specs.declared.tried.Taken.TheVariants as taken
 use Rattle.fx_lasting.proofs.Calling.{slot_inside}
 use Rattle.fx_lasting.proofs.Running.{does_then, listed_is, still_at_work, runs_goes, runs_within, stays_then, took, no_name, its_name}
 use Rattle.fx_lasting.proofs.hold_lemmas.Taking.{takes_beside_keep}
-use Rattle.fx_lasting.specs.slots.PutAlone.{Compared, HoldsBeside, aim_at}
+use Rattle.fx_lasting.specs.slots.ReplaceByKey.{Compared, HoldsBeside, aim_at}
 use Rattle.fx_lasting.proofs.table.LastingTable.hold_beside.Goals as goal
 
 pub fetch_add-word-requires : goal.fetch_add-word-requires

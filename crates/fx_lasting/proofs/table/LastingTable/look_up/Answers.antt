@@ -1,6 +1,6 @@
-use Rattle.fx_lasting.proofs.Words.{IsOnList, TableId, Start, LastingPass, IsPassOf, ◌≡◌, ℕ, ◌<◌, refl, ap, ◌∙◌, subst, arith, sym, true, false}
-use Rattle.fx_lasting.proofs.Words.{IsHot, Look, ◌▷◌, [], None, Hot, Cold, opening_of, view_of, pass_of, Adds, LookedAfter, LookedUp, no_use}
-use Rattle.fx_lasting.proofs.Words.{one_look, PassView, DoesNothing, Goes, Idle, slot_of, as_listed, Runs, Change, bit_of, list_place, ◌^◌}
+use Rattle.fx_lasting.proofs.Words.{IsOnList, TableId, Start, LastingPass, IsPassOf, ◌≡◌, ℕ, ◌<◌, refl, ap, ◌∙◌, subst, arith, sym, true, false, IsHot, Look}
+use Rattle.fx_lasting.proofs.Words.{◌▷◌, [], None, Hot, Cold, opening_of, view_of, pass_of, Adds, LookedAfter, LookedUp, no_use, one_look, PassView}
+use Rattle.fx_lasting.proofs.Words.{DoesNothing, Goes, Idle, slot_of, as_listed, Runs, Change, bit_of, list_place, ◌^◌}
 use Rattle.fx_lasting.specs.Tables.{IsSeatOfTable}
 use Rattle.fx_lasting.proofs.Calling.{list_inside, slot_inside, slot_low}
 use Rattle.fx_lasting.proofs.hold_lemmas.Listing.{lists_keep}

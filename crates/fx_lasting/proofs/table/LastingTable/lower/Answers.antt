@@ -1,5 +1,4 @@
-use Rattle.fx_lasting.proofs.Words.{◌≡◌, refl, ap, ◌∙◌, sym, subst, arith, uncounted, Inside, Change, group_of, group_at, range_at_start, true, Runs}
-use Rattle.fx_lasting.proofs.Words.{[]}
+use Rattle.fx_lasting.proofs.Words.{◌≡◌, refl, ap, ◌∙◌, sym, subst, arith, uncounted, Inside, Change, group_of, group_at, range_at_start, true, Runs, []}
 use Rattle.fx_lasting.proofs.Calling.{group_word, its_group}
 use Rattle.table_range.proofs.GroupSlots.{was_in, group_back}
 use Rattle.fx_lasting.proofs.range_lemmas.GroupSteps.{lowers_keep}

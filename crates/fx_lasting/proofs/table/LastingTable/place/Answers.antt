@@ -1,5 +1,5 @@
-use Rattle.fx_lasting.proofs.Words.{◌≡◌, ◌∙◌, ◌∷◌, ℕ, List, ap, sym, subst, arith, Bool, true, None, Option, Closed, some, get_or, Keeping, MayPlace, Unlabelled, Tag, tag_place}
-use Rattle.fx_lasting.proofs.Words.{Placing, as_written, label_of, ◌-◌, ◌+◌, [], read_at}
+use Rattle.fx_lasting.proofs.Words.{◌≡◌, ◌∙◌, ◌∷◌, ℕ, List, ap, sym, subst, arith, Bool, true, None, Option, Closed, some, get_or, Keeping, MayPlace}
+use Rattle.fx_lasting.proofs.Words.{Unlabelled, Tag, tag_place, Placing, as_written, label_of, ◌-◌, ◌+◌, [], read_at}
 use Rattle.fx_lasting.specs.Ends.{Does}
 use Rattle.fx_lasting.proofs.node_lemmas.Births.{births_keep}
 use Rattle.fx_lasting.proofs.Calling.{node_inside, node_word, few_nodes, tag_inside, tag_word}

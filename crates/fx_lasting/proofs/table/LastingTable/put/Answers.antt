@@ -1,6 +1,6 @@
-use Rattle.fx_lasting.proofs.Words.{◌-◌, get_elem?, some, set, pass_in, name_in, nodes_of, as_swapped, ◌≡◌, ℕ, ◌+◌, ◌<◌, refl, ap, ◌∙◌, subst, arith}
-use Rattle.fx_lasting.proofs.Words.{Put, numbered, ◌▷◌, [], slot_of, opening_of, view_of, pass_of, Runs, rest, retiring_work, doing_in, Start, Glance}
-use Rattle.fx_lasting.proofs.Words.{Outside, file_word_of, IsAtWork, Adds, one_number, account, range_at_start}
+use Rattle.fx_lasting.proofs.Words.{◌-◌, get_elem?, some, set, pass_in, name_in, nodes_of, as_swapped, ◌≡◌, ℕ, ◌+◌, ◌<◌, refl, ap, ◌∙◌, subst, arith, Put}
+use Rattle.fx_lasting.proofs.Words.{numbered, ◌▷◌, [], slot_of, opening_of, view_of, pass_of, Runs, rest, retiring_work, doing_in, Start, Glance, Outside}
+use Rattle.fx_lasting.proofs.Words.{file_word_of, IsAtWork, Adds, one_number, account, range_at_start}
 use Rattle.fx_lasting.proofs.Calling.{slot_inside, slot_low, begins_at, few_nodes}
 use Rattle.fx_lasting.proofs.Places.{slot_back}
 use Rattle.fx_lasting.proofs.Running.{still_at_work, runs_one, turns_then, swapped_then, at_swapped}

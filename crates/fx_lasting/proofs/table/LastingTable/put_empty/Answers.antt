@@ -1,5 +1,5 @@
-use Rattle.fx_lasting.proofs.Words.{alone_in, ◌<◌, nodes_of, inr, refl, sym, ap, ◌∙◌, subst, arith, [], Some, HasPlace, numbered, Start, Work}
-use Rattle.fx_lasting.proofs.Words.{Runs, rested, pass_in, true, false, no_use, one_number, SeesFile, label_of, as_written}
+use Rattle.fx_lasting.proofs.Words.{alone_in, ◌<◌, nodes_of, inr, refl, sym, ap, ◌∙◌, subst, arith, [], Some, HasPlace, numbered, Start, Work, Runs, rested}
+use Rattle.fx_lasting.proofs.Words.{pass_in, true, false, no_use, one_number, SeesFile, label_of, as_written}
 use Rattle.fx_lasting.proofs.Calling.{begins_at}
 use Rattle.fx_lasting.proofs.slot_lemmas.ByNode.{adds_none, was_further}
 use Rattle.fx_lasting.proofs.Passing.{adds_swapped, swapped_pass, swapped_rest, adds_so, at_rest, still_pass, its_place, its_flag, may_install}

@@ -1,10 +1,9 @@
-use Rattle.fx_lasting.proofs.Words.{[], ◌▷◌, refl, ◌∙◌, subst, arith, inl, Start, Doing, DoesNothing, Adds, no_use, one_look, opening_of, view_of, pass_of, Look, None, adds_then}
-use Rattle.fx_lasting.proofs.Words.{◌<◌, Closed, Glance, LastingPass, Option, Runs, Sat, TableId, MeetsMore, sym}
+use Rattle.fx_lasting.proofs.Words.{[], ◌▷◌, refl, ◌∙◌, subst, arith, inl, Start, Doing, DoesNothing, Adds, no_use, one_look, opening_of, view_of, pass_of}
+use Rattle.fx_lasting.proofs.Words.{Look, None, adds_then, ◌<◌, Closed, Glance, LastingPass, Option, Runs, Sat, TableId, MeetsMore, sym, IsSeatOf}
 use Rattle.fx_lasting.proofs.Calling.{slot_low}
 use Rattle.fx_lasting.proofs.Passing.{adds_so, at_ease, still_pass}
 use Rattle.fx_lasting.proofs.slot_lemmas.RenewalEnds.{frees_later, puts_before}
-use Rattle.fx_lasting.proofs.Words.{IsSeatOf}
-use Rattle.fx_lasting.specs.slots.PutAlone.{PutsAlone}
+use Rattle.fx_lasting.specs.slots.ReplaceByKey.{PutsAlone}
 use Rattle.fx_lasting.proofs.table.LastingTable.put_over_key.Goals as goal
 
 pub returns-in_default-clause-fits : goal.returns-in_default-clause-fits

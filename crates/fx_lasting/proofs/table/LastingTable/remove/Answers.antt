@@ -1,5 +1,5 @@
-use Rattle.fx_lasting.proofs.Words.{◌∙◌, ap, arith, Start, Bool, true, uncounted, group_of, range_at_start, IsAtWork, opening_of, view_of, pass_of}
-use Rattle.fx_lasting.proofs.Words.{Runs, Glance, Outside, as_stocked, retiring_work, ◌▷◌, [], subst, sym, refl, no_use, PassView, Take}
+use Rattle.fx_lasting.proofs.Words.{◌∙◌, ap, arith, Start, Bool, true, uncounted, group_of, range_at_start, IsAtWork, opening_of, view_of, pass_of, Runs}
+use Rattle.fx_lasting.proofs.Words.{Glance, Outside, as_stocked, retiring_work, ◌▷◌, [], subst, sym, refl, no_use, PassView, Take}
 use Rattle.fx_lasting.proofs.slot_lemmas.Removals.{adds_stocked, emptied_around, emptied_at_work, emptied_stock, stocked_pass}
 use Rattle.fx_lasting.proofs.Running.{still_at_work}
 use Rattle.fx_lasting.proofs.Passing.{its_idle, account_so, knows_removed, removed_so, first_by}
@@ -63,7 +63,7 @@ returns c =
           (c.raise.ensures.places ∙ (emptied.places ∙ (began.places ∙ s.places))) (refl, s.next)
           (knows_removed k found file removed _ _ _ _ c.settle.new.pass.next_entry stock
           c.settle.ensures.unkept is c.is_none-pass.ensures (c.first_visit-pass.ensures ∙ first_by c.args.self.now found));
-      removed = subst (λ (z : PassView). HasRemoved (opening_of k) Take z c.args.slot removed w) c.settle.ensures.same
-          (removed_so k v c.args.slot found w Take file removed is adds);
+      removed = subst (λ (z : PassView). HasRemoved (opening_of k) z c.args.slot removed w) c.settle.ensures.same
+          (removed_so k v c.args.slot found w file removed is adds);
       steps = let few = run.steps in let one = c.settle.ensures.steps in omega arith;
     }

@@ -1,14 +1,14 @@
-use Rattle.fx_lasting.proofs.Words.{◌-◌, [], refl, ap, ◌∙◌, subst, arith, inl, inr, alone_in, rested, label_of, as_written, Some, None}
-use Rattle.fx_lasting.proofs.Words.{Work, Runs, Closed, HasPlace, Start, full_name_in, count_in, retired_at, set, one_look, false}
+use Rattle.fx_lasting.proofs.Words.{◌-◌, [], refl, ap, ◌∙◌, subst, arith, inl, inr, alone_in, rested, label_of, as_written, Some, None, Work, Runs, Closed}
+use Rattle.fx_lasting.proofs.Words.{HasPlace, Start, full_name_in, count_in, retired_at, set, one_look, false, ◌≡◌, ◌≤◌, ◌∷◌, ℕ, List, Sat, pass_in, get_elem?}
+use Rattle.fx_lasting.proofs.Words.{some, most_carried, Placing, sym, File, HoldsBesides, Placement, is_some}
 use Rattle.std.specs.Vec.{with_item}
 use Rattle.fx_lasting.proofs.Calling.{slot_low}
-use Rattle.fx_lasting.proofs.Words.{◌≡◌, ◌≤◌, ◌∷◌, ℕ, List, Sat, pass_in, get_elem?, some, most_carried, Placing, sym, File, HoldsBesides, Placement, is_some}
 use Rattle.fx_lasting.proofs.node_lemmas.Labelling.{held_besides}
 use Rattle.fx_lasting.proofs.Passing.{adds_so, at_ease, charges_run, still_seat, still_pass, swapped_pass, knows_removed, first_by, lets_run}
 use Rattle.fx_lasting.proofs.Running.{looks_then, does_then, file_then, still_at_work}
 use Rattle.fx_lasting.proofs.range_lemmas.Trying.{stocked_at}
 use Rattle.fx_lasting.proofs.slot_lemmas.RenewalEnds.{frees_so, was_other, left, renews, swaps}
-use Rattle.fx_lasting.specs.slots.PutAlone.{IsBeside, RenewsAlone}
+use Rattle.fx_lasting.specs.slots.ReplaceByKey.{IsBeside, RenewsAlone}
 use Rattle.fx_lasting.proofs.table.LastingTable.renew.Goals as goal
 
 -- the pass works with the node that it holds and with its own

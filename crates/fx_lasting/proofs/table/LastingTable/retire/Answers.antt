@@ -1,7 +1,6 @@
-use Rattle.fx_lasting.proofs.Words.{false, Round, new_round, IsPassed, ◌/◌, ◌≡◌, ◌≢◌, ℕ, ◌+◌, ◌-◌, ◌*◌, ◌≤◌, refl, ◌∙◌, subst, arith, sym, inl, inr, ⊎_elim}
-use Rattle.fx_lasting.proofs.Words.{[], Some, File, Start, IsAtWork, Runs, Retiring, Sat, state_after_all, pass_in, TakesOut, HasPlace, At, Retires}
-use Rattle.fx_lasting.proofs.Words.{retirement_amount, Work, Goes, ap, Finishes, List, ◌▷◌, Close, TakenOut, opening_of, view_of, pass_of, Adds}
-use Rattle.fx_lasting.proofs.Words.{no_use, Doing}
+use Rattle.fx_lasting.proofs.Words.{false, Round, new_round, IsPassed, ◌/◌, ◌≡◌, ◌≢◌, ℕ, ◌+◌, ◌-◌, ◌*◌, ◌≤◌, refl, ◌∙◌, subst, arith, sym, inl, inr, ⊎_elim, []}
+use Rattle.fx_lasting.proofs.Words.{Some, File, Start, IsAtWork, Runs, Retiring, Sat, state_after_all, pass_in, TakesOut, HasPlace, At, Retires}
+use Rattle.fx_lasting.proofs.Words.{retirement_amount, Work, Goes, ap, Finishes, List, ◌▷◌, Close, TakenOut, opening_of, view_of, pass_of, Adds, no_use, Doing}
 use Rattle.fx_lasting.proofs.hold_lemmas.Rounds.{passed_by}
 use Rattle.fx_lasting.proofs.Calling.{node_inside, node_word}
 use Rattle.fx_lasting.proofs.hold_lemmas.Finishing.{finishes_keep}

@@ -1,5 +1,4 @@
-use Rattle.fx_lasting.proofs.Words.{◌≡◌, ◌≢◌, ◌≤◌, ◌<◌, ◌∙◌, ℕ, List, ap, sym, arith, get_elem?, get_or, some, pass_in, Sat, nodes_of, LastingTable}
-use Rattle.fx_lasting.proofs.Words.{IsAtWork}
+use Rattle.fx_lasting.proofs.Words.{◌≡◌, ◌≢◌, ◌≤◌, ◌<◌, ◌∙◌, ℕ, List, ap, sym, arith, get_elem?, get_or, some, pass_in, Sat, nodes_of, LastingTable, IsAtWork}
 use Rattle.fx_lasting.proofs.node_lemmas.Births.{seeks_keep}
 use Rattle.fx_lasting.proofs.node_lemmas.FreeNodes.{entry_is}
 use Rattle.fx_lasting.proofs.Calling.{node_inside, node_word, as_long, stock_inside, few_nodes}

@@ -1,6 +1,7 @@
-use Rattle.fx_lasting.proofs.Words.{ℕ, List, sym, IsStockOf, IsBetweenCalls, as_stocked, retiring_work, ◌-◌, ap, ◌∙◌, subst, arith, [], ◌▷◌, refl}
-use Rattle.fx_lasting.proofs.Words.{Release, Take, Some, Bool, true, uncounted, group_of, range_at_start, Start, Glance, Outside, Runs, full_name_in}
-use Rattle.fx_lasting.proofs.Words.{count_in, retired_at, opening_of, view_of, pass_of, Adds, no_use, Retired, File, Names, node_of_number, not, ◌≡◌}
+use Rattle.fx_lasting.proofs.Words.{ℕ, IsStockOf, as_stocked, uncounted, group_of, count_in, retired_at, opening_of, HasItsHold, HoldsAlone, IsAtWork, IsPassOf}
+use Rattle.fx_lasting.proofs.Words.{List, subst, arith, Release, Start, Outside, view_of, pass_of, no_use, Retired, Names, held_in, Change, Holding, TableId}
+use Rattle.fx_lasting.proofs.Words.{sym, ◌-◌, ap, ◌∙◌, [], ◌▷◌, refl, Take, Some, Bool, true, Runs, Adds, File, not, ◌≡◌, Ok, Sat, Work, ◌<◌, Hold}
+use Rattle.fx_lasting.proofs.Words.{IsBetweenCalls, retiring_work, range_at_start, Glance, full_name_in, node_of_number, is_guarding, leaving_work, LastingPass}
 use Rattle.fx_table.specs.declared.values.Doing.TheVariants.{Retiring as Retires}
 use Rattle.fx_lasting.proofs.slot_lemmas.ByNode.{stands_then, missed_so, tried_none, tried_so, value_so, removal_so}
 use Rattle.fx_lasting.proofs.slot_lemmas.HeldTries.{adds_held, emptied_held, held_flags, may_empty_held}
@@ -8,9 +9,7 @@ use Rattle.fx_lasting.proofs.slot_lemmas.SwapsHeld.{held_alone}
 use Rattle.fx_lasting.proofs.Passing.{at_rest, still_pass, holds_alone, knows_removed, first_by}
 use Rattle.fx_lasting.proofs.slot_lemmas.Removals.{at_stocked, adds_stocked, stocked_pass, stocked_then}
 use Rattle.fx_lasting.proofs.Running.{still_at_work, does_then, turns_then, number_is}
-use Rattle.fx_lasting.specs.slots.Alone.{TriedOutHeld}
-use Rattle.fx_lasting.proofs.Words.{HasItsHold, HoldsAlone, IsAtWork, Ok, Sat, Work, held_in, is_guarding, leaving_work}
-use Rattle.fx_lasting.proofs.Words.{◌<◌, Change, Glance, Holding, Hold, IsPassOf, LastingPass, Runs, TableId}
+use Rattle.fx_lasting.specs.slots.RemoveByKey.{TriedOutHeld}
 use Rattle.fx_lasting.proofs.Calling.{slot_low}
 use Rattle.fx_lasting.proofs.table.LastingTable.take_held.Goals as goal
 

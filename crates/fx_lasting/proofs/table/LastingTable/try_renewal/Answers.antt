@@ -1,10 +1,10 @@
-use Rattle.fx_lasting.proofs.Words.{ap, sym, subst, refl, arith, ◌∙◌, ◌+◌, ◌<◌, ◌^◌, List, ℕ, get_elem?, HoldsBesides, Start, Work, as_written, label_of, is_guarding}
-use Rattle.fx_lasting.proofs.Words.{Ok, SawIf}
+use Rattle.fx_lasting.proofs.Words.{ap, sym, subst, refl, arith, ◌∙◌, ◌+◌, ◌<◌, ◌^◌, List, ℕ, get_elem?, HoldsBesides, Start, Work, as_written, label_of}
+use Rattle.fx_lasting.proofs.Words.{is_guarding, Ok, SawIf}
 use Rattle.fx_lasting.proofs.Calling.{slot_low}
 use Rattle.fx_lasting.proofs.Running.{at_swapped, still_at_work}
 use Rattle.fx_lasting.proofs.slot_lemmas.RenewalTries.{its_hold, its_left, renewal_failed, renewal_missed, renewal_won, renewed_it}
 use Rattle.fx_lasting.proofs.slot_lemmas.Renewals.{replaces_held_keep}
-use Rattle.fx_lasting.specs.slots.PutAlone.{IsBeside}
+use Rattle.fx_lasting.specs.slots.ReplaceByKey.{IsBeside}
 use Rattle.fx_lasting.proofs.table.LastingTable.try_renewal.Goals.{After-see}
 use Rattle.fx_lasting.proofs.table.LastingTable.try_renewal.Goals as goal
 

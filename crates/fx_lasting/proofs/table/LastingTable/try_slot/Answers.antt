@@ -1,5 +1,5 @@
-use Rattle.fx_lasting.proofs.Words.{◌≡◌, ◌≢◌, ◌+◌, ◌<◌, ◌^◌, ap, ◌∙◌, sym, arith, rules, None, file_node_in, name_in, ℕ, ◌-◌, subst, slot_of, refl}
-use Rattle.fx_lasting.proofs.Words.{Inside, group_of, range_at_start, inl, inr, [], IsWatching}
+use Rattle.fx_lasting.proofs.Words.{◌≡◌, ◌≢◌, ◌+◌, ◌<◌, ◌^◌, ap, ◌∙◌, sym, arith, rules, None, file_node_in, name_in, ℕ, ◌-◌, subst, slot_of, refl, Inside}
+use Rattle.fx_lasting.proofs.Words.{group_of, range_at_start, inl, inr, [], IsWatching}
 use Rattle.table_range.proofs.GroupSlots.{in_range_so}
 use Rattle.fx_lasting.proofs.Calling.{slot_inside}
 use Rattle.fx_lasting.proofs.slot_lemmas.Seeing.{may_see}

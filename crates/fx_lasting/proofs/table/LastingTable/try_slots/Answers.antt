@@ -1,5 +1,5 @@
-use Rattle.fx_lasting.proofs.Words.{alone_in, inr, refl, ap, ◌∙◌, subst, arith, HasPlace, Some, Work, numbered, Runs, [], rested, no_use}
-use Rattle.fx_lasting.proofs.Words.{one_number, label_of, as_written, ◌<◌, Start, nodes_of}
+use Rattle.fx_lasting.proofs.Words.{alone_in, inr, refl, ap, ◌∙◌, subst, arith, HasPlace, Some, Work, numbered, Runs, [], rested, no_use, one_number, label_of}
+use Rattle.fx_lasting.proofs.Words.{as_written, ◌<◌, Start, nodes_of}
 use Rattle.fx_lasting.proofs.Running.{still_at_work, does_then}
 use Rattle.fx_lasting.proofs.Passing.{adds_swapped, swapped_pass, swapped_rest, adds_so, at_rest, still_pass, its_place, its_flag, may_install}
 use Rattle.fx_lasting.proofs.range_lemmas.Trying.{placing_now, stocked_at, swapped_does}

@@ -1,8 +1,8 @@
-use Rattle.fx_lasting.proofs.Words.{◌≡◌, ℕ, ap, sym, ◌∙◌, inr, ⊎_elim, alone_in, as_written, label_of, rested, Runs, [], File, Counted, Guarded}
-use Rattle.fx_lasting.proofs.Words.{Closed, Sat, HasPlace, is_guarding, true, false, IsAtWork, LetsFileGo, None, Option, Some, Start, arith}
+use Rattle.fx_lasting.proofs.Words.{◌≡◌, ℕ, ap, sym, ◌∙◌, inr, ⊎_elim, alone_in, as_written, label_of, rested, Runs, [], File, Counted, Guarded, Closed, Sat}
+use Rattle.fx_lasting.proofs.Words.{HasPlace, is_guarding, true, false, IsAtWork, LetsFileGo, None, Option, Some, Start, arith}
 use Rattle.fx_lasting.proofs.Running.{file_then, runs_within, still_at_work}
 use Rattle.fx_lasting.proofs.node_lemmas.Labelling.{held_besides}
-use Rattle.fx_lasting.specs.slots.PutAlone.{IsBeside}
+use Rattle.fx_lasting.specs.slots.ReplaceByKey.{IsBeside}
 use Rattle.fx_lasting.proofs.table.LastingTable.unplace.Goals as goal
 
 -- the pass has the place of its own node

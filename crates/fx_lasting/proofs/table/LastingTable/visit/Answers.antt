@@ -1,5 +1,5 @@
-use Rattle.fx_lasting.proofs.Words.{◌≡◌, ℕ, ◌+◌, ◌≤◌, ◌∙◌, ap, sym, subst, arith, rules, refl, inl, dite, ℕ_discrete, Retiring, Runs, [], round_to, round_at, pass_at}
-use Rattle.fx_lasting.proofs.Words.{announced, hold_place, File, Round, Sat, Start, LastingTable}
+use Rattle.fx_lasting.proofs.Words.{◌≡◌, ℕ, ◌+◌, ◌≤◌, ◌∙◌, ap, sym, subst, arith, rules, refl, inl, dite, ℕ_discrete, Retiring, Runs, [], round_to, round_at}
+use Rattle.fx_lasting.proofs.Words.{pass_at, announced, hold_place, File, Round, Sat, Start, LastingTable}
 use Rattle.fx_lasting.proofs.Calling.{hold_inside, hold_word}
 use Rattle.fx_lasting.proofs.Places.{pass_back}
 use Rattle.fx_lasting.proofs.Running.{still_at_work, runs_goes, runs_within, does_then}

@@ -28,7 +28,7 @@ use Rattle.fx_lasting.specs.Runs.{Runs}
 use Rattle.fx_lasting.specs.Tables.{IsPassOf, IsSeatOf, opening_of, steps_taken, view_of}
 use Rattle.fx_lasting.specs.nodes.Labels.{label_of, as_written}
 use Rattle.fx_lasting.specs.nodes.Stocks.{IsInStock}
-use Rattle.fx_lasting.specs.slots.Alone.{LeftAlone}
+use Rattle.fx_lasting.specs.slots.RemoveByKey.{LeftAlone}
 use Rattle.fx_lasting.specs.slots.ByKey.{HoldsAtKey, IsKeyOf, LookedByKey}
 use Rattle.fx_lasting.specs.slots.ByNode.{FailedIf, WasIn}
 use Rattle.fx_lasting.specs.declared.answers.Miss.{Miss}

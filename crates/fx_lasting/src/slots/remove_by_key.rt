@@ -7,7 +7,7 @@ ghost use Rattle.std.specs.Prelude.{◌≡◌, ℕ, ◌+◌, ◌<◌, ◌≤◌,
 ghost use Rattle.fx_plain.specs.declared.event.File.{File};
 ghost use Rattle.fx_table.specs.Opening.{size_of};
 ghost use Rattle.fx_table.specs.Pass.{IsHoldOf, IsIdle};
-ghost use Rattle.fx_lasting.specs.slots.Alone.{HasTakenHeld, TakesAlone};
+ghost use Rattle.fx_lasting.specs.slots.RemoveByKey.{HasTakenHeld, TakesAlone};
 ghost use Rattle.fx_words.specs.Words.{entry_in};
 ghost use Rattle.fx_lasting.specs.AtWork.{IsAtWork};
 ghost use Rattle.fx_lasting.specs.Ends.{Does};

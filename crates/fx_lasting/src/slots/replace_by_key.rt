@@ -1,7 +1,8 @@
 //! The replacement by key. The pass places the new file, then holds the file at the slot and
 //! compares its number, so no other file is on that node. It holds it by a take, or at a hot slot
 //! by its hold word. Its hold ends with the step that puts the new file there, as that of a removal
-//! does (`slots/alone.rt`). So the pass keeps the old file's node, as after a replacement by slot.
+//! does (`slots/remove_by_key.rt`). So the pass keeps the old file's node, as after a replacement
+//! by slot.
 ghost use Rattle.std.specs.Prelude.{◌≡◌, ◌≢◌, ℕ, ◌+◌, ◌*◌, ◌<◌, ◌≤◌, [], true, false, Some, is_some};
 ghost use Rattle.fx_base.specs.declared.open_file.Closed.{Closed};
 ghost use Rattle.fx_plain.specs.declared.event.File.{File};
@@ -12,8 +13,8 @@ ghost use Rattle.fx_lasting.specs.AtWork.{IsAtWork, MayPlace};
 ghost use Rattle.fx_lasting.specs.Effects.{IsOnList};
 ghost use Rattle.fx_lasting.specs.Ends.{LetsFileGo};
 ghost use Rattle.fx_lasting.specs.Passes.{held_in, HoldsOn, is_guarding};
-ghost use Rattle.fx_lasting.specs.slots.PutAlone.{AimedAt, Compared, HoldsBeside, IsBeside, PutsAlone, aim_at};
-ghost use Rattle.fx_lasting.specs.slots.PutAlone.{Renews, TriedRenewal};
+ghost use Rattle.fx_lasting.specs.slots.ReplaceByKey.{AimedAt, Compared, HoldsBeside, IsBeside, PutsAlone, aim_at};
+ghost use Rattle.fx_lasting.specs.slots.ReplaceByKey.{Renews, TriedRenewal};
 ghost use Rattle.fx_lasting.specs.Tables.{view_of, MeetsMore, steps_taken, opening_of_table, IsPassOfTable, IsSeatOfTable};
 ghost use Rattle.table_range.specs.declared.views.Change.TheVariants.{Outside};
 ghost use Rattle.fx_lasting.specs.declared.view.Glance.TheVariants.{None as Nothing, Cold};
@@ -161,7 +162,7 @@ impl LastingTable {
             }
             Taken::Other(node) => {
                 let (file, released) = self.unplace(&mut pass.seat, number, guarded, own, node);
-                return Renewal::Ends(PutOverKey::Missed(KeyFault::Other, file), released);
+                return Renewal::Ends(PutOverKey::Missed(KeyFault::Stale, file), released);
             }
             Taken::Moved(node) => {
                 let file = self.take_out(&mut pass.seat, own);
