@@ -1,23 +1,18 @@
 """The crates of crates.txt, and how long their proofs take, by scripts/seconds.txt.
 
-crates measure [CRATE..]: measures the CPU seconds of crates, each proved by one job from nothing, and of their tests, and writes them to
-scripts/seconds.txt, and the minutes of the pages (bench/write-tables). It works in a copy of the repository that reuses the proved crates
-below. Without CRATE it measures all: about two hours.
+crates measure: writes the processor seconds of the crates that scripts/lanes.py has proved, by its log, to scripts/seconds.txt, and the minutes
+of the pages (bench/write-tables). The seconds of tests are written by hand.
 crates progress LOG: prints on standard error how long the gate is expected to take here, and then once a minute how much of it is done, by
 its LOG, and how long the rest takes. Ends with the gate, or with the process that started this one."""
 import contextlib
 import os
 import re
-import resource
-import shutil
-import subprocess
 import sys
-import tempfile
 import time
 
-from scripts.repository import ROOT, files_of, read, read_bytes, write
+from scripts.repository import read, read_bytes, write
 
-FILE = "scripts/seconds.txt"
+FILE, VERDICTS = "scripts/seconds.txt", "build/verdicts.log"
 PROCESSORS = len(os.sched_getaffinity(0))
 # the seconds of a crate that was not measured
 UNMEASURED = 100
@@ -130,43 +125,17 @@ def show_progress(path):
             print(f"  after {estimate.minutes} min: {len(done & {*seconds})} of {len(seconds)} proved, {estimate.left(done)} left", file=sys.stderr, flush=True)
 
 
-def spent(folder, *words):
-    """Returns the processor seconds of a command, which must succeed."""
-    before = sum(resource.getrusage(resource.RUSAGE_CHILDREN)[:2])
-    ran = subprocess.run(words, cwd=folder, stdin=subprocess.DEVNULL, stdout=subprocess.PIPE, stderr=subprocess.STDOUT, text=True, check=False)
-    if ran.returncode:
-        sys.exit(f"{' '.join(words)} in {folder} ended with status {ran.returncode}:\n{ran.stdout[-2000:]}")
-    return round(sum(resource.getrusage(resource.RUSAGE_CHILDREN)[:2]) - before)
-
-
-def seconds_of(room, name, below):
-    """Returns the seconds of the crate's proof, and of its tests."""
-    folder = f"{room}/crates/{name}"
-    for it in below:
-        spent(f"{room}/crates/{it}", "rt", "lib", "--statements")
-    shutil.rmtree(f"{folder}/out", ignore_errors=True)
-    verb = ["run", "--", "--help"] if os.path.exists(f"{folder}/args") else ["run"]
-    proof = spent(folder, "rt", *(verb if os.path.exists(f"{folder}/src/main.rt") else ["lib", "--jobs", "1", "--statements"]))
-    has_tests = any("#[test]" in read(it) for it in files_of(name, "src"))
-    return proof, spent(folder, "rt", "check", "--test", "--jobs", "1") if has_tests else 0
-
-
-def measure(names):
+def measure():
     from bench import tables
 
-    below, known = crates(), measured()
-    with tempfile.TemporaryDirectory() as room:
-        for it in ("crates", "crates.txt", "HANDLES"):
-            subprocess.run(["cp", "-a", f"{ROOT}/{it}", room], check=True)
-        for name in names or below:
-            known[name] = seconds_of(room, name, below[name])
-            print(f"{name} {known[name][0]} {known[name][1]}", flush=True)
-            head = [it for it in read(FILE).splitlines() if it.startswith("#")]
-            write(FILE, "".join(f"{it}\n" for it in [*head, *(f"{it} {known[it][0]} {known[it][1]}" for it in below if it in known)]))
+    known = measured()
+    for name, seconds in re.findall(r"^== (\w+)\nlogic=.*\nseconds=(\d+)$", read(VERDICTS), re.MULTILINE):
+        known[name] = int(seconds), known.get(name, (0, 0))[1]
+    head = [it for it in read(FILE).splitlines() if it.startswith("#")]
+    write(FILE, "".join(f"{it}\n" for it in [*head, *(f"{it} {known[it][0]} {known[it][1]}" for it in crates() if it in known)]))
     tables.command()
 
 
 def command():
-    what, *words = sys.argv[1:]
     with contextlib.suppress(KeyboardInterrupt):
-        {"measure": lambda: measure(words), "progress": lambda: show_progress(*words)}[what]()
+        {"measure": measure, "progress": show_progress}[sys.argv[1]](*sys.argv[2:])

@@ -22,12 +22,11 @@ import tempfile
 import time
 
 from scripts import refusals
-from scripts.crates import PROCESSORS, UNMEASURED, Estimate, crates, measured, needed, static_libraries, weights
+from scripts.crates import PROCESSORS, UNMEASURED, VERDICTS, Estimate, crates, measured, needed, static_libraries, weights
 from scripts.proved import Gate, copy_crates, take_back
 from scripts.repository import ROOT, SOURCES, files_of, is_newer
 
 LOG = "build/program.log"
-VERDICTS = "build/verdicts.log"
 DONE_OF = re.compile(r"^(?:checked .*, |so far: )(\d+ of \d+)", re.MULTILINE)
 # the KiB of memory that each crate needs which is proved
 ROOM_OF_ONE = 4 << 20
@@ -63,9 +62,9 @@ def keep(folder, crate, name, began):
     os.replace(new, f"bin/{name}")
 
 
-def note_verdict(path, name, said):
+def note_verdict(path, name, said, *more):
     with open(path, "a", encoding="utf-8") as log:
-        log.write("\n".join([f"== {name}", *re.findall(r"^logic=.*", said, re.MULTILINE)[-1:], ""]))
+        log.write("\n".join([f"== {name}", *re.findall(r"^logic=.*", said, re.MULTILINE)[-1:], *more, ""]))
 
 
 class Job:
@@ -100,6 +99,13 @@ class Job:
         """Returns its progress in words."""
         done = DONE_OF.findall(self.said())
         return f"{self.name} {done[-1]} functions" if done else self.name
+
+    def has_ended(self):
+        """Checks whether it has ended, and notes its status and its processor seconds."""
+        ended, status, spent = os.wait4(self.process.pid, os.WNOHANG)
+        if ended:
+            self.process.returncode, self.seconds = os.waitstatus_to_exitcode(status), spent.ru_utime + spent.ru_stime
+        return bool(ended)
 
     def end(self):
         """Ends it, and the processes that it has started."""
@@ -166,7 +172,8 @@ class Lanes:
             self.tell("", "")
             refusals.main(job.path)
             return False
-        note_verdict(VERDICTS, job.name, job.said())
+        # those of a crate that was proved before say nothing
+        note_verdict(VERDICTS, job.name, job.said(), *([f"seconds={job.seconds:.0f}"] if self.estimate.seconds[job.name] else []))
         if job.name in self.roots:
             keep(f"crates/{job.name}", job.name, self.roots[job.name], self.began)
         os.remove(job.path)
@@ -189,7 +196,7 @@ class Lanes:
         while self.left or self.jobs:
             self.start()
             time.sleep(0.2)
-            for job in [it for it in self.jobs if it.process.poll() is not None]:
+            for job in [it for it in self.jobs if it.has_ended()]:
                 if not self.take(job):
                     return False
             # between two steps, so that none is left half done
