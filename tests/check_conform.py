@@ -42,7 +42,10 @@ closed r3.0 a.txt
 RANDOM_OF_KERNEL = 2_500
 # the number of cases that need a kernel with io_uring
 OF_KERNEL = 51
-RESULT = re.compile(r"( *)(ok|not ok) (\d+) (\S+)(?: # (XFAIL|SKIP) (.*))?")
+RESULT = r"(ok|not ok) (\d+) (\S+)(?: # (XFAIL|SKIP) (.*))?\n"
+HEAD, SCRIPT = re.compile(r"KTAP version 1\n(?:# .*\n)*1\.\.(\d+)\n"), re.compile(rf"((?:  # .*\n)*)  {RESULT}")
+# a rule with its scripts
+RULE = re.compile(rf"((?:# .*\n)*)  KTAP version 1\n  # Subtest: \S+\n  1\.\.(\d+)\n((?:{SCRIPT.pattern})*)((?:# .*\n)*){RESULT}")
 
 
 class Report:
@@ -52,45 +55,32 @@ class Report:
 
     def __init__(self, lines):
         self.results, self.subtests, self.shown, self.faults, self.text = {}, {}, set(), [], "\n".join(lines)
-        self.comments, self.plans, self.counts, self.kinds = [], {}, {}, {0: [], 2: []}
-        if not lines or lines[0] != "KTAP version 1":
-            self.faults.append("it doesn't begin as KTAP")
-        for line in lines:
-            self.take(line)
-        if self.plans.get(0, 0) != self.counts.get(0, 0) or not self.results:
-            self.faults.append("fewer rules than planned")
-        for begin, those in (("# scripts: ", self.kinds[2]), ("# Totals: ", self.kinds[0])):
-            wanted = begin + " ".join(f"{kind}:{those.count(kind)}" for kind in ("pass", "fail", "xfail", "skip"))
-            if wanted not in lines[-2:]:
-                self.faults.append(f"no line {wanted}")
+        text, self.kinds, rules = f"{self.text}\n", {0: [], 2: []}, 0
+        head = HEAD.match(text)
+        at = head.end() if head else 0
+        while found := RULE.match(text, at):
+            rules, at, scripts = rules + 1, found.end(), list(SCRIPT.finditer(found[3]))
+            for nth, it in enumerate(scripts, 1):
+                self.take(2, nth, *it.groups())
+            self.take(0, rules, found[10], *found.groups()[10:])
+            self.subtests[found[13]] = len(scripts)
+            if len(scripts) != int(found[2]):
+                self.faults.append(f"fewer scripts than planned: {found[13]}")
+        if not head or int(head[1]) != rules or not rules:
+            self.faults.append("it doesn't begin as KTAP, or has fewer rules than planned")
+        totals = (" ".join(f"{kind}:{self.kinds[of].count(kind)}" for kind in ("pass", "fail", "xfail", "skip")) for of in (2, 0))
+        wanted = "# scripts: {}\n# Totals: {}\n".format(*totals)
+        if text[at:] != wanted:
+            self.faults.append(f"the end is {text[at:][:200]!r}, and not {wanted!r}")
 
-    def take(self, line):
-        at = len(line) - len(line.lstrip(" "))
-        if plan := re.fullmatch(r" *1\.\.(\d+)", line):
-            self.plans[at], self.counts[at] = int(plan[1]), 0
-        elif found := RESULT.fullmatch(line):
-            self.take_result(at, line, *found.groups()[1:])
-        elif line.lstrip().startswith("# "):
-            self.comments.append(line.lstrip()[2:])
-        elif line.strip() != "KTAP version 1":
-            self.faults.append(f"no line of KTAP: {line}")
-
-    def take_result(self, at, line, result, nth, name, directive, words):
-        self.counts[at] = self.counts.get(at, 0) + 1
-        if at not in self.plans or int(nth) != self.counts[at]:
-            self.faults.append(f"a result out of turn: {line}")
-        # the result of a rule follows those of its scripts, and their plan has their number
-        if at == 0:
-            self.subtests[name] = self.counts.get(2, 0)
-            if self.plans.pop(2, None) != self.counts.pop(2, 0):
-                self.faults.append(f"fewer scripts than planned: {line}")
-        if directive and result != "ok":
-            self.faults.append(f"a result that is both expected and not ok: {line}")
-        self.kinds[at].append({"XFAIL": "xfail", "SKIP": "skip"}.get(directive, "pass" if result == "ok" else "fail"))
+    def take(self, of, turn, comments, result, nth, name, directive, words):
+        """Takes the result of a script or a rule."""
+        if int(nth) != turn or directive and result != "ok":
+            self.faults.append(f"a result out of turn, or both expected and not ok: {name}")
+        self.kinds[of].append({"XFAIL": "xfail", "SKIP": "skip"}.get(directive, "pass" if result == "ok" else "fail"))
         if directive == "XFAIL":
             self.shown |= set(words.split(", "))
-        self.results[name] = result == "ok", directive or "", self.comments
-        self.comments = []
+        self.results[name] = result == "ok", directive or "", [it.strip()[2:] for it in comments.splitlines()]
 
     def wrong(self):
         return {name for name, (is_ok, *_) in self.results.items() if not is_ok}
