@@ -24,9 +24,10 @@ def kept_numbers():
 
 
 def wrong_parts(name, left_out, kept):
-    """Returns the tools without which another number of cases was left out than tests/cases.txt has for this check and tool."""
+    """Returns the tools without which another number of cases was left out than tests/cases.txt has for this check and tool. An exact number
+    of cases has those that were left out too."""
     counts = {}
-    for count, tool in left_out:
+    for count, tool in left_out if kept.get(name, ("", 0))[0] else ():
         counts[tool] = counts.get(tool, 0) + count
     parts = {it: number for it, (_, number) in kept.items() if " without " in it}
     return [tool for tool, count in counts.items() if not any(f"{name} without {tool}".startswith(it) and count == parts[it] for it in parts)]

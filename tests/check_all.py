@@ -138,17 +138,6 @@ def check_bash(checks):
     checks.want((ran.returncode, ran.stdout) == (0, "# all: b\n# all: c\n"), f"want of tests/want.bash doesn't count what fails: {ran.stdout}")
 
 
-def check_parts(checks):
-    """The parts of check-bindings have the numbers of cases that are kept for each tool that they need."""
-    tools, found = [], {}
-    for word, rest in re.findall(r"^(needs|part) (.*)$", read(file_of("bindings")), re.MULTILINE):
-        tools = rest.split() if word == "needs" else tools
-        for tool in tools if word == "part" else ():
-            found[tool] = found.get(tool, 0) + int(rest.split()[0])
-    kept = {name.partition(" without ")[2]: number for name, (_, number) in kept_numbers().items() if name.startswith("bindings without ")}
-    checks.want(found == kept, f"tests/cases.txt has the parts of check-bindings {kept}, and not {found}")
-
-
 def check_must_spend(checks):
     """A checker that rejects nothing, or something else."""
     for said in ("", "src/lib.rt:1:1: error[linear-value-let-go]: `_lost` is let go, and `OpenFile` is not `Drop`\nerror[other]: more\n"):
@@ -197,7 +186,6 @@ def command():
     check_clauses(checks)
     check_all(checks)
     check_bash(checks)
-    check_parts(checks)
     check_must_spend(checks)
     check_layout(checks)
     return checks.end()
