@@ -63,6 +63,8 @@ pub struct Steps<'a> {
     pub packing: Packing,
     // The claims of each chain.
     chains: Vec<Vec<ClaimStep<'a>>>,
+    // The chains with a claim that only tests, the first one first.
+    testing: Vec<usize>,
     // Those of each slot, none of them counted.
     slots: Vec<Tally<'a>>,
     /// The number of claims.
@@ -86,6 +88,7 @@ impl<'a> Steps<'a> {
                 files: Vec::new(alloc),
             },
             chains: Vec::new(alloc),
+            testing: Vec::new(alloc),
             slots: Vec::new(alloc),
             count: 0,
         };
@@ -122,6 +125,9 @@ impl<'a> Steps<'a> {
             own.push(self.step_of(claim, (chain, k))?)?;
         }
         self.count = self.count.saturating_add(claims.len());
+        if claims.iter().any(is_test) {
+            self.testing.push(chain)?;
+        }
         self.chains.push(own)?;
         Ok(())
     }
@@ -248,7 +254,8 @@ impl<'a> Steps<'a> {
     /// Returns a chain whose next claim only tests and may be made, if `empty` slots of the
     /// allocation range are empty.
     pub(crate) fn test_of(&self, row: &[u16], empty: usize) -> Option<usize> {
-        (0..self.chains.len()).find(|chain| {
+        let mut testing = self.testing.iter().copied();
+        testing.find(|chain| {
             let step = self.next_of(row, *chain);
             step.is_some_and(|step| is_test(step.claim) && self.allows(row, &step, empty))
         })
