@@ -9,7 +9,7 @@ use crate::turns::{turn_at, waits};
 use check_search::Limits;
 use fx_base::{Closed, NoMemory};
 use fx_chain::Completion;
-use fx_order::Slots;
+use fx_order::{ChainAccess, Slots};
 
 // Returns the bytes that a state keeps of the answers and removed files on the way to it: of each
 // request its answer, the bytes of a read, and the files that it removed, each with its numbers in
@@ -21,14 +21,43 @@ fn weight_recorded(submission: &PlayedSubmission<'_>) -> usize {
     let mut weight = submission.chains.len().saturating_mul(32);
     for request in submission.requests {
         weight = weight
-            .saturating_add(request.weight().saturating_mul(56))
+            .saturating_add(request.weight().saturating_mul(60))
             .saturating_add(request.bytes_asked() as usize)
             .saturating_add(48);
     }
     weight
 }
 
-// The sizes that `room_for` counts. With another one it must be counted again.
+// Returns the bytes of a state. A slot takes 40, and its numbers in the key up to 24. A chain takes
+// 16 and 8. Beside them a state takes some 750: itself, the step that led to it, its key and the
+// key's place in the hash table, the heads of five blocks of memory, and the room that is left in
+// the list of one chain's answers. The lists of states, steps and keys may each have room for twice
+// as many.
+fn weight_of_state(submission: &PlayedSubmission<'_>) -> usize {
+    let slots = (submission.size as usize).saturating_mul(64);
+    let chains = submission.chains.len().saturating_mul(24);
+    slots
+        .saturating_add(chains)
+        .saturating_add(768)
+        .saturating_add(weight_recorded(submission))
+}
+
+// Returns the bytes of a report: each request's completion, of which a list may have room for twice
+// as many, and the bytes of a read, twice, since its text has two digits of each; each access in an
+// order, also twice, and the file that it removed; a slot's file; and some 500 beside them: itself,
+// the step that led to it, and the heads of four blocks of memory.
+fn weight_of_report(submission: &PlayedSubmission<'_>) -> usize {
+    let mut weight = (submission.size as usize).saturating_mul(40);
+    for request in submission.requests {
+        weight = weight
+            .saturating_add(request.weight().saturating_mul(216))
+            .saturating_add((request.bytes_asked() as usize).saturating_mul(2))
+            .saturating_add(104);
+    }
+    weight.saturating_add(512)
+}
+
+// The sizes that are counted. With another one it must be counted again.
 const _: () = prove!(size_of::<Option<Closed>>() == 40);
 
 const _: () = prove!(size_of::<Progress>() == 16);
@@ -37,28 +66,51 @@ const _: () = prove!(size_of::<PlayState>() == 104);
 
 const _: () = prove!(size_of::<Option<FoundStep>>() == 104);
 
-// Returns the largest number of states. A slot of a state takes 40 bytes, and its numbers in the
-// key up to 48. A chain takes 16 and 16. Beside them a state takes some 334: itself, the step that
-// led to it, its key and the key's place in the hash table, and the heads of five blocks of memory.
-// The lists of states, steps and keys may each have room for twice as many.
-fn room_for(submission: &PlayedSubmission<'_>, limits: Limits) -> usize {
-    let slots = (submission.size as usize).saturating_mul(88);
-    let chains = submission.chains.len().saturating_mul(32);
-    let weight = slots.saturating_add(chains).saturating_add(768);
-    let weight = weight.saturating_add(weight_recorded(submission));
-    limits
-        .states
-        .min(limits.bytes.checked_div(weight).unwrap_or(0))
+const _: () = prove!(size_of::<ChainAccess>() == 88);
+
+const _: () = prove!(size_of::<Completion>() == 40);
+
+// What a search may still keep: how many states, and bytes. An end is a state of which a report is
+// made.
+#[derive(Clone, Copy)]
+struct SearchRoom {
+    states: usize,
+    bytes: usize,
+    state: usize,
+    end: usize,
 }
 
-/// A search: what it found, the numbers of the states that it has still to look at, and how many
-/// states it may meet.
+// Returns the room of a search. Once the states are gone, a copy of each report may be kept.
+fn room_for(submission: &PlayedSubmission<'_>, limits: Limits) -> SearchRoom {
+    let state = weight_of_state(submission);
+    let report = weight_of_report(submission);
+    SearchRoom {
+        states: limits.states,
+        bytes: limits.bytes,
+        state,
+        end: report.saturating_add(report.max(state)),
+    }
+}
+
+impl SearchRoom {
+    // Takes the room of the state of a number from what is left. Returns false if there is none.
+    fn take(&mut self, number: usize, is_end: bool) -> bool {
+        let weight = if is_end { self.end } else { self.state };
+        let has_room = number < self.states && weight <= self.bytes;
+        if has_room {
+            self.bytes = self.bytes.saturating_sub(weight);
+        }
+        has_room
+    }
+}
+
+/// A search: what it found, the numbers of the states that it has still to look at, and its room.
 #[derive(Drop)]
 struct Search<'a> {
     submission: &'a PlayedSubmission<'a>,
     found: FoundStates,
     open: Vec<usize>,
-    most: usize,
+    room: SearchRoom,
 }
 
 impl Search<'_> {
@@ -67,7 +119,7 @@ impl Search<'_> {
     fn add(&mut self, state: PlayState, from: Option<FoundStep>) -> Result<bool, NoMemory> {
         let key = key_of(self.found.alloc, &state)?;
         let (number, is_new) = self.found.keys.insert_full(key)?;
-        if !is_new || number >= self.most {
+        if !is_new || !self.room.take(number, state.is_over(self.submission)) {
             return Ok(!is_new);
         }
         self.found.states.push(state)?;
@@ -146,7 +198,7 @@ impl Search<'_> {
     // Looks at the states that were met last first, so that ends are met early. Returns false if
     // there is no room for all.
     fn run(&mut self) -> Result<bool, NoMemory> {
-        for _ in 0..self.most {
+        for _ in 0..self.room.states {
             let Some(state) = self.open.pop() else {
                 return Ok(true);
             };
@@ -182,7 +234,7 @@ pub(crate) fn explore(
         submission,
         found: FoundStates::new(alloc, part_numbers(submission, slots)?),
         open: Vec::new(alloc),
-        most: room_for(submission, limits),
+        room: room_for(submission, limits),
     };
     search.run_from(slots)?;
     Ok(search.found)

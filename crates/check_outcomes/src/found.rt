@@ -98,9 +98,20 @@ fn push_way_report(key: &mut Vec<u32>, way_report: &WayReport) -> Result<(), NoM
     Ok(())
 }
 
+// Returns the largest number of numbers of a state's key: two of each chain, five of a file, and
+// one of an empty slot.
+fn key_room(state: &PlayState) -> usize {
+    let slots = &state.slots.at;
+    let at_slots = slots.iter().filter(|file| file.is_some()).count();
+    let files = at_slots.saturating_add(state.way_report.removed.len());
+    let chains = state.chains.len().saturating_mul(2);
+    let beside = chains.saturating_add(slots.len()).saturating_add(2);
+    files.saturating_mul(5).saturating_add(beside)
+}
+
 /// Returns a state in numbers.
 pub(crate) fn key_of(alloc: Global, state: &PlayState) -> Result<Vec<u32>, NoMemory> {
-    let mut key = Vec::new(alloc);
+    let mut key = Vec::with_capacity(alloc, key_room(state))?;
     for progress in &state.chains {
         key.push(number_of(progress.done))?;
         key.push(number_of(progress.made))?;

@@ -61,7 +61,7 @@ pub(crate) fn push_lists(
     let [own, more @ ..] = more else {
         return Ok(());
     };
-    let mut copy = Vec::new(alloc);
+    let mut copy = Vec::with_capacity(alloc, own.len())?;
     push_copies(alloc, &mut copy, own)?;
     all.push(copy)?;
     push_lists(alloc, all, more)
@@ -86,8 +86,11 @@ pub fn removed_after(
     ensures { IfOk result (λ after. IsPermutation
         (removed.now ++ option_to_list (file_removed_by access.now)) after.items) }
 {
-    let mut after = Vec::from_slice(alloc, removed)?;
-    if let Some(file) = access.removed() {
+    let file = access.removed();
+    let room = removed.len().saturating_add(usize::from(file.is_some()));
+    let mut after = Vec::with_capacity(alloc, room)?;
+    after.extend_from_slice(removed)?;
+    if let Some(file) = file {
         after.push(file)?;
     }
     sort_by_mark(&mut after);
@@ -119,7 +122,7 @@ impl WayReport {
         ensures { IfOk result (IsRecordedOn self.now i access.now (all_completed own.now)) }
     {
         let removed = removed_after(alloc, &self.removed, access)?;
-        let mut answers = Vec::new(alloc);
+        let mut answers = Vec::with_capacity(alloc, self.answers.len())?;
         push_lists(alloc, &mut answers, &self.answers)?;
         push_copies(alloc, &mut answers[i], own)?;
         Ok(WayReport { answers, removed })

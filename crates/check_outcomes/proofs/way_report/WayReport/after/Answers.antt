@@ -7,7 +7,7 @@ returns c =
     let before = c.args.self.now.answers.items in
     let all = c.push_lists.new.all.items in
     let lists : answers_of all ≡ answers_of before =
-    c.in_ok-push_lists.ensures ∙ (λ j. answers_of (c.new-answers.ensures.items j) ++ answers_of (c.deref-2.ensures.value j)) in
+    c.in_ok-push_lists.ensures ∙ (λ j. answers_of (c.in_ok-answers.ensures.items j) ++ answers_of (c.deref-2.ensures.value j)) in
     let many : length all ≡ length before =
     sym (length-map all (λ own. all_completed own.items)) ∙ ap length lists ∙ length-map before (λ own. all_completed own.items) in
     let within : c.args.i < length all = omega (arith, many, c.requires) in
