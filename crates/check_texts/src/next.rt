@@ -94,7 +94,7 @@ fn push_new(
     if !setting.keeps && has_ring(rings, &reached) {
         return Ok(());
     }
-    spent.count_ring(&reached);
+    spent.count_ring(setting, &reached);
     rings.push(reached)?;
     Ok(())
 }

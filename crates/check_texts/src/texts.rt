@@ -127,7 +127,7 @@ fn each_text(
         let Some((text, orders)) = text_at(setting.alloc, rests, way)? else {
             return Ok((texts, by, false));
         };
-        spent.count_text(text.len(), orders.len());
+        spent.count_text(text.len(), &orders);
         if texts.insert(text)? {
             by.push(orders)?;
         }

@@ -95,6 +95,12 @@ const RING_BYTES: usize = 400;
 // The bytes of one of its slots, in both lists.
 const SLOT_BYTES: usize = 80;
 
+// The bytes of a ring beside these, and of one of its slots, while the rings after its command are
+// looked up, and while the ways from there are counted: then there are two copies of its text, too.
+const PASSING_BYTES: usize = 448;
+
+const PASSING_SLOT_BYTES: usize = 64;
+
 // The bytes of an order, and of each of its accesses.
 const ORDER_BYTES: usize = 128;
 
@@ -106,10 +112,16 @@ const LAST_STATES: usize = 4_096;
 
 const LAST_BYTES: usize = 16 * 1_048_576;
 
-// The bytes of a text beside those printed, and of each of its orders.
-const TEXT_BYTES: usize = 80;
+// The bytes of a text for each of those that it prints: it may have room for twice as many, and so
+// may its lines in a list. Then those beside them, and of each of its orders, and of each access of
+// an order in the list.
+const TEXT_COPIES: usize = 4;
 
-const PLACE_BYTES: usize = 8;
+const TEXT_BYTES: usize = 256;
+
+const PLACE_BYTES: usize = 32;
+
+const LISTED_BYTES: usize = 12;
 
 // Returns the sum of some numbers, or the largest number.
 fn total(numbers: &[usize]) -> usize {
@@ -131,6 +143,9 @@ pub(crate) struct Spent {
     before: usize,
     /// The bytes of the rings after it, or of the texts.
     after: usize,
+    /// The bytes that the rings after it take for a time, and the most that those of a command did.
+    passing: usize,
+    most_passing: usize,
     /// The number of rings that are kept after it.
     rings: usize,
     /// The number of texts that are kept.
@@ -146,6 +161,8 @@ impl Spent {
             kept: 0,
             before: 0,
             after: 0,
+            passing: 0,
+            most_passing: 0,
             rings: 0,
             texts: 0,
         }
@@ -155,6 +172,8 @@ impl Spent {
     pub(crate) fn begin_command(&mut self) {
         self.before = self.after;
         self.after = 0;
+        self.most_passing = self.most_passing.max(self.passing);
+        self.passing = 0;
         self.rings = 0;
     }
 
@@ -171,10 +190,15 @@ impl Spent {
     }
 
     /// Counts a ring that is kept after a command, with its text.
-    pub(crate) fn count_ring(&mut self, reached: &Reached) {
-        let slots = reached.ring.slots.at.len().saturating_mul(SLOT_BYTES);
+    pub(crate) fn count_ring(&mut self, setting: &WalkSetting<'_>, reached: &Reached) {
+        let (slots, text) = (reached.ring.slots.at.len(), reached.printed.len());
+        let own = slots.saturating_mul(SLOT_BYTES);
         self.rings = self.rings.saturating_add(1);
-        self.after = total(&[self.after, slots, reached.printed.len(), RING_BYTES]);
+        self.after = total(&[self.after, own, text, RING_BYTES]);
+        if setting.keeps {
+            let passing = slots.saturating_mul(PASSING_SLOT_BYTES);
+            self.passing = total(&[self.passing, passing, text, text, PASSING_BYTES]);
+        }
     }
 
     /// Keeps an order of the next accepted submission at a ring, and counts its bytes. Returns its
@@ -203,23 +227,30 @@ impl Spent {
         Ok(index)
     }
 
-    /// Counts a text of `bytes` bytes with `orders` orders.
-    pub(crate) fn count_text(&mut self, bytes: usize, orders: usize) {
+    /// Counts a text of `bytes` bytes with the orders at these indices.
+    pub(crate) fn count_text(&mut self, bytes: usize, orders: &[usize]) {
+        let mut accesses = 0usize;
+        for index in orders {
+            if let Some(past) = self.orders.get(*index) {
+                accesses = accesses.saturating_add(past.order.len());
+            }
+        }
+        let own = bytes.saturating_mul(TEXT_COPIES);
+        let places = orders.len().saturating_mul(PLACE_BYTES);
+        let listed = accesses.saturating_mul(LISTED_BYTES);
         self.texts = self.texts.saturating_add(1);
-        let places = orders.saturating_mul(PLACE_BYTES);
-        self.after = total(&[self.after, bytes, places, TEXT_BYTES]);
+        self.after = total(&[self.after, own, places, listed, TEXT_BYTES]);
     }
 
-    // Returns the bytes that are kept.
+    // Returns the bytes that are kept, and those that rings take for a time.
     fn bytes(&self) -> usize {
-        total(&[self.kept, self.before, self.after])
+        let passing = self.most_passing.max(self.passing);
+        total(&[self.kept, self.before, self.after, passing])
     }
 
-    /// Checks whether one more text may be kept: the first one, and others in half of the bytes,
-    /// since a text that grows may have room for twice its bytes.
+    /// Checks whether one more text may be kept: the first one, and others while the bytes suffice.
     pub(crate) fn has_place(&self, limits: Limits) -> bool {
-        let twice = self.after.saturating_mul(2);
-        self.texts == 0 || self.kept.saturating_add(twice) < limits.bytes
+        self.texts == 0 || self.kept.saturating_add(self.after) < limits.bytes
     }
 
     /// Checks whether more rings may be kept after a command: if none is, at least a few.
