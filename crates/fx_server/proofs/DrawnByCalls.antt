@@ -16,7 +16,6 @@ use Rattle.fx_table.specs.declared.values.LookFault.{LookFault}
 use Rattle.fx_table.specs.declared.values.LookFault.TheVariants.{Empty as EmptySlot, Spent}
 use Rattle.fx_table.specs.declared.values.Retired.{Retired}
 use Rattle.fx_lasting.specs.slots.ByKey.{HeldByKey, LookedByKey}
-use Rattle.fx_lasting.specs.nodes.Labels.{number_of_mark}
 use Rattle.fx_lasting.specs.Tables.{opening_of}
 use Rattle.fx_lasting.specs.declared.key.Key.{Key}
 use Rattle.fx_lasting.specs.declared.key_answers.KeyFault.{KeyFault}
@@ -66,16 +65,10 @@ installed_in h (e ∷ more) f (inl was) = elim (installed_in h more f was) [
 installed_in h (e ∷ more) f (inr is) = inr (inr is)
 
 pub was_there : {v w : PassView} → AddsNone v w → (f : File) → IsInstalled w.own f → IsInstalled v.own f
-was_there {v} none f it = elim (installed_in v.own none.grows.since f (subst (λ (own : List Event). IsInstalled own f) none.grows.own it)) [
-  | inl was ↦ was
-  | inr bad ↦ absurd (none.none f bad)
-]
+was_there none f it = grind (arith, installed_in)
 
 was_or_new : {v w : PassView} {new : File} → AddsOne v w new → (f : File) → IsInstalled w.own f → IsInstalled v.own f ⊎ (f ≡ new)
-was_or_new {v} one f it = elim (installed_in v.own one.grows.since f (subst (λ (own : List Event). IsInstalled own f) one.grows.own it)) [
-  | inl was ↦ inl was
-  | inr is ↦ inr (one.only f is)
-]
+was_or_new one f it = grind (arith, installed_in)
 
 abbrev pub grows_then : {a b c : PassView} → Grows a b → Grows b c → Grows a c
 grows_then {a} one two = record {
@@ -192,12 +185,10 @@ key_none k v key (Err fault.Again) freed released w it = absurd it
 
 -- the number of a file that a worker made
 pub number_of_new : (new : File) (tag number : ℕ) → new.identity ≡ file_with tag number → number_of_file new ≡ number
-number_of_new new tag number is =
-    let its : number_of_mark (file_with tag number).mark ≡ number = omega arith in ap (λ (it : Identity). number_of_mark it.mark) is ∙ its
+number_of_new new tag number is = grind arith
 
 later : (installing place draws number : ℕ) → WasDrawn installing place draws number → WasDrawn installing place (suc draws) number
-later installing place draws number (inl none) = inl none
-later installing place draws number (inr (low, (draw, earlier, is))) = inr (low, (draw, omega (arith, earlier), is))
+later installing place draws number h5 = grind arith
 
 module _ (installing place : ℕ) (some : installing ≤ MOST_INSTALLING) (low : 1 ≤ place) (w w' : TableWorker) (d : DrawsItsNumbers installing place w) where
   next_is : w.numbers.next ≡ number_drawn installing place d.draws
@@ -241,12 +232,7 @@ module _ (installing place : ℕ) (some : installing ≤ MOST_INSTALLING) (low :
   -- a new file with a number that no earlier one has
   with_one : (new : File) → ((f : File) → IsInstalled (its_pass w).own f → number_of_file new ≢ 0 → number_of_file f ≢ number_of_file new)
       → (f g : File) → IsInstalled (its_pass w).own f ⊎ (f ≡ new) → IsInstalled (its_pass w).own g ⊎ (g ≡ new) → number_of_file f ≢ 0 → number_of_file f ≡ number_of_file g → f ≡ g
-  with_one new fresh f g (inl f_in) (inl g_in) is same = d.files.apart f g f_in g_in is same
-  with_one new fresh f g (inl f_in) (inr g_is) is same =
-      let its : number_of_file f ≡ number_of_file new = same ∙ ap number_of_file g_is in absurd (fresh f f_in (λ zero'. is (its ∙ zero')) its)
-  with_one new fresh f g (inr f_is) (inl g_in) is same =
-      let its : number_of_file g ≡ number_of_file new = sym same ∙ ap number_of_file f_is in absurd (fresh g g_in (λ zero'. is (same ∙ (its ∙ zero'))) its)
-  with_one new fresh f g (inr f_is) (inr g_is) is same = f_is ∙ sym g_is
+  with_one new fresh f g h5 h6 is same = grind arith
 
   pub installs : (new : File) → AddsOne (its_pass w) (its_pass w') new → number_of_file new ≡ w.numbers.next → w'.numbers ≡ after_draw w.numbers
       → DrawsItsNumbers installing place w'

@@ -5,7 +5,7 @@ use Rattle.fx_plain.specs.Laws.{IsInstalled, IsStart, installed_by}
 use Rattle.fx_plain.specs.State.{State}
 use Rattle.fx_plain.specs.Step.{Allows, after}
 use Rattle.fx_plain.specs.declared.event.Action.{Action}
-use Rattle.fx_plain.specs.declared.event.Action.TheVariants.{Clear, Look, Put, Take}
+use Rattle.fx_plain.specs.declared.event.Action.TheVariants.{Look}
 use Rattle.fx_plain.specs.declared.event.Event.{Event}
 use Rattle.fx_plain.specs.declared.event.File.{File}
 use Rattle.fx_server.specs.EndsOfKeys.{KeysEndOnce, file_leaving}
@@ -21,18 +21,10 @@ pub record IsPast (n : ℕ) (st : State) : Type 0 where
   nowhere : (slot : ℕ) (f : File) → slot < st.size → st.at slot ≡ Some f → f.number ≢ n
 
 apart_after : (st : State) (a : Action) → Allows st a → AreApart st → AreApart (after st a)
-apart_after st (Look slot None) may apart = apart
-apart_after st _ may apart = record {
-  distinct = λ s t g h low_s low_t at_s at_t same. grind (arith, apart.distinct, apart.used);
-  used = λ s g low at_s. grind (arith, apart.used);
-}
+apart_after st a may apart = grind arith
 
 past_after : (n : ℕ) (st : State) (a : Action) → Allows st a → IsPast n st → IsPast n (after st a)
-past_after n st (Look slot None) may past = past
-past_after n st _ may past = record {
-  used = grind (arith, past.used);
-  nowhere = λ s g low at_s same. grind (arith, past.used, past.nowhere);
-}
+past_after n st a may past = grind arith
 
 past_all : (n : ℕ) (start : State) (h more : List Event) → AllowsAll start (map action_of (more ++ h)) → IsPast n (state_after start (map action_of h))
     → IsPast n (state_after start (map action_of (more ++ h)))
@@ -54,10 +46,7 @@ record WasAt (st : State) (f : File) : Type 0 where
   there : st.at slot ≡ Some f
 
 was_at : (st : State) (a : Action) (f : File) → Allows st a → file_leaving a ≡ Some f → WasAt st f
-was_at st (Put slot new replaced) f may is = record { slot = slot; low = may.0; there = sym may.2 ∙ is }
-was_at st (Clear slot found) f may is = record { slot = slot; low = may.0; there = sym may.1 ∙ is }
-was_at st (Take slot found) f may is = record { slot = slot; low = may.0; there = sym may.1 ∙ is }
-was_at st _ f may is = cc
+was_at st a f may is = grind arith
 
 -- its number is past from then on
 past_now : (st : State) (a : Action) (f : File) → Allows st a → file_leaving a ≡ Some f → AreApart st → IsPast f.number (after st a)
@@ -69,8 +58,7 @@ past_now st _ f may is apart = record {
 
 -- a file at a slot was there before, or is installed
 installed_step : (st : State) (a : Action) (slot : ℕ) (f : File) → (after st a).at slot ≡ Some f → (st.at slot ≡ Some f) ⊎ (installed_by a ≡ Some f)
-installed_step st (Look s None) slot f is = inl is
-installed_step st _ slot f is = grind arith
+installed_step st a slot f is = grind arith
 
 -- if the table was opened empty, it was installed
 pub installed_at : (start : State) (h : List Event) (slot : ℕ) (f : File) → ((s : ℕ) → start.at s ≡ None) → AllowsAll start (map action_of h)

@@ -25,9 +25,7 @@ of_pass (e ∷ h) f (inr is) = record { pass = e.pass; there = grind arith }
 -- two draws of one number are one
 pub one_draw : (installing place draw draws number : ℕ) → installing ≤ MOST_INSTALLING → 1 ≤ place → draw < draws → number ≢ 0
     → number ≡ number_drawn installing place draw → number ≡ number_drawn installing place draws → ⊥
-one_draw installing place draw draws number some low earlier is one other =
-    let same = (numbers_once installing place place draw draws some low low (λ none. is (one ∙ none)) (sym one ∙ other)).1 in
-    omega (arith, earlier, same)
+one_draw installing place draw draws number some low earlier is one other = grind (arith, numbers_once)
 
 pub own_numbers : FilesHaveTheirOwnNumbers
 own_numbers installing h some each f g f_in g_in is same =

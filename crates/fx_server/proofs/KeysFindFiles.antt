@@ -31,7 +31,7 @@ use Rattle.fx_server.specs.Files.{file_with}
 use Rattle.fx_server.specs.FilesNumbers.{DrawsItsNumbers, HaveDrawnNumbers, KeepsItsNumbers, number_of_file}
 use Rattle.fx_server.specs.KeysFindFiles.{AKeyFindsItsFile, FilesInUseHaveTheirNumbers, AreExportCalls, IsInUse, ReturnsKey, inserts, replaces_at, replaces, puts_empty}
 use Rattle.fx_server.specs.Outcomes.{IsDone}
-use Rattle.fx_server.specs.Workers.{hold_in, its_opening, its_pass, its_start}
+use Rattle.fx_server.specs.Workers.{its_opening, its_pass, its_start}
 use Rattle.fx_server.specs.declared.answers.CoreOutcome.{CoreOutcome}
 use Rattle.fx_server.specs.declared.codes.TheConstants.{DONE}
 use Rattle.fx_server.specs.Worker.{TableWorker}
@@ -65,8 +65,7 @@ module _ (slots installing : ℕ) (opened : List TableWorker) (now : ℕ → Tab
   its_part place low = subst (λ (n : ℕ). part_of_pass n h ≡ (its_pass (now place)).own) (its_number place low) (use'.parts place low).own
 
   no_part : (pass : ℕ) → part_of_pass pass h ≡ [] → (draws : ℕ) × HaveDrawnNumbers installing pass draws (part_of_pass pass h)
-  no_part pass none = let empty : (f : File) → IsInstalled (part_of_pass pass h) f → ⊥ = λ f it. subst (λ (l : List Event). IsInstalled l f) none it in
-      (0, record { drawn = λ f it. absurd (empty f it); apart = λ f g f_in g_in. absurd (empty f f_in) })
+  no_part pass none = grind arith
 
   each : (pass : ℕ) → (draws : ℕ) × HaveDrawnNumbers installing pass draws (part_of_pass pass h)
   each zero = no_part zero (use'.authors zero (inl refl))
@@ -119,10 +118,7 @@ found_installed start (e ∷ h) f empty may (inr is) =
 
 -- a pass that looked a slot up has found the file that it holds
 looked_found : (o : Opening) (v w : PassView) (slot : ℕ) (hold : Hold) (out : Option Identity) (f : File) → LookedUp o v slot (Ok hold) out w → w.doing ≡ Holding f hold → HasFound w.own f
-looked_found o v w slot hold None f it holds = let same : it.0 ≡ f = cc (sym it.2.now ∙ holds) in
-    subst (λ (own : List Event). HasFound own f) (sym it.2.own) (inr (slot, ap (λ (z : File). Look slot (Some z)) same))
-looked_found o v w slot hold (Some file) f it holds = let same : it.2.0 ≡ f = cc (sym it.2.2.now ∙ holds) in
-    subst (λ (own : List Event). HasFound own f) (sym it.2.2.own) (inr (slot, ap (λ (z : File). Look slot (Some z)) same))
+looked_found o v w slot hold out f it holds = grind arith
 
 -- the file that a call installed which returned this key
 tried_makes : (w w' : TableWorker) (tag number slot : ℕ) (result : TriedPut) → tried_code result ≡ pos slot → UsesIfTried w result number w'
@@ -164,17 +160,7 @@ record Got (u : TableWorker) (key : Key) (tag : ℕ) (u' : TableWorker) : Type 0
   its_tag : (f : File) → (its_pass u').doing ≡ Holding f hold → tag ≡ f.identity.tag
 
 got : (u u' : TableWorker) (key : Key) (answer : ℤ) (out : CoreOutcome) → GetsAs u key answer out u' → answer ≡ DONE → Got u key out.tag u'
-got u u' key answer out it is = elim it.found [
-  | inl (held, _, found, looks) ↦ record {
-    hold = hold_in held;
-    freed = looks.freed;
-    released = looks.released;
-    looked = looks.looked;
-    its_tag = λ f holds. (found.label f holds).0;
-  }
-  | inr (inl none) ↦ absurd (no_fault none.why answer none.its_answer (0, is))
-  | inr (inr refused) ↦ absurd (cc (sym refused.2.0 ∙ is))
-]
+got u u' key answer out it is = grind (arith, no_fault)
 
 pub finds_its_file : AKeyFindsItsFile
 finds_its_file slots installing opened now h w w' u u' tag key answer out use' made returns gets gets_as is =
