@@ -31,23 +31,7 @@ pub one_less : (word : ℕ) → 0 < count_in word → (full_name_in (word - 1) �
     × (count_in (word - 1) + 1 ≡ count_in word) × (entry_in (word - 1) ≡ entry_in word)
 one_less word some = (same_full_name (word - 1) word (omega arith) (omega arith), omega arith, omega arith, omega arith)
 
--- the word of a slot with a file
-pub name_made : (node entry : ℕ) → entry < 2 ^ 8 → name_in (file_word_of node entry) ≡ node + 1
-name_made node entry small = omega arith
-
-pub full_name_made : (node entry : ℕ) → entry < 2 ^ 8 → full_name_in (file_word_of node entry) ≡ node + 1
-full_name_made node entry small = when_full (file_word_of node entry) (omega arith) ∙ name_made node entry small
-
-pub file_entry_made : (node entry : ℕ) → entry < 2 ^ 8 → entry_in (file_word_of node entry) ≡ entry
-file_entry_made node entry small = omega arith
-
-pub file_takes_made : (node entry : ℕ) → count_in (file_word_of node entry) ≡ 0
-file_takes_made node entry = omega arith
-
-pub file_heat_made : (node entry : ℕ) → heat_in (file_word_of node entry) ≡ 0
-file_heat_made node entry = omega arith
-
--- that word, if it begins with some takes
+-- the word of a slot with a file, if it begins with some takes
 pub name_carried : (node entry lost : ℕ) → entry < 2 ^ 8 → lost ≤ most_carried → name_in (file_word_of node entry + lost) ≡ node + 1
 name_carried node entry lost small few = omega arith
 
