@@ -1,7 +1,6 @@
 //! The results of the exchanges that change a slot if its file is on a node, of the call that fills
 //! an empty slot, and of the search for one.
 use fx_base::OpenFile;
-use fx_table::Retired;
 
 /// The reason why a slot was left as it was, by exchanges that empty or replace it if its file is
 /// on a node.
@@ -13,15 +12,6 @@ pub enum Miss {
     Stale,
     /// The file at the slot was on the node, but the slot's word changed during the call.
     Again,
-}
-
-/// The result of exchanges that empty a slot if its file is on a node. It must be consumed: the
-/// compiler rejects a program that drops one.
-pub enum TakenIf {
-    /// The file was removed, and is to be retired.
-    Removed(Retired),
-    /// Nothing was changed.
-    Missed(Miss),
 }
 
 /// The result of a call that installs a file at a slot if it is empty. It must be consumed: the

@@ -4,12 +4,10 @@ use Rattle.fx_lasting.proofs.Words.{◌+◌, ◌≤◌, [], sym, refl, ap, ◌�
 use Rattle.fx_lasting.proofs.Words.{full_name_in, entry_in, count_in, Names, Start, Sat, At, Work, Glance, Change, Outside, Runs, Stepped, Sees, retired_at}
 use Rattle.fx_lasting.proofs.Words.{slot_of, pass_in, state_after_all, node_of_number, account, uncounted, is_in, group_of, TableId, LastingPass, IsPassOf}
 use Rattle.fx_lasting.proofs.Words.{opening_of, view_of, pass_of, Result, Ok, Err, seen_further, Adds, no_use, IsIdle, IsFileRemoval, Doing, DoesNothing}
-use Rattle.fx_lasting.proofs.Words.{Retired, FitsMiss, WasSo, WasIn, SaysIf, SawIf, FailedIf, HasTriedIf, Miss, meetings, changes_at, changes_in, inl}
+use Rattle.fx_lasting.proofs.Words.{Retired, FitsMiss, WasSo, WasIn, SaysIf, SawIf, FailedIf, HasTriedIf, Miss, meetings, changes_at, changes_in}
 use Rattle.fx_lasting.proofs.slot_lemmas.Overtaking.{overtaken_by}
 use Rattle.fx_lasting.proofs.Running.{swapped_then, at_swapped, number_is, stock_is, still_at_work, runs_one, runs_then, runs_goes, runs_within, does_then}
 use Rattle.fx_lasting.specs.Ends.{Does}
-use Rattle.fx_lasting.specs.slots.ByNode.{TriedEmptying, TriedExchange}
-use Rattle.fx_lasting.specs.Laws.{Kind}
 use Rattle.fx_lasting.specs.declared.answers.Miss.TheVariants.{Empty, Stale, Again}
 use Rattle.fx_lasting.proofs.Passing.{adds_so}
 
@@ -142,12 +140,6 @@ pub with_stock : {m m' : Sat} {l : List ℕ} {xs : List Action} {w : Work} {g : 
     → Runs (as_stocked l m) xs w g c n m'
 with_stock {m} {m'} {l} {xs} {w} {g} {c} {n} its r = let same : Runs (as_stocked (pass_in m).stock m) xs w g c n m' = assumption r in
     subst (λ (z : List ℕ). Runs (as_stocked z m) xs w g c n m') (sym its) same
-
--- exchanges that left the name at the slot
-pub left_so : (leaves swaps : Kind) (k : Start) (slot node : ℕ) (stock : List ℕ) (m m' : Sat) (r : Result ℕ Miss)
-    → TriedExchange leaves k slot node None m r m' → TriedEmptying leaves swaps k slot node stock stock m r m'
-left_so leaves swaps k slot node stock m m' (Ok word) w = inl (refl, w)
-left_so leaves swaps k slot node stock m m' (Err miss) it = (it.0, it.1, refl, it.2)
 
 module _ {st : At} {m m₁ m₂ : Sat} {found n : ℕ} (still : Does m [] m.0.work n m₁) (few : n + 1 ≤ 4) (saw : Sees st m₁ found m₂) where
   pub lost_run : Does m [] m.0.work 4 m₂

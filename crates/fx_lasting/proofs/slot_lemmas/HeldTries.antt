@@ -13,7 +13,8 @@ use Rattle.fx_lasting.proofs.slot_lemmas.Watching.{acted_further}
 use Rattle.fx_lasting.specs.slots.RemoveByKey.{TriedOutHeld, LeftAlone}
 use Rattle.fx_lasting.specs.Ends.{Does}
 use Rattle.fx_lasting.specs.Laws.{Kind}
-use Rattle.fx_lasting.specs.slots.ByNode.{MayEmpty, TriedEmptying, TriedExchange, WonExchange}
+use Rattle.fx_lasting.specs.nodes.Stocks.{IsInStock}
+use Rattle.fx_lasting.specs.slots.ByNode.{MayExchange, TriedExchange, WonExchange}
 use Rattle.fx_lasting.proofs.slot_lemmas.SwapsHeld.{swaps_held_keep, takes_held_keep}
 use Rattle.fx_lasting.specs.slots.SwapSteps.{SwapsHeld, TakesHeld}
 use Rattle.fx_lasting.specs.declared.answers.Miss.TheVariants as reason
@@ -43,8 +44,9 @@ module _ {k : Start} {p : ℕ} {m : Sat} (at : IsAtWork k p m) (stock : List ℕ
     )
 
   -- it left the name
-  pub left_held : (word : ℕ) (m' : Sat) → TriedExchange TakesHeld k slot node None m (Ok word) m' → TriedOutHeld k slot node stock m (Ok word) m' × (m'.1 ≡ m.1)
-  left_held word m' w =
+  pub left_held : (r : Result ℕ Miss) (m' : Sat) → TriedExchange TakesHeld k slot node None m r m' → TriedOutHeld k slot node stock m r m' × (m'.1 ≡ m.1)
+  left_held (Err miss) m' it = ((it.0, it.1, its), it.2)
+  left_held (Ok word) m' w =
       let start = begun_at at w.still in
       let z = w.last.wins f node (holds_still w.before w.still) w.first in
       let run = runs_within (omega arith) (acts_then w.still (subst (λ (y : Start × ℕ × Bool). Acts w z.0 z.1 w.before 1 y.0 y.1 w.before.0.glance y.2)
@@ -69,24 +71,15 @@ module _ {k : Start} {p : ℕ} {m : Sat} (at : IsAtWork k p m) (stock : List ℕ
         z.4 ∙ w.places,
       )
 
-  -- it did one of the two
-  pub emptied_held : (r : Result ℕ Miss) (now : List ℕ) (m' : Sat) → TriedEmptying TakesHeld SwapsHeld k slot node stock now m r m'
-      → TriedOutHeld k slot node now m r m' × (m'.1 ≡ m.1)
-  emptied_held (Ok word) now m' tried = ⊎_elim
-      (λ w. subst (λ (l : List ℕ). TriedOutHeld k slot node l m (Ok word) m' × (m'.1 ≡ m.1)) (sym w.0) (left_held word m' w.1))
-      (λ w. subst (λ (l : List ℕ). TriedOutHeld k slot node l m (Ok word) m' × (m'.1 ≡ m.1)) (sym w.3)
-      (moved_held w.0 (empty_word_of w.0) w.1 word m' w.2 refl w.4)) tried
-  emptied_held (Err miss) now m' it = ((it.0, it.1, it.2 ∙ its), it.3)
+  -- it may do either
+  pub may_leave_held : slot < slots_of k → IsOffCount k slot m.0.change → MayExchange TakesHeld k slot node None m
+  may_leave_held inside off slots id old tries m' still places named = takes_held_keep _ slots id _ slot old _ node f m' _ (still_at_work at still).pass
+      (subst (λ (w : Work). HoldsAlone w f node) (sym still.work) works) named inside (still.change ∙ off) refl refl
 
-  -- it may empty the slot so
-  pub may_empty_held : slot < slots_of k → IsOffCount k slot m.0.change → MayEmpty TakesHeld SwapsHeld k slot node m
-  may_empty_held inside off = record {
-    left = λ slots id old tries m' still places named. takes_held_keep _ slots id _ slot old _ node f m' _ (still_at_work at still).pass
-        (subst (λ (w : Work). HoldsAlone w f node) (sym still.work) works) named inside (still.change ∙ off) refl refl;
-    swapped = λ own has slots id old tries m' still places named. let now = still_at_work at still in
-        swaps_held_keep _ slots id _ slot own old _ node f m' _ now.pass (subst (λ (w : Work). HoldsAlone w f node) (sym still.work) works) named inside
-        (still.change ∙ off) (has.0, ap (λ (l : List ℕ). get_elem? l has.0) (sym (stock_is now) ∙ still.stock) ∙ has.1) refl refl;
-  }
+  pub may_move_held : slot < slots_of k → IsOffCount k slot m.0.change → (own : ℕ) → IsInStock (pass_in m).stock own → MayExchange SwapsHeld k slot node (Some (empty_word_of own)) m
+  may_move_held inside off own has slots id old tries m' still places named = let now = still_at_work at still in
+      swaps_held_keep _ slots id _ slot own old _ node f m' _ now.pass (subst (λ (w : Work). HoldsAlone w f node) (sym still.work) works) named inside
+      (still.change ∙ off) (has.0, ap (λ (l : List ℕ). get_elem? l has.0) (sym (stock_is now) ∙ still.stock) ∙ has.1) refl refl
 
 -- a pass that holds a file, and has done nothing more
 pub adds_held : {id : TableId} {k : Start} {p : LastingPass} {f : File} {hold : Hold} → IsPassOf id k p → (view_of p).doing ≡ Holding f hold → {m' : Sat}

@@ -1,28 +1,25 @@
 -- The exchanges that empty or replace a slot while its word names the node of a held file.
 use Rattle.std.specs.Prelude.{◌≡◌, ◌≢◌, ℕ, ◌+◌, ◌<◌, List, [], Option, Some, None, Result, Ok, Err}
-use Rattle.std.specs.Prelude.{◌⊎◌, ◌==◌, slice_set}
-use mathlib.Core.Option.{some, none}
+use Rattle.std.specs.Prelude.{◌⊎◌, ◌==◌}
+use mathlib.Core.Option.{none}
 use prog.Atomic.{either}
 use Rattle.atomic_table.specs.Table.{step, Allows}
-use lib.ListN.{get_elem?}
 use Rattle.fx_plain.specs.History.{IsSeenBy}
 use Rattle.fx_plain.specs.declared.event.Event.{Event}
 use Rattle.fx_plain.specs.declared.event.File.{File}
+use Rattle.fx_table.specs.declared.values.Retired.{Retired}
 use Rattle.fx_lasting.specs.Ends.{Does}
-use Rattle.fx_lasting.specs.Fields.{empty_word_of, full_name_in, without_file}
+use Rattle.fx_lasting.specs.Fields.{full_name_in, without_file}
 use Rattle.fx_lasting.specs.Agrees.{Agrees}
 use Rattle.fx_lasting.specs.Laws.{Kind}
 use Rattle.fx_lasting.specs.life.Layout.{slot_place}
 use Rattle.fx_lasting.specs.Passes.{Sat, node_of_number, state_after_all}
 use Rattle.fx_lasting.specs.Tables.{view_of, changes_at, meetings}
-use Rattle.fx_lasting.specs.nodes.Stocks.{IsInStock}
 use Rattle.fx_lasting.specs.Effects.{At, Sees, pass_in, FindsChange, MeetsOne, slot_of}
 use Rattle.fx_lasting.specs.slots.Watches.{HasActed}
 use Rattle.fx_lasting.specs.declared.pass.LastingPass.{LastingPass}
 use Rattle.fx_lasting.specs.declared.answers.Miss.{Miss}
 use Rattle.fx_lasting.specs.declared.answers.Miss.TheVariants.{Empty, Stale, Again}
-use Rattle.fx_lasting.specs.declared.answers.TakenIf.{TakenIf}
-use Rattle.fx_lasting.specs.declared.answers.TakenIf.TheVariants.{Removed, Missed}
 use Rattle.fx_lasting.specs.declared.view.Start.{Start}
 
 -- the file is on the node
@@ -58,9 +55,9 @@ HasTriedIf k slot Again p p' = WasOvertaken k slot p p'
 HasTriedIf k slot Empty p p' = Unit {0}
 HasTriedIf k slot Stale p p' = Unit {0}
 
-abbrev pub TriesTake : Start → ℕ → TakenIf → LastingPass → LastingPass → Type 0
-TriesTake k slot (Removed x) p p' = Unit {0}
-TriesTake k slot (Missed miss) p p' = HasTriedIf k slot miss p p'
+abbrev pub TriesTake : Start → ℕ → Result Retired Miss → LastingPass → LastingPass → Type 0
+TriesTake k slot (Ok x) p p' = Unit {0}
+TriesTake k slot (Err miss) p p' = HasTriedIf k slot miss p p'
 
 -- a slot's word names the node, or says why the slot is left as it is
 abbrev pub SaysIf : ℕ → ℕ → Result ℕ Miss → Type 0
@@ -128,22 +125,3 @@ abbrev pub TriedExchange : Kind → Start → ℕ → ℕ → Option ℕ → Sat
 TriedExchange kind k slot node new m (Ok word) m' = WonExchange kind slot node new m word m'
 TriedExchange kind k slot node new m (Err miss) m' =
     FailedIf k slot node miss m m' × Does m [] m.0.work 4 m' × (m'.1 ≡ m.1)
-
--- a pass may empty the slot by such exchanges: by steps of one kind, which leave the name at the
--- slot, and by steps of another one, after which the slot names a node of the pass's stock
-pub record MayEmpty (leaves swaps : Kind) (k : Start) (slot node : ℕ) (m : Sat) : Type 0 where
-  pub left : MayExchange leaves k slot node None m
-  pub swapped : (own : ℕ) → IsInStock (pass_in m).stock own
-      → MayExchange swaps k slot node (Some (empty_word_of own)) m
-
--- a pass that tried to empty a slot by such steps: it had the stock `before`, and has this stock
--- now
-abbrev pub TriedEmptying : (leaves swaps : Kind) → Start → (slot node : ℕ)
-    → (before stock : List ℕ) → Sat → Result ℕ Miss → Sat → Type 0
-TriedEmptying leaves swaps k slot node before stock m (Ok word) m' =
-    ((stock ≡ before) × TriedExchange leaves k slot node None m (Ok word) m')
-    ⊎ ((own : ℕ) × (entry : ℕ) × (get_elem? before entry ≡ some own)
-    × (stock ≡ slice_set before entry node)
-    × TriedExchange swaps k slot node (Some (empty_word_of own)) m (Ok word) m')
-TriedEmptying leaves swaps k slot node before stock m (Err miss) m' =
-    FailedIf k slot node miss m m' × Does m [] m.0.work 4 m' × (stock ≡ before) × (m'.1 ≡ m.1)

@@ -22,8 +22,6 @@ use Rattle.fx_lasting.specs.nodes.Stocks.{IsStockOf}
 use Rattle.fx_lasting.specs.Tables.{opening_of, view_of}
 use Rattle.fx_lasting.specs.Effects.{HasItsHold, as_stocked, leaving_work, pass_in}
 use Rattle.fx_lasting.specs.declared.answers.Miss.{Miss}
-use Rattle.fx_lasting.specs.declared.answers.TakenIf.{TakenIf}
-use Rattle.fx_lasting.specs.declared.answers.TakenIf.TheVariants as taken
 use Rattle.fx_lasting.specs.declared.key.Key.{Key}
 use Rattle.fx_lasting.specs.declared.key_answers.KeyFault.{KeyFault}
 use Rattle.fx_lasting.specs.declared.pass.LastingPass.{LastingPass}
@@ -43,11 +41,11 @@ TriedOutHeld k slot node stock m (Err miss) m' = FailedIf k slot node miss m m'
 
 -- the file that the pass held was removed from the slot, and the hold ended; or the slot was left
 -- as it is, and the pass holds the file still
-abbrev pub HasTakenHeld : Start → PassView → ℕ → Hold → TakenIf → PassView → Type 0
-HasTakenHeld k v slot hold (taken.Removed x) w = (f : File) × (v.doing ≡ Holding f hold)
+abbrev pub HasTakenHeld : Start → PassView → ℕ → Hold → Result Retired Miss → PassView → Type 0
+HasTakenHeld k v slot hold (Ok x) w = (f : File) × (v.doing ≡ Holding f hold)
     × IsFileRemoval (opening_of k) f x
     × Adds (opening_of k) v ([] ▷ Release f ▷ Take slot (Some f)) (Retires f x) no_use w
-HasTakenHeld k v slot hold (taken.Missed miss) w = (f : File) × (v.doing ≡ Holding f hold)
+HasTakenHeld k v slot hold (Err miss) w = (f : File) × (v.doing ≡ Holding f hold)
     × WasSo k slot (FitsMiss k hold.node miss) v.front w.front
     × Adds (opening_of k) v [] (Holding f hold) no_use w
 

@@ -7,16 +7,15 @@
 //! four times in all. It returns `Again` only if the slot's word changed meanwhile.
 //! While a file stays at its slot, look-ups change the word at most 16 times, and twice for each
 //! pass (`words_are_bounded`).
-ghost use Rattle.std.specs.Prelude.{◌≡◌, ℕ, ◌+◌, ◌<◌, ◌≤◌};
+ghost use Rattle.std.specs.Prelude.{◌≡◌, ℕ, ◌+◌, ◌<◌};
 ghost use Rattle.fx_words.specs.Words.{entry_in};
 ghost use Rattle.fx_lasting.specs.AtWork.{IsAtWork};
-ghost use Rattle.fx_lasting.specs.slots.ByNode.{SawIf, SaysIf, MayEmpty, MayExchange};
-ghost use Rattle.fx_lasting.specs.slots.ByNode.{TriedEmptying, SeesIfLost, TriedExchange, word_put};
+ghost use Rattle.fx_lasting.specs.slots.ByNode.{SawIf, SaysIf, MayExchange, SeesIfLost, TriedExchange};
+ghost use Rattle.fx_lasting.specs.slots.ByNode.{word_put};
 ghost use Rattle.fx_lasting.specs.Fields.{count_in, full_name_in};
-ghost use Rattle.fx_lasting.specs.Effects.{pass_in};
 
 use crate::answers::Miss;
-use crate::fields::{count_of, empty_word, file_node_of, without_file};
+use crate::fields::{count_of, file_node_of, without_file};
 use crate::kinds::Seeing;
 use crate::life::layout::slot_place;
 use crate::table::LastingTable;
@@ -45,41 +44,6 @@ impl LastingTable {
     {
         let word = self.table.shared.load::<Seeing>(seat, slot_place(slot));
         named_by(word, node)
-    }
-
-    // Empties the slot while its word names the node, in at most four steps. Returns the word that
-    // it found. By steps of the kind `S` the slot names the node at the entry of the stock then,
-    // and the stock has the node that the slot named. A pass without a stock leaves the name at the
-    // slot, by steps of the kind `L`.
-    #[inline(always)]
-    pub(crate) fn try_out<L: Play<Option<OpenFile>, View>, S: Play<Option<OpenFile>, View>>(
-        &self,
-        seat: &mut Seat<Option<OpenFile>, View>,
-        stock: &mut Vec<u32>,
-        entry: u32,
-        slot: u32,
-        node: u32,
-        word: u64,
-    ) -> Result<u64, Miss>
-        requires table { seat.old.table_id ≡ self.now.table.shared.table_id }
-        requires at { (number : ℕ) × IsAtWork self.now.table.shared.key number seat.old.me }
-        requires stock { stock.old.items ≡ (pass_in seat.old.me).stock }
-        requires slot { slot < self.now.size }
-        requires named { full_name_in word ≡ node + 1 }
-        requires may { MayEmpty L.then S.then self.now.table.shared.key slot node seat.old.me }
-        requires loses { SeesIfLost L.then × SeesIfLost S.then }
-        ensures table { seat.new.table_id ≡ seat.old.table_id }
-        ensures tried { TriedEmptying L.then S.then self.now.table.shared.key slot node
-            stock.old.items stock.new.items seat.old.me result seat.new.me }
-    {
-        let at = entry as usize;
-        if stock.len() <= at {
-            return self.try_exchange::<L>(seat, slot, node, word, None);
-        }
-        let own = Some(empty_word(stock[at]));
-        let found = self.try_exchange::<S>(seat, slot, node, word, own)?;
-        stock[at] = node;
-        Ok(found)
     }
 
     // Exchanges the slot's word for another one, or else for the same one without its file, while

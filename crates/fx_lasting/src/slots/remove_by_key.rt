@@ -7,16 +7,19 @@ ghost use Rattle.std.specs.Prelude.{◌≡◌, ℕ, ◌+◌, ◌<◌, ◌≤◌,
 ghost use Rattle.fx_plain.specs.declared.event.File.{File};
 ghost use Rattle.fx_table.specs.Opening.{size_of};
 ghost use Rattle.fx_table.specs.Pass.{IsHoldOf, IsIdle};
-ghost use Rattle.fx_lasting.specs.slots.RemoveByKey.{HasTakenHeld, TakesAlone};
+ghost use Rattle.fx_lasting.specs.Laws.{IsOffCount};
+ghost use Rattle.fx_lasting.specs.Passes.{HoldsAlone};
+ghost use Rattle.fx_lasting.specs.slots.RemoveByKey.{HasTakenHeld, TakesAlone, TriedOutHeld};
 ghost use Rattle.fx_words.specs.Words.{entry_in};
 ghost use Rattle.fx_lasting.specs.AtWork.{IsAtWork};
 ghost use Rattle.fx_lasting.specs.Ends.{Does};
 ghost use Rattle.fx_lasting.specs.slots.ByNode.{TriesTake};
 ghost use Rattle.fx_lasting.specs.Fields.{full_name_in};
-ghost use Rattle.fx_lasting.specs.Effects.{HasItsHold, leaving_work, retiring_work};
+ghost use Rattle.fx_lasting.specs.Effects.{HasItsHold, leaving_work, pass_in, retiring_work};
 ghost use Rattle.fx_lasting.specs.Tables.{view_of, steps_taken, opening_of_table, IsPassOfTable};
 
-use crate::answers::TakenIf;
+use crate::answers::Miss;
+use crate::fields::empty_word;
 use crate::key::Key;
 use crate::key_answers::{KeyLook, KeyTaken};
 use crate::kinds::{EndingHold, SwappingHeld, TakingHeld};
@@ -28,7 +31,7 @@ use crate::table::LastingTable;
 use crate::view::View;
 use atomic_table::Seat;
 use fx_base::OpenFile;
-use fx_table::Hold;
+use fx_table::{Hold, Retired};
 
 impl LastingTable {
     /// Empties the slot of the file of a key for a close (io_uring_prep_close(3),
@@ -62,8 +65,8 @@ impl LastingTable {
         };
         let None = released else { unreachable!() };
         let miss = match self.take_held(pass, key.slot, &hold) {
-            TakenIf::Missed(miss) => miss,
-            TakenIf::Removed(retired) => {
+            Err(miss) => miss,
+            Ok(retired) => {
                 let Hold { node: _, entry: _ } = hold;
                 return KeyTaken {
                     taken: Ok(retired),
@@ -83,7 +86,7 @@ impl LastingTable {
     // Empties the slot for a close, if its file is on the node of the hold, for a pass that holds
     // the file, in at most nine steps. The hold ends then. Otherwise the pass holds the file still.
     #[inline(always)]
-    fn take_held(&self, pass: &mut LastingPass, slot: u32, hold: &Hold) -> TakenIf
+    fn take_held(&self, pass: &mut LastingPass, slot: u32, hold: &Hold) -> Result<Retired, Miss>
         requires fits { IsPassOfTable self.now pass.old }
         requires held { IsHoldOf (view_of pass.old) hold.now }
         requires slot { slot < size_of (opening_of_table self.now) }
@@ -96,25 +99,61 @@ impl LastingTable {
         let node = hold.node;
         let word = match self.see(&mut pass.seat, slot, node) {
             Ok(word) => word,
-            Err(miss) => return TakenIf::Missed(miss),
+            Err(miss) => return Err(miss),
         };
         let inside = self.is_in_range(slot);
         self.lower(&mut pass.seat, slot, inside);
         let entry = pass.next_entry;
         let seat = &mut pass.seat;
         let stock = &mut pass.stock;
-        match self.try_out::<TakingHeld, SwappingHeld>(seat, stock, entry, slot, node, word) {
+        match self.try_out(seat, stock, entry, slot, node, word) {
             Ok(found) => {
                 let found = self.end_hold(&mut pass.seat, pass.number, pass.guarded, found);
                 pass.next_visit = self.first_visit(found);
                 pass.emptied.keep(slot, inside, false);
-                TakenIf::Removed(removed_by(found, node))
+                Ok(removed_by(found, node))
             }
             Err(miss) => {
                 self.raise(&mut pass.seat, slot, inside, true);
-                TakenIf::Missed(miss)
+                Err(miss)
             }
         }
+    }
+
+    // Empties the slot of the file that the pass holds while its word names the file's node, in at
+    // most four steps. Returns the word that it found. The slot names the node at the entry of the
+    // stock then, and the stock has the node that the slot named. A pass without a stock leaves the
+    // name at the slot.
+    #[inline(always)]
+    fn try_out(
+        &self,
+        seat: &mut Seat<Option<OpenFile>, View>,
+        stock: &mut Vec<u32>,
+        entry: u32,
+        slot: u32,
+        node: u32,
+        word: u64,
+    ) -> Result<u64, Miss>
+        requires table { seat.old.table_id ≡ self.now.table.shared.table_id }
+        requires at { (number : ℕ) × IsAtWork self.now.table.shared.key number seat.old.me }
+        requires stock { stock.old.items ≡ (pass_in seat.old.me).stock }
+        requires slot { slot < self.now.size }
+        requires named { full_name_in word ≡ node + 1 }
+        requires holds { (f : File) × HoldsAlone seat.old.me.0.work f node }
+        requires off { IsOffCount self.now.table.shared.key slot seat.old.me.0.change }
+        ensures table { seat.new.table_id ≡ seat.old.table_id }
+        ensures places { seat.new.me.1 ≡ seat.old.me.1 }
+        ensures tried { TriedOutHeld self.now.table.shared.key slot node stock.new.items
+            seat.old.me result seat.new.me }
+    {
+        let at = entry as usize;
+        if stock.len() <= at {
+            return self.try_exchange::<TakingHeld>(seat, slot, node, word, None);
+        }
+        let own = Some(empty_word(stock[at]));
+        let found = self.try_exchange::<SwappingHeld>(seat, slot, node, word, own)?;
+        stock[at] = node;
+        Ok(found)
     }
 
     // Ends the hold of the file that the pass has just removed, and whose slot had this word, in at

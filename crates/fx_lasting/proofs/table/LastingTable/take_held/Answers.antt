@@ -4,13 +4,12 @@ use Rattle.fx_lasting.proofs.Words.{sym, ◌-◌, ap, ◌∙◌, [], ◌▷◌, 
 use Rattle.fx_lasting.proofs.Words.{IsBetweenCalls, retiring_work, range_at_start, Glance, full_name_in, node_of_number, is_guarding, leaving_work, LastingPass}
 use Rattle.fx_table.specs.declared.values.Doing.TheVariants.{Retiring as Retires}
 use Rattle.fx_lasting.proofs.slot_lemmas.ByNode.{stands_then, missed_so, tried_none, tried_so, value_so, removal_so}
-use Rattle.fx_lasting.proofs.slot_lemmas.HeldTries.{adds_held, emptied_held, held_flags, may_empty_held}
+use Rattle.fx_lasting.proofs.slot_lemmas.HeldTries.{adds_held, held_flags}
 use Rattle.fx_lasting.proofs.slot_lemmas.SwapsHeld.{held_alone}
 use Rattle.fx_lasting.proofs.Passing.{at_rest, still_pass, holds_alone, knows_removed, first_by}
 use Rattle.fx_lasting.proofs.slot_lemmas.Removals.{at_stocked, adds_stocked, stocked_pass, stocked_then}
 use Rattle.fx_lasting.proofs.Running.{still_at_work, does_then, turns_then, number_is}
 use Rattle.fx_lasting.specs.slots.RemoveByKey.{TriedOutHeld}
-use Rattle.fx_lasting.proofs.Calling.{slot_low}
 use Rattle.fx_lasting.proofs.table.LastingTable.take_held.Goals as goal
 
 -- a pass that holds a file holds it by itself after some steps
@@ -58,9 +57,8 @@ try_out-requires c =
       stock = stock;
       slot = inside;
       named = saw.0;
-      may = may_empty_held at c.args.pass.now.stock.items stock c.args.slot c.args.hold.now.node h.0 (alone_after f first h.1) (slot_low t inside)
-          (began.runs.change ∙ ap (λ (b : Bool). uncounted b true (group_of (range_at_start t.table.shared.key) c.args.slot)) c.is_in_range-inside.ensures);
-      loses = (λ st m found m' did. did.loses, λ st m found m' did. did.loses);
+      holds = (h.0, alone_after f first h.1);
+      off = began.runs.change ∙ ap (λ (b : Bool). uncounted b true (group_of (range_at_start t.table.shared.key) c.args.slot)) c.is_in_range-inside.ensures;
     }
 
 -- the seat after the exchange
@@ -77,8 +75,7 @@ end_hold-found-requires c =
     let began = c.lower.ensures in
     let word = c.in-Ok-try_out.found in
     let first = turns_then saw.2 began.runs in
-    let took = (emptied_held (still_at_work fits.seated.at first) c.args.pass.now.stock.items (fits.seated.stock ∙ sym first.stock) c.args.slot c.args.hold.now.node
-    h.0 (alone_after fits first h.1) (Ok word) c.try_out.new.stock.items c.try_out.new.seat.me c.in-Ok-try_out.ensures.tried).0 in
+    let took = c.in-Ok-try_out.ensures.tried in
     let flags = held_flags k.passes c.args.pass.now (holds_alone fits h.1) fits.knows in
     let guards = ap is_guarding first.work ∙ flags.2 in
     record {
@@ -109,9 +106,7 @@ returns-in-Ok-try_out c =
     let m₂ = c.lower.new.seat.me in
     let m₄ = c.end_hold-found.new.seat.me in
     let first = turns_then saw.2 began.runs in
-    let tried = emptied_held (still_at_work s.at first) c.args.pass.now.stock.items (s.stock ∙ sym first.stock) c.args.slot c.args.hold.now.node
-    h.0 (alone_after fits first h.1) (Ok word) stock c.try_out.new.seat.me c.in-Ok-try_out.ensures.tried in
-    let took = tried.0 in
+    let took = c.in-Ok-try_out.ensures.tried in
     let alone = holds_alone fits h.1 in
     let flags = held_flags k.passes c.args.pass.now alone fits.knows in
     let guards = ap is_guarding first.work ∙ flags.2 in
@@ -128,7 +123,7 @@ returns-in-Ok-try_out c =
     let w = pass_of m₄.0 in
     record {
       fits = stocked_pass s stock its_stock _ run (refl, refl) (ends.table ∙ (c.try_out.ensures.table ∙ (began.table ∙ c.see.ensures.table)))
-          (ends.places ∙ (tried.1 ∙ (began.places ∙ (c.see.ensures.places ∙ s.places)))) (refl, s.next)
+          (ends.places ∙ (c.try_out.ensures.places ∙ (began.places ∙ (c.see.ensures.places ∙ s.places)))) (refl, s.next)
           (knows_removed k found (Some f) (Some (retired_at f (full_name_in found - 1) (count_in found))) _ c.args.pass.now.guarded _ _ c.args.pass.now.next_entry stock flags.1 refl
           (ap not (sym flags.0)) (c.first_visit-pass.ensures ∙ first_by t found));
       taken = (
@@ -173,11 +168,11 @@ returns-in-Err-try_out c =
     let m₄ = c.raise.new.seat.me in
     let first = turns_then saw.2 began.runs in
     let run = turns_then (stands_then first failed.1) end.runs in
-    let same_stock = failed.2 in
+    let same_stock = failed.2 ∙ (first.stock ∙ sym s.stock) in
     record {
       fits = still_pass s _ (subst (λ (g : Glance). Runs m [] m.0.work g Outside 9 m₄) fits.calm run) (refl, refl)
           (end.table ∙ (c.try_out.ensures.table ∙ (began.table ∙ c.see.ensures.table)))
-          (end.places ∙ (failed.3 ∙ (began.places ∙ (c.see.ensures.places ∙ s.places)))) (same_stock, s.next)
+          (end.places ∙ (c.try_out.ensures.places ∙ (began.places ∙ (c.see.ensures.places ∙ s.places)))) (same_stock, s.next)
           (subst (λ (l : List ℕ). IsBetweenCalls k.passes p.idle p.guarded p.keeps p.next_visit l p.next_entry m.0.work) (sym same_stock) fits.knows);
       taken = (
         h.0,

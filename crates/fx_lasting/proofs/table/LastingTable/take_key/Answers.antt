@@ -10,7 +10,7 @@ returns-clause-taken c =
     let freed = c.look_key-found.result.freed in
     let other = c.look_key-found.result.released in
     let look = subst (λ (r : Result Hold KeyFault). LookedByKey k (view_of p) c.args.key r freed other (view_of b)) c.in-Ok.is c.look_key-found.ensures.looked in
-    let kept = c.in-Missed.ensures.taken in
+    let kept = c.in-Err-take_held.ensures.taken in
     let ends = c.release-released.ensures in
     inr (left_alone k p b c.take_held.new.pass c.release-released.new.pass c.args.key c.in-Ok.hold freed other c.release-released.result look
-    kept.0 kept.1 c.in-Missed.miss kept.2 kept.3 c.in-Missed.ensures.tries ends.released c.look_key-found.ensures.met ends.met c.fault_of.result c.fault_of.ensures)
+    kept.0 kept.1 c.in-Err-take_held.miss kept.2 kept.3 c.in-Err-take_held.ensures.tries ends.released c.look_key-found.ensures.met ends.met c.fault_of.result c.fault_of.ensures)
