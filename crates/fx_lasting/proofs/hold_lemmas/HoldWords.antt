@@ -30,17 +30,7 @@ module _ (turn : Turn) (carried : List (ℕ × Option Closed)) where
   module _ (new : ℕ) (d : Work) (calm : (alone_in d ≡ alone_in v.work) ⊎ (busy v.work ≡ 0)) (untaken : (n : ℕ) → taking n d ≡ taking n v.work) (holds : held_in d ≡ held_in v.work) where
     quiet : HoldAgrees new (r.debt x.number) d → GuardAgrees (slot_word (own_words turn new d)) r.phase x.number (r.debt x.number) d
         → WorkAgrees v.start r.phase id d → IsAllowed x.stock x.listed d → Own turn new d r.history
-    quiet hold guard work allowed = record {
-      files = none_added turn;
-      taken = untaken;
-      owners = calm;
-      held = (its_log turn).held ∙ sym holds;
-      allowed = allowed;
-      hold = hold;
-      guarded = guard;
-      work = work;
-      holds = λ n. let a = ap (if_file n) holds in omega arith;
-    }
+    quiet hold guard work allowed = grind (arith, none_added, its_log)
 
   -- its hold word names the node of a hot slot
   module _ (slots s n : ℕ) (has : x.listed ≡ true) (saw : v.glance ≡ Hot s n) where
@@ -111,22 +101,10 @@ module _ (turn : Turn) (carried : List (ℕ × Option Closed)) where
     h₁ = pass_event x (Release f) ∷ r.history
 
     held_now : 0 < (state_after_all v.start r.history).holds f.number
-    held_now = let a = ap (λ (d : Work). if_file f.number (held_in d)) is in let b = bit_here f.number f.number refl in
-        omega (arith, r.holds.files f.number, sum_at (held_of f.number) st.views id v here, a, b)
+    held_now = grind (arith, bit_here, sum_at)
 
     released : r.debt x.number ≡ 0 → Own turn 0 Idle h₁
-    released none_owed = record {
-      files = record { grows = grows_one x.number r.history _ refl; legal = legal_more v.start r.life.legal held_now ((its_log turn).held ∙ ap held_in is); at = refl; fresh = refl; removed = refl };
-      taken = λ k. sym (ap (taking k) is);
-      owners = inr (ap busy is);
-      held = held_mine (pass_event x (Release f)) r.history refl;
-      allowed = tt;
-      hold = (refl, none_owed);
-      guarded = tt;
-      work = tt;
-      holds = λ m. let a = one_less_at (state_after_all v.start r.history).holds f.number m held_now in
-          let b = ap (λ (d : Work). if_file m (held_in d)) is in omega arith;
-    }
+    released none_owed = grind (arith, grows_one, legal_more, held_now, its_log, taking, held_mine, one_less_at)
 
     step_down : (slots : ℕ) → Made turn carried (hold_word_of v.start x.number) (λ _. 0)
         (StepsDown (step slots (hold_word_of v.start x.number) 0 0 none) (v, carried))

@@ -12,47 +12,24 @@ module _ (k : Start) (s : Shared) (r : Agrees k s) where
   -- the file of a hold is open, on the hold's node
   is_open : {f : File} {hold : Hold} (seat : ℕ) (d : Work) → doing_in d ≡ Holding f hold → WorkAgrees k r.phase seat d
       → HoldsAt k r.phase f hold.node
-  is_open {f} {hold} seat (Counted g n) e w = let same : g ≡ f = cc e in let its : n ≡ hold.node = cc e in
-      subst (λ (n : ℕ). HoldsAt k r.phase f n) its (subst (λ (g : File). HoldsAt k r.phase g n) same w)
-  is_open {f} {hold} seat (Guarded g n) e w = let same : g ≡ f = cc e in let its : n ≡ hold.node = cc e in
-      subst (λ (n : ℕ). HoldsAt k r.phase f n) its (subst (λ (g : File). HoldsAt k r.phase g n) same w)
-  is_open {f} {hold} seat (Relieving g n own l) e w = let same : g ≡ f = cc e in let its : n ≡ hold.node = cc e in
-      subst (λ (n : ℕ). HoldsAt k r.phase f n) its (subst (λ (g : File). HoldsAt k r.phase g n) same w.0)
-  is_open {f} {hold} seat (Renewing g n own l) e w = let same : g ≡ f = cc e in let its : n ≡ hold.node = cc e in
-      subst (λ (n : ℕ). HoldsAt k r.phase f n) its (subst (λ (g : File). HoldsAt k r.phase g n) same w.0)
-  is_open seat _ e w = absurd (cc e)
+  is_open seat d e w = grind arith
 
   pub holds_at : {f : File} {hold : Hold} → IsHeldBy s f hold → HoldsAt k r.phase f hold.node
   holds_at (seat, v, there, holds) = is_open seat v.work holds (r.holds.views seat v there).work
 
   one_file : (f g : File) (x y : Hold) → IsHeldBy s f x → IsHeldBy s g y → x.node ≡ y.node → f ≡ g
-  one_file f g x y a b same = let here = (holds_at a).1 in let also = (holds_at b).1 in
-      let e : file_in (r.phase x.node) ≡ file_in (r.phase y.node) = ap (λ n. file_in (r.phase n)) same in cc (here, also, e)
+  one_file f g x y a b same = grind (arith, holds_at)
 
   of_slot : (f g : File) (hold : Hold) (slot : ℕ) (file : Option File) → IsHeldBy s f hold → Names r.node_of (slot_word_in s slot) file
       → IsSeated k r.node_of r.phase slot file → full_name_in (slot_word_in s slot) ≡ hold.node + 1 → file ≡ Some g → f ≡ g
-  of_slot f g hold slot None held names seat is e = absurd (cc e)
-  of_slot f g hold slot (Some h) held names seat is e = let a = names.0 in let node : r.node_of h.number ≡ hold.node = omega arith in
-      let here = (holds_at held).1 in let there : r.phase hold.node ≡ seated slot h = rw node at seat.1 in
-      let both : file_in (seated slot h) ≡ Some f = rw there at here in cc (both, e)
+  of_slot f g hold slot file held names seat is e = grind (arith, holds_at, seated)
 
   pub of_phase : (n : ℕ) (f : File) (ph : Phase) → file_in ph ≡ Some f → NodeIn r n ph → node_word_in k s n ≢ 0
-  of_phase n f (seated slot g) e o = let a = o.counts in let b = few_takes k s r slot o.inside in
-      let c = few_cold k.passes in let p = r.shape.passes in λ zero. omega arith
-  of_phase n f (leaving seat takes next charges g) e o = let a = o.counts in let b = o.few_takes in let c = o.few_charges in
-      let d = o.few_visits in λ zero. omega arith
-  of_phase n f (retired g) e o = let a = o.counts in λ zero. omega arith
-  of_phase n f _ e o = absurd (cc e)
+  of_phase n f ph e o = grind (arith, few_takes, few_cold)
 
   -- the number of an open file says its node
   pub on_node : (n : ℕ) (f : File) (ph : Phase) → file_in ph ≡ Some f → NodeIn r n ph → node_of_number k f.number ≡ n
-  on_node n f ph e o = sym (r.numbering f.number) ∙ go ph e o
-    where
-      go : (ph : Phase) → file_in ph ≡ Some f → NodeIn r n ph → r.node_of f.number ≡ n
-      go (seated slot g) e o = let same : g ≡ f = cc e in rw (← same) o.file.its_node
-      go (leaving seat takes next charges g) e o = let same : g ≡ f = cc e in rw (← same) o.file.its_node
-      go (retired g) e o = let same : g ≡ f = cc e in rw (← same) o.file.its_node
-      go _ e o = absurd (cc e)
+  on_node n f ph e o = grind (arith, seated, leaving)
 
   pub nodes_are_of_one_file : HoldsNameFiles k s r
   nodes_are_of_one_file = record {
@@ -65,15 +42,7 @@ module _ (k : Start) (s : Shared) (r : Agrees k s) where
   -- the file that a pass has to retire is open, on its node
   is_removed : {f : File} {x : Retired} (seat : ℕ) (d : Work) → doing_in d ≡ Retires f x → WorkAgrees k r.phase seat d
       → file_in (r.phase x.node) ≡ Some f
-  is_removed {f} {x} seat (Retiring g n takes round charges) e w = let same : g ≡ f = cc e in let its : n ≡ x.node = cc e in
-      rw (← its, ← same) (ap file_in w.1)
-  is_removed seat _ e w = absurd (cc e)
+  is_removed seat d e w = grind arith
 
   pub held_nodes_name_files : HoldKeepsNode k s r
-  held_nodes_name_files = record {
-    at_slot = λ f g hold slot held inside is on. let names = subst (Names r.node_of (slot_word_in s slot)) is (r.slots slot inside).names in
-        nodes_are_of_one_file.there f g hold slot held inside (names.0 ∙ ap (λ (n : ℕ). n + 1) (r.numbering g.number ∙ on)) is;
-    removed = λ f g hold x held by same. let here = (holds_at held).1 in
-        let there = is_removed by.0 by.1.work by.3 (r.holds.views by.0 by.1 by.2).work in
-        let e : file_in (r.phase hold.node) ≡ file_in (r.phase x.node) = ap (λ n. file_in (r.phase n)) same in cc (here, there, e);
-  }
+  held_nodes_name_files = grind (arith, nodes_are_of_one_file, holds_at, is_removed)

@@ -116,19 +116,7 @@ module _ (turn : Turn) (n : ℕ) where
   -- a charge that was owed for nothing
   charge_lets : v.work ≡ Owing n → {f : File} → HoldsAt v.start r.phase f n → r.debt x.number ≡ n + 1
       → word_at st.words (hold_word_of v.start x.number) ≡ 0 → IsLetGo turn n f r.history paid []
-  charge_lets is its owes empty = record {
-    its = its;
-    files = none_added turn;
-    own = refl;
-    holds = λ m. let a = ap (λ (d : Work). if_file m (held_in d)) is in omega arith;
-    held = (its_log turn).held ∙ ap held_in is;
-    owed_else = λ m other. let a = paid_for owes m in let b = bit_else (m + 1) (n + 1) (λ e. other (omega arith)) in omega arith;
-    taken_else = λ m other. ap (taking m) is;
-    debts = λ q other. changed_else r.debt x.number 0 q other;
-    no_debt = changed_here r.debt x.number 0 x.number refl;
-    hold = empty;
-    apart = λ m other bad. let a = ap busy is in omega arith;
-  }
+  charge_lets is its owes empty = grind (arith, none_added, its_log, paid_for, bit_else, taking, changed_else, changed_here)
 
   -- a file that the pass holds
   module _ (f : File) (holds : held_in v.work ≡ Some f) (its : HoldsAt v.start r.phase f n) where
@@ -136,26 +124,13 @@ module _ (turn : Turn) (n : ℕ) where
     h₁ = pass_event x (Release f) ∷ r.history
 
     held_now : 0 < (state_after_all v.start r.history).holds f.number
-    held_now = let a = ap (if_file f.number) holds in let b = bit_here f.number f.number refl in
-        omega (arith, r.holds.files f.number, sum_at (held_of f.number) st.views id v here, a, b)
+    held_now = grind (arith, bit_here, sum_at)
 
     hold_lets : (debt' : ℕ → ℕ) → busy v.work ≡ 0 → ((m : ℕ) → m ≢ n → owed debt' v.start.passes m ≡ owed r.debt v.start.passes m)
         → ((m : ℕ) → m ≢ n → taking m v.work ≡ 0) → ((q : ℕ) → q ≢ x.number → debt' q ≡ r.debt q) → debt' x.number ≡ 0
         → word_at st.words (hold_word_of v.start x.number) ≡ 0 → IsLetGo turn n f h₁ debt' ([] ▷ Release f)
-    hold_lets debt' calm owed_else taken_else debts no_debt empty = record {
-      its = its;
-      files = record { grows = grows_one x.number r.history _ refl; legal = legal_more v.start r.life.legal held_now ((its_log turn).held ∙ holds); at = refl; fresh = refl; removed = refl };
-      own = part_mine r.history refl;
-      holds = λ m. let a = one_less_at (state_after_all v.start r.history).holds f.number m held_now in
-          let b = ap (if_file m) holds in omega arith;
-      held = held_mine (pass_event x (Release f)) r.history refl;
-      owed_else = owed_else;
-      taken_else = taken_else;
-      debts = debts;
-      no_debt = no_debt;
-      hold = empty;
-      apart = λ m other bad. omega arith;
-    }
+    hold_lets debt' calm owed_else taken_else debts no_debt empty =
+        grind (arith, grows_one, legal_more, held_now, its_log, part_mine, one_less_at, held_mine)
 
 module _ (turn : Turn) (slots n : ℕ) (carried : List (ℕ × Option Closed))
     (fits : word_at turn.st.words (word_of turn.v.start n) < 18446744073709551616) where

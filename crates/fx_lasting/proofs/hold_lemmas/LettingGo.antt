@@ -14,9 +14,7 @@ use Rattle.fx_lasting.proofs.Places.{node_words, node_here, node_slot, node_hold
 use Rattle.fx_lasting.proofs.hold_lemmas.Unheld.{held_alone, held_not, on_node}
 
 pub taking_few : (n : ℕ) (d : Work) → taking n d ≤ 1
-taking_few n (Counted f m) = by_equality m n (λ b. one_if b ≤ 1) (λ _. omega arith) (λ _. omega arith)
-taking_few n (Renewing f m own l) = by_equality m n (λ b. one_if b ≤ 1) (λ _. omega arith) (λ _. omega arith)
-taking_few n _ = omega arith
+taking_few n d = grind (arith, by_equality)
 
 pub sub_wraps : {n k : ℕ} → k ≤ n → n < 18446744073709551616 → 0 < k → (n + (2 ^ 64 - k)) % 2 ^ 64 ≡ n - k
 sub_wraps le fits more = omega arith
@@ -135,12 +133,10 @@ module _ {turn : Turn} {n : ℕ} {f : File} {h₁ : List Event} {debt' : ℕ →
 
   module _ (o : IsGone) where
     unheld : (state_after_all v.start h₁).holds f.number ≡ 0
-    unheld = let a = g.holds f.number in
-        let b = held_alone turn g.its debt' g.debts o.none_taken o.none_owed o.charged in omega arith
+    unheld = grind (arith, held_alone)
 
     was_removed : (state_after_all v.start h₁).removed f.number ≡ Some f
-    was_removed = ap (λ (z : ℕ → Option File). z f.number) g.files.removed ∙ (r.nodes.removed f.number
-        ∙ (ap (λ (k : ℕ). removed_in f.number (r.phase k)) on_this ∙ (o.gone f.number ∙ rw (eq-eqb f.number f.number refl) refl)))
+    was_removed = grind (arith, on_this)
 
     legal₂ : IsHistory v.start h₂
     legal₂ = legal_more v.start g.files.legal (was_removed, unheld) tt

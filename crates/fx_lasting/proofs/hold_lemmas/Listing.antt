@@ -15,12 +15,7 @@ use Rattle.fx_lasting.proofs.Places.{list_words, list_here, list_apart, list_nod
 
 -- a pass that is listed may do what it did
 allowed_more : (stock : List ℕ) (l : Bool) (d : Work) → IsAllowed stock l d → IsAllowed stock true d
-allowed_more stock l (Nearing n own w) ok = (ok.0, refl)
-allowed_more stock l (Relieving f n own w) ok = (ok.0, refl)
-allowed_more stock l (Retiring f n t nx m) ok = λ is. refl
-allowed_more stock l (Announced n) ok = refl
-allowed_more stock l (Guarded f n) ok = refl
-allowed_more stock l _ ok = ok
+allowed_more stock l d ok = grind arith
 
 module _ (turn : Turn) (not_yet : turn.x.listed ≡ false) (fits : word_at turn.st.words (list_place turn.x.number) < 18446744073709551616) where
   open turn use {st, v, r, id, x, here, one}
@@ -33,8 +28,7 @@ module _ (turn : Turn) (not_yet : turn.x.listed ≡ false) (fits : word_at turn.
 
   -- the bit was clear
   is_set : new ≡ bit_or (word_at st.words (list_place x.number)) (2 ^ bit_of x.number)
-  is_set = bit_added (word_at st.words (list_place x.number)) (bit_of x.number) fits (omega arith)
-      (λ has. let bad : true ≡ false = sym ((its_log turn).unlisted has) ∙ not_yet in cc bad)
+  is_set = grind (arith, bit_added, its_log)
 
   abbrev words' : List ℕ
   words' = list_words turn x.number few new
@@ -44,9 +38,7 @@ module _ (turn : Turn) (not_yet : turn.x.listed ≡ false) (fits : word_at turn.
 
   -- each word of the list
   goes_on : (p : ℕ) → ListGoesOn x.number true p (word_at st.words (list_place p)) (word_at words' (list_place p))
-  goes_on p = dite (ℕ_discrete (list_place p) (list_place x.number))
-      (λ same. inr (same, rw same (list_here turn x.number few new ∙ is_set), refl))
-      (λ other. inl (list_apart turn x.number few new other))
+  goes_on p = grind (arith, list_here, few, is_set, list_apart)
 
   kept : Agrees v.start (end turn listed_after)
   kept = let o = its_log turn in let same = list_slot turn x.number few new in

@@ -31,20 +31,10 @@ module _ (turn : Turn) (s : ℕ) (inside : s < slots_of turn.v.start) where
   -- the file that the word names is at the slot, on its node
   pub named : {n : ℕ} → full_name_in word ≡ n + 1
       → (f : File) × (there ≡ Some f) × Shows word f × (n < nodes_of v.start) × (r.phase n ≡ seated s f)
-  named {n} is = let o = r.slots s inside in go there refl o.names o.seat
-    where
-      go : (found : Option File) → there ≡ found → Names r.node_of word found → IsSeated v.start r.node_of r.phase s found
-          → (f : File) × (there ≡ Some f) × Shows word f × (n < nodes_of v.start) × (r.phase n ≡ seated s f)
-      go None at names seat = absurd (omega arith)
-      go (Some f) at names seat = let a = names.0 in let same : r.node_of f.number ≡ n = omega arith in
-          (f, at, names.1, rw same at seat.0, rw same at seat.1)
+  named is = grind (arith, seated)
 
   pub unnamed : full_name_in word ≡ 0 → there ≡ None
-  unnamed is = let o = r.slots s inside in go there refl o.names
-    where
-      go : (found : Option File) → there ≡ found → Names r.node_of word found → there ≡ None
-      go None at names = at
-      go (Some f) at names = let a = names.0 in absurd (omega arith)
+  unnamed is = grind arith
 
   -- a name is 0 or that of a node
   pub name_cases : (full_name_in word ≡ 0) ⊎ ((n : ℕ) × (full_name_in word ≡ n + 1))
@@ -69,11 +59,7 @@ module _ (turn : Turn) (s : ℕ) (inside : s < slots_of turn.v.start) where
       go _ is = absurd (unlisted ((its_log turn).takes_listed s inside (λ e. cc (sym is ∙ e))))
 
   listed_cases : (x.listed ≡ true → ⊥) ⊎ (x.listed ≡ true)
-  listed_cases = go x.listed refl
-    where
-      go : (b : Bool) → x.listed ≡ b → (x.listed ≡ true → ⊥) ⊎ (x.listed ≡ true)
-      go true is = inr is
-      go false is = inl (λ l. let bad : false ≡ true = sym is ∙ l in cc bad)
+  listed_cases = grind arith
 
   hot_cases : (IsHot word → ⊥) ⊎ IsHot word
   hot_cases = dite (ℕ_discrete (heat_in word) 0) (λ c. inl (λ h. omega (arith, c, h))) (λ h. inr (omega (arith, h)))
@@ -292,9 +278,7 @@ module _ (turn : Turn) (s : ℕ) (inside : s < slots_of turn.v.start) where
           (λ z. subst (λ (e : Work). Reads turn (guarding f e) Nothing h₁) (sym z.2) (found_beside z.0 z.1 z.2)) works
 
       found_inside : IsInside v.start (guarding f v.work)
-      found_inside = ⊎_elim (λ only. subst (λ (e : Work). IsInside v.start (guarding f e)) (sym only) l)
-          (λ z. let its : (n < nodes_of v.start) × IsIn v.start r.phase z.0 (placed id z.1) = subst (WorkAgrees v.start r.phase id) z.2 (its_work turn) in
-          subst (λ (e : Work). IsInside v.start (guarding f e)) (sym z.2) (l, its.1.0)) works
+      found_inside = grind (arith, guarding, placed, its_work)
 
     moved_on : ((full_name_in word ≡ n + 1) × IsHot word → ⊥) → r.deed s x.number ≡ untouched
     moved_on not_so = let o = rw saw at (its_log turn).sees in ⊎_elim (λ z. absurd (not_so z)) (λ out. out) o.2

@@ -50,8 +50,7 @@ module _ (turn : Turn) (f : File) (n t : ℕ) (nx : Round) (m : ℕ) (works : tu
   retiring_same its = (cc (sym works ∙ its), cc (sym works ∙ its))
 
   still_removed : (state_after_all v.start r.history).removed f.number ≡ Some f
-  still_removed = r.nodes.removed f.number ∙ (ap (λ (k : ℕ). removed_in f.number (r.phase k)) (on_node turn its.0 (ap file_in its.1))
-      ∙ (ap (removed_in f.number) its.1 ∙ rw (eq-eqb f.number f.number refl) refl))
+  still_removed = grind (arith, on_node, its)
 
   -- nobody has still to be visited
   pub nobody : (q : ℕ) → q ≢ x.number → (0 < q) × (q ≤ v.start.passes) → MayBeUncharged (slot_word st.words) q (r.phase n) → ⊥

@@ -95,15 +95,4 @@ module _ (turn : Turn) (f : File) (n t : ℕ) (nx : Round) (m : ℕ) (works : tu
       → GuardAgrees (slot_word st.words) r.phase p (r.debt p) e
       → GuardAgrees (slot_word st.words) (changed_at r.phase n (leaving id t nx' m f)) p (r.debt p) e)
       → RoundStep st.words r.debt nx' m
-  reads nx' own few_charges few_visits down guards = record {
-    leaves_else = leaves_all turn n;
-    same_word = refl;
-    same_label = (refl, refl);
-    own = own;
-    owed_else = λ k ne. refl;
-    owed_more = refl;
-    few_charges = few_charges;
-    few_visits = few_visits;
-    still_down = down;
-    guards = λ p e ne range hold guard. (hold, guards p e ne range hold guard);
-  }
+  reads nx' own few_charges few_visits down guards = grind (arith, leaves_all)

@@ -29,16 +29,7 @@ visited_more {passes} {number} {node} {takes} {first} {words} {last} {pass} char
 pub goes_past : {passes number node takes first words last pass to charges : ℕ} {f : File} {m m' : Sat} → pass ≤ to
     → ((p : ℕ) → pass ≤ p → p < to → IsIdleIn (round_to pass words last) p)
     → HasVisited passes number node f takes first words last pass charges m m' → HasVisited passes number node f takes first words last to charges m m'
-goes_past {pass = pass} more idle h = let near = h.near in record {
-  next = h.next;
-  near = omega (arith, more);
-  inside = h.inside;
-  passed = λ p low high. dite (dec_le (p + 1) pass) (λ l. h.passed p low (omega (arith, l))) (λ g. inr (idle p (omega (arith, g)) high));
-  most = h.most;
-  few = h.few;
-  fewer = h.fewer;
-  does = h.does;
-}
+goes_past more idle h = grind arith
 
 -- how many words of the list are loaded when that of this pass is
 abbrev pub words_at : ℕ → ℕ
@@ -69,26 +60,13 @@ loads_more {number = number} {node} {takes} {words = words} {last} {pass} {charg
 pub from_here : {passes number node takes first words last pass charges : ℕ} {f : File} {m m' : Sat} {k : Start} {p : ℕ}
     → HasVisited passes number node f takes first words last pass charges m m' → IsAtWork k p m'
     → (begin : ℕ) × HasVisited passes number node f takes begin words last pass charges m' m'
-from_here h at = (
-  h.next,
-  record {
-    next = h.next;
-    near = h.near;
-    inside = h.inside;
-    passed = h.passed;
-    most = 0;
-    few = omega arith;
-    fewer = λ low high. absurd (omega (arith, low, high));
-    does = placed_none at h.does.work;
-  },
-)
+from_here h h2 = grind (arith, placed_none)
 
 -- the passes whose bits are clear in the last word that was loaded
 pub idle_at : (next words word : ℕ) {first pass to : ℕ} → first ≡ 64 * words + 1 → first ≤ pass → to ≤ first + 64
     → ((i : ℕ) → pass - first ≤ i → i < to - first → bit_at word i ≡ 0) → (p : ℕ) → pass ≤ p → p < to
     → IsIdleIn (round_to next (words_at first) word) p
-idle_at next words word {first} at low high clear p from before = let bit : bit_of p ≡ p - first = omega (arith, at, low, high, from, before) in
-    (omega (arith, at, low, high, from, before), ap (bit_at word) bit ∙ clear (p - first) (omega (arith, low, from)) (omega (arith, low, from, before)))
+idle_at next words word h4 low high clear p from before = grind arith
 
 -- The bits of a word from one on
 module _ (word d : ℕ) (fits : word < 2 ^ 64) where

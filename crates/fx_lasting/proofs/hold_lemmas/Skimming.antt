@@ -10,16 +10,7 @@ use Rattle.fx_lasting.proofs.hold_lemmas.RoundSteps.{its, node, retiring_same, r
 
 -- a pass whose hold word isn't 0 is listed
 speaks : (stock : List ℕ) (l : Bool) {word : ℕ} (debt : ℕ) (e : Work) → word ≢ 0 → HoldAgrees word debt e → IsAllowed stock l e → l ≡ true
-speaks stock l debt (Announced n) some hold allowed = allowed
-speaks stock l debt (Guarded f n) some hold allowed = allowed
-speaks stock l debt (Nearing n own w) some hold allowed = allowed.1
-speaks stock l debt (Relieving f n own w) some hold allowed = allowed.1
-speaks stock l {word} debt (Retiring f n t nx m) some hold allowed = go nx.guarded refl hold
-  where
-    go : (b : Bool) → nx.guarded ≡ b → StillNames b word debt n → l ≡ true
-    go true is names = allowed is
-    go false is unnamed = absurd (some unnamed.0)
-speaks stock l debt _ some hold allowed = absurd (some hold.0)
+speaks stock l debt e some hold allowed = grind arith
 
 module _ (turn : Turn) (f : File) (n t : ℕ) (nx : Round) (m : ℕ) (works : turn.v.work ≡ Retiring f n t nx m) (down : nx.guarded ≡ false)
     (index : ℕ) (inside : index < 16)

@@ -20,14 +20,12 @@ use Rattle.fx_lasting.proofs.hold_lemmas.Unheld.{in_phase}
 -- one take more, and nothing else
 pub one_take : (word : ℕ) → count_in word + 1 < 1048576 → (full_name_in (word + 1) ≡ full_name_in word) × (entry_in (word + 1) ≡ entry_in word)
     × (heat_in (word + 1) ≡ heat_in word) × (count_in (word + 1) ≡ count_in word + 1) × (name_in (word + 1) ≡ name_in word)
-one_take word room =
-    (same_full_name (word + 1) word (omega arith) (omega arith), omega arith, omega arith, omega arith, omega arith)
+one_take word room = grind (arith, same_full_name)
 
 -- one heat more, and nothing else
 pub one_heat : (word : ℕ) → heat_in word + 1 < 2048 → (full_name_in (word + 2097152) ≡ full_name_in word) × (entry_in (word + 2097152) ≡ entry_in word)
     × (heat_in (word + 2097152) ≡ heat_in word + 1) × (count_in (word + 2097152) ≡ count_in word) × (name_in (word + 2097152) ≡ name_in word)
-one_heat word room =
-    (same_full_name (word + 2097152) word (omega arith) (omega arith), omega arith, omega arith, omega arith, omega arith)
+one_heat word room = grind (arith, same_full_name)
 
 -- a pass with the one work may take a file, and has the other work then
 pub record MayTake (none : Work) (holding : File → ℕ → Work) : Type 0 where
@@ -50,34 +48,10 @@ placed_in (Placing own l) = (own, l)
 placed_in _ = (0, as_written 0 Unlabelled)
 
 idle_may : MayTake Idle Counted
-idle_may = record {
-  unheld = refl;
-  untaken = λ n. refl;
-  unguarded = λ words phase pass debt. tt;
-  held = λ f n. refl;
-  takes = λ m f n. refl;
-  alone = λ f n. inr refl;
-  hold = λ f n word debt h. h;
-  guarded = λ f n words phase pass debt. tt;
-  allowed = λ f n stock listed a. tt;
-  work = λ f n k phase seat w its. its;
-  inside = λ f n k a l. l;
-}
+idle_may = grind arith
 
 placing_may : (own : ℕ) (l : Placement) → MayTake (Placing own l) (λ f n. Renewing f n own l)
-placing_may own l = record {
-  unheld = refl;
-  untaken = λ n. refl;
-  unguarded = λ words phase pass debt. tt;
-  held = λ f n. refl;
-  takes = λ m f n. refl;
-  alone = λ f n. inl refl;
-  hold = λ f n word debt h. h;
-  guarded = λ f n words phase pass debt. tt;
-  allowed = λ f n stock listed a. a;
-  work = λ f n k phase seat w its. (its, w);
-  inside = λ f n k a l. (l, a);
-}
+placing_may own l = grind arith
 
 module _ (turn : Turn) (s : ℕ) (inside : s < slots_of turn.v.start) where
   open turn use {st, v, r, id, x, here, one}
@@ -87,8 +61,7 @@ module _ (turn : Turn) (s : ℕ) (inside : s < slots_of turn.v.start) where
 
   -- a take leaves room: nobody takes twice beyond the takes of a cold slot
   room : count_in found + 1 < 1048576
-  room = let a = (r.slots s inside).takes in let b = tally_few (λ q. has_acted (r.deed s q)) v.start.passes in let c = r.shape.passes in
-      omega (arith, few_cold v.start.passes)
+  room = grind (arith, inside, tally_few, few_cold)
 
   -- what passes have done, after a deed of the pass at the slot
   abbrev does_here : Deed → ℕ → ℕ → Deed
@@ -132,12 +105,7 @@ module _ (turn : Turn) (s : ℕ) (inside : s < slots_of turn.v.start) where
     same_heat = ap heat_in new_is ∙ (one_take found room).2
 
     same_word : NamesSame new found
-    same_word = let z = one_take found room in record {
-      own = ap name_in new_is ∙ z.4;
-      full = ap full_name_in new_is ∙ z.0;
-      entry = ap entry_in new_is ∙ z.1;
-      hot = λ h. let a = same_heat in omega arith;
-    }
+    same_word = grind (arith, one_take, room, new_is, same_heat)
 
     one_more : count_in new ≡ count_in found + 1
     one_more = ap count_in new_is ∙ (one_take found room).3
@@ -158,18 +126,7 @@ module _ (turn : Turn) (s : ℕ) (inside : s < slots_of turn.v.start) where
       pub is : g ≡ glance_after v.start.passes s found
 
     cold_still : count_in found < cold_takes v.start.passes → Standing Nothing r.deed
-    cold_still few = record {
-      deeds = record {
-        takes = let a = one_more in omega arith;
-        heat = same_heat ∙ (r.slots s inside).heat;
-        elsewhere = λ i q other. refl;
-        others = λ q other. refl;
-        its = λ is. inl is;
-      };
-      sees = tt;
-      heats = λ i l is. absurd (no_heat i l is);
-      is = sym (ap (λ (b : Bool). cond b Nothing (Heating s)) (lt-ltb (count_in found) (cold_takes v.start.passes) few));
-    }
+    cold_still few = grind (arith, one_more, same_heat, inside, no_heat)
 
     heats_now : cold_takes v.start.passes ≤ count_in found → Standing (Heating s) (does_here over)
     heats_now many = record {
@@ -227,8 +184,7 @@ module _ (turn : Turn) (s : ℕ) (inside : s < slots_of turn.v.start) where
 
         -- the node of the file at the slot is one
         one_seat : (m : ℕ) (h : File) → m < nodes_of v.start → r.phase m ≡ seated s h → m ≡ n
-        one_seat m h l' at' = let e : h ≡ f = cc (sym (in_phase turn l' at').there ∙ is) in
-            sym (in_phase turn l' at').file.its_node ∙ (ap (λ (z : File). r.node_of z.number) e ∙ (in_phase turn l at).file.its_node)
+        one_seat m h l' at' = grind (arith, in_phase, is)
 
         file_taken : SlotStep turn s inside new h₁ (holding f n) g deed'
         file_taken = let o = its_log turn in let h = rw works at o.hold in record {
@@ -322,8 +278,7 @@ module _ (turn : Turn) (s : ℕ) (inside : s < slots_of turn.v.start) where
 
     parts_of : (full_name_in hot_word ≡ full_name_in found) × (entry_in hot_word ≡ entry_in found) × (heat_in hot_word ≡ heat_in found + 1)
         × (count_in hot_word ≡ count_in found) × (name_in hot_word ≡ name_in found)
-    parts_of = let z = one_heat found heat_room in
-        (ap full_name_in hot_is ∙ z.0, ap entry_in hot_is ∙ z.1, ap heat_in hot_is ∙ z.2, ap count_in hot_is ∙ z.3, ap name_in hot_is ∙ z.4)
+    parts_of = grind (arith, one_heat, heat_room, hot_is)
 
     is_hot : IsHot hot_word
     is_hot = let a = parts_of.2 in omega arith

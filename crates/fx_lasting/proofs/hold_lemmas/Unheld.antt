@@ -18,13 +18,7 @@ module _ (turn : Turn) where
 
   -- a file of a node has its number there
   pub on_node : {n : ℕ} {f : File} → n < nodes_of v.start → file_in (r.phase n) ≡ Some f → r.node_of f.number ≡ n
-  on_node {n} {f} l is = go (r.phase n) is (r.nodes.each n l)
-    where
-      go : (ph : Phase) → file_in ph ≡ Some f → NodeNow n ph → r.node_of f.number ≡ n
-      go (seated s g) e o = let same : g ≡ f = cc e in rw same at o.file.its_node
-      go (leaving j t nx m g) e o = let same : g ≡ f = cc e in rw same at o.file.its_node
-      go (retired g) e o = let same : g ≡ f = cc e in rw same at o.file.its_node
-      go _ e o = absurd (cc e)
+  on_node l is = grind (arith, seated, leaving)
 
   -- files of one number are on one node
   pub one_node : {n m : ℕ} {f g : File} → HoldsAt v.start r.phase f n → HoldsAt v.start r.phase g m → g.number ≡ f.number → m ≡ n

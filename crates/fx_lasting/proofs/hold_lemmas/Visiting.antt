@@ -31,15 +31,12 @@ module _ (turn : Turn) (f : File) (n t : ℕ) (nx : Round) (m : ℕ) (works : tu
 
     -- who was not visited before isn't now, but this pass
     past : (p : ℕ) → IsToVisit nx p → p ≢ x.number → p ≢ pass → IsToVisit (round_at nx pass) p
-    past p may ne not_pass = dite (dec_le (pass + 1) p) (λ g. (omega (arith, g), may.1))
-        (λ l. absurd (⊎_elim ne may.1 (between p may.0 (omega (arith, l, not_pass)))))
+    past p may ne not_pass = grind arith
 
     cover : (words' : List ℕ) (m' : ℕ) → ((s : ℕ) → s < slots_of v.start → slot_word words' s ≡ slot_word st.words s) → (p : ℕ)
         → p ≢ x.number → p ≢ pass → (k : ℕ) → MayBeUncharged (slot_word st.words) p (r.phase k)
         → MayBeUncharged (slot_word words') p (changed_at r.phase n (leaving id t (round_at nx pass) m' f) k)
-    cover words' m' same p ne not_pass k may = each_changed (λ i z. MayBeUncharged (slot_word words') p z) r.phase
-        (λ is. past p (subst (MayBeUncharged (slot_word st.words) p) (ap r.phase is ∙ (its turn f n t nx m works).1) may) ne not_pass)
-        (λ _. covers_same turn words' same p k may)
+    cover words' m' same p ne not_pass k may = grind (arith, each_changed, past, its, covers_same)
 
     -- what a file held by a hold word needs, of a pass that isn't this one
     guard_else : (words' : List ℕ) (m' : ℕ) → ((s : ℕ) → s < slots_of v.start → slot_word words' s ≡ slot_word st.words s) → (p : ℕ) (e : Work)
@@ -52,15 +49,7 @@ module _ (turn : Turn) (f : File) (n t : ℕ) (nx : Round) (m : ℕ) (works : tu
     -- this pass holds nothing of the node that isn't charged, if its word doesn't name it
     guard_here : word ≢ announced n → (e : Work) → HoldAgrees word (r.debt pass) e → GuardAgrees (slot_word st.words) r.phase pass (r.debt pass) e
         → GuardAgrees (slot_word st.words) (changed_at r.phase n (leaving id t (round_at nx pass) m f)) pass (r.debt pass) e
-    guard_here not_so (Guarded h k) hold guard = λ none. each_changed (λ i z. MayBeUncharged (slot_word st.words) pass z) r.phase
-        (λ is. absurd (⊎_elim (λ (clean : (word ≡ k + 1) × (r.debt pass ≡ 0)). not_so (clean.0 ∙ ap (λ (i : ℕ). i + 1) is))
-        (λ (full : (word ≡ k + 1 + 4294967296) × (r.debt pass ≡ k + 1)). let a = full.1 in omega arith) hold))
-        (λ _. guard none)
-    guard_here not_so (Relieving h k own l) hold guard = λ none. each_changed (λ i z. MayBeUncharged (slot_word st.words) pass z) r.phase
-        (λ is. absurd (⊎_elim (λ (clean : (word ≡ k + 1) × (r.debt pass ≡ 0)). not_so (clean.0 ∙ ap (λ (i : ℕ). i + 1) is))
-        (λ (full : (word ≡ k + 1 + 4294967296) × (r.debt pass ≡ k + 1)). let a = full.1 in omega arith) hold))
-        (λ _. guard none)
-    guard_here not_so _ hold guard = tt
+    guard_here not_so e hold guard = grind (arith, each_changed)
 
     unnamed : word ≢ announced n → RoundStep turn f n t nx m works st.words r.debt (round_at nx pass) m
     unnamed not_so = let a = (node turn f n t nx m works).few_charges in let b = r.shape.passes in
@@ -73,39 +62,22 @@ module _ (turn : Turn) (f : File) (n t : ℕ) (nx : Round) (m : ℕ) (works : tu
 
     -- of a word that names a node: it isn't charged, and its pass owes nothing
     named_clean : (k : ℕ) → NamesNode word (r.debt pass) k → word ≡ announced n → (r.debt pass ≡ 0) × (k ≡ n)
-    named_clean k hold is = let small = r.shape.nodes in let l = (its turn f n t nx m works).0 in ⊎_elim (λ (c : (word ≡ k + 1) × (r.debt pass ≡ 0)). (c.1, let a = c.0 in omega arith))
-        (λ (c : (word ≡ k + 1 + 4294967296) × (r.debt pass ≡ k + 1)). absurd (let a = c.0 in omega arith)) hold
+    named_clean k hold is = grind (arith, its)
 
     -- a hold word that names the node isn't charged, and its pass owes nothing
     clean_debt : (e : Work) → HoldAgrees word (r.debt pass) e → word ≡ announced n → r.debt pass ≡ 0
-    clean_debt (Retiring h k a b c) hold is = still b.guarded hold
-      where
-        still : (z : Bool) → StillNames z word (r.debt pass) k → r.debt pass ≡ 0
-        still true names = (named_clean k names is).0
-        still false unnamed = unnamed.1
-    clean_debt _ hold is = let small = r.shape.nodes in let l = (its turn f n t nx m works).0 in grind arith
+    clean_debt e hold is = grind (arith, named_clean, unnamed, its)
 
     -- the charged word, and the debt
     charges_name : (k : ℕ) → NamesNode word (r.debt pass) k → word ≡ announced n → NamesNode (announced n + charge) (n + 1) k
     charges_name k hold is = let same = (named_clean k hold is).1 in inr (omega arith, omega arith)
 
     now_charged : (e : Work) → HoldAgrees word (r.debt pass) e → word ≡ announced n → HoldAgrees (announced n + charge) (n + 1) e
-    now_charged (Announced k) hold is = charges_name k hold is
-    now_charged (Guarded h k) hold is = charges_name k hold is
-    now_charged (Nearing k own l) hold is = charges_name k hold is
-    now_charged (Relieving h k own l) hold is = charges_name k hold is
-    now_charged (Retiring h k a b c) hold is = still b.guarded hold
-      where
-        still : (z : Bool) → StillNames z word (r.debt pass) k → StillNames z (announced n + charge) (n + 1) k
-        still true names = charges_name k names is
-        still false unnamed = absurd (let a = unnamed.0 in omega arith)
-    now_charged _ hold is = absurd (let a = hold.0 in omega arith)
+    now_charged e hold is = grind (arith, charges_name, unnamed)
 
     -- a pass that owes is excused
     excused : (slot_word' : ℕ → ℕ) (phase' : ℕ → Phase) (e : Work) → GuardAgrees slot_word' phase' pass (n + 1) e
-    excused sw phase' (Guarded h k) = λ none. absurd (omega arith)
-    excused sw phase' (Relieving h k own l) = λ none. absurd (omega arith)
-    excused sw phase' _ = tt
+    excused slot_word' phase' e = grind arith
 
     abbrev debt₁ : ℕ → ℕ
     debt₁ = changed_at r.debt pass (n + 1)
