@@ -66,24 +66,15 @@ number_word t n is = omega (arith, is, t.same_size, t.key.0)
 
 -- the node on which a pass has placed a file, if it has another node besides
 besides_inside : {k : Start} {p n : ℕ} {l : Placement} {m : Sat} → IsAtWork k p m → HasBesides m.0.work n l → n < nodes_of k
-besides_inside {k} {n = n} {l = l} {m = m} at has = ⊎_elim
-    (λ (z : (f : File) × (held : ℕ) × HoldsBesides m.0.work f held n l). ⊎_elim
-    (λ (is : m.0.work ≡ Renewing z.0 z.1 n l). let both : (z.1 < nodes_of k) × (n < nodes_of k) = its_inside at is in both.1)
-    (λ (is : m.0.work ≡ Relieving z.0 z.1 n l). let both : (z.1 < nodes_of k) × (n < nodes_of k) = its_inside at is in both.1) z.2)
-    (λ (z : (i : ℕ) × (m.0.work ≡ Nearing i n l)). let both : (z.0 < nodes_of k) × (n < nodes_of k) = its_inside at z.1 in both.1) has
+besides_inside h1 has = grind (arith, its_inside)
 
 -- the node whose place is with the pass
 pub place_inside : {k : Start} {p n : ℕ} {x : Option Closed} {m : Sat} → IsAtWork k p m → HasPlace n x m → n < nodes_of k
-place_inside {k = k} {n = n} {m = m} at has = ⊎_elim (λ (e : m.0.work ≡ Emptying n). its_inside at e)
-    (λ e. ⊎_elim (λ is. its_inside at is) (λ z. let same : z.0 ≡ n = cc (sym z.3) in
-    subst (λ (i : ℕ). i < nodes_of k) same (besides_inside at z.2))
-    (alone_cases m.0.work e.1)) has.work
+place_inside h1 has = grind (arith, its_inside, besides_inside, alone_cases)
 
 -- a table has few nodes
 pub few_nodes : (t : LastingTable) → nodes_of t.table.shared.key ≤ MOST_NODES
-few_nodes t = let k = t.table.shared.key in let b = t.bounds in let few = t.few_slots in
-    let m : k.installing * k.passes ≤ 64 * k.passes = mul-le-mul_right k.passes (omega (arith, t.key.1, b.3)) in
-    omega (arith, m, few, t.same_size, t.key.0, b.1)
+few_nodes t = grind arith
 
 -- the stock of a pass that installs has as many nodes as the table has passes
 pub long_stock : {k : Start} {p : ℕ} {m : Sat} → IsAtWork k p m → p ≤ k.installing → length (pass_in m).stock ≡ k.passes

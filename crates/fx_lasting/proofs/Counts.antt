@@ -55,12 +55,10 @@ pub owed_at : (debt : ℕ → ℕ) (n p node : ℕ) → 0 < p → p ≤ n → de
 owed_at debt n p node low high is = tally_at (λ q. eqb (debt q) (node + 1)) n p low high (eq-eqb (debt p) (node + 1) is)
 
 bit_true : (b : Bool) → one_if b ≡ 1 → b ≡ true
-bit_true true is = refl
-bit_true false is = absurd (omega arith)
+bit_true b is = grind arith
 
 pub bit_few : (b : Bool) → one_if b ≤ 1
-bit_few true = omega arith
-bit_few false = omega arith
+bit_few b = grind arith
 
 -- a pass that counts, if any does
 pub tally_found : (f : ℕ → Bool) (n : ℕ) → 1 ≤ tally f n → (p : ℕ) × (0 < p) × (p ≤ n) × (f p ≡ true)
@@ -71,13 +69,8 @@ tally_found f (suc n) some = dite (ℕ_discrete (one_if (f (suc n))) 1) (λ is. 
 
 -- who owes to a node, if anybody does
 pub owed_found : (debt : ℕ → ℕ) (n node : ℕ) → 1 ≤ owed debt n node → (p : ℕ) × (0 < p) × (p ≤ n) × (debt p ≡ node + 1)
-owed_found debt n node some = let z = tally_found (λ q. eqb (debt q) (node + 1)) n some in
-    (z.0, z.1, z.2, eqb-true (debt z.0) (node + 1) z.3)
+owed_found debt n node some = grind (arith, tally_found)
 
 -- a cold slot leaves room in its word
 pub few_cold : (passes : ℕ) → cold_takes passes ≤ 524288
-few_cold passes = go (eqb passes 1)
-  where
-    go : (b : Bool) → cond b 524288 16 ≤ 524288
-    go true = omega arith
-    go false = omega arith
+few_cold passes = grind arith

@@ -33,8 +33,7 @@ alone_cases (Nearing m n l) is = inr (n, l, inr (m, refl), sym is)
 alone_cases _ is = inl is
 
 pub busy_alone : (w : Work) → busy w ≡ busy (alone_in w)
-busy_alone (Renewing f held n l) = refl
-busy_alone _ = refl
+busy_alone w = grind arith
 
 -- the label of a file, if there is one
 abbrev label_in : Option File → Written
@@ -43,18 +42,13 @@ label_in (Some f) = label_of f.identity
 
 -- a node with an open file has the file's label
 pub written_of : (ph : Phase) {f : File} → file_in ph ≡ Some f → written_in ph ≡ label_of f.identity
-written_of (placed j l) is = absurd (cc is)
-written_of _ is = ap (λ (o : Option File). label_in o) is
+written_of ph is = grind arith
 
 -- the pass of a node is known in other views too, if what is done with it is
 pub owner_map : (views others : List View) (n : ℕ)
     → ((j : ℕ) (d : Work) → busy d ≡ n + 1 → Does views j d → Does others j d) → (ph : Phase) → OwnerAgrees views n ph
     → OwnerAgrees others n ph
-owner_map views others n f (placed j l) o = f j (Placing n l) refl o
-owner_map views others n f (leaving j t next charges g) o = f j (Retiring g n t next charges) refl o
-owner_map views others n f (emptied j) o = f j (Emptying n) refl o
-owner_map views others n f (kept j lost) o = f j (Keeping n lost) refl o
-owner_map views others n f _ o = tt
+owner_map views others n f ph o = grind arith
 
 pub does_now : (views : List View) (id : ℕ) (v w : View) (d : Work) → get_elem? views id ≡ some v → alone_in w.work ≡ d → Does (set views id w) id d
 does_now views id v w d here is = (w, set_here views id w (stands_at views id v here).0, is)
@@ -79,11 +73,7 @@ module _ (views : List View) (id : ℕ) (v w : View) (here : get_elem? views id 
 -- a file whose number and place have not changed
 pub file_same : {node_of : Nodes} {next next' n : ℕ} {home home' : Home} {f : File} → next ≤ next' → home' ≡ home → IsFileOfNode node_of next n home f
     → IsFileOfNode node_of next' n home' f
-file_same later homed o = let u = o.used in record {
-  at_home = homed ∙ o.at_home;
-  its_node = o.its_node;
-  used = omega arith;
-}
+file_same later homed o = grind arith
 
 -- a node of which nothing has changed
 module _ {at at' : ℕ → Option File} (size : ℕ) {takes_at takes_at' : ℕ → ℕ} (node_of : Nodes) {next next' : ℕ} (n : ℕ)
@@ -91,80 +81,23 @@ module _ {at at' : ℕ → Option File} (size : ℕ) {takes_at takes_at' : ℕ �
     (owed : owing' ≡ owing) (homed : home' ≡ home) where
   vacant_same : {first : ℕ} {lies : Home} → IsVacant at size takes_at node_of next n word taken owing home first lies
       → IsVacant at' size takes_at' node_of next' n word' taken' owing' home' first lies
-  vacant_same o = record {
-    counts = worded ∙ o.counts;
-    at_home = homed ∙ o.at_home;
-    untaken = counted ∙ o.untaken;
-    unowed = owed ∙ o.unowed;
-  }
+  vacant_same o = grind arith
 
   born_same : {lost : ℕ} {lies : Home} → IsBorn at size takes_at node_of next n word taken owing home lost lies
       → IsBorn at' size takes_at' node_of next' n word' taken' owing' home' lost lies
-  born_same {lost} o = record {
-    counts = ap (λ (z : ℕ). z + lost) worded ∙ o.counts;
-    few_lost = o.few_lost;
-    at_home = homed ∙ o.at_home;
-    untaken = counted ∙ o.untaken;
-    unowed = owed ∙ o.unowed;
-  }
+  born_same o = grind arith
 
   pub node_same : (ph : Phase) → ((s : ℕ) (f : File) → ph ≡ seated s f → at s ≡ Some f → (at' s ≡ at s) × (takes_at' s ≡ takes_at s))
       → NodeAgrees at size takes_at node_of next n word taken owing home ph
       → NodeAgrees at' size takes_at' node_of next' n word' taken' owing' home' ph
-  node_same free same o = vacant_same o
-  node_same (placed j l) same o = born_same o
-  node_same (kept j lost) same o = born_same o
-  node_same (seated s f) same o = let z = same s f refl o.there in let a = o.counts in let b = z.1 in record {
-    file = file_same later homed o.file;
-    counts = omega arith;
-    few = let c = o.few in omega arith;
-    unowed = owed ∙ o.unowed;
-    inside = o.inside;
-    there = z.0 ∙ o.there;
-  }
-  node_same (leaving j t nx m f) same o = let a = o.counts in record {
-    file = file_same later homed o.file;
-    counts = omega arith;
-    few_takes = o.few_takes;
-    few_charges = o.few_charges;
-    few_visits = o.few_visits;
-    unowed = λ is. owed ∙ o.unowed is;
-  }
-  node_same (retired f) same o = let a = o.counts in let b = o.somebody in record {
-    file = file_same later homed o.file;
-    counts = omega arith;
-    somebody = omega arith;
-  }
-  node_same (emptied j) same o = let a = o.counts in record {
-    counts = omega arith;
-    at_home = homed ∙ o.at_home;
-    untaken = counted ∙ o.untaken;
-    unowed = owed ∙ o.unowed;
-  }
+  node_same ph same o = grind (arith, vacant_same, born_same, file_same)
 
 -- a slot whose word and file stay
 pub slot_same : {k : Start} {node_of : Nodes} {phase phase' : ℕ → Phase} {deed deed' : ℕ → Deed} {slot word word' : ℕ}
     {there there' : Option File} → word' ≡ word → there' ≡ there → ((p : ℕ) → 0 < p → p ≤ k.passes → deed' p ≡ deed p)
     → ((f : File) → there ≡ Some f → phase (node_of f.number) ≡ seated slot f → phase' (node_of f.number) ≡ phase (node_of f.number))
     → SlotAgrees k node_of phase deed slot there word → SlotAgrees k node_of phase' deed' slot there' word'
-slot_same {k} {node_of} {phase} {phase'} {deed} {deed'} {slot} {word} {word'} {there} same_word same_file did same so =
-    rw (same_word, same_file) (go there refl so)
-  where
-    as_many : tally (λ p. has_acted (deed' p)) k.passes ≡ tally (λ p. has_acted (deed p)) k.passes
-    as_many = tally_same _ _ k.passes (λ p low high. ap has_acted (did p low high))
-
-    as_hot : tally (λ p. has_heated (deed' p)) k.passes ≡ tally (λ p. has_heated (deed p)) k.passes
-    as_hot = tally_same _ _ k.passes (λ p low high. ap has_heated (did p low high))
-
-    go : (found : Option File) → there ≡ found → SlotAgrees k node_of phase deed slot found word
-        → SlotAgrees k node_of phase' deed' slot found word
-    go None is o = record { names = o.names; seat = tt; takes = let t = o.takes in omega (arith, as_many); heat = o.heat ∙ sym as_hot }
-    go (Some f) is o = record {
-      names = o.names;
-      seat = (o.seat.0, same f is o.seat.1 ∙ o.seat.1);
-      takes = let t = o.takes in omega (arith, as_many);
-      heat = o.heat ∙ sym as_hot;
-    }
+slot_same same_word same_file did same so = grind (arith, tally_same)
 
 -- a slot's word as other passes see it: it has another file, or goes on with the same one
 abbrev pub SlotGoesOn : ℕ → ℕ → Deed → Deed → Type 0
@@ -174,19 +107,10 @@ SlotGoesOn old new deed deed' = (deed' ≡ untouched) ⊎ ((deed' ≡ deed) × (
 module _ (k : Start) (word word' : ℕ → ℕ) (deed deed' : ℕ → Deed)
     (slots : (s : ℕ) → s < slots_of k → SlotGoesOn (word s) (word' s) (deed s) (deed' s)) where
   pub sees_on : (g : Glance) → GlanceAgrees k word deed g → GlanceAgrees k word' deed' g
-  sees_on Nothing at = tt
-  sees_on (Hot s m) at = (
-    at.0,
-    at.1,
-    ⊎_elim (λ new. inr new)
-        (λ same. ⊎_elim (λ h. inl (same.1 ∙ h.0, same.2 h.1)) (λ out. inr (same.0 ∙ out)) at.2) (slots s at.0),
-  )
-  sees_on (Cold s) at = (at.0, ⊎_elim (λ new. new) (λ same. same.0 ∙ at.1) (slots s at.0))
-  sees_on (Heating s) at = (at.0, λ is. ⊎_elim (λ new. let bad : untouched ≡ heated = sym new ∙ is in cc bad) (λ same. at.1 (sym same.0 ∙ is)) (slots s at.0))
+  sees_on g h2 = grind (arith, untouched)
 
   pub heats_on : (g : Glance) → Heats k deed g → Heats k deed' g
-  heats_on g h = λ s l is. ⊎_elim (λ new. let bad : untouched ≡ over = sym new ∙ is in absurd (cc bad))
-      (λ same. h s l (sym same.0 ∙ is)) (slots s l)
+  heats_on g h = grind (arith, untouched, over)
 
 -- The facts that other passes rely on, after a step.
 module _ (turn : Turn) (a : After turn) where
@@ -209,8 +133,7 @@ module _ (turn : Turn) (a : After turn) where
       (range : (0 < z.number) × (z.number ≤ v.start.passes))
       (o : LogAgrees v.start r.history st.words r.phase r.debt r.deed u.work u.glance z) where
     same_for : {m : ℕ} {ph : Phase} → r.phase m ≡ ph → owner ph ≡ j + 1 → a.phase m ≡ ph
-    same_for {m} {ph} is own = leaves.owned m (λ y. let e : owner (r.phase m) ≡ owner ph = ap owner is in
-        omega arith) (λ y. other (let e : owner (r.phase m) ≡ owner ph = ap owner is in omega arith)) ∙ is
+    same_for is own = grind arith
 
     work_stays : (d : Work) → u.work ≡ d → WorkAgrees v.start r.phase j d → WorkAgrees v.start a.phase j d
     work_stays (Counted f m) is at = leaves.open_file j u f m other there (ap held_in is) at
@@ -227,27 +150,14 @@ module _ (turn : Turn) (a : After turn) where
     work_stays _ is at = (at.0, same_for at.1 refl)
 
     pub keeps_other : WorkAgrees v.start r.phase j u.work → Keeps turn a j z.number u.work u.glance
-    keeps_other at = let g = leaves.guards z.number u.work n range o.hold o.guarded in record {
-      hold = g.0;
-      guarded = g.1;
-      sees = sees_on v.start (slot_word st.words) (slot_word a.words) (λ s. r.deed s z.number) (λ s. a.deed s z.number)
-          (λ s l. leaves.slots s z.number l n) u.glance o.sees;
-      heats = heats_on v.start (slot_word st.words) (slot_word a.words) (λ s. r.deed s z.number) (λ s. a.deed s z.number)
-          (λ s l. leaves.slots s z.number l n) u.glance o.heats;
-      work = work_stays u.work refl at;
-    }
+    keeps_other h1 = grind (arith, sees_on, heats_on, work_stays)
 
   -- hold words and debts that are as they were
   pub guards_same : (q : ℕ) (d : Work) → word_at a.words (hold_word_of v.start q) ≡ word_at st.words (hold_word_of v.start q) → a.debt q ≡ r.debt q
       → ((n : ℕ) → MayBeUncharged (slot_word st.words) q (r.phase n) → MayBeUncharged (slot_word a.words) q (a.phase n))
       → HoldAgrees (word_at st.words (hold_word_of v.start q)) (r.debt q) d → GuardAgrees (slot_word st.words) r.phase q (r.debt q) d
       → HoldAgrees (word_at a.words (hold_word_of v.start q)) (a.debt q) d × GuardAgrees (slot_word a.words) a.phase q (a.debt q) d
-  guards_same q d same owes covers hold guard = rw (same, owes) (hold, go d guard)
-    where
-      go : (d : Work) → GuardAgrees (slot_word st.words) r.phase q (r.debt q) d → GuardAgrees (slot_word a.words) a.phase q (r.debt q) d
-      go (Guarded f n) g = λ none. covers n (g none)
-      go (Relieving f n own w) g = λ none. covers n (g none)
-      go _ g = tt
+  guards_same q d same owes covers hold guard = grind arith
 
 -- a step that leaves the phase, the number and the label of each node: it may change what takes the
 -- nodes' words count
@@ -257,35 +167,19 @@ pub nodes_untouched : (turn : Turn) (w : View) {h' : List Event} {words' : List 
     turn.r.node_of turn.r.nodes.next_number n (word_at words' (word_of turn.v.start n)) (sum_by (taken_of n) (set turn.st.views turn.id w))
     (owed debt' turn.v.start.passes n) (get_elem? homes' n) (turn.r.phase n))
     → NodesStep turn h' words' homes' (set turn.st.views turn.id w) turn.r.phase turn.r.nodes.next_number debt'
-nodes_untouched turn w files labels alone each = let r = turn.r in record {
-  each = each;
-  owners = λ n l. ⊎_elim (λ still. owner_same turn.st.views turn.id turn.v w turn.here still n (r.phase n) (r.nodes.owners n l))
-      (λ none. owner_stays turn.st.views turn.id turn.v w turn.here n (λ bad. omega arith) (r.phase n) (r.nodes.owners n l)) alone;
-  labels = λ n l. labels_same turn.v.start _ _ _ (written_in (r.phase n)) (labels n) (r.nodes.labels n l);
-  removed = λ number. ap (λ (f : ℕ → Option File). f number) files.removed ∙ r.nodes.removed number;
-  unborn = r.nodes.unborn;
-  fresh = λ number l. ap (λ (f : ℕ → Bool). f number) files.fresh ∙ r.nodes.fresh number l;
-}
+nodes_untouched turn w files labels alone each = grind (arith, owner_same, owner_stays, labels_same)
 
 -- how far a look-up is, where no slot's word and no take of the pass has changed
 pub sees_same : (k : Start) {word word' : ℕ → ℕ} (deed : ℕ → Deed) → ((s : ℕ) → s < slots_of k → word' s ≡ word s) → (g : Glance)
     → GlanceAgrees k word deed g → GlanceAgrees k word' deed g
-sees_same k {word} {word'} deed same (Hot s m) at =
-    (at.0, at.1, ⊎_elim (λ h. inl (ap full_name_in (same s at.0) ∙ h.0, rw (same s at.0) h.1)) (λ out. inr out) at.2)
-sees_same k deed same _ at = at
+sees_same k deed same g h5 = grind arith
 
 -- who may be uncharged, where each hot slot stays hot
 module _ (turn : Turn) (words' : List ℕ) (hot : (s : ℕ) → s < slots_of turn.v.start → IsHot (slot_word turn.st.words s) → IsHot (slot_word words' s)) where
   open turn use {st, v, r, id, x, here, one}
 
   pub covers_hot : (p n : ℕ) → MayBeUncharged (slot_word st.words) p (r.phase n) → MayBeUncharged (slot_word words') p (r.phase n)
-  covers_hot p n = dite (dec_le (suc n) (nodes_of v.start)) (λ l. go (r.phase n) (r.nodes.each n (omega (arith, l))))
-      (λ g m. let e = r.nodes.unborn n (omega (arith, g)) in absurd (rw e at m))
-    where
-      go : (ph : Phase) → NodeIn r n ph → MayBeUncharged (slot_word st.words) p ph → MayBeUncharged (slot_word words') p ph
-      go (seated i f) o is_hot = hot i o.inside is_hot
-      go (leaving j t nx m f) o l = l
-      go _ o m = absurd m
+  covers_hot p n = grind (arith, seated, leaving)
 
 -- where no slot's word has changed
 pub covers_same : (turn : Turn) (words' : List ℕ) → ((s : ℕ) → s < slots_of turn.v.start → slot_word words' s ≡ slot_word turn.st.words s) → (p n : ℕ)

@@ -298,11 +298,7 @@ module _ (turn : Turn) where
   -- each node is where it was, if no slot names another one
   pub stocks_untouched : (words' : List ℕ) → ((s : ℕ) → s < slots_of v.start → name_in (slot_word words' s) ≡ name_in (slot_word st.words s))
       → StockStep words' r.nodes.where_is x.stock
-  stocks_untouched words' same = record {
-    named = λ s l. let o = r.nodes.named s l in record { node = o.node; named = same s l ∙ o.named; inside = o.inside; here = o.here };
-    stock = its_stock;
-    others = λ n q entry other at. at;
-  }
+  stocks_untouched words' same = grind (arith, its_stock)
 
   -- the effect of the step on its pass: from one that was listed, had asked and had in stock this
   moved_on : (a : After) (l : Bool) (q : Survey) (s : List ℕ) → ◌≡◌ {A = Bool × Survey × List ℕ} (a.listed, a.asked, a.stock) (l, q, s)
@@ -365,8 +361,7 @@ module _ (turn : Turn) where
 
   -- the pass has asked what it had asked
   pub asks_alike : (a : After) → a.asked ≡ x.asked → AskAlike (λ (u : View). u.logs) (λ (y : Log). y.number) (λ (y : Log). y.asked) (w a) v
-  asks_alike a same y has = subst (λ (y : Log). (z : Log) × Contains v.logs z × (z.number ≡ y.number) × (z.asked ≡ y.asked))
-      (sym (contains_only (its_after a) y has)) (x, has_x, refl, sym same)
+  asks_alike a same y has = grind (arith, contains_only, has_x)
 
   pub few_slots : (range_at_start v.start).1 ≤ MOST_SLOTS
   few_slots = few_in_range r

@@ -44,16 +44,7 @@ module _ {id : TableId} {k : Start} {number : ℕ} {m : Sat} (at : IsAtWork k nu
   pub goes_on : c ≡ Outside → q.number ≡ number → q.seat.table_id ≡ id → q.seat.me.1 ≡ []
       → (q.stock.items ≡ (pass_in m).stock) × (q.number ≤ k.installing → q.next_entry < k.passes)
       → (q.listed ≡ (pass_in m).listed) × (q.sure ≡ true → (pass_in m).asked ≡ Covered (groups_in (range_at_start k).1)) → IsSeatOf id k q
-  goes_on out same table places stocked flags = record {
-    table = table;
-    places = places;
-    at = subst (λ (i : ℕ). IsAtWork k i q.seat.me) (sym same) (still_at_work at r);
-    change = r.change ∙ out;
-    stock = stocked.0 ∙ sym r.stock;
-    next = stocked.1;
-    listed = flags.0 ∙ sym r.listed;
-    sure = λ is. r.asked ∙ flags.1 is;
-  }
+  goes_on out same table places stocked flags = grind (arith, still_at_work)
 
   -- it is between two calls
   pub rests_on : IsSeatOf id k q → g ≡ Nothing → Knows k.passes q w → IsPassOf id k q
@@ -73,15 +64,13 @@ module _ {id : TableId} {k : Start} {p : LastingPass} (seated : IsSeatOf id k p)
   -- a pass that is listed, and sure, as it was
   pub same_flags : (q : LastingPass) → ◌≡◌ {A = Bool × Bool} (q.listed, q.sure) (p.listed, p.sure)
       → (q.listed ≡ (pass_in p.seat.me).listed) × (q.sure ≡ true → (pass_in p.seat.me).asked ≡ Covered (groups_in (range_at_start k).1))
-  same_flags q same =
-      (ap (λ (z : Bool × Bool). z.0) same ∙ seated.listed, λ is. seated.sure (sym (ap (λ (z : Bool × Bool). z.1) same) ∙ is))
+  same_flags q same = grind arith
 
   -- a pass whose seat has made some steps, and whose fields fit its work
   pub still_seat : (q : LastingPass) {xs : List Action} {w : Work} {g : Glance} {n : ℕ} → Runs p.seat.me xs w g Outside n q.seat.me
       → (q.number ≡ p.number) × ◌≡◌ {A = Bool × Bool} (q.listed, q.sure) (p.listed, p.sure) → q.seat.table_id ≡ p.seat.table_id → q.seat.me.1 ≡ []
       → (q.stock.items ≡ p.stock.items) × (q.number ≤ k.installing → q.next_entry < k.passes) → IsSeatOf id k q
-  still_seat q r same table places stocked = goes_on seated.at q r refl same.0 (table ∙ seated.table) places (stocked.0 ∙ seated.stock, stocked.1)
-      (same_flags q same.1)
+  still_seat q r same table places stocked = grind (arith, goes_on, same_flags)
 
   pub still_pass : (q : LastingPass) {xs : List Action} {w : Work} {n : ℕ} → Runs p.seat.me xs w Nothing Outside n q.seat.me
       → (q.number ≡ p.number) × ◌≡◌ {A = Bool × Bool} (q.listed, q.sure) (p.listed, p.sure) → q.seat.table_id ≡ p.seat.table_id → q.seat.me.1 ≡ []
@@ -106,8 +95,7 @@ module _ {id : TableId} {k : Start} {p : LastingPass} (seated : IsSeatOf id k p)
 -- it looks nothing up, outside a change
 pub swapped_rest : {id : TableId} {k : Start} {p : LastingPass} → IsPassOf id k p → (entry node : ℕ) → {m' : Sat} {xs : List Action} {w : Work} {n : ℕ}
     → Runs (as_swapped entry node p.seat.me) xs w p.seat.me.0.glance p.seat.me.0.change n m' → Runs (as_swapped entry node p.seat.me) xs w Nothing Outside n m'
-swapped_rest {p = p} fits entry node {m'} {xs} {w} {n} r =
-    subst (λ (z : Glance × Change). Runs (as_swapped entry node p.seat.me) xs w z.0 z.1 n m') (λ i. (fits.calm i, fits.seated.change i)) r
+swapped_rest fits entry node r = grind arith
 
 -- a pass that was listed
 module _ {id : TableId} {k : Start} {p : LastingPass} (seated : IsSeatOf id k p) where
@@ -121,9 +109,7 @@ module _ {id : TableId} {k : Start} {p : LastingPass} (seated : IsSeatOf id k p)
   pub listed_seat : (q : LastingPass) {w : Work} {g : Glance} {n : ℕ} → Runs (as_listed p.seat.me) [] w g Outside n q.seat.me
       → (q.number ≡ p.number) × ◌≡◌ {A = Bool × Bool} (q.listed, q.sure) (true, p.sure) → q.seat.table_id ≡ p.seat.table_id → q.seat.me.1 ≡ []
       → (q.stock.items ≡ p.stock.items) × (q.number ≤ k.installing → q.next_entry < k.passes) → IsSeatOf id k q
-  listed_seat q r same table places stocked = goes_on (at_listed seated.at) q r refl same.0 (table ∙ seated.table) places
-      (stocked.0 ∙ seated.stock, stocked.1)
-      (ap (λ (z : Bool × Bool). z.0) same.1, λ is. seated.sure (sym (ap (λ (z : Bool × Bool). z.1) same.1) ∙ is))
+  listed_seat q r same table places stocked = grind (arith, goes_on, at_listed)
 
 -- a pass that holds a file does so by a take or by its hold word
 pub holds_on : (w : Work) {f : File} {hold : Hold} → doing_in w ≡ Holding f hold → HoldsOn w f hold.node
@@ -140,8 +126,7 @@ holds_on _ is = absurd (cc is)
 -- a pass that looks nothing up, outside a change
 pub at_rest : {id : TableId} {k : Start} {p : LastingPass} → IsPassOf id k p → {m' : Sat} {xs : List Action} {w : Work} {n : ℕ}
     → Runs p.seat.me xs w p.seat.me.0.glance p.seat.me.0.change n m' → Runs p.seat.me xs w Nothing Outside n m'
-at_rest {p = p} fits {m'} {xs} {w} {n} r =
-    subst (λ (z : Glance × Change). Runs p.seat.me xs w z.0 z.1 n m') (λ i. (fits.calm i, fits.seated.change i)) r
+at_rest fits r = grind arith
 
 -- a pass that has a file to retire, and has visited nobody yet
 abbrev pub IsToRetire : ℕ → ℕ → File → Retired → Work → Type 0
@@ -154,43 +139,28 @@ module _ (passes visit entry : ℕ) (idle guarded keeps : Bool) (stock : List �
   Is = IsBetweenCalls passes idle guarded keeps visit stock entry
 
   work_may : (w : Work) → Is w → doing_in w ≡ DoesNothing → MayPlace keeps stock entry w
-  work_may Idle knows is = rw knows.1 (inl refl)
-  work_may (Searching n) knows is = rw knows.1 (inr (n, refl))
-  work_may (Keeping n lost) knows is = rw knows.1 (n, lost, refl, knows.2)
-  work_may _ knows is = absurd (first_of (cc, assumption))
+  work_may w knows is = grind arith
 
   work_flag : (w : Work) → Is w → doing_in w ≡ DoesNothing → idle ≡ true
-  work_flag Idle knows is = knows.0
-  work_flag _ knows is = first_of (cc, grind arith)
+  work_flag w knows is = grind arith
 
   -- a pass with a file keeps no node
   work_unkept : (w : Work) → Is w → (doing_in w ≡ DoesNothing → ⊥) → keeps ≡ false
-  work_unkept (Keeping n lost) knows busy = absurd (busy refl)
-  work_unkept _ knows busy = first_of (cc, grind arith)
+  work_unkept w knows busy = grind arith
 
   -- a pass that keeps a node is idle, and the node is at its next entry
   work_kept : (w : Work) → Is w → keeps ≡ true → (n : ℕ) × (lost : ℕ) × (w ≡ Keeping n lost) × (idle ≡ true) × (get_elem? stock entry ≡ some n)
-  work_kept (Keeping n lost) knows is = (n, lost, refl, knows.0, knows.2)
-  work_kept _ knows is = absurd (first_of (cc, assumption))
+  work_kept w knows is = grind arith
 
   module _ (f : File) (hold : Hold) where
     work_guarded : (w : Work) → Is w → doing_in w ≡ Holding f hold → guarded ≡ true → w ≡ Guarded f hold.node
-    work_guarded (Guarded g n) knows is guards = let same : g ≡ f = cc is in let value : hold_at g n ≡ hold = cc is in
-        λ i. Guarded (same i) (ap (λ (h : Hold). h.node) value i)
-    work_guarded _ knows is guards = absurd (first_of (cc, assumption))
+    work_guarded w knows is guards = grind arith
 
     work_counted : (w : Work) → Is w → doing_in w ≡ Holding f hold → guarded ≡ false → w ≡ Counted f hold.node
-    work_counted (Counted g n) knows is guards = let same : g ≡ f = cc is in let value : hold_at g n ≡ hold = cc is in
-        λ i. Counted (same i) (ap (λ (h : Hold). h.node) value i)
-    work_counted _ knows is guards = absurd (first_of (cc, assumption))
+    work_counted w knows is guards = grind arith
 
   work_retiring : (f : File) (retired : Retired) (w : Work) → Is w → doing_in w ≡ Retires f retired → IsToRetire passes visit f retired w
-  work_retiring f retired (Retiring g n t nx m) knows is = let same : g ≡ f = cc is in let value : retired_at g n t ≡ retired = cc is in (
-    λ i. Retiring (same i) (ap (λ (r : Retired). r.node) value i) (ap (λ (r : Retired). r.takes) value i) (knows.2 i) (knows.3 i),
-    subst (λ (z : ℕ). z < 2 ^ 20) (ap (λ (r : Retired). r.takes) value) knows.4,
-    knows.5,
-  )
-  work_retiring f retired _ knows is = absurd (first_of (cc, assumption))
+  work_retiring f retired w knows is = grind arith
 
 -- a pass that keeps no node may look for one
 looks_for : (stock : List ℕ) (entry : ℕ) (w : Work) {keeps : Bool} → MayPlace keeps stock entry w → keeps ≡ false → HasNoFile w
@@ -220,22 +190,16 @@ module _ {id : TableId} {k : Start} {p : LastingPass} (fits : IsPassOf id k p) w
   its_counted {f} {hold} = work_counted k.passes p.next_visit p.next_entry p.idle p.guarded p.keeps p.stock.items f hold p.seat.me.0.work fits.knows
 
   pub holds_alone : {f : File} {hold : Hold} → (view_of p).doing ≡ Holding f hold → HoldsAlone p.seat.me.0.work f hold.node
-  holds_alone {f} {hold} is = go p.guarded refl
-    where
-      go : (b : Bool) → p.guarded ≡ b → HoldsAlone p.seat.me.0.work f hold.node
-      go true guards = inr (its_guarded is guards)
-      go false counts = inl (its_counted is counts)
+  holds_alone is = grind (arith, its_guarded, its_counted)
 
   pub its_retiring : {f : File} {retired : Retired} → (view_of p).doing ≡ Retires f retired
       → IsToRetire k.passes p.next_visit f retired p.seat.me.0.work
-  its_retiring {f} {retired} =
-      work_retiring k.passes p.next_visit p.next_entry p.idle p.guarded p.keeps p.stock.items f retired p.seat.me.0.work fits.knows
+  its_retiring = grind (arith, work_retiring)
 
 -- a removal by a close
 pub taken_so : (o : Opening) (v w : PassView) (slot : ℕ) (removed : Option Retired) (result : Result Retired Empty) (empty : Empty)
     → result ≡ ok_or removed empty → HasRemoved o v slot removed w → Taken o v slot result w
-taken_so o v w slot None result empty answer it = rw answer it
-taken_so o v w slot (Some x) result empty answer it = rw answer it
+taken_so o v w slot removed result empty answer it = grind arith
 
 -- The results of calls that empty or replace a slot
 module _ (k : Start) (v : PassView) (slot found : ℕ) (w : PassView) where
@@ -250,8 +214,7 @@ module _ (k : Start) (v : PassView) (slot found : ℕ) (w : PassView) where
 
   pub removed_so : (file : Option File) (removed : Option Retired) → removed ≡ value_of file
       → Adds o v ([] ▷ Take slot file) (doing_in (retiring_work k found file)) no_use w → HasRemoved o v slot removed w
-  removed_so None removed is adds = rw is adds
-  removed_so (Some f) removed is adds = rw is (f, is_removal f, adds)
+  removed_so file removed is adds = grind (arith, is_removal)
 
   pub placed_so : (file : Option File) (removed : Option Retired) → removed ≡ value_of file → (n : ℕ) (its : Closed)
       → Adds o v ([] ▷ Put slot (numbered n its) file) (doing_in (retiring_work k found file)) one_number w → Placed o v slot its removed w
@@ -268,8 +231,7 @@ released_so fits m' f n (Some file) goes = (goes.0, adds_so fits.seated goes.1 n
 -- it is one run of steps
 pub lets_run : (m m' : Sat) (f : File) (n : ℕ) (r : Option Closed) → LetsFileGo m f n r m'
     → (xs : List Action) × Runs m xs Idle m.0.glance m.0.change n m'
-lets_run m m' f n None goes = ([] ▷ Release f, goes)
-lets_run m m' f n (Some file) goes = ([] ▷ Release f ▷ Close f, goes.1)
+lets_run m m' f n r goes = grind arith
 
 -- the changes of a seat's steps, outside a change
 pub at_ease : {id : TableId} {k : Start} {p : LastingPass} → IsSeatOf id k p → {m' : Sat} {xs : List Action} {w : Work} {g : Glance} {n : ℕ}
@@ -311,13 +273,10 @@ up_then k u v w slot (Err EmptySlot) (Some file) never before looked = (
 -- a look-up by a pass that may have freed a file before
 pub frees_then : (k : Start) (u v w : PassView) (slot : ℕ) (r : Result Hold LookFault) (freed : Option Closed) → r ≢ Err Spent
     → FreesFirst (opening_of k) u freed v → LookedUp (opening_of k) v slot r None w → LookedUp (opening_of k) u slot r freed w
-frees_then k u v w slot r None never before looked = after_then k u v w [] slot r never before looked
-frees_then k u v w slot r (Some file) never before looked =
-    (before.0, before.1, after_then k u v w ([] ▷ Close before.0) slot r never before.2 looked)
+frees_then k u v w slot r freed never before looked = grind (arith, after_then)
 
 pub frees_number : (o : Opening) (u v : PassView) (freed : Option Closed) → FreesFirst o u freed v → v.number ≡ u.number
-frees_number o u v None before = before.number
-frees_number o u v (Some file) before = before.2.number
+frees_number o u v freed before = grind arith
 
 -- a look-up after a withdrawal
 pub charges_then : {id : TableId} {k : Start} {p : LastingPass} (seated : IsSeatOf id k p) {m' : Sat} (w : PassView) (slot : ℕ) {n : ℕ}
@@ -334,42 +293,25 @@ charges_then {k = k} {p = p} seated w slot (Some file) r never before m'' lets l
 
 pub charges_run : (m m' : Sat) (n : ℕ) (freed : Option Closed) → LetsChargeGo m n freed m'
     → (xs : List Action) × Runs m xs Idle m.0.glance m.0.change n m'
-charges_run m m' n None lets = ([], lets)
-charges_run m m' n (Some file) lets = ([] ▷ Close lets.0, lets.2)
+charges_run m m' n freed lets = grind arith
 
 -- a removal, and a pass that knows of it
 pub knows_removed : (k : Start) (found : ℕ) (file : Option File) (removed : Option Retired) (idle guarded keeps : Bool) (visit entry : ℕ) (stock : List ℕ)
     → keeps ≡ false → removed ≡ option_map (λ (f : File). retired_at f (full_name_in found - 1) (count_in found)) file → is_some removed ≡ not idle
     → visit ≡ first_visit k.passes found → IsBetweenCalls k.passes idle guarded keeps visit stock entry (retiring_work k found file)
-knows_removed k found None removed idle guarded keeps visit entry stock unkept is says first = (not-false idle (sym says ∙ ap is_some is), unkept)
-knows_removed k found (Some f) removed idle guarded keeps visit entry stock unkept is says first = (
-  not-true idle (sym says ∙ ap is_some is),
-  unkept,
-  ap new_round (sym first),
-  refl,
-  omega arith,
-  subst (λ (z : ℕ). (z ≡ 1) ⊎ (z ≡ k.passes + 1)) (sym first) (visits_first (heat_in found == 0)),
-)
-  where
-    visits_first : (b : Bool) → (cond b (k.passes + 1) 1 ≡ 1) ⊎ (cond b (k.passes + 1) 1 ≡ k.passes + 1)
-    visits_first true = inr refl
-    visits_first false = inl refl
+knows_removed k found file removed idle guarded keeps visit entry stock unkept is says first = grind (arith, not-false)
 
 -- its account with the groups' words
 pub account_so : (range : ℕ × ℕ) (slot found : ℕ) (file : Option File) (removed : Option Retired) (inside was_empty : Bool)
     → removed ≡ option_map (λ (f : File). retired_at f (full_name_in found - 1) (count_in found)) file → is_some removed ≡ not was_empty
     → inside ≡ is_in range slot → account range slot file ≡ uncounted inside was_empty (group_of range slot)
-account_so range slot found None removed inside was_empty is says at =
-    let e = not-false was_empty (sym says ∙ ap is_some is) in λ i. uncounted (sym at i) (sym e i) (group_of range slot)
-account_so range slot found (Some f) removed inside was_empty is says at =
-    let e = not-true was_empty (sym says ∙ ap is_some is) in λ i. uncounted (sym at i) (sym e i) (group_of range slot)
+account_so range slot found file removed inside was_empty is says h10 = grind (arith, not-false, uncounted)
 
 -- a pass that was idle, once a slot's old file is with it
 pub swapped_looking : {id : TableId} {k : Start} {p : LastingPass} → IsPassOf id k p → (entry node : ℕ) → {m' : Sat} {xs : List Action} {j : Start} (found : ℕ)
     (file : Option File) {n : ℕ} → Runs (as_swapped entry node p.seat.me) xs (retiring_work j found file) p.seat.me.0.glance Outside n m' → j ≡ k
     → Runs (as_swapped entry node p.seat.me) xs (retiring_work k found file) Nothing Outside n m'
-swapped_looking {p = p} fits entry node {m'} {xs} found file {n = n} r same =
-    subst (λ (z : Start × Glance). Runs (as_swapped entry node p.seat.me) xs (retiring_work z.0 found file) z.1 Outside n m') (λ i. (same i, fits.calm i)) r
+swapped_looking fits entry node found file r same = grind arith
 
 -- the first visit of a retirement, as the table counts its passes
 pub first_by : (t : LastingTable) (found : ℕ) → first_visit t.passes found ≡ first_visit t.table.shared.key.passes found
@@ -377,21 +319,11 @@ first_by t found = ap (λ (n : ℕ). first_visit n found) t.key.0
 
 -- a pass that can install a file is one of those that install
 pub may_install : {id : TableId} {k : Start} {p : LastingPass} → IsSeatOf id k p → 0 < (view_of p).numbers_left → p.number ≤ k.installing
-may_install {k = k} {p = p} seated some_left = dite (dec_le p.number k.installing) (λ few. few)
-    (λ many. let none_left : numbers_of_pass k.installing p.number ≡ 0 = ap (λ (b : Bool). cond b 0 64) (lt-ltb k.installing p.number (omega (arith, many))) in
-    let same : (view_of p).numbers_left ≡ numbers_of_pass k.installing p.number = λ i. numbers_of_pass (seated.at.pass.0 i).installing (number_is seated.at i) in
-    absurd (omega (arith, some_left, same, none_left)))
+may_install seated some_left = grind (arith, number_is)
 
 -- the seat of an idle pass that keeps no node
 pub idle_seat : (t : LastingTable) {p : LastingPass} → IsPassOfTable t p → IsIdle (view_of p) → p.keeps ≡ false → IsIdleSeatOf t p.seat
-idle_seat t fits idle unkept = record {
-  table = fits.seated.table;
-  places = fits.seated.places;
-  start = fits.seated.at.pass.0;
-  work = its_idle fits idle unkept;
-  glance = fits.calm;
-  change = fits.seated.change;
-}
+idle_seat t fits idle unkept = grind (arith, its_idle)
 
 -- a new file, as a lasting table has it
 pub new_file_so : (k : Start) {v u : PassView} {file back : Closed} {new : File} → IsNewFile (opening_of k) v back new → back ≡ file

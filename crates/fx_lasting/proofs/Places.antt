@@ -6,61 +6,16 @@ use Rattle.table_range.proofs.Counting.{CountAlike}
 use Rattle.fx_lasting.proofs.Keeping.{Turn, word_at, slot_word, LabelSame}
 
 pub places_inside : (size passes nodes : ℕ) → PlacesAreInside size passes nodes
-places_inside size passes nodes = record {
-  question = omega arith;
-  group = λ group l. omega arith;
-  list = λ pass few. omega arith;
-  slot = λ slot l. omega arith;
-  hold = λ pass l. omega arith;
-  node = λ node l. omega arith;
-  tag = λ node l. omega arith;
-  number = λ node l. omega arith;
-}
+places_inside size passes nodes = grind arith
 
 pub places_apart : (size passes : ℕ) → PlacesAreApart size passes
-places_apart size passes = record {
-  slots = λ slot other same. omega arith;
-  holds = λ pass other same. omega arith;
-  nodes = λ node other same. omega arith;
-  bits = λ pass other low more word bit. omega arith;
-  groups = λ group other same. omega arith;
-  list_and_question = λ pass same. omega arith;
-  group_and_question = λ group same. omega arith;
-  slot_and_question = λ slot same. omega arith;
-  hold_and_question = λ pass low same. omega arith;
-  node_and_question = λ node same. omega arith;
-  group_and_list = λ group pass few same. omega arith;
-  slot_and_group = λ slot group few same. omega arith;
-  hold_and_group = λ pass group low few same. omega arith;
-  node_and_group = λ node group few same. omega arith;
-  slot_and_list = λ slot pass few same. omega arith;
-  hold_and_list = λ pass other low few same. omega arith;
-  node_and_list = λ node pass few same. omega arith;
-  hold_and_slot = λ pass slot low l same. omega arith;
-  node_and_slot = λ node slot l same. omega arith;
-  node_and_hold = λ node pass l same. omega arith;
-}
+places_apart size passes = grind arith
 
 pub labels_apart : (size passes : ℕ) → LabelsAreApart size passes
-labels_apart size passes = record {
-  tags = λ node other same. omega arith;
-  numbers = λ node other same. omega arith;
-  tag_and_number = λ node other same. omega arith;
-  label_and_node = λ node other. (λ same. omega arith, λ same. omega arith);
-  label_and_hold = λ node pass l. (λ same. omega arith, λ same. omega arith);
-  label_and_slot = λ node slot l. (λ same. omega arith, λ same. omega arith);
-  label_and_group = λ node group few. (λ same. omega arith, λ same. omega arith);
-  label_and_list = λ node pass few. (λ same. omega arith, λ same. omega arith);
-  label_and_question = λ node. (λ same. omega arith, λ same. omega arith);
-}
+labels_apart size passes = grind arith
 
 pub nodes_in_line : (size passes : ℕ) → NodesAreInOneLine size passes
-nodes_in_line size passes = record {
-  one = λ node. omega arith;
-  own = λ node other few same. omega arith;
-  node_and_slot = λ node slot l. omega arith;
-  node_and_hold = λ node pass l. omega arith;
-}
+nodes_in_line size passes = grind arith
 
 pub slot_back : (s : ℕ) → slot_of (slot_place s) ≡ s
 slot_back s = omega arith
@@ -91,14 +46,7 @@ pub record LeavesElse (turn : Turn) (n : ℕ) (words' : List ℕ) : Type 0 where
 
 -- no word is written
 pub leaves_all : (turn : Turn) (n : ℕ) → LeavesElse turn n turn.st.words
-leaves_all turn n = record {
-  as_long = refl;
-  slots = λ s l. refl;
-  alike = (refl, λ g l. refl);
-  lists = λ p few. refl;
-  nodes = λ m other. refl;
-  labels = λ m other. (refl, refl);
-}
+leaves_all turn n = grind arith
 
 -- the word of a node is written
 module _ (turn : Turn) (q : ℕ) (its : q < nodes_of turn.v.start) (new : ℕ) where
@@ -197,9 +145,7 @@ module _ (turn : Turn) (s : ℕ) (inside : s < slots_of turn.v.start) (new : ℕ
 
   -- what holds of the slot's new word, and of each other slot's word, holds of each slot's word
   pub slot_by : (P : ℕ → ℕ → Type 0) → P s new → ((i : ℕ) → i ≢ s → P i (slot_word st.words i)) → (i : ℕ) → P i (slot_word slot_words i)
-  slot_by P its else i = dite (ℕ_discrete i s)
-      (λ (same : i ≡ s). subst (λ (j : ℕ). P j (slot_word slot_words j)) (sym same) (subst (P s) (sym slot_here) its))
-      (λ (other : i ≢ s). subst (P i) (sym (slot_else i other)) (else i other))
+  slot_by P its else i = grind (arith, slot_here, slot_else)
 
   pub slot_hold : (p : ℕ) → 0 < p → word_at slot_words (hold_word_of v.start p) ≡ word_at st.words (hold_word_of v.start p)
   slot_hold p low = slot_apart (λ same. omega arith)

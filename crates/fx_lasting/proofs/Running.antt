@@ -56,31 +56,12 @@ runs_carried places r = assumption r
 -- at most as many steps, or more
 pub runs_within : {m m' : Sat} {xs : List Action} {w : Work} {g : Glance} {c : Change} {n n' : ℕ} → n ≤ n' → Runs m xs w g c n m'
     → Runs m xs w g c n' m'
-runs_within {m} {m'} {n = n} {n' = n'} few r =
-    let steps : (pass_in m').steps ≤ (pass_in m).steps + n' = (let p = r.steps in omega arith) in assumption (r, steps)
+runs_within few r = grind arith
 
 module _ {k : Start} {p : ℕ} {m : Sat} (at : IsAtWork k p m) where
   -- no step
   pub runs_none : (n : ℕ) → Runs m [] m.0.work m.0.glance m.0.change n m
-  runs_none n = record {
-    one = (at.log, at.pass.1);
-    number = refl;
-    seen = ([], refl);
-    legal = subst (λ (z : Start × Log). IsHistory z.0 z.1.front) (λ i. (sym at.pass.0 i, sym (ap first_log at.pass.1) i)) at.legal;
-    own = refl;
-    steps = omega arith;
-    begun = omega arith;
-    listed = refl;
-    asked = refl;
-    stock = refl;
-    met = omega arith;
-    changes = λ s. omega arith;
-    work = refl;
-    inside = subst (λ (z : Start). IsInside z m.0.work) (sym at.pass.0) at.inside;
-    glance = refl;
-    change = refl;
-    start = refl;
-  }
+  runs_none n = grind arith
 
   pub number_is : (pass_in m).number ≡ p
   number_is = ap (λ (l : List Log). (first_log l).number) at.pass.1 ∙ at.its_number
@@ -93,16 +74,7 @@ module _ {k : Start} {p : ℕ} {m : Sat} (at : IsAtWork k p m) where
 
   -- the seat goes on
   pub still_at_work : {m' : Sat} {xs : List Action} {w : Work} {g : Glance} {c : Change} {n : ℕ} → Runs m xs w g c n m' → IsAtWork k p m'
-  still_at_work {m'} r = record {
-    log = r.one.0;
-    pass = (r.start ∙ at.pass.0, r.one.1);
-    its_number = sym (ap (λ (l : List Log). (first_log l).number) r.one.1) ∙ (r.number ∙ number_is);
-    low = at.low;
-    high = at.high;
-    legal = subst (λ (z : Start × Log). IsHistory z.0 z.1.front) (λ i. (at.pass.0 i, ap first_log r.one.1 i)) r.legal;
-    inside = subst (λ (z : Start × Work). IsInside z.0 z.1) (λ i. (at.pass.0 i, sym r.work i)) r.inside;
-    stock = subst (IsStockOf k p) (sym stock_is ∙ (sym r.stock ∙ ap (λ (l : List Log). (first_log l).stock) r.one.1)) at.stock;
-  }
+  still_at_work r = grind (arith, number_is, stock_is)
 
   pub own_stock : IsStockOf k p (pass_in m).stock
   own_stock = subst (IsStockOf k p) (sym stock_is) at.stock
@@ -110,16 +82,7 @@ module _ {k : Start} {p : ℕ} {m : Sat} (at : IsAtWork k p m) where
   -- the seat, where the pass's list bit, question and stock are these
   pub at_work_as : (l : Bool) (q : Survey) (s : List ℕ) → IsStockOf k p s
       → IsAtWork k p (record m.0 { logs = record (pass_in m) { listed = l; asked = q; stock = s } ∷ [] }, m.1)
-  at_work_as l q s its = record {
-    log = record (pass_in m) { listed = l; asked = q; stock = s };
-    pass = (at.pass.0, refl);
-    its_number = number_is;
-    low = at.low;
-    high = at.high;
-    legal = subst (λ (l : Log). IsHistory k l.front) (sym (ap first_log at.pass.1)) at.legal;
-    inside = at.inside;
-    stock = its;
-  }
+  at_work_as l q s its = grind (arith, number_is)
 
   -- what it works with is the table's
   pub its_inside : {w : Work} → m.0.work ≡ w → IsInside k w
@@ -136,14 +99,12 @@ at_asked {m = m} a at = at_work_as at (pass_in m).listed a (pass_in m).stock (ow
 -- whatever a pass has asked, it makes the same steps
 pub runs_asked : {m m' : Sat} {xs : List Action} {w : Work} {g : Glance} {c : Change} {n : ℕ} (a : Survey) → Runs m xs w g c n m'
     → Runs (as_asked a m) xs w g c n (as_asked a m')
-runs_asked {m' = m'} a r = let one : (y : Log) × ((as_asked a m').0.logs ≡ y ∷ []) = (record (pass_in m') { asked = a }, refl) in
-    let asked : a ≡ a = refl in assumption (one, asked, r)
+runs_asked a r = grind arith
 
 -- whatever a pass has in stock, it makes the same steps
 pub runs_stocked : {m m' : Sat} {xs : List Action} {w : Work} {g : Glance} {c : Change} {n : ℕ} (s : List ℕ) → Runs m xs w g c n m'
     → Runs (as_stocked s m) xs w g c n (as_stocked s m')
-runs_stocked {m' = m'} s r = let one : (y : Log) × ((as_stocked s m').0.logs ≡ y ∷ []) = (record (pass_in m') { stock = s }, refl) in
-    let stock : s ≡ s = refl in assumption (one, stock, r)
+runs_stocked s r = grind arith
 
 -- the seat of a pass that has swapped a node of its stock for another one
 pub at_swapped : {k : Start} {p : ℕ} {m : Sat} → IsAtWork k p m → (entry node : ℕ) → node < nodes_of k → IsAtWork k p (as_swapped entry node m)
@@ -202,10 +163,7 @@ file_then m'' f n' (Some file) a b = (b.0, does_then a b.1)
 
 -- the file of a pass is closed: the pass has its place, and takes the file out
 pub out_place : {m m' : Sat} {xs : List Action} {f : File} {n : ℕ} → m.1 ≡ [] → TakesOut m xs f n m' → HasPlace n (Some f.identity) m'
-out_place {f = f} {n = n} empty out = record {
-  work = inl out.stepped.work;
-  place = out.carried ∙ ap (λ (l : List (ℕ × Option Closed)). (n, Some f.identity) ∷ l) empty;
-}
+out_place empty out = grind arith
 
 pub out_and_home : {m m' m'' : Sat} {xs : List Action} {f : File} {n : ℕ} → TakesOut m xs f n m'
     → Runs m' [] (rested m'.0.work) m'.0.glance m'.0.change 1 m'' → Runs m (xs ▷ Close f) Idle m.0.glance m.0.change 2 m''
@@ -215,28 +173,19 @@ out_and_home {m' = m'} {m'' = m''} out home = does_then (runs_one out.stepped)
 -- a pass lets a charge or a file go
 module _ {st : At} {m m' : Sat} {n found : ℕ} (did : LettingGo st m found m') where
   pub releases_out : {f : File} → IsReleasing m.0.work f n → found ≡ 2 → TakesOut m ([] ▷ Release f) f n m'
-  releases_out {f} has is = ⊎_elim (λ (e : m.0.work ≡ Yielding f n). (did.yielded f n e).1 is)
-      (λ (e : m.0.work ≡ Counted f n). (did.counted f n e).1 is) has
+  releases_out has is = grind arith
 
   -- the pass has the place of the closed file
   pub goes_out : HasToLetGo m.0.work n → found ≡ 2 → (xs : List Action) × (f : File) × TakesOut m xs f n m'
-  goes_out has is = ⊎_elim (λ (e : m.0.work ≡ Owing n). let o = (did.owed n e).1 is in ([], o.0, o.1))
-      (λ other. ⊎_elim
-      (λ (y : (f : File) × (m.0.work ≡ Yielding f n)). ([] ▷ Release y.0, y.0, (did.yielded y.0 n y.1).1 is))
-      (λ (y : (f : File) × (m.0.work ≡ Counted f n)). ([] ▷ Release y.0, y.0, (did.counted y.0 n y.1).1 is)) other) has
+  goes_out has is = grind arith
 
 -- the node of the charge or the file that a pass drops is one of the table
 pub let_go_inside : {k : Start} {p n : ℕ} {m : Sat} → IsAtWork k p m → HasToLetGo m.0.work n → n < nodes_of k
-let_go_inside {n = n} {m = m} at has = ⊎_elim (λ (e : m.0.work ≡ Owing n). its_inside at e)
-    (λ other. ⊎_elim (λ (y : (f : File) × (m.0.work ≡ Yielding f n)). its_inside at y.1)
-    (λ (y : (f : File) × (m.0.work ≡ Counted f n)). its_inside at y.1) other) has
+let_go_inside h1 has = grind (arith, its_inside)
 
 -- the node whose file it holds is the table's
 pub held_inside : {k : Start} {p n : ℕ} {f : File} {m : Sat} → IsAtWork k p m → HoldsOn m.0.work f n → n < nodes_of k
-held_inside {k} {n = n} {f = f} {m = m} at holds = ⊎_elim (λ is. its_inside at is) (λ z. ⊎_elim (λ is. its_inside at is)
-    (λ (is : (own : ℕ) × (l : Placement) × HoldsBesides m.0.work f n own l). ⊎_elim
-    (λ (e : m.0.work ≡ Renewing f n is.0 is.1). let both : (n < nodes_of k) × (is.0 < nodes_of k) = its_inside at e in both.0)
-    (λ (e : m.0.work ≡ Relieving f n is.0 is.1). let both : (n < nodes_of k) × (is.0 < nodes_of k) = its_inside at e in both.0) is.2) z) holds
+held_inside h1 holds = grind (arith, its_inside)
 
 -- a pass takes what a slot names: a file, or nothing
 pub took : {none : Work} {holding : File → ℕ → Work} {st : At} {m m' : Sat} {slot found : ℕ} → m.0.glance ≡ Cold slot → TakesAs none holding st m found m'
@@ -246,14 +195,10 @@ took {none = none} {holding = holding} {slot = slot} {found = found} cold did = 
 
 -- the name in a word
 pub no_name : (word : ℕ) → None ≡ file_node_in word → full_name_in word ≡ 0
-no_name word is = dite (ℕ_discrete (full_name_in word) 0) (λ e. e)
-    (λ some. let bad : None ≡ Some (full_name_in word - 1) = rw (ne_eqb (full_name_in word) 0 some) at is in absurd (cc bad))
+no_name word is = grind arith
 
 pub its_name : (word n : ℕ) → Some n ≡ file_node_in word → full_name_in word ≡ n + 1
-its_name word n is = dite (ℕ_discrete (full_name_in word) 0)
-    (λ e. let bad : Some n ≡ None = rw (eq-eqb (full_name_in word) 0 e) at is in absurd (cc bad))
-    (λ some. let same : Some n ≡ Some (full_name_in word - 1) = rw (ne_eqb (full_name_in word) 0 some) at is in
-    let e : n ≡ full_name_in word - 1 = cc same in omega (arith, some, e))
+its_name word n is = grind arith
 
 -- a pass that has done nothing more than its work
 pub placed_none : {k : Start} {p : ℕ} {m : Sat} → IsAtWork k p m → {w : Work} → m.0.work ≡ w → Runs m [] w m.0.glance m.0.change 0 m

@@ -18,29 +18,19 @@ use Rattle.fx_lasting.specs.WholeHistory.{IsPassAt, IsPartOf, IsOfAllPasses, Use
 
 -- the passes begin in a state from which the laws of histories speak
 start_is : (k : Start) → IsStart (state_at_start k)
-start_is k = let o = opening_is_start (state_of (contents_of k)) 0 in record {
-  settled = record { unheld = o.settled.unheld; closed = o.settled.closed };
-  distinct = o.distinct;
-  used = λ slot f l there. let e = numbered_anew _ slot f there in ap not (lt-ltb f.number (slots_of k) (omega arith));
-}
+start_is k = grind (arith, opening_is_start, numbered_anew)
 
 -- the file of a phase, if it has the number
 found_file : (number : ℕ) (g f : File) → file_if_numbered number g ≡ Some f → (g ≡ f) × (f.number ≡ number)
-found_file number g f is = go (eqb g.number number) refl is
-  where
-    go : (b : Bool) → eqb g.number number ≡ b → cond b (Some g) None ≡ Some f → (g ≡ f) × (f.number ≡ number)
-    go true e is = let same : g ≡ f = cc is in (same, sym (ap (λ (x : File). x.number) same) ∙ eqb-true g.number number e)
-    go false e is = absurd (cc is)
+found_file number g f is = grind arith
 
 -- no pass has a number that is 0 or too high
 once_not : (n p : ℕ) → (p ≡ 0) ⊎ (n < p) → once_in n p ≡ 0
-once_not n zero far = refl
-once_not n (suc p) far = rw (le-ltb p n (⊎_elim (λ bad. absurd (omega (arith, bad))) (λ more. omega (arith, more)) far)) refl
+once_not n p far = grind arith
 
 module _ (k : Start) (s : Shared) (r : Agrees k s) where
   parts : (seat : ℕ) (pass : PassView) → IsPassAt s seat pass → IsPartOf pass r.history
-  parts seat pass at = let o = its_pass r.life seat at.there at.one in
-      subst (λ (w : PassView). IsPartOf w r.history) at.shown (rw at.one record { seen = o.seen; own = o.own })
+  parts seat pass h3 = grind (arith, its_pass)
 
   once : (number : ℕ) → length (closes_of number r.history) ≤ 1
   once number = closed_at_most_once (state_at_start k) r.history number (start_is k) r.life.legal.leads.0
@@ -50,8 +40,7 @@ module _ (k : Start) (s : Shared) (r : Agrees k s) where
 
   removed_there : (n : ℕ) (f : File) (ph : Phase) → r.phase n ≡ ph → r.node_of f.number ≡ n → removed_in f.number ph ≡ Some f
       → 1 ≤ tally f.number (state_after_all k r.history)
-  removed_there n f ph at on is =
-      let a = ap present (r.nodes.removed f.number ∙ (ap (λ (m : ℕ). removed_in f.number (r.phase m)) on ∙ (ap (removed_in f.number) at ∙ is))) in omega arith
+  removed_there n f ph h4 on is = grind arith
 
   -- a file that is open counts in the state that the history leads to
   is_there : (n : ℕ) (f : File) (ph : Phase) → r.phase n ≡ ph → NodeIn r n ph → file_in ph ≡ Some f
@@ -78,15 +67,7 @@ module _ (k : Start) (s : Shared) (r : Agrees k s) where
       none (g ∷ l) is = absurd (omega arith)
 
   pub is_of_all_passes : IsOfAllPasses k s r
-  is_of_all_passes = record {
-    legal = r.life.legal;
-    start = start_is k;
-    parts = parts;
-    authors = λ pass far. r.life.authors pass (once_not (opening_of k).passes pass far);
-    once = once;
-    held = λ seat pass f hold at holds. unclosed hold.node f
-        (holds_at k s r (seat, at.view, at.there, ap (λ (w : PassView). w.doing) at.shown ∙ holds));
-  }
+  is_of_all_passes = grind (arith, start_is, parts, once_not, once, unclosed, holds_at)
 
   -- who uses a node that isn't free
   module _ (n : ℕ) (f : File) (file : file_in (r.phase n) ≡ Some f) where
@@ -94,12 +75,7 @@ module _ (k : Start) (s : Shared) (r : Agrees k s) where
     same_file g at = cc (sym at.1 ∙ file)
 
     takes : (seat : ℕ) (v : View) → get_elem? s.views seat ≡ some v → 1 ≤ taken_of n v → Uses f n v.work
-    takes seat v there some_taken = go v.work some_taken (r.holds.views seat v there).work
-      where
-        go : (w : Work) → 1 ≤ taking n w → WorkAgrees k r.phase seat w → Uses f n w
-        go (Counted g m) is at = dite (ℕ_discrete m n) (λ same. same_file g (rw same at at)) (λ other. absurd (let a = bit_else n m other in omega arith))
-        go (Renewing g m own w) is at = dite (ℕ_discrete m n) (λ same. same_file g (rw same at at.0)) (λ other. absurd (let a = bit_else n m other in omega arith))
-        go _ is at = absurd (omega arith)
+    takes seat v there some_taken = grind (arith, taking, same_file, bit_else)
 
     owes : (seat : ℕ) (w : Work) (word debt : ℕ) → debt ≡ n + 1 → HoldAgrees word debt w → WorkAgrees k r.phase seat w → Uses f n w
     owes seat (Guarded g m) word debt is h at = ⊎_elim (λ clean. let a = clean.1 in absurd (omega arith))

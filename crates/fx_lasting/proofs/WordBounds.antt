@@ -13,11 +13,7 @@ module _ (k : Start) (s : Shared) (r : Agrees k s) where
 
   of_slot : (slot node : ℕ) → slot < slots_of k → (file : Option File) → Names r.node_of (slot_word_in s slot) file
       → IsSeated k r.node_of r.phase slot file → full_name_in (slot_word_in s slot) ≡ node + 1 → 2 < node_word_in k s node
-  of_slot slot node inside None names seat is = absurd (omega arith)
-  of_slot slot node inside (Some f) names seat is = let a = names.0 in let same : r.node_of f.number ≡ node = omega arith in
-      let o = node_in r seat.0 seat.1 in
-      let c = o.counts in let t = few_takes slot inside in let p = r.shape.passes in
-      let large : 2 < node_word_in k s (r.node_of f.number) = omega (arith, few_cold k.passes) in subst (λ (n : ℕ). 2 < node_word_in k s n) same large
+  of_slot slot node inside file names seat is = grind (arith, node_in, few_takes, few_cold)
 
   pub words_are_bounded : AreBounded k s
   words_are_bounded = record {

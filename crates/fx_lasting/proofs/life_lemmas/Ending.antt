@@ -38,12 +38,7 @@ module _ {k : Start} {s : Shared} (r : Agrees k s) (all_idle : (i : ℕ) (u : Vi
   removed_none m n _ a o = refl
 
   pub settled_end : IsSettled end
-  settled_end = record {
-    unheld = unheld;
-    closed = λ m. r.nodes.removed m ∙ dite (dec_le (suc (r.node_of m)) (nodes_of k))
-        (λ l. removed_none m (r.node_of m) (r.phase (r.node_of m)) (r.nodes.each (r.node_of m) (omega (arith, l))) (r.nodes.owners (r.node_of m) (omega (arith, l))))
-        (λ g. ap (removed_in m) (r.nodes.unborn (r.node_of m) (omega (arith, g))));
-  }
+  settled_end = grind (arith, unheld, removed_none)
 
   -- at the end the file that lies in the place of a node is at its slot
   abbrev pub AtItsSlot : ℕ → Option Closed → Type 0
@@ -74,18 +69,12 @@ module _ {k : Start} {s : Shared} (r : Agrees k s) (all_idle : (i : ℕ) (u : Vi
   -- the file at a slot lies in the place of its node
   pub file_home : {slot : ℕ} {f : File} → slot < slots_of k → end.at slot ≡ Some f
       → (r.node_of f.number < nodes_of k) × (get_elem? s.homes (r.node_of f.number) ≡ some (some (Some f.identity)))
-  file_home {slot} {f} l there = let sat = seat_at l there in
-      (sat.0, (node_in r sat.0 sat.1).file.at_home)
+  file_home l there = grind (arith, seat_at, node_in)
 
   -- files at different slots are on different nodes
   pub one_slot : {slot other : ℕ} {f g : File} → slot < slots_of k → other < slots_of k → end.at slot ≡ Some f → end.at other ≡ Some g
       → r.node_of f.number ≡ r.node_of g.number → slot ≡ other
-  one_slot {slot} {other} {f} {g} l m there here same = let a = seat_at l there in let b = seat_at m here in
-      let e : seated slot f ≡ seated other g = sym a.1 ∙ (ap r.phase same ∙ b.1) in cc e
+  one_slot l m there here same = grind (arith, seat_at, seated)
 
   pub none_outside_end : {slot : ℕ} → slots_of k ≤ slot → end.at slot ≡ None
-  none_outside_end {slot} past = outside slot past
-    where
-      outside : (slot : ℕ) → slots_of k ≤ slot → end.at slot ≡ None
-      outside slot past = inside_behind (state_at_start k) (map action_of r.history) r.life.legal.leads.0 (opens_inside (contents_of k) 0) slot
-          (let size = (same_shape k r.history).0 in omega arith)
+  none_outside_end past = grind (arith, inside_behind, opens_inside, same_shape)

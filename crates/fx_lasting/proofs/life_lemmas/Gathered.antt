@@ -66,15 +66,7 @@ module _ {id : TableId} (k : Start) {p : ℕ} (low : 1 ≤ p) (high : p ≤ k.pa
   }
 
   pub is_new_pass : IsPassOf id k x × (shown x ≡ new_pass p)
-  is_new_pass = (
-    record {
-      seated = seated;
-      calm = ap (λ (m : Sat). m.0.glance) me;
-      knows = subst (Knows k.passes x) (sym (ap (λ (m : Sat). m.0.work) me)) (new.flag, new.unkept);
-      front = rw me record { legal = legal; mine = refl };
-    },
-    ap (λ (m : Sat). record (pass_of m.0) { numbers_left = 0 }) me,
-  )
+  is_new_pass = grind (arith, seated, me, legal, pass_of)
 
 -- All passes in one seat: what the one history says of each of them
 module _ (id : TableId) (k : Start) where

@@ -32,9 +32,7 @@ module _ (t : LastingTable) {id : ℕ} {v : View} {words : List ℕ} (xs : List 
   all_idle = idle final.0 r final.1.1
 
   node_is : (word : ℕ) (file : Option File) → Names r.node_of word file → file_node_in word ≡ option_map r.node_of (number_of file)
-  node_is word None e = rw (eq-eqb (full_name_in word) 0 e) refl
-  node_is word (Some f) e = let n = e.0 in rw (ne_eqb (full_name_in word) 0 (λ bad. omega (arith, n, bad)))
-      (let same : full_name_in word - 1 ≡ r.node_of f.number = omega (arith, n) in ap (λ (z : ℕ). Some z) same)
+  node_is word file e = grind arith
 
   stored : AreStored size (node_at words) end r.node_of xs
   stored = record {

@@ -94,22 +94,16 @@ module _ (st : State) (past : (slot : ℕ) → st.size ≤ slot → st.at slot �
   gone_at number g = get_or-eq_default nodes Gone (omega (arith, g, length-map-range_with_len (λ s. moved_node (found s) s) 0 st.size))
 
   placed : (slot : ℕ) (x : Option Closed) → node_at nodes slot ≡ moved_node x slot → identity_of (file_in nodes (slot_for slot x)) ≡ x
-  placed slot None is = refl
-  placed slot (Some f) is = ap (λ (node : Node). identity_of (placed_at slot node)) is
+  placed slot x is = grind arith
 
   its_file : (slot : ℕ) → identity_of ((state_of with_files).at slot) ≡ found slot
-  its_file slot = dite (dec_le (suc slot) st.size)
-      (λ l. ap (λ (x : Option ℕ). identity_of (file_in nodes x)) (slot_is slot (omega (arith, l))) ∙ placed slot (found slot) (node_is slot (omega (arith, l))))
-      (λ g. ap (λ (x : Option ℕ). identity_of (file_in nodes x)) (none_at slot (omega (arith, g))) ∙ sym (ap identity_of (past slot (omega (arith, g)))))
+  its_file slot = grind (arith, slot_is, placed, node_is, none_at)
 
   moved_none : (number slot : ℕ) (x : Option Closed) → removed_at number (moved_node x slot) ≡ None
-  moved_none number slot None = refl
-  moved_none number slot (Some f) = refl
+  moved_none number slot x = grind arith
 
   none_removed : (number : ℕ) → removed_at number (node_at nodes number) ≡ None
-  none_removed number = dite (dec_le (suc number) st.size)
-      (λ l. ap (removed_at number) (node_is number (omega (arith, l))) ∙ moved_none number number (found number))
-      (λ g. ap (removed_at number) (gone_at number (omega (arith, g))))
+  none_removed number = grind (arith, node_is, moved_none, gone_at)
 
   pub has_files : HasSameFiles st (state_of with_files)
   has_files = record { size = length-map-range_with_len (λ s. slot_for s (found s)) 0 st.size; range = refl; files = its_file }

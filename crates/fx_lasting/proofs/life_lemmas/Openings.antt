@@ -22,8 +22,7 @@ abbrev first_where : Start → ℕ → Whereabouts
 first_where k n = cond (nat_lt n (slots_of k)) (at_slot n) (in_stock ((n - slots_of k) / k.passes + 1) ((n - slots_of k) % k.passes))
 
 slot_where : (k : Start) {n : ℕ} → n < slots_of k → first_where k n ≡ at_slot n
-slot_where k {n} l = ap (λ (b : Bool). cond b (at_slot n) (in_stock ((n - slots_of k) / k.passes + 1) ((n - slots_of k) % k.passes)))
-    (lt-ltb n (slots_of k) l)
+slot_where k l = grind (arith, at_slot)
 
 none_owed : (passes n : ℕ) → owed (λ p. 0) passes n ≡ 0
 none_owed passes n = tally_same (λ p. eqb 0 (n + 1)) (λ p. false) passes (λ p low high. ne_eqb 0 (n + 1) (λ e. omega arith)) ∙ tally_none passes
@@ -101,18 +100,7 @@ module _ (k : Start) (words : List ℕ) (homes : List (Option Closed)) (o : Open
 
   -- the view of the seat that opens the table
   log_opens : (p : ℕ) → 0 < p → p ≤ k.passes → LogAgrees k [] words first_phase (λ q. 0) (λ i q. untouched) Idle Nothing (new_log k p)
-  log_opens p low high = record {
-    held = refl;
-    allowed = tt;
-    list = λ is. absurd (cc is);
-    unlisted = λ is. absurd (no_bits p (omega (arith, high, o.passes)) is);
-    hold = (o.others (hold_word_of k p) (λ slot inside bad. omega (arith, bad, low, high)), refl);
-    guarded = tt;
-    sees = tt;
-    heats = λ i l is. absurd (cc is);
-    takes_listed = λ i l is. absurd (is refl);
-    watch = record { seen = ([], refl); saw = λ l. absurd (omega (arith, l, o.slots)); asks = λ bad. absurd (cc bad) };
-  }
+  log_opens p low high = grind (arith, no_bits)
 
   -- the numbers of new passes
   in_order : (x : Log) → Contains (new_logs seats k 1 k.passes) x → (p : ℕ) × (0 < p) × (p ≤ k.passes) × (x ≡ new_log k p)

@@ -54,18 +54,7 @@ module _ (k : Start) (s : Shared) (r : Agrees k s) (id : ℕ) (v : View) (here :
 
   its_log : (x : Log) → LogAgrees k r.history s.words r.phase r.debt r.deed v.work v.glance x
       → LogAgrees k r.history s.words r.phase r.debt r.deed Idle v.glance x
-  its_log x o = record {
-    held = o.held ∙ no_file free_of;
-    allowed = tt;
-    list = o.list;
-    unlisted = o.unlisted;
-    hold = holds_none free_of o.hold;
-    guarded = tt;
-    sees = o.sees;
-    heats = o.heats;
-    takes_listed = o.takes_listed;
-    watch = o.watch;
-  }
+  its_log x o = grind (arith, no_file, holds_none)
 
   forgotten : Agrees k record { words = s.words; homes = s.homes; views = views' }
   forgotten = reseat k s r views' record {

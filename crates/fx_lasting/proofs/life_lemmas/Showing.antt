@@ -32,18 +32,7 @@ module _ (k : Start) (id : ℕ) (v w : View) (x : Log) (one : v.logs ≡ x ∷ [
   learned = record v { logs = log ∷ [] }
 
   now_log : LogAgrees k r.history s.words r.phase r.debt r.deed v.work v.glance log
-  now_log = let o = its_log in record {
-    held = o.held;
-    allowed = o.allowed;
-    list = o.list;
-    unlisted = o.unlisted;
-    hold = o.hold;
-    guarded = o.guarded;
-    sees = o.sees;
-    heats = o.heats;
-    takes_listed = o.takes_listed;
-    watch = o.watch;
-  }
+  now_log = grind (arith, its_log)
 
   learned_agrees : Agrees k record { words = s.words; homes = s.homes; views = set s.views id learned }
   learned_agrees = reseat k s r (set s.views id learned) record {

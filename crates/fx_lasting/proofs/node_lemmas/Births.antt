@@ -26,12 +26,7 @@ module _ (turn : Turn) where
 
   -- a node whose word is 0 is free
   zero_free : {n : ℕ} → n < nodes_of v.start → word_at st.words (word_of v.start n) ≡ 0 → r.phase n ≡ free
-  zero_free {n} l is = go (r.phase n) refl (r.nodes.each n l)
-    where
-      go : (ph : Phase) → r.phase n ≡ ph → NodeNow turn n ph → r.phase n ≡ free
-      go free at o = at
-      go (leaving j t nx m f) at o = let a = o.counts in let b = o.few_takes in let c = o.few_charges in let d = o.few_visits in absurd (omega arith)
-      go _ at o = let a = o.counts in absurd (omega arith)
+  zero_free l is = grind (arith, free, leaving)
 
   free_zero : {n : ℕ} → n < nodes_of v.start → r.phase n ≡ free → word_at st.words (word_of v.start n) ≡ 0
   free_zero l is = (in_phase turn l is).counts
@@ -241,8 +236,7 @@ module _ (turn : Turn) where
     stays_open f held o = (o.0, ap file_in (changed_else r.phase n free held (apart f held o)) ∙ o.1)
 
     knows_rested : IsInside v.start d
-    knows_rested = by_rest (λ d e. WorkAgrees v.start r.phase id d → IsInside v.start e) (λ a. tt) (λ l a. its_node.0) (λ f held l. (λ a. a.0.0, λ a. a.0.0))
-        (λ m l a. a.0) (its_work turn)
+    knows_rested = grind (arith, its_node, its_work)
 
     busy_so : busy v.work ≡ n + 1
     busy_so = by_rest (λ d e. busy d ≡ n + 1) refl (λ l. refl) (λ f held l. (refl, refl)) (λ m l. refl)

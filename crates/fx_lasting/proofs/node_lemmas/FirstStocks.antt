@@ -13,10 +13,7 @@ row_more a (suc n) = let e : a + 1 + n ≡ a + suc n = omega arith in
 -- a stock ends before the end of the nodes
 pub stock_ends : (size passes installing pass start : ℕ) → start ≡ stock_start size passes pass → size ≤ MOST_SLOTS → 1 ≤ pass → pass ≤ installing
     → installing ≤ MOST_INSTALLING → passes ≤ MOST_PASSES → start + passes ≤ MOST_NODES
-stock_ends size passes installing pass start is few low within some many = let row = suc-mul (pass - 1) passes in
-    let same : suc (pass - 1) ≡ pass = omega (arith, low) in let same' = ap (λ (q : ℕ). q * passes) same in
-    let m : pass * passes ≤ MOST_INSTALLING * passes = mul-le-mul_right passes (omega (arith, within, some)) in
-    omega (arith, is, few, m, row, same', many)
+stock_ends size passes installing pass start is few low within some many = grind arith
 
 pub length_back : (size passes installing p n : ℕ) → length (stocks_back size passes installing p n) ≡ n
 length_back size passes installing p zero = refl

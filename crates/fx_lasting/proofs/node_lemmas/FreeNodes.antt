@@ -70,19 +70,11 @@ named_by _ = 0
 
 -- a pass that has placed a file beside another node did so on a node of its stock
 own_stocked : (d : Work) {n : ℕ} {l : Placement} (stock : List ℕ) (listed : Bool) → HasBesides d n l → IsAllowed stock listed d → IsInStock stock n
-own_stocked d {n} {l} stock listed has allowed = ⊎_elim
-    (λ (z : (f : File) × (held : ℕ) × HoldsBesides d f held n l). ⊎_elim
-    (λ (is : d ≡ Renewing z.0 z.1 n l). subst (IsAllowed stock listed) is allowed)
-    (λ (is : d ≡ Relieving z.0 z.1 n l). let both : IsInStock stock n × (listed ≡ true) = subst (IsAllowed stock listed) is allowed in both.0) z.2)
-    (λ (z : (i : ℕ) × (d ≡ Nearing i n l)). let both : IsInStock stock n × (listed ≡ true) = subst (IsAllowed stock listed) z.1 allowed in both.0) has
+own_stocked d stock listed has allowed = grind arith
 
 -- and works with that other node
 names_other : (d : Work) {n : ℕ} {l : Placement} → HasBesides d n l → named_by d ≢ 0
-names_other d {n} {l} has none = ⊎_elim
-    (λ (z : (f : File) × (held : ℕ) × HoldsBesides d f held n l). ⊎_elim
-    (λ (is : d ≡ Renewing z.0 z.1 n l). let a = ap named_by is in omega arith)
-    (λ (is : d ≡ Relieving z.0 z.1 n l). let a = ap named_by is in omega arith) z.2)
-    (λ (z : (i : ℕ) × (d ≡ Nearing i n l)). let a = ap named_by z.1 in omega arith) has
+names_other d has none = grind arith
 
 abbrev uses : ℕ → View → ℕ
 uses n v = one_if (eqb (named_by v.work) (n + 1))
@@ -94,8 +86,7 @@ found_below P dec (suc n) = ⊎_elim (λ p. inl (n, omega arith, p))
     (λ no_such. inr (λ m l p. dite (ℕ_discrete m n) (λ same. no (subst P same p)) (λ other. no_such m (omega (arith, l, other)) p))) (found_below P dec n)) (dec n)
 
 is_free : (ph : Phase) → (ph ≡ free) ⊎ (ph ≡ free → ⊥)
-is_free free = inl refl
-is_free _ = inr (λ e. cc e)
+is_free ph = grind arith
 
 -- an entry of a list of numbers
 pub entry_is : (l : List ℕ) (i : ℕ) → i < length l → get_elem? l i ≡ some (get_or l i 0)
@@ -114,19 +105,10 @@ module _ {k : Start} {st : Shared} (r : Agrees k st) where
   does_use n j o other is = used_by n j o.0 o.1 (⊎_elim (λ its. ap named_by its) (λ z. absurd (other z.0 z.1 z.3)) (alone_cases o.0.work o.2) ∙ is)
 
   takes_use : (n : ℕ) (d : Work) → taking n d ≤ one_if (eqb (named_by d) (n + 1))
-  takes_use n (Counted f m) = dite (ℕ_discrete m n) (λ same. let a = bit_here n m same in let b = bit_here (n + 1) (m + 1) (ap (λ (i : ℕ). i + 1) same) in omega arith)
-      (λ other. let a = bit_else n m other in omega arith)
-  takes_use n (Renewing f m own l) = dite (ℕ_discrete m n) (λ same. let a = bit_here n m same in let b = bit_here (n + 1) (m + 1) (ap (λ (i : ℕ). i + 1) same) in omega arith)
-      (λ other. let a = bit_else n m other in omega arith)
-  takes_use n _ = omega arith
+  takes_use n d = grind (arith, bit_here, bit_else)
 
   owes_use : (n : ℕ) (word : ℕ) (d : Work) → HoldAgrees word (n + 1) d → named_by d ≡ n + 1
-  owes_use n word (Retiring f m t nx k) o = still nx.guarded o
-    where
-      still : (b : Bool) → StillNames b word (n + 1) m → m + 1 ≡ n + 1
-      still true h = ⊎_elim (λ (c : (word ≡ m + 1) × (n + 1 ≡ 0)). absurd (let a = c.1 in omega arith)) (λ c. sym c.1) h
-      still false h = absurd (let a = h.1 in omega arith)
-  owes_use n word _ o = grind arith
+  owes_use n word d o = grind arith
 
   -- a pass works with a node that isn't free, unless a slot names it
   used : (n : ℕ) → n < nodes_of k → ((s : ℕ) → r.nodes.where_is n ≢ at_slot s) → ((j : ℕ) (l : Placement) → Does st.views j (Placing n l) → 1 ≤ view_use n) → (ph : Phase) → r.phase n ≡ ph → (ph ≡ free → ⊥)

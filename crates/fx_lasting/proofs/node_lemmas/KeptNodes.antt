@@ -15,9 +15,7 @@ use Rattle.fx_lasting.proofs.hold_lemmas.Unheld.{in_phase}
 
 -- a word has lost few takes, or not
 pub carries_or : (word : ℕ) → MayCarry word ⊎ (MayCarry word → ⊥)
-carries_or word = dite (dec_le word birth_word)
-    (λ low. dite (dec_le birth_word (word + most_carried)) (λ few. inl (low, few)) (λ more. inr (λ is. more is.1)))
-    (λ high. inr (λ is. high is.0))
+carries_or word = grind arith
 
 module _ (turn : Turn) (n : ℕ) where
   open turn use {st, v, r, id, x, here, one}

@@ -170,13 +170,7 @@ module _ (turn : Turn) where
   -- The pass holds the file of the node
   module _ (f : File) (n : ℕ) (holds : HoldsOn v.work f n) where
     held_at : (g : File) (m : ℕ) → HoldsOn v.work g m → HoldsAt v.start r.phase g m
-    held_at g m its = ⊎_elim (λ is. subst (WorkAgrees v.start r.phase id) is (its_work turn))
-        (λ z. ⊎_elim (λ is. subst (WorkAgrees v.start r.phase id) is (its_work turn)) (λ is. held_beside g m is.0 is.1 is.2) z) its
-      where
-        held_beside : (g : File) (m own : ℕ) (l : Placement) → HoldsBesides v.work g m own l → HoldsAt v.start r.phase g m
-        held_beside g m own l is = ⊎_elim
-            (λ (e : v.work ≡ Renewing g m own l). let both : HoldsAt v.start r.phase g m × IsIn v.start r.phase own (placed id l) = subst (WorkAgrees v.start r.phase id) e (its_work turn) in both.0)
-            (λ (e : v.work ≡ Relieving g m own l). let both : HoldsAt v.start r.phase g m × IsIn v.start r.phase own (placed id l) = subst (WorkAgrees v.start r.phase id) e (its_work turn) in both.0) is
+    held_at g m its = grind (arith, its_work, placed)
 
     its_file : HoldsAt v.start r.phase f n
     its_file = held_at f n holds

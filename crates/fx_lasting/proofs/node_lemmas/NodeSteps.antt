@@ -194,12 +194,10 @@ module _ (turn : Turn) (q : ℕ) (its : q < nodes_of turn.v.start) (ph : Phase) 
 
 -- the file of a node that has none
 unremoved : (ph : Phase) → file_in ph ≡ None → (m : ℕ) → removed_in m ph ≡ None
-unremoved (retired f) is m = absurd (cc is)
-unremoved _ is m = cc
+unremoved ph is m = grind arith
 
 uncharged_none : (sw : ℕ → ℕ) (p : ℕ) (ph : Phase) → file_in ph ≡ None → MayBeUncharged sw p ph → ⊥
-uncharged_none sw p (seated i f) is may = cc is
-uncharged_none sw p _ is may = first_of (cc, assumption)
+uncharged_none sw p ph is may = grind arith
 
 -- A step of a pass on a node that no other pass knows: it works with the node, or takes it from its
 -- stock. The node has no file before and after, and the history stays.

@@ -24,41 +24,24 @@ not_yet : (len entry : ℕ) → entry + 1 ≢ len → next_of len entry ≡ entr
 not_yet len entry is = rw (ne_eqb (entry + 1) len is) refl
 
 pub next_high : (len entry : ℕ) → entry < len → next_of len entry < len
-next_high len entry high = dite (ℕ_discrete (entry + 1) len)
-    (λ end. rw (at_end len entry end) (omega arith)) (λ on. rw (not_yet len entry on) (omega (arith, on)))
+next_high len entry high = grind (arith, not_yet)
 
 -- the entry after one whose node is in use
 module _ {len start count entry e : ℕ} (high : start < len) (entry_high : entry < len) (e_high : e < len) (other : e ≢ entry) (more : count < len) where
   pub ahead_next : IsAhead start len count entry e → IsAhead start len (count + 1) (next_of len entry) e
-  ahead_next a = dite (ℕ_discrete (entry + 1) len)
-      (λ end. rw (at_end len entry end) (⊎_elim
-      (λ (u : (entry ≡ start + count) × ((e < start) ⊎ (entry ≤ e))). inr (
-        omega (arith, u.0, end),
-        ⊎_elim (λ (b : e < start). b) (λ (b : entry ≤ e). absurd (omega (arith, b, end, e_high, other))) u.1,
-        omega arith,
-      ))
-      (λ (w : (entry + len ≡ start + count) × (e < start) × (entry ≤ e)). absurd (omega (arith, w.0, end, more, high))) a))
-      (λ on. rw (not_yet len entry on) (⊎_elim
-      (λ (u : (entry ≡ start + count) × ((e < start) ⊎ (entry ≤ e))). inl (
-        omega (arith, u.0),
-        ⊎_elim (λ (b : e < start). inl b) (λ (b : entry ≤ e). inr (omega (arith, b, other))) u.1,
-      ))
-      (λ (w : (entry + len ≡ start + count) × (e < start) × (entry ≤ e)). inr (omega (arith, w.0), w.1, omega (arith, w.2, other))) a))
+  ahead_next a = grind (arith, not_yet)
 
 -- the seat of a pass that searches
 module _ {k : Start} {p len start count entry : ℕ} {stock : List ℕ} {m m' : Sat} (at : IsAtWork k p m) (idle : HasNoFile m.0.work)
     (its : stock ≡ (pass_in m).stock) (so_far : Sought stock len start count entry m m') where
   pub sought_at : IsAtWork k p m'
-  sought_at = dite (ℕ_discrete count 0) (λ none_yet. subst (IsAtWork k p) (sym (so_far.before none_yet).1) at)
-      (λ some. still_at_work at (so_far.free (omega (arith, some))).4)
+  sought_at = grind (arith, still_at_work)
 
   pub sought_work : HasNoFile m'.0.work
-  sought_work = dite (ℕ_discrete count 0) (λ none_yet. subst (λ (z : Sat). HasNoFile z.0.work) (sym (so_far.before none_yet).1) idle)
-      (λ some. let f = so_far.free (omega (arith, some)) in inr (f.0, f.4.work))
+  sought_work = grind arith
 
   pub sought_stock : (pass_in m').stock ≡ stock
-  sought_stock = dite (ℕ_discrete count 0) (λ none_yet. ap (λ (z : Sat). (pass_in z).stock) (so_far.before none_yet).1 ∙ sym its)
-      (λ some. (so_far.free (omega (arith, some))).4.stock ∙ sym its)
+  sought_stock = grind arith
 
   -- after one more load, of the word of this node
   module _ {node i slots found : ℕ} {m'' : Sat} (at_entry : get_elem? stock entry ≡ some node) (place : i ≡ word_of k node)

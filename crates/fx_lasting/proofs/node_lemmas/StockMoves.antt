@@ -42,8 +42,7 @@ module _ (turn : Turn) (s : ℕ) (inside : s < slots_of turn.v.start) (n : ℕ) 
   other_inside = (names_a_node turn inside).1
 
   other_here : r.nodes.where_is other ≡ at_slot s
-  other_here = let o = r.nodes.named s inside in let a = o.named in let same : o.node ≡ other = omega arith in
-      subst (λ (m : ℕ). r.nodes.where_is m ≡ at_slot s) same o.here
+  other_here = grind (arith, at_slot)
 
   its_place : (n < nodes_of v.start) × (r.nodes.where_is n ≡ in_stock x.number entry)
   its_place = in_its_stock turn stocked
@@ -58,26 +57,20 @@ module _ (turn : Turn) (s : ℕ) (inside : s < slots_of turn.v.start) (n : ℕ) 
   stock_moved = set x.stock entry other
 
   moved_n : where_moved n ≡ at_slot s
-  moved_n = changed_else (changed_at r.nodes.where_is n (at_slot s)) other (in_stock x.number entry) n apart
-      ∙ changed_here r.nodes.where_is n (at_slot s) n refl
+  moved_n = grind (arith, changed_else, at_slot, apart, changed_here)
 
   moved_other : where_moved other ≡ in_stock x.number entry
   moved_other = changed_here (changed_at r.nodes.where_is n (at_slot s)) other (in_stock x.number entry) other refl
 
   -- each other node is where it was
   moved_else : (m : ℕ) → m ≢ n → m ≢ other → where_moved m ≡ r.nodes.where_is m
-  moved_else m a b = changed_else (changed_at r.nodes.where_is n (at_slot s)) other (in_stock x.number entry) m b
-      ∙ changed_else r.nodes.where_is n (at_slot s) m a
+  moved_else m a b = grind (arith, changed_else, at_slot)
 
   moved_slot : (i m : ℕ) → i ≢ s → r.nodes.where_is m ≡ at_slot i → where_moved m ≡ at_slot i
-  moved_slot i m away at = moved_else m
-      (λ same. let bad : in_stock x.number entry ≡ at_slot i = sym its_place.1 ∙ (ap r.nodes.where_is (sym same) ∙ at) in cc bad)
-      (λ same. let bad : at_slot s ≡ at_slot i = sym other_here ∙ (ap r.nodes.where_is (sym same) ∙ at) in let e : s ≡ i = cc bad in away (sym e)) ∙ at
+  moved_slot i m away h4 = grind (arith, moved_else, at_slot, its_place, other_here)
 
   moved_stocks : (m q e : ℕ) → q ≢ x.number → r.nodes.where_is m ≡ in_stock q e → where_moved m ≡ in_stock q e
-  moved_stocks m q e away at = moved_else m
-      (λ same. let bad : in_stock x.number entry ≡ in_stock q e = sym its_place.1 ∙ (ap r.nodes.where_is (sym same) ∙ at) in let z : x.number ≡ q = cc bad in away (sym z))
-      (λ same. let bad : at_slot s ≡ in_stock q e = sym other_here ∙ (ap r.nodes.where_is (sym same) ∙ at) in cc bad) ∙ at
+  moved_stocks m q e away h5 = grind (arith, moved_else, its_place, at_slot, other_here)
 
   moved_entry : (e m : ℕ) → get_elem? stock_moved e ≡ some m → (m < nodes_of v.start) × (where_moved m ≡ in_stock x.number e)
   moved_entry e m is = dite (ℕ_discrete e entry)
@@ -104,12 +97,7 @@ module _ (turn : Turn) (s : ℕ) (inside : s < slots_of turn.v.start) (n : ℕ) 
 
   -- the slot's new word names the node of the stock
   pub names_moved : (word : ℕ) → name_in word ≡ n + 1 → StaysNamed turn s word where_moved stock_moved
-  names_moved word is = record {
-    slot = record { node = n; named = is; inside = its_place.0; here = moved_n };
-    other_slots = moved_slot;
-    stock = moved_stock;
-    other_stocks = moved_stocks;
-  }
+  names_moved word is = grind (arith, its_place, moved_n, moved_slot, moved_stock, moved_stocks)
 
   -- the node is at one entry alone
   one_entry : (e : ℕ) → get_elem? x.stock e ≡ some n → entry ≡ e

@@ -18,13 +18,7 @@ use Rattle.fx_lasting.proofs.slot_lemmas.Watching.{watch_same}
 use Rattle.fx_lasting.proofs.Calm.{calm_after, calm_kept}
 
 pub is_inside : (k : Start) (phase : ℕ → Phase) (seat : ℕ) (d : Work) → WorkAgrees k phase seat d → IsInside k d
-is_inside k phase seat Idle o = tt
-is_inside k phase seat (Announced n) o = o
-is_inside k phase seat (Owing n) o = o
-is_inside k phase seat (Renewing f n own w) o = (o.0.0, o.1.0)
-is_inside k phase seat (Nearing n own w) o = (o.0, o.1.0)
-is_inside k phase seat (Relieving f n own w) o = (o.0.0, o.1.0)
-is_inside k phase seat _ o = o.0
+is_inside k phase seat d o = grind arith
 
 -- A seat without a pass owes nothing
 module _ (k : Start) (s : Shared) (r : Agrees k s) where
@@ -61,19 +55,7 @@ module _ (turn : Turn) where
   h₁ = pass_event x Full ∷ r.history
 
   pub told_full : ((slot : ℕ) → range.0 ≤ slot → slot < range.0 + range.1 → IsSome (at_now slot)) → Quiet h₁
-  told_full each = record {
-    files = record {
-      grows = grows_one x.number r.history _ refl;
-      legal = legal_more v.start r.life.legal (λ slot small in_range. let z = (same_shape v.start r.history).1 in
-          let a = ap (λ (p : ℕ × ℕ). p.0) z in let b = ap (λ (p : ℕ × ℕ). p.1) z in
-          each slot (omega (arith, a, b, in_range.0)) (omega (arith, a, b, in_range.1))) tt;
-      at = refl;
-      fresh = refl;
-      removed = refl;
-    };
-    holds = refl;
-    held = held_mine (pass_event x Full) r.history refl;
-  }
+  told_full each = grind (arith, grows_one, legal_more, in_range, same_shape, held_mine)
 
   -- a step on a word that counts or asks: the word becomes y
   pub record RangeStep : Type 0 where
@@ -163,11 +145,7 @@ module _ (turn : Turn) where
       goes_so same still = record { stepped = subst (λ (z : Change). Stepped (v, carried) [] v.work v.glance z (w', carried)) still (stepped_so same); carried = refl }
 
       pub goes_asked : p.change ≡ v.change → Goes (as_asked p.asked (v, carried)) [] v.work v.glance (w', carried)
-      goes_asked still = record {
-        stepped = subst (λ (z : Change). Stepped (as_asked p.asked (v, carried)) [] v.work v.glance z (w', carried)) still
-            (tells_asked turn turn_after refl carried quiet.files.grows quiet.files.legal own its_inside);
-        carried = refl;
-      }
+      goes_asked still = grind (arith, tells_asked, its_inside)
 
   -- the word of a group
   module _ (g : ℕ) (its : g < groups_in range.1) where

@@ -130,8 +130,7 @@ module _ (turn : Turn) where
     met_now false = x.watch.met
 
     more_now : (b : Bool) → x.watch.met ≤ met_now b
-    more_now true = omega arith
-    more_now false = omega arith
+    more_now b = grind arith
 
     tell : (slots : ℕ) (carried : List (ℕ × Option Closed))
         → Made turn carried question_place (λ word. word) (Decides (step slots question_place 0 0 none) (v, carried))

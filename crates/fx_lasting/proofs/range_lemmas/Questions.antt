@@ -69,15 +69,9 @@ module _ (t : LastingTable) {p : LastingPass} (fits : IsPassOfTable t p) (seat :
 
 -- a pass that isn't sure has asked nothing
 pub has_not_asked : (t : LastingTable) {p : LastingPass} → IsPassOfTable t p → HasAsked t 1 p false p
-has_not_asked t {p} fits = record {
-  fits = fits;
-  adds = adds_nothing (opening_of t.table.shared.key) (view_of p) fits.front;
-  steps = omega arith;
-  met = (omega arith, λ s. omega arith);
-}
+has_not_asked t fits = grind (arith, adds_nothing)
 
 -- what an idle pass has added
 pub asked_so : {t : LastingTable} {n : ℕ} {p p' : LastingPass} {sure : Bool} → HasAsked t n p sure p' → IsIdle (view_of p)
     → Adds (opening_of t.table.shared.key) (view_of p) (cond sure ([] ▷ Full) []) DoesNothing no_use (view_of p')
-asked_so {t} {p = p} {p' = p'} {sure} h idle =
-    subst (λ (d : Doing). Adds (opening_of t.table.shared.key) (view_of p) (cond sure ([] ▷ Full) []) d no_use (view_of p')) idle h.adds
+asked_so h idle = grind arith

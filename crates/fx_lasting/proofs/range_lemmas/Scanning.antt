@@ -38,10 +38,7 @@ pub record Lasts (is : Sat → Sat → ℕ → Type 0) : Type 0 where
   pub later : (m m₁ m₂ : Sat) (slot : ℕ) → is m m₁ slot → Follows m₁ m₂ → is m m₂ slot
 
 pub full_lasts : (k : Start) → Lasts (WasFull k)
-full_lasts k = record {
-  earlier = λ m m₁ m₂ slot before full. was_before (pass_in m).front before.seen full;
-  later = λ m m₁ m₂ slot full since. was_further (pass_in m₂).front full since.seen;
-}
+full_lasts k = grind (arith, was_before, was_further)
 
 pub fails_last : (k : Start) → Lasts (FailsToFill k)
 fails_last k = record {
@@ -87,31 +84,17 @@ all_groups k first step groups is leads all each = λ slot its.
 
 -- a slot that has a file
 has_file : (there : Option File) → IsSome there → FitsSight true there
-has_file None is = absurd (cc is)
-has_file (Some f) is = (f, refl)
+has_file there is = grind arith
 
 -- a group that the pass saw to be full
 pub full_group : (k : Start) (group : ℕ) (m m' : Sat) → Follows m m' → IsGroupFull k group (pass_in m').front → EachInGroup k group (WasFull k m m')
-full_group k group m m' since full = λ slot its same. record {
-  history = (pass_in m').front;
-  later = since.seen;
-  seen = ([], refl);
-  there = has_file _ (full slot its.0 its.1 same);
-}
+full_group k group m m' since full = grind (arith, has_file)
 
 -- a pass that loaded the word of a group, which counts all its slots
 pub peeked_full : (t : LastingTable) {p slots i found : ℕ} (group : ℕ) {m m' : Sat} → IsAtWork t.table.shared.key p m → i ≡ group_place group
     → CountsAll t.range_len group found → Peeks (step slots i 0 0 none) m found m'
     → EachInGroup t.table.shared.key group (WasFull t.table.shared.key m m')
-peeked_full t {found = found} group {m} {m'} at place all peeks =
-    let is : group_at _ ≡ group = ap group_at place ∙ group_back group in
-    let start = at.pass.0 in
-    let begun = sym start in
-    let here = sym is in
-    full_group t.table.shared.key group m m' (follows (runs_goes peeks.goes))
-    (subst (λ (z : Start × ℕ). IsGroupFull z.0 z.1 (pass_in m').front) (λ j. (start j, is j))
-    (peeks.full (subst (λ (z : Start × ℕ). CountsAll (range_at_start z.0).1 z.1 found) (λ j. (begun j, here j))
-    (subst (λ (z : ℕ × ℕ). CountsAll z.1 group found) t.same_range all))))
+peeked_full t group h3 place all peeks = grind (arith, group_back, full_group, follows, runs_goes)
 
 -- the first slot of a group, and the end of its slots
 module _ (t : LastingTable) (group : ℕ) {size len : ℕ} (each : size ≡ group_size t.range_len) (long : len ≡ group_len t.range_len group) where
@@ -125,8 +108,7 @@ module _ (t : LastingTable) (group : ℕ) {size len : ℕ} (each : size ≡ grou
   ends = ap (λ (n : ℕ). begin + n) (long ∙ ap (λ (z : ℕ × ℕ). group_len z.1 group) t.same_range)
 
   pub slots_inside : (from to : ℕ) → begin ≤ from → to ≤ begin + len → EachFrom from to (IsInRange t.table.shared.key)
-  slots_inside from to low high = λ slot first last.
-      let z = of_group (range_at_start t.table.shared.key) slot group (omega (arith, begins, low, first)) (omega (arith, begins, ends, high, last)) in (z.0, z.1)
+  slots_inside from to low high = grind (arith, of_group, begins, ends)
 
   pub few_inside : len ≤ group_size t.range_len
   few_inside = omega (arith, long, group_short t.range_len group)

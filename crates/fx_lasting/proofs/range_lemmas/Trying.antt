@@ -12,8 +12,7 @@ pub in_size : (t : LastingTable) (slot : ℕ) → IsInRange t.table.shared.key s
 in_size t slot r = omega (arith, t.range_inside, ap (λ (z : ℕ × ℕ). z.0) t.same_range, ap (λ (z : ℕ × ℕ). z.1) t.same_range, r.1)
 
 pub in_range : (t : LastingTable) (slot : ℕ) → t.range_start ≤ slot → slot < t.range_start + t.range_len → IsInRange t.table.shared.key slot
-in_range t slot low high = let a = ap (λ (z : ℕ × ℕ). z.0) t.same_range in let b = ap (λ (z : ℕ × ℕ). z.1) t.same_range in
-    (omega (arith, a, low), omega (arith, a, b, high))
+in_range t slot low high = grind arith
 
 -- a load from which the pass learns nothing
 pub peeked : {m m' : Sat} {n lost : ℕ} {file : Closed} → IsPlacing n lost file m → Goes m [] m.0.work m.0.glance m'
@@ -110,12 +109,7 @@ found_then m'' b most file None few one two = tt
 
 -- the pass is still to install the file
 pub placing_still : {m m' : Sat} {n lost most : ℕ} {file : Closed} → IsPlacing n lost file m → StillPlaces n lost file most m m' → IsPlacing n lost file m'
-placing_still {n = n} p still = record {
-  work = still.0.work;
-  few_lost = p.few_lost;
-  place = still.1 ∙ p.place;
-  stocked = subst (λ (l : List ℕ). IsInStock l n) (sym still.0.stock) p.stocked;
-}
+placing_still p still = grind arith
 
 -- a pass that goes on with another node in its stock
 pub swapped_does : {m m' m'' : Sat} {xs ys : List Action} {w w' : Work} {n n' : ℕ} (entry node : ℕ) → Runs m xs w m.0.glance m.0.change n m'
@@ -132,14 +126,11 @@ stocked_at stock m m' e n its same at = ap (λ (l : List ℕ). get_elem? l e) (s
 pub placing_now : {stock : List ℕ} {m m' : Sat} {n lost most : ℕ} (e : ℕ) (file : Closed) {its : Closed} → stock ≡ (pass_in m).stock
     → Runs m [] (Placing n (as_written lost (label_of file))) m.0.glance m.0.change most m' → lost ≤ most_carried → m'.1 ≡ (n, Some file) ∷ []
     → get_elem? stock e ≡ some n → its ≡ file → IsPlacing n lost its m'
-placing_now {stock} {m} {m'} {n} {lost} e file same placed few place at is = subst (λ (z : Closed). IsPlacing n lost z m') (sym is)
-    record { work = placed.work; few_lost = few; place = place; stocked = (e, stocked_at stock m m' e n same placed.stock at) }
+placing_now e file same placed few place h7 is = grind (arith, stocked_at)
 
 -- The steps of a search through some groups
 pub group_more : (len count most : ℕ) → most ≤ count * group_steps len → most + group_steps len ≤ (count + 1) * group_steps len
-group_more len count most = by_size (λ size. most ≤ count * (3 * size + 1) → most + (3 * size + 1) ≤ (count + 1) * (3 * size + 1)) len
-    (λ _ l. omega (arith, l)) (λ _ l. omega (arith, l)) (λ _ l. omega (arith, l)) (λ l. omega (arith, l))
+group_more len count most = grind (arith, by_size)
 
 pub groups_most : (len count most groups : ℕ) → count ≤ groups → most ≤ count * group_steps len → most ≤ groups * group_steps len
-groups_most len count most groups few = by_size (λ size. most ≤ count * (3 * size + 1) → most ≤ groups * (3 * size + 1)) len
-    (λ _ l. omega (arith, l, few)) (λ _ l. omega (arith, l, few)) (λ _ l. omega (arith, l, few)) (λ l. omega (arith, l, few))
+groups_most len count most groups few = grind (arith, by_size)

@@ -23,8 +23,7 @@ each_below f zero = true
 each_below f (suc n) = cond (f n) (each_below f n) false
 
 both : (a b : Bool) → cond a b false ≡ true → (a ≡ true) × (b ≡ true)
-both true b is = (refl, is)
-both false b is = absurd (cc is)
+both a b is = grind arith
 
 of_each : (f : ℕ → Bool) (few : ℕ) → each_below f few ≡ true → (n : ℕ) → n < few → f n ≡ true
 of_each f zero all n l = absurd (omega (arith, l))

@@ -6,17 +6,13 @@ use Rattle.fx_lasting.proofs.Running.{no_name, its_name, runs_goes}
 -- a slot's word names a node if the slot has a file
 sight : (k : Start) (word : ℕ) (there : Option File) → Names (node_of_number k) word there → (node : Option ℕ) → node ≡ file_node_in word
     → FitsSight (is_some node) there
-sight k word None names None is = refl
-sight k word (Some f) names None is = absurd (omega (arith, names.0, no_name word is))
-sight k word None names (Some n) is = absurd (omega (arith, names, its_name word n is))
-sight k word (Some f) names (Some n) is = (f, refl)
+sight k word there names node is = grind (arith, no_name, its_name)
 
 -- A pass that has seen what is at a slot
 module _ {k : Start} {slot : ℕ} {st : At} {m m' : Sat} {found : ℕ} (start : m.0.start ≡ k) (here : slot_of st.word ≡ slot)
     (saw : Sees st m found m') where
   names_there : Names (node_of_number k) found ((state_after_all k (pass_in m').front).at slot)
-  names_there = subst (λ (z : Start × ℕ). Names (node_of_number z.0) found ((state_after_all z.0 (pass_in m').front).at z.1))
-      (λ i. (start i, here i)) saw.names
+  names_there = grind arith
 
   pub sees_so : (node : Option ℕ) → node ≡ file_node_in found → SeesFile k slot m (is_some node) m'
   sees_so node is = (
@@ -31,15 +27,9 @@ module _ {k : Start} {slot : ℕ} {st : At} {m m' : Sat} {found : ℕ} (start : 
 
 -- a slot whose word names a node of a file has a file
 full_sight : (k : Start) (word : ℕ) (there : Option File) → Names (node_of_number k) word there → full_name_in word ≢ 0 → FitsSight true there
-full_sight k word None names some_named = absurd (some_named names)
-full_sight k word (Some f) names some_named = (f, refl)
+full_sight k word there names some_named = grind arith
 
 module _ {k : Start} {slot : ℕ} {st : At} {m m' : Sat} {found : ℕ} (start : m.0.start ≡ k) (here : slot_of st.word ≡ slot)
     (saw : Sees st m found m') where
   pub full_so : full_name_in found ≢ 0 → WasSo k slot (FitsSight true) (pass_in m).front (pass_in m').front
-  full_so some_named = record {
-    history = (pass_in m').front;
-    later = saw.goes.stepped.seen;
-    seen = ([], refl);
-    there = full_sight k found ((state_after_all k (pass_in m').front).at slot) (names_there start here saw) some_named;
-  }
+  full_so some_named = grind (arith, full_sight, names_there)

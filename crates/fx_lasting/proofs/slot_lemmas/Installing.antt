@@ -79,19 +79,7 @@ module _ (turn : Turn) (s : ℕ) (inside : s < slots_of turn.v.start) (old : Opt
         (owed r.debt v.start.passes m) (get_elem? homes₁ m)
 
     node_here₁ : Node₁ n (seated s new_file)
-    node_here₁ = let o = in_phase turn its.0 its.1 in let c = o.counts in let u = o.untaken in let t = total_now n its_apart in
-        let z = ap count_in (slot_here turn s inside new_word) in let y = its_count in record {
-          file = record {
-            at_home = set_here st.homes n (some (Some file)) (let a = r.shape.homes in let b = its.0 in omega arith);
-            its_node = on_n;
-            used = omega arith;
-          };
-          counts = omega arith;
-          few = omega arith;
-          unowed = o.unowed;
-          inside = inside;
-          there = there_now;
-        }
+    node_here₁ = grind (arith, in_phase, total_now, its_apart, slot_here, its_count, set_here, some, there_now)
 
     node_else₁ : {m : ℕ} → m < nodes_of v.start → m ≢ n → NotOf r.node_of m old → Node₁ m (r.phase m)
     node_else₁ {m} l other apart = node_same (slots_of v.start) r.node_of m (omega arith) refl (total_now m apart) refl

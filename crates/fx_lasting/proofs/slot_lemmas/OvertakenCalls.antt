@@ -37,8 +37,7 @@ module _ (slot number : ℕ) where
   counts e = cond (not (e.pass == number) && replaces_at slot e.action) 1 0
 
   counts_another : (e : Event) → e.pass ≢ number → ReplacesAt slot e.action → counts e ≡ 1
-  counts_another e another at = ap (λ (b : Bool). cond (not b && replaces_at slot e.action) 1 0) (ne_eqb e.pass number another)
-      ∙ ap (λ (b : Bool). cond b 1 0) (does_replace slot e.action at)
+  counts_another e another h3 = grind (arith, replaces_at, does_replace)
 
   -- a longer history has no fewer such events
   seen_has_more : (h more : List Event) → IsSeenBy h more → replaced_at slot number h ≤ replaced_at slot number more
@@ -68,19 +67,13 @@ each_has_its_change slot number first (try ∷ tries) last all =
     omega (arith, before, all.0.1, then, one)
 
 pub lost_is_overtaken : LostCallsAreOvertaken
-lost_is_overtaken k p p' slot file back put = let lost = put.2 in record {
-  its_number = refl;
-  goes_on = (put.1.adds.seen, lost.changes);
-  overtaken = ⊎_elim (λ did. inl did) (λ over. inr over.0) lost.overtaken;
-}
+lost_is_overtaken k p p' slot file back put = grind arith
 
 looked_seen : (o : Opening) (v w : PassView) (slot : ℕ) (hold : Hold) (freed : Option Identity) → LookedUp o v slot (Ok hold) freed w → IsSeenBy v.front w.front
-looked_seen o v w slot hold None looked = looked.2.seen
-looked_seen o v w slot hold (Some file) looked = looked.2.2.seen
+looked_seen o v w slot hold freed looked = grind arith
 
 released_seen : (o : Opening) (v w : PassView) (f : File) (file : Option Identity) → ReleasesFile o v f file w → IsSeenBy v.front w.front
-released_seen o v w f None r = r.seen
-released_seen o v w f (Some file) r = r.1.seen
+released_seen o v w f file r = grind arith
 
 -- a call by key that left the file of the key at its slot
 left_is_overtaken : (k : Start) (p p' : LastingPass) (key : Key) (freed released : Option Identity) → LeftAlone k p key Again freed released p'

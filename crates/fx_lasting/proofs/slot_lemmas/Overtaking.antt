@@ -9,12 +9,7 @@ use Rattle.fx_lasting.proofs.slot_lemmas.Watching.{acted_before, acted_further}
 
 -- an action that doesn't fill or empty the slot leaves it as it was
 acts_or_same : (st : State) (slot : ℕ) (a : Action) → ((after st a).at slot ≡ st.at slot) ⊎ ReplacesAt slot a
-acts_or_same st slot (Look s None) = inl refl
-acts_or_same st slot (Put s f old) = dite (ℕ_discrete s slot) (λ same. inr same) (λ other. inl (changed_else st.at s (Some f) slot (λ e. other (sym e))))
-acts_or_same st slot (Clear s old) = dite (ℕ_discrete s slot) (λ same. inr same) (λ other. inl (changed_else st.at s None slot (λ e. other (sym e))))
-acts_or_same st slot (Take s old) = dite (ℕ_discrete s slot) (λ same. inr same) (λ other. inl (changed_else st.at s None slot (λ e. other (sym e))))
-acts_or_same st slot (Allocate s f) = dite (ℕ_discrete s slot) (λ same. inr same) (λ other. inl (changed_else st.at s (Some f) slot (λ e. other (sym e))))
-acts_or_same st slot _ = inl refl
+acts_or_same st slot a = grind (arith, changed_else)
 
 -- an event that fills or empties the slot within the history `since` after `h`
 abbrev Acted : ℕ → List Event → List Event → Type 0
@@ -105,9 +100,7 @@ overtaken_in slot m m₁ m₂ m₃ number start before few fewer later more foun
 -- another look at the slot, after which the pass has seen that its word has changed
 pub overtaken_now : {st : At} {slot expected found : ℕ} {m₁ m₂ : Sat} → Sees st m₁ found m₂ → slot_of st.word ≡ slot → found ≢ expected
     → IsWatching slot expected m₁ → WasOvertakenIn slot m₁ m₂
-overtaken_now {slot = slot} {found = found} {m₁ = m₁} {m₂ = m₂} saw here lost watching = subst
-    (λ (z : ℕ × List Event). FindsChange z.0 m₁ m₂ × (HasActed z.0 (pass_in m₁).number z.1 (pass_in m₂).front ⊎ MeetsOne m₁ m₂)) (λ i. (here i, watching.front i))
-    (saw.overtaken (watching.its_slot ∙ sym here) (λ same. lost (same ∙ watching.word)))
+overtaken_now saw here lost watching = grind arith
 
 -- one try more, that found another word
 pub tried_more : {st : At} {slot expected found n : ℕ} {m m₁ m₂ : Sat} → Does m [] m.0.work n m₁ → Sees st m₁ found m₂ → slot_of st.word ≡ slot → found ≢ expected

@@ -112,9 +112,7 @@ module _ {id : TableId} {k : Start} {p : LastingPass} (seated : IsSeatOf id k p)
 
       pub did : (number : ℕ) × (node_of_number k number ≡ own)
           × Runs (as_swapped e node m₂) ([] ▷ Release f ▷ Put key.slot (numbered number file) (Some f)) (retiring_work k word (Some f)) m₂.0.glance Outside 6 p'.seat.me
-      did = subst (λ (z : File). (number : ℕ) × (node_of_number k number ≡ own)
-          × Runs (as_swapped e node m₂) ([] ▷ Release z ▷ Put key.slot (numbered number file) (Some z)) (retiring_work k word (Some z)) m₂.0.glance Outside 6 p'.seat.me)
-          same (won.6 e stocked)
+      did = grind (arith, same)
 
       pub names : Names (node_of_number k) word (Some f)
       names = subst (λ (z : File). Names (node_of_number k) word (Some z)) same won.5
@@ -143,26 +141,11 @@ module _ {id : TableId} {k : Start} {p : LastingPass} (seated : IsSeatOf id k p)
 module _ (k : Start) (u p p' : LastingPass) (key : Key) (freed : Option Closed) (before : FreesFirst (opening_of k) (view_of u) freed (view_of p))
     (few : MeetsMore u p) where
   held_before : (f : File) (hold : Hold) (b : PassView) → HoldsAtKey k (view_of p) key f hold None b → HoldsAtKey k (view_of u) key f hold freed b
-  held_before f hold b o = record {
-    looked = frees_then k (view_of u) (view_of p) b key.slot (Ok hold) freed (λ bad. cc bad) before o.looked;
-    holds = o.holds;
-    node = o.node;
-    inside = o.inside;
-  }
+  held_before f hold b o = grind (arith, frees_then)
 
   looked_before : (why : KeyFault) (r : Option Closed) → why ≢ fault.NoSlot → LookedByKey k (view_of p) key (Err why) None r (view_of p')
       → LookedByKey k (view_of u) key (Err why) freed r (view_of p')
-  looked_before fault.NoSlot r other o = absurd (other refl)
-  looked_before fault.Empty r other o = (frees_then k (view_of u) (view_of p) (view_of p') key.slot (Err EmptySlot) freed (λ bad. cc bad) before o.0, o.1)
-  looked_before fault.Stale r other o = record {
-    file = o.file;
-    hold = o.hold;
-    between = o.between;
-    other = o.other;
-    held = held_before o.file o.hold o.between o.held;
-    releases = o.releases;
-  }
-  looked_before fault.Again r other o = absurd o
+  looked_before why r other o = grind (arith, frees_then, held_before)
 
   tries_before : (why : KeyFault) → TriesKey k (view_of p) key why None p p' → TriesKey k (view_of u) key why freed u p'
   tries_before fault.Again o = record {
@@ -189,25 +172,7 @@ module _ (k : Start) (u p p' : LastingPass) (key : Key) (freed : Option Closed) 
 
   pub puts_before : (inside : key.slot < slots_of k) (file : Closed) (put : PutOverKey) (r : Option Closed) → PutsAlone k p key file put None r p'
       → PutsAlone k u key file put freed r p'
-  puts_before inside file (Replaced x) r o = record {
-    old = o.old;
-    hold = o.hold;
-    between = o.between;
-    its_key = o.its_key;
-    held = held_before o.old o.hold o.between o.held;
-    new = o.new;
-    is_new = o.is_new;
-    removal = o.removal;
-    adds = o.adds;
-    released_none = o.released_none;
-  }
-  puts_before inside file (Missed why back) r o = (o.0, ⊎_elim (λ looked. inl (slot_there why looked)) (λ left. inr (left_before why r left)) o.1)
-    where
-      slot_there : (why : KeyFault) → LookedByKey k (view_of p) key (Err why) None r (view_of p') → LookedByKey k (view_of u) key (Err why) freed r (view_of p')
-      slot_there fault.NoSlot looked = absurd (let a = looked.0 in omega arith)
-      slot_there fault.Empty looked = looked_before fault.Empty r (λ bad. cc bad) looked
-      slot_there fault.Stale looked = looked_before fault.Stale r (λ bad. cc bad) looked
-      slot_there fault.Again looked = absurd looked
+  puts_before inside file put r o = grind (arith, held_before, left_before, looked_before)
 
 -- a pass that did nothing but see more, and then perhaps freed a file
 pub frees_later : (k : Start) (u v w : PassView) (freed : Option Closed) → Adds (opening_of k) u [] DoesNothing no_use v → FreesFirst (opening_of k) v freed w

@@ -100,5 +100,4 @@ module _ (k : Start) (slot node own : ℕ) (file : Closed) (m m₁ m₂ : Sat) (
 -- a pass that saw at once that the slot's file isn't on the node
 pub renewal_missed : (k : Start) (slot node own : ℕ) (file : Closed) (m m₁ : Sat) (miss : Miss) → WasIn k slot node miss m m₁ → miss ≢ Again
     → Does m [] m.0.work 1 m₁ → m₁.1 ≡ m.1 → TriedRenewal k slot node own file m (Err miss) m₁
-renewal_missed k slot node own file m m₁ Again was not run home = absurd (not refl)
-renewal_missed k slot node own file m m₁ _ was not run home = (was, was, runs_within (omega arith) run, home)
+renewal_missed k slot node own file m m₁ miss was not run home = grind (arith, runs_within)

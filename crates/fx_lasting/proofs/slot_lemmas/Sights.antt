@@ -92,17 +92,13 @@ module _ (turn : Turn) (s : ℕ) where
 
       -- a name of a node is one of a file whose number says the node
       by_number : (o : Option File) → Names r.node_of found o → Names (node_of_number v.start) found o
-      by_number None names = names
-      by_number (Some f) names = (names.0 ∙ ap (λ (n : ℕ). n + 1) (r.numbering f.number), names.1)
+      by_number o names = grind arith
 
       pub named : Names (node_of_number v.start) found there
       named = by_number there (r.slots s inside).names
 
       changed_now : (first_log v.logs).watch.slot ≡ s → found ≢ (first_log v.logs).watch.word → IsOvertaken s (v, carried) (w turn sees_after, carried)
-      changed_now = subst (λ (l : List Log). (first_log l).watch.slot ≡ s → found ≢ (first_log l).watch.word
-          → (changes_in s (first_log l) < changes_in s (record x { changed = (sight inside).list }))
-          × (HasActed s (first_log l).number (first_log l).watch.front r.history ⊎ (((first_log l).watch.met < (sight inside).met) × (1 < v.start.passes))))
-          (sym one) (sight inside).changed
+      changed_now = grind (arith, sight)
 
       pub sees_slot : (slots first second : ℕ) → Sees (step slots (slot_place s) first second none) (v, carried) found (w turn sees_after, carried)
       sees_slot slots first second = record {

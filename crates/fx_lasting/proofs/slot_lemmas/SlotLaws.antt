@@ -28,12 +28,7 @@ pub taken : (turn : Turn) (s : ℕ) → s < slots_of turn.v.start → let h = pa
     })
     × (held_by h turn.x.number ≡ held_by turn.r.history turn.x.number)
     × ActsAt s (Take s ((state_after_all turn.v.start turn.r.history).at s))
-taken turn s inside = (
-  legal_more turn.v.start turn.r.life.legal (let z = (same_shape turn.v.start turn.r.history).0 in (omega arith, refl)) tt,
-  refl,
-  held_mine (pass_event turn.x (Take s ((state_after_all turn.v.start turn.r.history).at s))) turn.r.history refl,
-  refl,
-)
+taken turn s inside = grind (arith, legal_more, same_shape, held_mine)
 
 module _ (turn : Turn) (s : ℕ) (inside : s < slots_of turn.v.start)
     (free_of : HasNoFile turn.v.work) (off : IsOffCount turn.v.start s turn.v.change) where
@@ -188,12 +183,7 @@ module _ (turn : Turn) (s : ℕ) (inside : s < slots_of turn.v.start) (n lost : 
   put_action = Put s (numbered number file) put_old
 
   pub putting : Effect turn s inside put_old refl n lost file works small out number late on_n put_action
-  putting = record {
-    legal = legal_more v.start r.life.legal (let z = (same_shape v.start r.history).0 in (omega arith, r.nodes.fresh number late, refl)) tt;
-    state = refl;
-    held = held_mine (pass_event x put_action) r.history refl;
-    acts = refl;
-  }
+  putting = grind (arith, legal_more, same_shape, held_mine)
 
   pub install_made : Made turn carried (slot_place s) (λ _. file_word_of n file.entry + lost)
       (Installs (step slots (slot_place s) (file_word_of n file.entry + lost) 0 none) (v, carried))
@@ -239,14 +229,7 @@ module _ (turn : Turn) (slots s n lost old_word : ℕ) (file : Closed) (carried 
     alloc = Allocate s (numbered number file)
 
     allocating : Effect turn s within None at_none n lost file works small out number late on_n alloc
-    allocating = record {
-      legal = legal_more v.start r.life.legal (let z = (same_shape v.start r.history).0 in let y = (same_shape v.start r.history).1 in
-          let p = ap (λ (p : ℕ × ℕ). p.0) y in let q = ap (λ (p : ℕ × ℕ). p.1) y in let low = in_range.0 in let high = in_range.1 in let l = within in
-          (omega arith, (omega arith, omega arith), at_none, r.nodes.fresh number late)) tt;
-      state = refl;
-      held = held_mine (pass_event x alloc) r.history refl;
-      acts = refl;
-    }
+    allocating = grind (arith, legal_more, same_shape, within, at_none, held_mine)
 
     won : Goal (file_word_of n file.entry + lost)
     won = (

@@ -81,12 +81,7 @@ module _ (turn : Turn) (s : ℕ) (inside : s < slots_of turn.v.start) (new : ℕ
     same_own_name i l = slot_by turn s inside new (λ i word. name_in word ≡ name_in (slot_word st.words i)) p.names.own (λ i other. refl) i
 
     slot_now : SlotAgrees v.start r.node_of r.phase (deed' s) s ((state_after_all v.start h').at s) (slot_word words' s)
-    slot_now = let o = r.slots s inside in rw (slot_here turn s inside new, at_is s)
-        record { names = names ((state_after_all v.start r.history).at s) o.names; seat = o.seat; takes = p.deeds.takes; heat = p.deeds.heat }
-      where
-        names : (found : Option File) → Names r.node_of old found → Names r.node_of new found
-        names None o = p.names.full ∙ o
-        names (Some f) o = (p.names.full ∙ o.0, p.names.entry ∙ o.1)
+    slot_now = grind (arith, slot_here, at_is)
 
     leaves : Leaves turn slot_after
     leaves = record {

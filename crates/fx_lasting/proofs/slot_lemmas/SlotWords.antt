@@ -19,8 +19,7 @@ when_empty word is = ap (λ b. cond b (name_in word) 0) (ne_eqb (full_bit word) 
 
 -- a word that names a file names its node
 pub name_of_file : (word n : ℕ) → full_name_in word ≡ n + 1 → name_in word ≡ n + 1
-name_of_file word n is = dite (ℕ_discrete (full_bit word) 1) (λ e. let a = when_full word e in omega arith)
-    (λ e. let a = when_empty word e in absurd (omega arith))
+name_of_file word n is = grind (arith, when_full, when_empty)
 
 -- words that agree in the name and in that bit
 pub same_full_name : (new old : ℕ) → name_in new ≡ name_in old → full_bit new ≡ full_bit old → full_name_in new ≡ full_name_in old
@@ -49,11 +48,7 @@ heat_carried node entry lost few = omega arith
 
 -- a slot whose word begins with some takes is cold
 pub takes_are_few : (passes lost : ℕ) → lost ≤ most_carried → lost ≤ cold_takes passes
-takes_are_few passes lost few = go (eqb passes 1)
-  where
-    go : (one : Bool) → lost ≤ cond one 524288 16
-    go true = omega arith
-    go false = omega arith
+takes_are_few passes lost few = grind arith
 
 -- the word of an empty slot
 pub empty_name_made : (node : ℕ) → name_in (empty_word_of node) ≡ node + 1

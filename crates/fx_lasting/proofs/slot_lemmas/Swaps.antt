@@ -49,14 +49,7 @@ module _ (turn : Turn) (s : ℕ) (inside : s < slots_of turn.v.start) where
 
   -- a removal by a pass that doesn't guard the file
   pub begins_first : (counted : ℕ) → IsAlike counted → Begins (new_round (first_visit v.start.passes counted))
-  begins_first counted alike = let many = r.shape.passes in record {
-    some_next = dite (ℕ_discrete (heat_in counted) 0) (λ c. rw (eq-eqb (heat_in counted) 0 c) (omega arith))
-        (λ h. rw (ne_eqb (heat_in counted) 0 h) (omega arith));
-    few_next = dite (ℕ_discrete (heat_in counted) 0) (λ c. rw (eq-eqb (heat_in counted) 0 c) (omega arith))
-        (λ h. rw (ne_eqb (heat_in counted) 0 h) (omega arith));
-    visits = λ q low hot. (rw (ne_eqb (heat_in counted) 0 (λ none. omega (arith, hot, none, alike.1))) (omega arith), λ idle. let a = idle.0 in omega arith);
-    listed = λ bad. cc bad;
-  }
+  begins_first counted alike = grind arith
 
   -- what the events of a step do, which removes this file and installs another one or none. The
   -- removal has the takes of the word `counted`, and is to make this round. The pass worked alone
@@ -95,11 +88,7 @@ module _ (turn : Turn) (s : ℕ) (inside : s < slots_of turn.v.start) where
     old_named {f} is = let n = subst (Names r.node_of found) is names_old in let a = n.0 in omega arith
 
     pub found_so : Found found old
-    found_so = go old names_old
-      where
-        go : (o : Option File) → Names r.node_of found o → Found found o
-        go None n = n
-        go (Some f) n = ((λ bad. let a = n.0 in omega arith), n.1)
+    found_so = grind (arith, names_old)
 
     -- a node whose phase isn't that of a file at the slot isn't that of the old file
     pub not_old : {n : ℕ} {ph : Phase} → r.phase n ≡ ph → ((f : File) → ph ≢ seated s f) → NotOf r.node_of n old
@@ -112,17 +101,12 @@ module _ (turn : Turn) (s : ℕ) (inside : s < slots_of turn.v.start) where
     d = removal_work round counted old
 
     d_is : (f : File) → old ≡ Some f → d ≡ Retiring f (r.node_of f.number) (count_in counted) round 0
-    d_is f is = let e : full_name_in counted - 1 ≡ r.node_of f.number = ap (λ (n : ℕ). n - 1) alike.0 ∙ old_named old was is in ap (removal_work round counted) is
-        ∙ ap (λ (n : ℕ). Retiring f n (count_in counted) round 0) e
+    d_is f is = grind (arith, old_named)
 
     -- what a pass does that has a file to retire, or none
     by_retiring : (P : Work → Type 0) → (old ≡ None → P Idle)
         → ((f : File) → old ≡ Some f → P (Retiring f (r.node_of f.number) (count_in counted) round 0)) → P d
-    by_retiring P idle retires = go old refl
-      where
-        go : (o : Option File) → old ≡ o → P d
-        go None is = subst P (sym (ap (removal_work round counted) is)) (idle is)
-        go (Some f) is = subst P (sym (d_is f is)) (retires f is)
+    by_retiring P idle retires = grind (arith, d_is)
 
     -- it is about the table's nodes, and takes from none
     pub d_inside : IsInside v.start d
@@ -198,8 +182,7 @@ module _ (turn : Turn) (s : ℕ) (inside : s < slots_of turn.v.start) where
 
       module _ (p : Swap) where
         out_here : {f : File} → old ≡ Some f → phase' (r.node_of f.number) ≡ gone_as f
-        out_here {f} is = ap (λ (o : Option File). gone o phase₁ (r.node_of f.number)) is
-            ∙ changed_here phase₁ (r.node_of f.number) (gone_as f) (r.node_of f.number) refl
+        out_here is = grind (arith, changed_here)
 
         else_phase : {n : ℕ} → NotOf r.node_of n old → phase' n ≡ phase₁ n
         else_phase {n} apart = go old refl

@@ -58,11 +58,7 @@ module _ (k : Start) (number q : ℕ) (other : number ≢ q) (two : 1 < k.passes
       (moves o.slot l)
 
   pub watch_on : (o : Watch) → WatchAgrees k h words q o → WatchAgrees k h' words' q o
-  watch_on o a = record {
-    seen = grows o.front a.seen;
-    saw = λ l. goes_on o l a.seen (a.saw l);
-    asks = λ is. inr two;
-  }
+  watch_on o a = grind (arith, goes_on)
 
 -- A step after which the words that the pass watches are as they were
 pub watch_same : (k : Start) (q : ℕ) {h h' : List Event} {words words' : List ℕ} → IsSeenBy h h'
