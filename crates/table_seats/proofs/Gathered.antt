@@ -9,8 +9,7 @@ use Rattle.table_seats.proofs.Words.{Together, state_at}
 pub total_of_seat : {V L K : Type 0} {W : Seats V L K} {k : K} {views : List V} {h : List Event} → Together W k views h → (seat : ℕ) {v : V}
     → get_elem? views seat ≡ some v → length (W.logs v) ≡ (W.opening k).passes → (f : L → ℕ)
     → sum_by (λ u. sum_by f (W.logs u)) views ≡ sum_by f (W.logs v)
-total_of_seat {W} {views} t seat {v} at all f =
-    only_here W.logs views seat v at (all ∙ sym t.whole) (λ u. sum_by f (W.logs u)) (λ u none. ap (sum_by f) none)
+total_of_seat t seat h3 all f = grind (arith, only_here)
 
 -- a property of the only pass in a list
 pub of_only : {P : Type 0} (Q : P → Type 0) {p : P} → Q p → (q : P) → Contains (p ∷ []) q → Q q

@@ -1,5 +1,6 @@
+use Rattle.std.proofs.Common.{arith, rules}
 -- Seats are split, joined and shown under the rule of any table, and a seat observes it.
-use Rattle.table_seats.proofs.Words.{◌≡◌, ℕ, ◌+◌, ◌≤◌, List, [], ◌∷◌, ◌++◌, set, drop, take, sym, refl, ap, ◌∙◌, subst, set_again, set-get_or}
+use Rattle.table_seats.proofs.Words.{◌≡◌, ℕ, ◌+◌, ◌≤◌, List, [], ◌∷◌, ◌++◌, set, sym, refl, ◌∙◌, subst, set_again, set-get_or}
 use Rattle.table_seats.proofs.Words.{All, PassView, flat_map, reverse}
 use Rattle.table_seats.proofs.Words.{Event, IsSeenBy, seen_from_start, Splits, Joins, Allows, TableState, Me, keeps, step, appended, split, seats_joined}
 use Rattle.table_seats.proofs.Words.{first_left, last_left, Seats, dealt, without_first, first_alone, joined, spent, front_in, shown_view, Together}
@@ -26,9 +27,7 @@ module _ {S V L K : Type 0} {W : Seats V L K} {Holds : K → TableState S V → 
   pub may_split : W.IsIdle v → Splits (Holds k) id v (without_first W v) (first_alone W v)
   may_split idle s r at = let t = rule.life k s r in let mine = t.seats id v at in let P = Shows W (rule.history k s r) in rule.moves k s r _ record {
     seats = split W.logs W.start k W.IsIdle s.views id v at idle (W.with_logs v) (laws.cut_logs v) (λ l. laws.cut_idle v l idle) (laws.cut_start v) mine.start;
-    shown = of_appended P (set s.views id (without_first W v))
-        (of_replaced P s.views (known t) id (without_first W v) (same_shown (drop 1 (W.logs v)) mine.known))
-        (first_alone W v) (same_shown (take 1 (W.logs v)) mine.known);
+    shown = search (rules, of_appended, set, without_first, of_replaced, known, same_shown);
   }
 
   pub may_join : W.IsIdle v → W.start v ≡ k → (other : ℕ) (w : V) → W.IsIdle w → Joins (Holds k) id v other w (joined W v w) (spent W)
@@ -69,17 +68,14 @@ module _ {V L K : Type 0} (W : Seats V L K) (laws : HasLaws W) (k : K) where
 
   -- the others, and the first alone
   pub rest_is_dealt : {p : ℕ} → p ≤ (W.opening k).passes → without_first W (dealt W k p) ≡ dealt W k (p + 1)
-  rest_is_dealt {p} high = laws.begun_with k _ (drop 1 (its p))
-      ∙ ap (W.begun k) (ap (drop 1) (laws.begun_logs k _ ∙ first_left (W.new_log k) p (W.opening k).passes high))
+  rest_is_dealt high = grind (arith, first_left)
 
   pub alone_is_dealt : {p : ℕ} → p ≤ (W.opening k).passes → first_alone W (dealt W k p) ≡ W.begun k (W.new_log k p ∷ [])
-  alone_is_dealt {p} high = laws.begun_with k _ (take 1 (its p))
-      ∙ ap (W.begun k) (ap (take 1) (laws.begun_logs k _ ∙ first_left (W.new_log k) p (W.opening k).passes high))
+  alone_is_dealt high = grind (arith, first_left)
 
   -- the last pass alone
   pub last_is_dealt : {p : ℕ} → p ≡ (W.opening k).passes → dealt W k p ≡ first_alone W (dealt W k p)
-  last_is_dealt {p} last = ap (W.begun k) (last_left (W.new_log k) p (W.opening k).passes last)
-      ∙ sym (laws.begun_with k _ (take 1 (its p)) ∙ ap (W.begun k) (ap (take 1) (laws.begun_logs k _)))
+  last_is_dealt last = grind (arith, last_left)
 
 -- the passes before `number` have seats of their own, and this seat has the others
 pub record IsDealing {S V L K P : Type 0} (W : Seats V L K) (Is : P → Type 0) (shown : P → PassView) (id : TableId) (k : K) (seat : Seat S V)

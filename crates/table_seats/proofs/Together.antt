@@ -33,8 +33,7 @@ of_one f {l} {x} one = let e : sum_by f l ≡ 0 + f x = ap (sum_by f) one in ome
 -- a total over all passes, where the one pass of a seat counts for as much as before
 pub total_same : {V L : Type 0} (logs : V → List L) (f : L → ℕ) (views : List V) (id : ℕ) {v : V} (w : V) {x y : L} → get_elem? views id ≡ some v
     → logs v ≡ x ∷ [] → logs w ≡ y ∷ [] → f y ≡ f x → sum_by (λ u. sum_by f (logs u)) (set views id w) ≡ sum_by (λ u. sum_by f (logs u)) views
-total_same logs f views id {v} w here one one' same = let t = sum_set (λ u. sum_by f (logs u)) views id v w here in
-    omega (arith, t, of_one f one, of_one f one', same)
+total_same logs f views id w here one one' same = grind (arith, sum_set, of_one)
 
 -- the history that the seat shows begins this one
 abbrev pub Shows : {V L K : Type 0} → Seats V L K → List Event → V → Type 0
@@ -92,19 +91,11 @@ module _ {V L K : Type 0} {W : Seats V L K} {k : K} {views : List V} {h : List E
       (number : W.number y ≡ W.number x) (start : W.start w ≡ W.start v) (shown : W.known w ≡ W.known v) (grows : Grows (W.number x) h h')
       (legal : IsLegal (start_of (W.opening k)) h' (state_at (W.opening k) h')) (seen : HasSeen W h' y) where
     mine : IsSeated W k h' w
-    mine = record {
-      passes = λ z i. subst (HasSeen W h') (sym (contains_only y z (subst (λ (l : List L). Contains l z) one' i))) seen;
-      known = subst (λ (f : List Event). IsSeenBy f h') (sym shown) (grows.seen (W.known v) (known id v here));
-      empty = λ none. let bad : y ∷ [] ≡ [] = sym one' ∙ none in absurd (cc bad);
-      start = inr (start ∙ started one (t.seats id v here));
-    }
+    mine = grind (arith, contains_only, shown, known, started)
 
     another : (j : ℕ) (u : V) → j ≢ id → get_elem? views j ≡ some u → IsSeated W k h' u
     another j u other e = let o = t.seats j u e in record {
-      passes = λ z i. let s = o.passes z i in record {
-        seen = grows.seen (W.front z) s.seen;
-        own = grows.parts (W.number z) (λ same. not_there here one other e z i (sym same)) ∙ s.own;
-      };
+      passes = λ z i. let s = o.passes z i in grind (arith, not_there);
       known = grows.seen (W.known u) o.known;
       empty = o.empty;
       start = o.start;
@@ -116,8 +107,7 @@ module _ {V L K : Type 0} {W : Seats V L K} {k : K} {views : List V} {h : List E
       seats = λ j u e. ⊎_elim (λ (m : (j ≡ id) × (w ≡ u)). subst (IsSeated W k h') m.1 mine) (λ m. another j u m.0 m.1) (at_set views id j w u e);
       passes = λ p. total_same W.logs (λ z. one_if (eqb (W.number z) p)) views id w here one one' (ap (λ (q : ℕ). one_if (eqb q p)) number) ∙ t.passes p;
       whole = omega (arith, sum_set (lengths W) views id v w here, ap (length {A = L}) one, ap (length {A = L}) one', t.whole);
-      authors = λ p none. let l = its_range id here (contains_alone one) in
-          grows.parts p (λ same. omega (arith, same, l, none, once_is (W.opening k).passes p)) ∙ t.authors p none;
+      authors = λ p none. grind (arith, its_range, contains_alone, once_is);
     }
 
   -- a seat with one pass learns the whole history
@@ -161,10 +151,7 @@ opens {L} W laws k = let n = (W.opening k).passes in let new = W.new_log k in le
   legal = record { leads = (tt, refl); releases = tt };
   seats = of_one_view (IsSeated W k []) (first_view W k) record {
     passes = λ x i. let is = contains_map new (range_with_len 1 n) x (subst (λ (l : List L). Contains l x) are i) in
-        subst (HasSeen W []) (sym is.2) record {
-          seen = subst (λ (f : List Event). IsSeenBy f []) (sym (laws.new_front k is.0)) (seen_again []);
-          own = sym (laws.new_own k is.0);
-        };
+        grind (arith, contains_map, seen_again);
     known = subst (λ (f : List Event). IsSeenBy f []) (sym (laws.begun_known k (map new (range_with_len 1 n)))) (seen_again []);
     empty = λ _. laws.begun_idle k (map new (range_with_len 1 n));
     start = inr (laws.begun_start k (map new (range_with_len 1 n)));

@@ -14,8 +14,8 @@ pub use Rattle.fx_table.specs.Closing.{times_drawn}
 pub use Rattle.fx_table.specs.Numbers.{once}
 pub use Rattle.fx_table.specs.Opening.{start_of, state_at}
 pub use Rattle.fx_table.specs.Pass.{PassView}
-pub use Rattle.std.proofs.Common.{All, List, [], ap, arith, drop, eqb, get_or, inl, inr, length, length-append, map, refl, reverse, set, subst, sym}
-pub use Rattle.std.proofs.Common.{take, true, ℕ, ⊎_elim, ◌++◌, ◌+◌, ◌<◌, ◌∙◌, ◌∷◌, ◌≡◌, ◌≢◌, ◌≤◌}
+pub use Rattle.std.proofs.Common.{All, List, [], ap, arith, eqb, get_or, inl, inr, length, length-append, map, refl, reverse, set, subst, sym}
+pub use Rattle.std.proofs.Common.{true, ℕ, ⊎_elim, ◌++◌, ◌+◌, ◌<◌, ◌∙◌, ◌∷◌, ◌≡◌, ◌≢◌, ◌≤◌}
 pub use Rattle.std.proofs.lemmas.List.{length-map, length-reverse, set-get_or}
 pub use Rattle.fx_table.proofs.Chains.{in_part, first_left, last_left}
 pub use Rattle.std.proofs.lemmas.List.FromFn.{length-map-range_with_len}
