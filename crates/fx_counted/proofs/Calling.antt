@@ -1,7 +1,8 @@
+use Rattle.std.proofs.Common.{rules}
 -- Several steps in a row, the pass after them, and the conditions of a call's steps.
 use Rattle.fx_counted.proofs.Words.{◌≡◌, ◌≤◌, ℕ, ◌+◌, ◌*◌, List, [], sym, ap, ◌∙◌, subst, arith, Some, TableId, ◌▷◌, Action, Close, Use, no_use, Adds}
 use Rattle.fx_counted.proofs.Words.{File, Goes, HasPlace, HasPass, Sat, opening_of, pass_of, doing_in, view_of, is_idle, IsPassOf, Stepped}
-use Rattle.fx_counted.proofs.Words.{TakesOut, LetsGo, CountedPass, Change, Outside, Log, Start, Work, Idle, Holding, Retiring, refl, activity_of}
+use Rattle.fx_counted.proofs.Words.{TakesOut, LetsGo, CountedPass, Change, Outside, Log, Start, Work, Idle, Holding, Retiring, activity_of}
 use Rattle.fx_counted.proofs.Words.{◌▷▷◌, both_uses, IsBetweenCalls, Between, steps_of, true, ◌<◌, range_of, full_word_of, InRange, HasNode}
 use Rattle.fx_counted.proofs.Words.{chain_numbers, slot_of, slot_place, node_place, IsNumber, opening_of_table, CountedTable, size_of, Option, None}
 use Rattle.fx_counted.proofs.Words.{number_of, name_in, node_in, Names, named, named_suc, Bool, none, Closed, retiring, IsPassOfTable, Removes, begun}
@@ -53,8 +54,7 @@ module _ {id : TableId} {k : Start} {p : CountedPass} (q : CountedPass) (fits : 
 
 -- the work of a pass between two calls
 work_between : (w : Work) → IsBetweenCalls w → (t : Task) × (w ≡ Between t)
-work_between (Between t) rests = (t, refl)
-work_between _ rests = absurd rests
+work_between w rests = grind arith
 
 -- the pass's work, by what callers see
 module _ {id : TableId} {k : Start} {p : CountedPass} (fits : IsPassOf id k p) where
@@ -136,8 +136,7 @@ full_of t is = ap (λ (z : ℕ × ℕ). full_word_of z.1) t.same_range ∙ ap (�
 
 -- The readings of a slot's word, by the file that the word names.
 pub node_is : (word : ℕ) (file : Option File) → Names word file → node_in word ≡ number_of file
-node_is word None e = ap named e
-node_is word (Some f) e = named_suc (name_in word) f.number e.0
+node_is word file e = grind (arith, named, named_suc)
 
 -- a word that names nothing
 pub no_name : (word : ℕ) → node_in word ≡ None → name_in word ≡ 0
@@ -153,12 +152,8 @@ module _ (act : ℕ → Option File → Action) (t : CountedTable) {p : CountedP
       → Goes p.seat.me [] no_use p.seat.me.0.work (begun began) 1 seat.me
       → (seat.table_id ≡ t.table.shared.table_id) × (i < t.table.shared.table_id.words)
       × Allows (Agrees t.table.shared.key) slots seat.id seat.me i (λ _. 0) (Removes act (step slots i 0 0 none) seat.me)
-  removal_requires {slots} {seat} began does idle inside table range goes = (
-    table ∙ fits.table,
-    slot_inside t inside place,
-    removes_keep does _ slots seat.id i slot seat.me goes.one.0 (goes.start ∙ fits.seated.start, goes.one.1)
-        (goes.work ∙ its_idle fits idle) inside (may_change t.table.shared.key began range goes.change) place,
-  )
+  removal_requires began does idle inside table range goes =
+      search (rules, slot_inside, removes_keep, its_idle, may_change, goes.one.0, goes.start, goes.one.1, goes.work, goes.change)
 
   -- a removal between a begin and an end, if there are such
   pub removal_adds : (takes : ℕ) {file : Option File} {m m' m'' : Sat} {c c' : Change} → Goes p.seat.me [] no_use p.seat.me.0.work c 1 m

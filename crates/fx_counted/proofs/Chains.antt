@@ -2,12 +2,12 @@
 use Rattle.fx_counted.proofs.Words.{sum_by, ◌≡◌, ◌≢◌, ℕ, ◌+◌, ◌*◌, ◌%◌, ◌^◌, ◌<◌, ◌≤◌, Bool, true, false, cond, nat_lt, List, [], ◌∷◌, set, length}
 use Rattle.fx_counted.proofs.Words.{sym, refl, ap, ◌∙◌, subst, arith, eqb, lt-ltb, le-ltb, get_or-set_other, get_or-set_same, Option, ◌⊎◌, inl}
 use Rattle.fx_counted.proofs.Words.{⊎_elim, dite, none, ℕ_discrete, dec_le, keeps, step, Closed, numbers_up_to, sum_by-cons, sum_set, sum_at}
-use Rattle.fx_counted.proofs.Words.{sum_le_at, OwnerAgrees, PlacesNext, WorkAgrees, DrawsCount, word_of, control_place, draw_place, slot_place}
-use Rattle.fx_counted.proofs.Words.{opening_of, chain_in, shown, first_log, drawn_of, ended_of, once, placing, Phase, unborn, spare, owner, file_in}
+use Rattle.fx_counted.proofs.Words.{sum_le_at, WorkAgrees, DrawsCount, control_place, draw_place}
+use Rattle.fx_counted.proofs.Words.{opening_of, chain_in, shown, first_log, drawn_of, ended_of, once, placing, Phase, unborn, spare, file_in}
 use Rattle.fx_counted.proofs.Words.{Log, View, Idle, mul-add, mul-le-mul_left, Draws, DrawsKeep, first_or, DrawsChain, next_in, end_in, chain_given}
 use Rattle.fx_counted.proofs.Words.{Between, one_if, times, bit_here, once_is, once_more, length-set, count_by-le-length, bit_else, of_one}
 use Rattle.fx_counted.proofs.Steps.{passed, owner_same, grows_none, Turn, turn_of, word_at, now, its_log, step_kept, by_turn, Made, near, far}
-use Rattle.fx_counted.proofs.Steps.{slot_same, control_same, NodeIn}
+use Rattle.fx_counted.proofs.Steps.{slot_same, control_same}
 use Rattle.table_seats.proofs.Gathered.{total_of_seat}
 
 -- the phases, where the numbers from lo to below hi are the pass's
@@ -97,24 +97,14 @@ module _ (turn : Turn) where
           number = refl;
           grows = grows_none x.number r.history;
           legal = r.life.legal;
-          slots = λ s l. slot_same (read_else (slot_place s) (apart.slot_and_draw s)) refl (omega arith)
-              (λ f there seat. (refl, either_phase phases (λ e. sym e) (λ new _. absurd (cc (sym seat ∙ new))))) (r.each_slot s l);
-          nodes = λ n has. let Node = NodeIn v.start st.words st.homes r.history n in rw (read_else (word_of v.start n) (apart.node_and_draw n has))
-              (either_phase phases (λ e. subst Node e (r.each_node n has)) (λ new its. subst Node (sym its) (subst Node new (r.each_node n has))));
-          owners = λ n has. either_phase phases
-              (λ e. subst (OwnerAgrees (set st.views id w) n) e (owner_same st.views id v w here refl n (r.phase n) (r.each_owner n has)))
-              (λ _ its. subst (OwnerAgrees (set st.views id w) n) (sym its) tt);
+          slots = λ s l. grind (arith, slot_same, read_else, either_phase);
+          nodes = λ n has. grind (arith, read_else, either_phase);
+          owners = λ n has. grind (arith, either_phase, set, owner_same);
           no_other = r.no_other;
-          stays = record {
-            owned = λ n owned not_mine. either_phase phases (λ e. sym e) (λ new _. absurd (owned (ap owner new)));
-            spared = λ n q is other. either_phase phases (λ e. sym e ∙ is) (λ new _. absurd (cc (sym is ∙ new)));
-          };
+          stays = grind (arith, either_phase);
           keeps = λ j u f other there holds. either_phase phases (λ e. ap file_in (sym e)) (λ new its. ap file_in its ∙ sym (ap file_in new));
           seen = let p = passed turn in record { seen = p.seen; own = p.own };
-          log = let o = its_log turn in let p = ap placing idle in
-              let its : (n : ℕ) → next_in v.start y + placing v.work ≤ n → n < end_in v.start y → phase' n ≡ spare x.number =
-              λ n low high. spares n (omega arith) high in
-              assumption (o, subst (PlacesNext v.start y) (sym idle) tt, its);
+          log = grind (arith, its_log, spare);
           work = subst (WorkAgrees v.start phase' id) (sym idle) tt;
           holds = λ n. omega arith;
           look_ups = omega arith;
@@ -172,8 +162,7 @@ module _ (turn : Turn) where
                 let more = once_more found (found + 1) c refl in omega arith;
             counts = let b = d.counts in omega arith;
             all = λ some_told. absurd (omega arith);
-            unused = λ n low high. ⊎_elim (λ t. absurd (omega (arith, low, t.1))) (λ t. t.1) (given_either lo hi x.number r.phase n)
-                ∙ d.unused n (omega (arith, low, given_numbers, one_more)) high;
+            unused = λ n low high. grind (arith, given_either, given_numbers, one_more);
           } (rw (lt-ltb found v.start.chains more) (untold, omega arith, omega arith, refl))
 
     -- there are no more

@@ -1,13 +1,14 @@
+use Rattle.std.proofs.Common.{rules}
 -- The control word: its count of full slots, and the steps that change no slot and no number.
 use Rattle.fx_counted.proofs.Words.{seats, full_all, full_else, full_few, full_here, ◌≡◌, ◌≢◌, ℕ, zero, suc, ◌+◌, ◌<◌, ◌≤◌, List, set, sym, refl, ap, ◌⊎◌}
-use Rattle.fx_counted.proofs.Words.{inl, inr, arith, Option, IsSome, subst, dite, some, ℕ_discrete, get_elem?, changed_at, File, sum_set, in_change}
+use Rattle.fx_counted.proofs.Words.{arith, Option, IsSome, dite, some, ℕ_discrete, get_elem?, changed_at, File, sum_set, in_change}
 use Rattle.fx_counted.proofs.Words.{added, removed_by, changes_of, added_of, removed_of, if_full, full_in, ControlCounts, turned, Change, Outside}
 use Rattle.fx_counted.proofs.Words.{Same, View, length, ◌∙◌, held_by, State, Event, range_of, Agrees, looks, all_looks, word_of, control_place}
 use Rattle.fx_counted.proofs.Words.{draw_place, slot_place, opening_of, IsNumber, state_after_all, Log, Start, Work, sum_by, ◌-◌, ◌/◌, ◌%◌, ◌^◌, []}
-use Rattle.fx_counted.proofs.Words.{◌∷◌, get_or-set_other, get_or-set_same, none, some-injective, some-ne-none, keeps, step, sum_by-cons, Closed}
+use Rattle.fx_counted.proofs.Words.{◌∷◌, get_or-set_other, none, some-injective, some-ne-none, keeps, step, sum_by-cons, Closed}
 use Rattle.fx_counted.proofs.Words.{Full, no_use, event_of, sum_at, sum_le_at, one_change, full_word_of, WorkAgrees, lengths, shown, IsInside}
-use Rattle.fx_counted.proofs.Words.{Stepped, GoesOn, SaysFull, Idle, Phase, Shared, BeginsKeep, EndsKeep, AnswersKeep, Between, length-set, Bool}
-use Rattle.fx_counted.proofs.Words.{true, false, end_amount_of, InRange, HasToReport, HasPass, MayChange, Sat, ℤ, begun, difference, Allows}
+use Rattle.fx_counted.proofs.Words.{Stepped, GoesOn, SaysFull, Phase, Shared, BeginsKeep, EndsKeep, AnswersKeep, Bool}
+use Rattle.fx_counted.proofs.Words.{true, end_amount_of, InRange, HasToReport, HasPass, MayChange, Sat, ℤ, begun, difference, Allows}
 use Rattle.fx_counted.proofs.Steps.{sees_now, stays_same, owner_same, Grows, grows_none, IsHistory, Turn, word_at, now, logged, its_log, its_work, step_kept}
 use Rattle.fx_counted.proofs.Steps.{log_now, slot_same, draws_same, grows_one, legal_more, held_mine, same_shape, turn_of, by_turn, went, tells_none}
 use Rattle.fx_counted.proofs.Steps.{tells_one, near, far}
@@ -23,10 +24,7 @@ turned_counts : (at : ℕ → Option File) (range : ℕ × ℕ) (s : ℕ) (old n
     → (in_change (turned c (if_full old) (if_full new)) ≡ in_change c)
     × (full_in (changed_at at s new) range.0 range.1 + added c + removed_by (turned c (if_full old) (if_full new))
     ≡ full_in at range.0 range.1 + removed_by c + added (turned c (if_full old) (if_full new)))
-turned_counts at range s old new Same was (inl inside) = grind (arith, full_here)
-turned_counts at range s old new Outside was (inr outside) = grind (arith, full_else)
-turned_counts at range s old new _ was (inl inside) = absurd (cc inside.1)
-turned_counts at range s old new _ was (inr outside) = absurd (cc outside.1)
+turned_counts at range s old new c was h8 = grind (arith, full_here, full_else)
 
 pub control_swap : (at : ℕ → Option File) {range : ℕ × ℕ} {views : List View} (id : ℕ) {v : View} (w : View) {word : ℕ} (s : ℕ)
     (old new : Option File) → get_elem? views id ≡ some v → at s ≡ old → Stands range s v.change
@@ -76,8 +74,7 @@ module _ (turn : Turn) (h' : List Event) where
         number = refl;
         grows = p.quiet.grows;
         legal = p.quiet.legal;
-        slots = λ s l. slot_same (p.slots s) (ap (λ (z : State). z.at s) p.quiet.state) (let a = p.quiet.all in omega arith)
-            (λ f there seat. (ap (λ (g : ℕ → ℕ). g f.number) p.quiet.looked, refl)) (r.each_slot s l);
+        slots = λ s l. grind (arith, slot_same);
         nodes = λ n has. rw (p.quiet.state, p.quiet.looked, p.nodes n has) (r.each_node n has);
         owners = λ n has. owner_same st.views id v w here refl n (r.phase n) (r.each_owner n has);
         no_other = λ n absent. ap (λ (z : State). z.removed n) p.quiet.state ∙ r.no_other n absent;
@@ -110,12 +107,10 @@ total_gap {f} {g} (x ∷ xs) (suc i) {v} e each = let a = each 0 x refl in let c
 
 -- a pass has a difference to report only in a change, and at most one slot
 pub at_most_one : (c : Change) → (in_change c ≤ 1) × (added c ≤ in_change c) × (removed_by c ≤ in_change c)
-at_most_one Outside = (omega arith, omega arith, omega arith)
-at_most_one _ = (omega arith, omega arith, omega arith)
+at_most_one c = grind arith
 
 is_inside : (k : Start) (phase : ℕ → Phase) (seat : ℕ) (d : Work) → WorkAgrees k phase seat d → IsInside k d
-is_inside k phase seat (Between Idle) o = tt
-is_inside k phase seat _ o = o.0
+is_inside k phase seat d o = grind arith
 
 module _ (k : Start) (s : Shared) (r : Agrees k s) where
   -- a seat without a pass is in no change
@@ -167,15 +162,7 @@ module _ (turn : Turn) where
 
     wrote : {h' : List Event} (c : Change) → Quiet turn h' → ControlCounts at_now range (set st.views id (went turn h' v.work c)) y
         → Agrees v.start record { words = words'; homes = st.homes; views = set st.views id (went turn h' v.work c) }
-    wrote {h'} c quiet control = let apart = far turn in calm_agrees turn h' c words' record {
-      quiet = quiet;
-      words = length-set st.words control_place y;
-      slots = λ s. read_else (slot_place s) (apart.slot_and_control s);
-      nodes = λ n has. read_else (word_of v.start n) (apart.node_and_control n has);
-      drawn = read_else draw_place (λ same. apart.control_and_draw (sym same));
-      control = subst (ControlCounts at_now range (set st.views id (went turn h' v.work c)))
-          (sym (get_or-set_same st.words control_place y 0 wide)) control;
-    }
+    wrote c quiet control = search (rules, far, calm_agrees, read_else, set, went, wide)
 
   abbrev e : Event
   e = event_of (shown x v.work) Full
@@ -183,9 +170,7 @@ module _ (turn : Turn) where
   -- with the event that every slot of the range is full
   told_full : ((slot : ℕ) → range.0 ≤ slot → slot < range.0 + range.1 → IsSome (at_now slot)) → Quiet turn (e ∷ r.history)
   told_full each = let all : all_looks (e ∷ r.history) ≡ all_looks r.history = omega arith in
-      let legal : IsHistory v.start (e ∷ r.history) = legal_more v.start r.life.legal
-      (λ slot small in_range. let z = (same_shape v.start r.history).1 in let a = ap (λ (p : ℕ × ℕ). p.0) z in
-      let b = ap (λ (p : ℕ × ℕ). p.1) z in each slot (omega (arith, a, b, in_range.0)) (omega (arith, a, b, in_range.1))) tt in
+      let legal : IsHistory v.start (e ∷ r.history) = grind (arith, legal_more, same_shape) in
       assumption (grows_one x.number r.history e refl, legal, all, held_mine e r.history refl)
 
   pub goes_on : (c : Change) (carried : List (ℕ × Option Closed)) → Stepped (v, carried) [] no_use v.work c (went turn r.history v.work c, carried)
@@ -267,16 +252,13 @@ answers_keep k slots id i m x has same place = by_turn slots (λ _. Unit {0}) (�
 -- The difference that a pass reports for a slot that it changes.
 amount_told : (c : Change) {delta : ℤ} {amount : ℕ} → in_change c ≡ 1 → difference c ≡ delta → amount ≡ end_amount_of delta
     → amount + added c ≡ one_change + removed_by c
-amount_told Outside one d e = absurd (cc one)
-amount_told _ one d e = let f = e ∙ ap end_amount_of (sym d) in omega arith
+amount_told c one d e = grind arith
 
 pub ends_by : {k : Start} (slots id : ℕ) {i amount : ℕ} {delta : ℤ} {m : Sat} {x : Log} → HasPass k m x → HasToReport true delta m.0.change
     → amount ≡ end_amount_of delta → i ≡ control_place
     → Allows (Agrees k) slots id m i (λ word. (word + (2 ^ 64 - amount)) % 2 ^ 64) (GoesOn Outside (step slots i amount 0 none) m)
-ends_by {k} slots id {i} {amount} {delta} {m} {x} its tells is place =
-    ends_keep k slots id i amount m x its tells.0 (amount_told m.0.change tells.0 tells.1 is) place
+ends_by slots id its tells is place = search (rules, ends_keep, amount_told)
 
 -- a pass that began a change where it had to may change the slot
 pub may_change : (k : Start) {slot : ℕ} (began : Bool) {c : Change} → InRange k slot began → c ≡ begun began → MayChange k slot c
-may_change k true range is = inl (range, is)
-may_change k false range is = inr (range, is)
+may_change k began range is = grind arith

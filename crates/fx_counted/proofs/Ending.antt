@@ -2,8 +2,8 @@
 -- all passes are one history.
 use Rattle.fx_counted.proofs.Words.{sum_zero_at, numbers_for, ◌≡◌, ℕ, ◌<◌, ◌≤◌, map, sym, ap, ◌∙◌, arith, ◌⊎◌, ⊎_elim, Option, Some, None, some}
 use Rattle.fx_counted.proofs.Words.{get_elem?, Closed, State, IsSettled, numbered, File, start_of, Does, OwnerAgrees, Agrees, place_of, Shared}
-use Rattle.fx_counted.proofs.Words.{opening_of, slots_of, IsNumber, state_after_all, held_of, holding, Phase, placed, seated, leaving, retired}
-use Rattle.fx_counted.proofs.Words.{emptied, Start, View, Work, Idle, action_of, Between, inside_behind, opens_inside}
+use Rattle.fx_counted.proofs.Words.{opening_of, slots_of, IsNumber, state_after_all, held_of, holding, Phase}
+use Rattle.fx_counted.proofs.Words.{Start, View, Work, Idle, action_of, Between, inside_behind, opens_inside}
 use Rattle.fx_counted.proofs.Frames.{same_shape}
 use Rattle.fx_counted.proofs.Keeping.{NodeIn, in_phase, seat_in}
 
@@ -26,9 +26,7 @@ module _ {k : Start} {s : Shared} (r : Agrees k s) (all_idle : (i : ℕ) (u : Vi
   Node = NodeIn k s.words s.homes r.history
 
   removed_by : (n : ℕ) (ph : Phase) → Node n ph → OwnerAgrees s.views n ph → end.removed n ≡ None
-  removed_by n (leaving i takes file) a o = let bad = nobody i o in absurd (cc bad)
-  removed_by n (retired file) a o = let w = a.counts in let h = unheld n in let p = a.some_hold in absurd (omega arith)
-  removed_by n _ a o = a.not_removed
+  removed_by n ph a o = grind (arith, nobody, unheld)
 
   pub settled_end : IsSettled end
   settled_end = record {
@@ -42,17 +40,7 @@ module _ {k : Start} {s : Shared} (r : Agrees k s) (all_idle : (i : ℕ) (u : Vi
 
   home_by : {n : ℕ} (ph : Phase) → Node n ph → OwnerAgrees s.views n ph
       → (x : Option Closed) × (get_elem? s.homes (place_of k n) ≡ some (some x)) × AtItsSlot n x
-  home_by {n} (placed i) a o = let bad = nobody i o in absurd (cc bad)
-  home_by {n} (seated slot file) a o = let size = (same_shape k r.history).0 in let l = a.inside in (
-    Some file,
-    a.at_home,
-    λ other e. let same : file ≡ other = cc e in
-        (slot, omega arith, a.there ∙ ap (λ (z : Closed). Some (numbered n z)) same),
-  )
-  home_by {n} (leaving i takes file) a o = let bad = nobody i o in absurd (cc bad)
-  home_by {n} (retired file) a o = let w = a.counts in let h = unheld n in let p = a.some_hold in absurd (omega arith)
-  home_by {n} (emptied i) a o = let bad = nobody i o in absurd (cc bad)
-  home_by _ a o = (None, a.at_home, λ file e. absurd (cc e))
+  home_by ph a o = grind (arith, nobody, same_shape, unheld)
 
   pub home_file : {n : ℕ} → IsNumber k n → (x : Option Closed) × (get_elem? s.homes (place_of k n) ≡ some (some x)) × AtItsSlot n x
   home_file {n} has = home_by (r.phase n) (r.each_node n has) (r.each_owner n has)

@@ -3,9 +3,9 @@ use Rattle.fx_counted.proofs.Words.{◌≡◌, ◌≢◌, ℕ, ◌+◌, ◌≤�
 use Rattle.fx_counted.proofs.Words.{Action, Look, start_of, range_of, looks, all_looks, opening_of, slots_of, state_after_all, Start, ReleasesItsOwn}
 use Rattle.fx_counted.proofs.Words.{IsLegal, looks_after, look_in, map, action_of, next_in, end_in, placing, ◌<◌, Contains, sum_by, set, subst, some}
 use Rattle.fx_counted.proofs.Words.{some-injective, get_elem?, set_here, set_else, File, numbered, sum_set, Does, OwnerAgrees, WorkAgrees, ViewAgrees}
-use Rattle.fx_counted.proofs.Words.{Phase, spare, placed, leaving, emptied, owner, file_in, Log, View, Work, Idle, Placing, Holding, Retiring}
+use Rattle.fx_counted.proofs.Words.{Phase, spare, owner, file_in, Log, View, Work, Placing, Holding, Retiring}
 use Rattle.fx_counted.proofs.Words.{Emptying, Between, stands_at, one_if, Option, Closed, State, SlotAgrees, Home, NodeAgrees, full_in, ControlCounts}
-use Rattle.fx_counted.proofs.Words.{DrawsCount, ended_of, unborn, seated, retired, closed, IsGone, times, Grows, seats, total_same}
+use Rattle.fx_counted.proofs.Words.{DrawsCount, ended_of, unborn, seated, IsGone, times, Grows, seats, total_same}
 use Rattle.fx_plain.specs.Step.{Allows}
 use Rattle.fx_plain.proofs.Leading.{same_shape as shape_of_state}
 
@@ -52,9 +52,7 @@ module _ (id p j : ℕ) (other : j ≢ id) (phase phase' : ℕ → Phase) (stays
 
   work_stays : (k : Start) (d : Work) → ((f : File) → d ≡ Between (Holding f)
       → file_in (phase' f.number) ≡ file_in (phase f.number)) → WorkAgrees k phase j d → WorkAgrees k phase' j d
-  work_stays k (Between Idle) keeps o = tt
-  work_stays k (Between (Holding f)) keeps o = (o.0, keeps f refl ∙ o.1)
-  work_stays k _ keeps o = (o.0, same_for o.1 refl)
+  work_stays k d keeps o = grind (arith, same_for)
 
   -- another view, after events of a pass that it doesn't have
   pub view_stays : {k : Start} {h h' : List Event} → Grows p h h' → {u : View} → ((y : Log) → Contains u.logs y → y.number ≢ p)
@@ -63,8 +61,7 @@ module _ (id p j : ℕ) (other : j ≢ id) (phase phase' : ℕ → Phase) (stays
   view_stays {k} g {u} not_its keeps ok = record {
     logs = λ y e. let o = ok.logs y e in let n : p ≢ y.number = λ same. not_its y e (sym same) in
         let spares : (m : ℕ) → next_in k y + placing u.work ≤ m → m < end_in k y → phase' m ≡ spare y.number =
-        λ m a b. stays.spared m y.number (o.spares m a b) (λ same. n (sym same)) in
-        assumption (o, g.helds y.number n ∙ o.held, spares);
+        λ m a b. stays.spared m y.number (o.spares m a b) (λ same. n (sym same)) in grind (arith, spare);
     work = work_stays k u.work keeps ok.work;
   }
 
@@ -75,10 +72,7 @@ does_now views id v w d here is = (w, set_here views id w (stands_at views id v 
 pub owner_map : (views views' : List View) (n : ℕ)
     → ((j : ℕ) (d : Work) → busy d ≡ n + 1 → Does views j d → Does views' j d) → (ph : Phase) → OwnerAgrees views n ph
     → OwnerAgrees views' n ph
-owner_map views views' n f (placed j) o = f j (Placing n) refl o
-owner_map views views' n f (leaving j t g) o = f j (Between (Retiring (numbered n g) t)) refl o
-owner_map views views' n f (emptied j) o = f j (Emptying n) refl o
-owner_map views views' n f _ o = tt
+owner_map views views' n f ph o = grind arith
 
 module _ (views : List View) (id : ℕ) (v w : View) (here : get_elem? views id ≡ some v) where
   does_else : {j : ℕ} {d : Work} → j ≢ id → Does views j d → Does (set views id w) j d
@@ -117,12 +111,7 @@ module _ (st st' : State) (n l l' word word' : ℕ) (home home' : Home) (fresh :
 
   pub node_same : (ph : Phase) → ((s : ℕ) (f : Closed) → ph ≡ seated s f → st.at s ≡ Some (numbered n f) → st'.at s ≡ st.at s)
       → NodeAgrees st n l word home ph → NodeAgrees st' n l' word' home' ph
-  node_same (seated s f) at o = grind arith
-  node_same (leaving j t f) at o = grind arith
-  node_same (retired f) at o = grind arith
-  node_same (emptied j) at o = gone_same o
-  node_same closed at o = gone_same o
-  node_same _ at o = grind arith
+  node_same ph h2 o = grind (arith, gone_same)
 
 module _ (views : List View) (id : ℕ) (v w : View) (here : get_elem? views id ≡ some v) where
   -- the control word, where no slot of the range and no change does

@@ -4,7 +4,6 @@ use Rattle.fx_counted.proofs.Words.{◌≡◌, ℕ, ◌+◌, ◌-◌, ◌<◌, s
 use Rattle.fx_counted.proofs.Words.{Closed, State, Contents, state_of, AreBack, slice_index, some, get_elem?, node_in, slot_place, home_place}
 use Rattle.fx_counted.proofs.Words.{homes_for, stands_at, some-injective, number_of, File, Agrees, HasNode, slots_of, chain_numbers, IsNumber}
 use Rattle.fx_counted.proofs.Words.{state_after_all, CountedTable, Start, View, Idle, Final, Seen, AllAreIdle, Leaves, Between, option_map}
-use Rattle.fx_counted.proofs.Words.{ℕ_discrete, numbered}
 use Rattle.fx_table.proofs.Shells.{AreAtHome, AreStored, at_home, file_at, files_are}
 use Rattle.fx_counted.proofs.Calling.{has_node}
 use Rattle.fx_counted.proofs.Ending.{home_file, file_home, one_slot, none_outside_end}
@@ -47,15 +46,12 @@ module _ (t : CountedTable) {id : ℕ} {v : View} {words : List ℕ} (xs : List 
   stored = record {
     named = λ slot l. ap (option_map (home_place size)) (number_is l);
     there = λ slot f l at. final.4 _ _ (file_home r all_idle l at).1;
-    apart = λ slot other f g l m at at' same. dite (ℕ_discrete f.number g.number) (λ e. one_slot r all_idle l m at at' e)
-        (λ ne. absurd ((apart size (chain_numbers k) r.shape.slots).homes f.number g.number (file_home r all_idle l at).0
-        (file_home r all_idle m at').0 ne same));
+    apart = λ slot other f g l m at at' same. grind (arith, one_slot, all_idle, apart, file_home);
     others = λ place file there.
         let inside = (stands_at xs place (Some file) there).0 in
         let b = by_place {place = place} (omega (arith, inside, final.3, r.shape.homes)) in let h = home_file r all_idle b.1 in
         let here = final.4 place h.0 (ap (get_elem? final.0.homes) (sym b.2) ∙ h.1) in
-        let is : h.0 ≡ Some file = some-injective h.0 (Some file) (sym here ∙ there) in let o = h.2 file is in
-        (o.0, numbered b.0 file, o.1, o.2, b.2);
+        let is : h.0 ≡ Some file = some-injective h.0 (Some file) (sym here ∙ there) in let o = h.2 file is in grind (arith, stands_at, home_file, all_idle);
     outside = λ slot g. none_outside_end r all_idle g;
   }
 

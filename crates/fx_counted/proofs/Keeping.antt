@@ -1,9 +1,10 @@
+use Rattle.std.proofs.Common.{rules}
 -- A step of a seat with one pass keeps the rule, if it keeps what the step changes.
 use Rattle.fx_counted.proofs.Words.{Contains, contains_head, contains_only, ◌≡◌, ℕ, ◌+◌, ◌<◌, ◌≤◌, List, [], ◌∷◌, ◌++◌, map, set, length, sym, refl}
 use Rattle.fx_counted.proofs.Words.{ap, ◌∙◌, subst, arith, get_or, Option, None, Some, File, some, get_elem?, Closed, part_of_pass, Event, Action}
 use Rattle.fx_counted.proofs.Words.{Use, range_of, event_of, sum_set, SlotAgrees, NodeAgrees, OwnerAgrees, WorkAgrees, LogAgrees, ViewAgrees, Agrees}
 use Rattle.fx_counted.proofs.Words.{ControlCounts, looks, all_looks, DrawsCount, control_place, draw_place, slot_place, node_place, home_place}
-use Rattle.fx_counted.proofs.Words.{Shared, opening_of, slots_of, IsNumber, state_after_all, Sat, shown, looks_of, held_of, Phase, IsInside, Stepped}
+use Rattle.fx_counted.proofs.Words.{Shared, opening_of, slots_of, IsNumber, state_after_all, Sat, shown, held_of, Phase, IsInside, Stepped}
 use Rattle.fx_counted.proofs.Words.{Change, Log, View, Work, stepped, Act, Valid, carried_after, HasPass, held_by, held_in, PlacesNext, placing}
 use Rattle.fx_counted.proofs.Words.{next_in, end_in, spare, HasShape, Start, no_use, ◌▷◌, Allows, IsSeated, ◌≢◌, Between, Holding, file_in, at_set}
 use Rattle.fx_counted.proofs.Words.{⊎_elim, get_or-set_other, get_or-set_same, Bool, changed_at, full_in, PlacesAreInside, PlacesAreApart}
@@ -150,8 +151,7 @@ module _ (turn : Turn) where
           view_stays id x.number j t.0 r.phase phase' s.stays s.grows (not_there r.life here one t.0 t.1) (λ f is. s.keeps j u f t.0 t.1 is)
           (r.each_view j u t.1)) (at_set st.views id j (now v y d c) u e);
       holds = λ n. let t = sum_set (held_of n) st.views id v (now v y d c) here in let a = r.holds n in let b = s.holds n in omega arith;
-      look_ups = let t = sum_set looks_of st.views id v (now v y d c) here in let a = r.look_ups in
-          let b = s.look_ups in let e = of_one (λ z. z.looks_left) one in omega arith;
+      look_ups = grind (arith, sum_set, here, of_one, one);
       control = s.control;
       draws = s.draws;
     }
@@ -247,10 +247,7 @@ module _ (turn : Turn) where
       -- retired
       stays_if : {n : ℕ} {z : Phase} → r.phase n ≡ z → (owner z ≡ id + 1 → ph ≡ z) → (z ≡ spare x.number → ph ≡ z)
           → ((f : Closed) → z ≡ retired f → ph ≡ z) → phase' n ≡ z
-      stays_if {n} {z} is owned spared gone = each_changed (λ m p. p ≡ z) r.phase
-          (λ same. let at_q = ap r.phase (sym same) ∙ is in ⊎_elim (λ e. e ∙ at_q) (λ t. ⊎_elim (λ e. owned (sym (ap owner at_q) ∙ e))
-          (λ t. ⊎_elim (λ e. spared (sym at_q ∙ e)) (λ e. gone e.0 (sym at_q ∙ e.1)) t) t) s.may)
-          (λ other. is)
+      stays_if is owned spared gone = search (rules, each_changed)
 
       at_is : (slot : ℕ) → (state_after_all v.start h').at slot ≡ (state_after_all v.start r.history).at slot
       at_is slot = ap (λ (g : ℕ → Option File). g slot) s.told.at
@@ -262,12 +259,7 @@ module _ (turn : Turn) where
         number = refl;
         grows = s.grows;
         legal = s.legal;
-        slots = λ slot l. slot_same (word_else (λ same. far.node_and_slot q slot l its (sym same))) (at_is slot) (omega (arith, s.told.all))
-            (λ f there seat. (
-              ap (λ (g : ℕ → ℕ). g f.number) s.told.looked,
-              stays_if seat (λ o. absurd (omega (arith, o))) (λ o. absurd (cc o)) (λ g o. absurd (cc o)) ∙ sym seat,
-            ))
-            (r.each_slot slot l);
+        slots = λ slot l. grind (arith, slot_same, word_else, far, at_is, stays_if);
         nodes = λ n has. each_changed (NodeIn v.start (set st.words i word') homes' h') r.phase
             (λ same. rw (same, s.told.looked, get_or-set_same st.words i word' 0 wide) s.node)
             (λ other. node_same (state_after_all v.start r.history) (state_after_all v.start h') n _ _ _ _ _ _
@@ -277,10 +269,7 @@ module _ (turn : Turn) where
         owners = λ n has. each_changed (OwnerAgrees (set st.views id w)) r.phase
             (λ same. rw same s.known) (λ other. owner_stays st.views id v w here n (s.free n other) (r.phase n) (r.each_owner n has));
         no_other = λ n absent. s.told.removed n (λ same. absent (subst (IsNumber v.start) (sym same) its)) ∙ r.no_other n absent;
-        stays = record {
-          owned = λ n some not_mine. stays_if refl (λ o. absurd (not_mine o)) (λ o. absurd (some (ap owner o))) (λ g o. absurd (some (ap owner o)));
-          spared = λ n p is other. stays_if is (λ o. absurd (omega (arith, o))) (λ o. absurd (other (cc o))) (λ g o. absurd (cc o));
-        };
+        stays = grind (arith, stays_if);
         keeps = λ j u f other there is. each_changed (λ m z. file_in z ≡ file_in (r.phase m)) r.phase
             (λ same. s.keeps j u f other there is same ∙ ap (λ (m : ℕ). file_in (r.phase m)) (sym same)) (λ _. refl);
         seen = sees_now turn h' x.numbers_left x.looks_left;

@@ -4,10 +4,9 @@ use Rattle.fx_counted.proofs.Words.{◌≡◌, ◌≢◌, ℕ, ◌+◌, ◌-◌,
 use Rattle.fx_counted.proofs.Words.{Some, None, some, none, keeps, takes, set_here, set_else, Closed, ◌▷◌, State, File, Event, Close, Action, no_use}
 use Rattle.fx_counted.proofs.Words.{event_of, sum_two, held_by, part_of_pass, NodeAgrees, OwnerAgrees, looks, word_of, place_of, IsNumber}
 use Rattle.fx_counted.proofs.Words.{state_after_all, shown, end_in, next_in, placing, held_of, holding, Phase, spare, emptied, file_in, changed_at}
-use Rattle.fx_counted.proofs.Words.{TakesOut, LetsGo, Sat, Idle, Holding, Emptying, Between, changed_here, changed_else, length-set, all_looks, []}
-use Rattle.fx_counted.proofs.Words.{subst, dite, ℕ_discrete, step, retire_amount_of, WorkAgrees, held_in, leaving, retired, owner, Retiring}
-use Rattle.fx_counted.proofs.Words.{RetiresKeep, Retires, inr, inl, ◌⊎◌, ⊎_elim, Release, sum_at, seated, eqb, ReleasesKeep, Releases, one_if}
-use Rattle.fx_counted.proofs.Words.{one_less_at, born}
+use Rattle.fx_counted.proofs.Words.{TakesOut, LetsGo, Sat, Idle, Holding, Emptying, Between, changed_here, changed_else, length-set, [], subst, dite}
+use Rattle.fx_counted.proofs.Words.{ℕ_discrete, step, retire_amount_of, WorkAgrees, leaving, retired, owner, Retiring, RetiresKeep, Retires, inr, inl}
+use Rattle.fx_counted.proofs.Words.{◌⊎◌, ⊎_elim, Release, sum_at, ReleasesKeep, Releases, one_less_at}
 use Rattle.fx_counted.proofs.Steps.{busy, does_now, Grows, IsHistory, grows_more, legal_more, held_mine, part_mine, looks_few, Homes, MayTurn, Turn}
 use Rattle.fx_counted.proofs.Steps.{its_log, tells, Made, went, OneNumber, NodeStep, node_agrees, in_phase, turn_of, its_work, by_turn, owner_stays}
 use Rattle.fx_counted.proofs.Steps.{grows_one, NodeIn}
@@ -89,21 +88,13 @@ module _ {turn : Turn} {f : File} {its : IsNumber turn.v.start f.number} {h₁ :
         let step : NodeStep turn q its less homes' h₂ (emptied id) (Emptying q) = record {
           grows = grows₂;
           legal = legal₂;
-          told = let all : all_looks h₂ ≡ all_looks r.history = omega (arith, g.told.all) in
-              let removed : (m : ℕ) → m ≢ q → (state_after_all v.start h₂).removed m ≡ (state_after_all v.start r.history).removed m =
-              λ m other. changed_else now.removed q None m other ∙ g.told.removed m other in assumption (g.told, all, removed);
+          told = grind (arith, changed_else);
           homes = length-set st.homes (place_of v.start q) none;
           home_else = λ m has other. set_else st.homes (place_of v.start q) (place_of v.start m) none (else_place turn its has other);
           may = may;
-          keeps = λ j u e other there holds is. absurd (let a = ap (holding q) holds ∙ holding_it e (sym is) in
-              let b = sum_two (held_of q) st.views j id u v other there here in let c = r.holds q in let d = g.holds q in omega arith);
+          keeps = λ j u e other there holds is. grind (arith, holding_it, sum_two);
           free = g.free;
-          node = record {
-            counts = none_left;
-            at_home = set_here st.homes (place_of v.start q) none (roomy turn its);
-            no_holds = unheld;
-            not_removed = changed_here now.removed q None q refl;
-          };
+          node = grind (arith, set_here, none, roomy, changed_here);
           known = does_now st.views id v (went turn h₂ (Emptying q) v.change) (Emptying q) here refl;
           held = held_mine (event_of (shown x v.work) (Close f)) h₁ refl ∙ g.held;
           next = tt;
@@ -206,33 +197,14 @@ module _ (turn : Turn) (f : File) (works : turn.v.work ≡ Between (Holding f)) 
   one_less = changed_here old.holds f.number (old.holds f.number - 1) f.number refl
 
   release_lets_go : IsLetGo turn f holds_it.0 h₁ ([] ▷ Release f)
-  release_lets_go = record {
-    grows = grows_one x.number r.history _ refl;
-    legal = legal_more v.start r.life.legal held_now ((its_log turn).held ∙ ap held_in works);
-    own = part_mine r.history refl;
-    told = let holds : (n : ℕ) → n ≢ f.number → new.holds n ≡ old.holds n = changed_else old.holds f.number _ in
-        record { at = refl; size = refl; fresh = refl; looked = refl; all = omega arith; removed = λ m other. refl; holds = holds };
-    held = held_mine (event_of (shown x v.work) (Release f)) r.history refl;
-    holds = λ m. let w : held_of m v ≡ one_if (eqb f.number m) = ap (holding m) works in
-        let e = one_less_at old.holds f.number m held_now in omega arith;
-    free = λ m other bad. let b = ap busy works in omega arith;
-    places = ap placing works;
-    open_file = holds_it.1;
-  }
+  release_lets_go = grind (arith, grows_one, legal_more, held_now, its_log, part_mine, changed_else, held_mine, shown, one_less_at, holds_it)
 
   -- if the word was 1, the file was retired, and this is its last hold
   by_phase : word < 18446744073709551616 → (ph : Phase) → r.phase f.number ≡ ph → file_in ph ≡ Some f.identity
       → ((word ≢ 1) × NodeAgrees new f.number (looks r.history f.number) (less_one word) (home_now turn f.number) ph)
       ⊎ ((word ≡ 1) × (less_one word ≡ 0) × (r.phase f.number ≡ retired f.identity) × (home_now turn f.number ≡ some (some (Some f.identity)))
       × (old.removed f.number ≡ Some f) × (new.holds f.number ≡ 0))
-  by_phase fits (seated s g) is has = let n = in_phase v.start st r holds_it.0 is in let a = n.counts in
-      let c = few_looks turn f.number in let h = held_now in let z = one_less in
-      let e : less_one word ≡ word - 1 = sub_wraps (omega arith) fits (omega arith) in
-      let counts : less_one word + looks r.history f.number ≡ born + new.holds f.number = omega arith in
-      inl (λ last. omega arith, assumption (n, counts))
-  by_phase fits (leaving j t g) is has = grind (arith, few_looks, held_now)
-  by_phase fits (retired g) is has = grind arith
-  by_phase fits _ is has = absurd (cc has)
+  by_phase fits ph is has = grind (arith, in_phase, holds_it, few_looks, held_now, one_less, sub_wraps, looks)
 
   holding_same : {g : File} → v.work ≡ Between (Holding g) → f ≡ g
   holding_same its = cc (sym works ∙ its)

@@ -1,8 +1,9 @@
+use Rattle.std.proofs.Common.{rules}
 -- A look-up keeps the rule.
-use Rattle.fx_counted.proofs.Words.{◌≡◌, ◌≢◌, ℕ, ◌+◌, ◌-◌, ◌%◌, ◌^◌, ◌<◌, List, [], ◌∷◌, sym, refl, ap, ◌∙◌, subst, arith, Option, Some, None, none}
-use Rattle.fx_counted.proofs.Words.{keeps, step, Closed, ◌▷◌, State, File, Event, Look, range_of, event_of, name_in, entry_in, takes_in, Names}
+use Rattle.fx_counted.proofs.Words.{◌≡◌, ◌≢◌, ℕ, ◌+◌, ◌-◌, ◌%◌, ◌^◌, ◌<◌, List, [], ◌∷◌, sym, refl, ap, ◌∙◌, subst, arith, Option, none}
+use Rattle.fx_counted.proofs.Words.{keeps, step, Closed, ◌▷◌, State, File, Event, Look, range_of, event_of, takes_in, Names}
 use Rattle.fx_counted.proofs.Words.{SlotAgrees, PlacesNext, WorkAgrees, looks, full_in, slot_place, opening_of, slots_of, IsNumber, state_after_all}
-use Rattle.fx_counted.proofs.Words.{shown, held_in, placing, held_of, holding, Phase, seated, file_in, IsInside, Log, View, Idle, one_look, name_more}
+use Rattle.fx_counted.proofs.Words.{shown, held_in, placing, held_of, holding, Phase, seated, IsInside, Log, View, Idle, one_look, name_more}
 use Rattle.fx_counted.proofs.Words.{entry_more, takes_more, LooksKeep, Looks, holds_now, Between, one_more_at, length-set, IsSeated}
 use Rattle.fx_counted.proofs.Steps.{sees_now, busy, stays_same, owner_stays, IsHistory, grows_one, legal_more, held_mine, part_mine, same_shape, step_kept}
 use Rattle.fx_counted.proofs.Steps.{Turn, turn_of, word_at, now, logged, its_log, tells, by_turn, Made, log_now, far, control_same, NodeIn, seat_in}
@@ -31,8 +32,7 @@ module _ (turn : Turn) (idle : turn.v.work ≡ Between Idle) (some_left : 0 < tu
   word_is = omega (arith, room, fits)
 
   names_now : (file : Option File) → Names found file → Names word' file
-  names_now None o = ap name_in word_is ∙ (name_more found room ∙ o)
-  names_now (Some f) o = (ap name_in word_is ∙ (name_more found room ∙ o.0), ap entry_in word_is ∙ (entry_more found room ∙ o.1))
+  names_now file o = grind (arith, word_is, name_more, room, entry_more)
 
   takes_now : takes_in word' ≡ takes_in found + 1
   takes_now = ap takes_in word_is ∙ takes_more found room
@@ -42,28 +42,23 @@ module _ (turn : Turn) (idle : turn.v.work ≡ Between Idle) (some_left : 0 < tu
 
   -- the file that is found is looked up once more, and held once more
   looks_are : (file : Option File) (n : ℕ) → looks (h' file) n ≡ looks r.history n + holding n (holds_now file)
-  looks_are None n = omega arith
-  looks_are (Some f) n = one_more_at (looks r.history) f.number n
+  looks_are file n = grind (arith, one_more_at, looks)
 
   state_is : (file : Option File) → state_after_all v.start (h' file) ≡ record old { holds = λ n. old.holds n + holding n (holds_now file) }
-  state_is None = λ i. record old { holds = λ n. (let e : old.holds n ≡ old.holds n + 0 = omega arith in e) i }
-  state_is (Some f) = λ i. record old { holds = λ n. one_more_at old.holds f.number n i }
+  state_is file = grind (arith, one_more_at)
 
   -- the work of the pass afterwards
   does_now : (file : Option File) → old.at s ≡ file → (held_in (holds_now file) ≡ file) × (placing (holds_now file) ≡ 0)
       × ((y : Log) → PlacesNext v.start y (holds_now file)) × WorkAgrees v.start r.phase id (holds_now file) × IsInside v.start (holds_now file)
-  does_now None is = (refl, refl, λ y. tt, tt, tt)
-  does_now (Some f) is = let seat = seat_in v.start st r inside is in (refl, refl, λ y. tt, (seat.0, ap file_in seat.2), seat.0)
+  does_now file is = grind (arith, seat_in)
 
   seat_now : (file : Option File) → old.at s ≡ file → IsSeated v.start (looks (h' file)) r.phase s word' file
-  seat_now None is = tt
-  seat_now (Some f) is = grind arith
+  seat_now file is = grind arith
 
   -- a number whose file is not at the slot was not found
   not_found : (file : Option File) → old.at s ≡ file → {n : ℕ} {ph : Phase} → r.phase n ≡ ph → ((g : Closed) → ph ≢ seated s g)
       → holding n (holds_now file) ≡ 0
-  not_found None is at not_seated = refl
-  not_found (Some f) is {n} at not_seated = grind arith
+  not_found file is h3 not_seated = grind arith
 
   module _ (file : Option File) (is : old.at s ≡ file) where
     abbrev y : Log
@@ -79,8 +74,7 @@ module _ (turn : Turn) (idle : turn.v.work ≡ Between Idle) (some_left : 0 < tu
     legal = legal_more v.start r.life.legal (let z = (same_shape v.start r.history).0 in omega arith, sym is) tt
 
     node_after : {n : ℕ} → IsNumber v.start n → (ph : Phase) → r.phase n ≡ ph → NodeIn v.start st.words st.homes (h' file) n ph
-    node_after {n} has (seated i g) at = grind arith
-    node_after {n} has ph at = grind arith
+    node_after has ph h3 = grind arith
 
     looked : (slots : ℕ) (carried : List (ℕ × Option Closed))
         → Made turn carried (slot_place s) (λ word. (word + 1) % 2 ^ 64) (Looks (step slots (slot_place s) 1 0 none) (v, carried))
@@ -95,27 +89,14 @@ module _ (turn : Turn) (idle : turn.v.work ≡ Between Idle) (some_left : 0 < tu
             number = refl;
             grows = grows_one x.number r.history _ refl;
             legal = legal;
-            slots = slots_now turn s inside word' (
-                let at_is : new.at s ≡ file = ap (λ (z : State). z.at s) (state_is file) ∙ is in record {
-                  names = subst (Names word') (sym at_is) (names_now file names);
-                  seat = subst (IsSeated v.start (looks (h' file)) r.phase s word') (sym at_is) (seat_now file is);
-                  takes = let a = so.takes in let b = takes_now in omega arith;
-                }
-                ) (omega arith) (λ i l other. (
-                  ap (λ (z : State). z.at i) (state_is file),
-                  λ f there seat. (
-                    let a = looks_are file f.number in let b = not_found file is seat (λ g bad. other (cc bad)) in omega arith,
-                    refl,
-                  ),
-                ));
+            slots = search (rules, slots_now, state_is, names_now, looks, seat_now, so, takes_now, looks_are, not_found);
             nodes = λ n has. node_now turn s inside word' (h' file) st.homes (r.phase n) has (node_after has (r.phase n) refl);
             owners = λ n has. owner_stays st.views id v w here n (λ bad. let b = ap busy idle in omega arith) (r.phase n) (r.each_owner n has);
             no_other = λ n absent. ap (λ (z : State). z.removed n) (state_is file) ∙ r.no_other n absent;
             stays = stays_same id x.number r.phase;
             keeps = λ j u f other there is_held. refl;
             seen = sees_now turn (h' file) x.numbers_left (x.looks_left - 1);
-            log = log_now turn (omega arith) (held_mine (event_of (shown x v.work) (Look s file)) r.history refl ∙ sym now.0) (now.2 y)
-                (λ n low high. let q = now.1 in o.spares n (omega arith) high);
+            log = grind (arith, log_now, held_mine, shown);
             work = now.3;
             holds = λ n. let b : held_of n v ≡ 0 = ap (holding n) idle in let c = ap (λ (z : State). z.holds n) (state_is file) in omega arith;
             look_ups = omega arith;

@@ -1,15 +1,15 @@
+use Rattle.std.proofs.Common.{rules}
 -- The opening of a table: its words and places, and the rule with them.
 use Rattle.fx_counted.proofs.Words.{count_by-le-length, sum_by, ◌≡◌, ℕ, ◌+◌, ◌≤◌, Option, Some, None, sym, ◌∙◌, subst, arith, File, sum_le_at}
-use Rattle.fx_counted.proofs.Words.{node_in, Agrees, Names, WorkAgrees, lengths, changes_of, looks, all_looks, Shared, looks_of, ended_of, Start}
-use Rattle.fx_counted.proofs.Words.{Retiring, Between, IsSeated, mul-le-mul_right, zero, suc, ◌*◌, ◌<◌, List, length, refl, ap, slice_index, State}
+use Rattle.fx_counted.proofs.Words.{node_in, Agrees, Names, WorkAgrees, lengths, changes_of, looks, all_looks, Shared, looks_of, Start, Retiring}
+use Rattle.fx_counted.proofs.Words.{Between, IsSeated, mul-le-mul_right, zero, suc, ◌*◌, ◌<◌, List, length, refl, ap, slice_index, State}
 use Rattle.fx_counted.proofs.Words.{file_numbered, full_in, first_at, control_place, draw_place, slot_place, words_for, word_for, node_for}
-use Rattle.fx_counted.proofs.Words.{control_word_of, [], ◌∷◌, dite, some, get_elem?, Closed, state_of, identity_of, dec_le, MAX_CHAINS, chain_numbers}
-use Rattle.fx_counted.proofs.Words.{AreFirstWords, AreFirstHomes, home_place, homes_for, home_for, OpensWith, MAX_PASSES, first_file, node_place}
-use Rattle.fx_counted.proofs.Words.{Bool, nat_lt, cond, map, eqb, lt-ltb, le-ltb, ⊎_elim, count_by, sum_by-cons, some-injective, some-ne-none}
-use Rattle.fx_counted.proofs.Words.{numbered, numbers_for, range_of, born, SlotAgrees, NodeAgrees, OwnerAgrees, HasLaws, LogAgrees, ViewAgrees}
-use Rattle.fx_counted.proofs.Words.{new_logs, word_of, place_of, opening_of, slots_of, IsNumber, state_after_all, new_log, Phase, unborn, seated}
-use Rattle.fx_counted.proofs.Words.{closed, Log, View, Idle, ◌&&◌, length-map, at_map, first_view, contains_map, sum_zero, one_if, once_is}
-use Rattle.fx_counted.proofs.Words.{range_with_len, full_few, not, numbered_anew, seats}
+use Rattle.fx_counted.proofs.Words.{control_word_of, [], ◌∷◌, some, get_elem?, Closed, state_of, identity_of, MAX_CHAINS, chain_numbers}
+use Rattle.fx_counted.proofs.Words.{AreFirstWords, AreFirstHomes, homes_for, home_for, OpensWith, MAX_PASSES, first_file, Bool, nat_lt, cond, map}
+use Rattle.fx_counted.proofs.Words.{eqb, lt-ltb, le-ltb, ⊎_elim, count_by, sum_by-cons, numbered, numbers_for, born, SlotAgrees, NodeAgrees}
+use Rattle.fx_counted.proofs.Words.{OwnerAgrees, HasLaws, LogAgrees, ViewAgrees, new_logs, word_of, place_of, opening_of, slots_of, IsNumber}
+use Rattle.fx_counted.proofs.Words.{state_after_all, new_log, Phase, unborn, seated, closed, Log, View, Idle, ◌&&◌, length-map, at_map, first_view}
+use Rattle.fx_counted.proofs.Words.{contains_map, sum_zero, one_if, once_is, range_with_len, full_few, not, numbered_anew, seats}
 use Rattle.fx_counted.specs.Bounds.{AreBounded, slot_word_in, node_word_in}
 use Rattle.fx_counted.proofs.ControlSteps.{few_changes, few_full, few_added, few_removed}
 use Rattle.fx_counted.proofs.Frames.{looks_few}
@@ -25,8 +25,7 @@ laws = grind arith
 
 -- the only view
 only_view : {v : View} (j : ℕ) {u : View} → get_elem? (v ∷ []) j ≡ some u → ◌≡◌ {A = ℕ × View} (0, v) (j, u)
-only_view {v} zero {u} e = ap (λ (z : View). (0, z)) (some-injective v u e)
-only_view (suc j) {u} e = absurd (some-ne-none u (sym e))
+only_view j e = grind arith
 
 module _ (k : Start) (s : Shared) (r : Agrees k s) where
   few_passes : sum_by (lengths seats) s.views ≤ 16
@@ -59,8 +58,7 @@ module _ (k : Start) (s : Shared) (r : Agrees k s) where
     leaving = λ seat takes v f there is.
         let work : WorkAgrees k r.phase seat (Between (Retiring f takes)) = subst (WorkAgrees k r.phase seat) is (r.each_view seat v there).work in
         let a = in_phase k s r work.0 work.1 in few_releases f.number _ _ a.counts;
-    draws = let a = sum_le_at ended_of (lengths seats) s.views (λ j u e. count_by-le-length (λ y. y.no_chains_left) u.logs) in let b = few_passes in
-        let c = r.draws.counts in let d = r.draws.few in omega arith;
+    draws = grind (arith, sum_le_at, lengths, seats, count_by-le-length, few_passes);
     changes = let a = r.control.upper in let b = changes_most in omega arith;
     least = let a = r.control.lower in let b = few_added k s r in let c = changes_most in omega arith;
     most = let a = r.control.lower in let b = few_removed k s r in let c = few_full k s r in let d = changes_most in omega arith;
@@ -80,8 +78,7 @@ pub record AreWordsSoFar (st : State) (numbers done : ℕ) (words : List ℕ) : 
 
 -- A table with the words and places of a table of one thread keeps the rule.
 home_is : (found : Option File) (slot : ℕ) → identity_of found ≡ home_for (file_numbered found slot)
-home_is None slot = refl
-home_is (Some f) slot = refl
+home_is found slot = grind arith
 
 module _ (k : Start) (words : List ℕ) (homes : List (Option Closed)) where
   abbrev st : State
@@ -89,24 +86,12 @@ module _ (k : Start) (words : List ℕ) (homes : List (Option Closed)) where
 
   pub opens_with : st.size ≤ 256 → st.range.0 + st.range.1 ≤ st.size → k.chains ≤ MAX_CHAINS → k.passes ≤ MAX_PASSES → k.numbers ≤ 64
       → AreFirstWords st (chain_numbers k) words → AreFirstHomes k.plain.value (homes_for st.size (chain_numbers k)) homes → OpensWith k words homes
-  opens_with few inside chains passes numbers w h =
-      let entries : (slot : ℕ) (f : File) → first_file k slot ≡ Some f → f.identity.entry < 256 = λ slot f there. dite (dec_le (slot + 1) st.size)
-      (λ l. w.entries slot f (omega (arith, l)) there) (λ g. let none = none_outside k.plain.value (omega (arith, g)) in
-      let bad : Some f ≡ None = sym there ∙ ap (λ (x : Option File). file_numbered x slot) none in absurd (cc bad)) in
-      let files : (slot : ℕ) → slot < st.size → get_elem? homes (home_place st.size slot) ≡ some (home_for (first_file k slot)) =
-      λ slot l. ap (get_elem? homes) (low_home st.size l) ∙ in_place homes slot (omega (arith, l, h.count)) (h.files slot ∙ home_is (st.at slot) slot) in
-      let fresh : (n : ℕ) → 256 ≤ n → n < 256 + chain_numbers k → slice_index words (node_place st.size n) ≡ 0 =
-      λ n low high. w.fresh _ (let e = high_node st.size n (omega arith) in omega arith) in
-      let empty : (n : ℕ) → 256 ≤ n → n < 256 + chain_numbers k → get_elem? homes (home_place st.size n) ≡ some None =
-      λ n low high. let e = high_home st.size n (omega arith) in in_place homes (home_place st.size n) (omega (arith, e, low, high, h.count))
-      (h.files (home_place st.size n) ∙ ap identity_of (none_outside k.plain.value (omega (arith, e)))) in
-      assumption (w, h, entries, files, fresh, empty)
+  opens_with few inside chains passes numbers w h = grind (arith, none_outside, some, low_home, in_place, home_is, high_node, high_home)
 
 -- A table that is opened keeps the rule.
 looks_new : (k : Start) (p n : ℕ) → sum_by (λ (y : Log). y.looks_left) (new_logs seats k p n) ≡ 1048576 * n
 looks_new k p zero = refl
-looks_new k p (suc n) =
-    let a = looks_new k (p + 1) n in let b = sum_by-cons (λ (y : Log). y.looks_left) (new_log p) (new_logs seats k (p + 1) n) in omega arith
+looks_new k p (suc n) = search (rules, looks_new k (p + 1) n, sum_by-cons, seats)
 
 none_new : (k : Start) (f : Log → ℕ) → ((p : ℕ) → f (new_log p) ≡ 0) → (n : ℕ) → sum_by f (new_logs seats k 1 n) ≡ 0
 none_new k f none n = sum_zero f (new_logs seats k 1 n) (λ x h. let p = contains_map new_log (range_with_len 1 n) x h in ap f p.2 ∙ none p.0)
@@ -195,8 +180,7 @@ module _ (k : Start) (words : List ℕ) (homes : List (Option Closed)) (o : Open
     each_view = λ j v e. subst (λ (z : ℕ × View). ViewAgrees k [] (first_phase k) z.0 z.1) (only_view j e) view_opens;
     holds = λ n. refl;
     look_ups = let a = looks_new k 1 k.passes in omega arith;
-    control = let a = o.control in let b = full_few (first_file k) (range_of (opening_of k)).0
-        (range_of (opening_of k)).1 in let c = o.range in let d = o.slots in record { upper = omega arith; lower = omega arith };
+    control = grind (arith, full_few);
     draws = record {
       given = 0;
       few = omega arith;

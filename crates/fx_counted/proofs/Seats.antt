@@ -1,7 +1,7 @@
 -- Seats that are split off and joined, passes as they are dealt out, and all of them in one seat
 -- again.
 use Rattle.fx_counted.proofs.Words.{◌≡◌, ℕ, List, length, sym, refl, ap, ◌∙◌, subst, arith, ⊎_elim, sum_by, sum_by-append, WorkAgrees, LogAgrees}
-use Rattle.fx_counted.proofs.Words.{Agrees, in_change, added, removed_by, Shared, holding, Outside, Log, Start, View, Work, Idle, Change, SplitsKeep}
+use Rattle.fx_counted.proofs.Words.{Agrees, removed_by, Shared, holding, Outside, Log, Start, View, Work, Idle, Change, SplitsKeep}
 use Rattle.fx_counted.proofs.Words.{JoinsKeep, Between, one_if, times, ◌*◌, ◌≤◌, [], ◌∷◌, Option, TableId, Seat, Closed, first_alone, IsIdle, dealt}
 use Rattle.fx_counted.proofs.Words.{Sat, new_log, pass_of, view_of, IsPassOf, is_idle, CountedPass, new_pass, IsNewPass, some, get_elem?, Contains}
 use Rattle.fx_counted.proofs.Words.{Contents, state_of, IsSettled, ClosesTable, times_drawn, HasSameFiles, PassView, contains_head, contains_map}
@@ -43,8 +43,7 @@ module _ (k : Start) (s : Shared) (r : Agrees k s) (views : List View) (m : Move
     }) (λ old. r.each_view j u old) (m.seats.each j u e);
     holds = λ n. r.holds n ∙ sym (m.seats.by_work (λ u. holding n u.work) (λ u idle. ap (holding n) idle.0));
     look_ups = let b = by_log (λ y. y.looks_left) in let c = r.look_ups in omega arith;
-    control = let u = r.control.upper in let l = r.control.lower in let b = by_change in_change refl in let c = by_change added refl in
-        let d = by_change removed_by refl in record { upper = omega arith; lower = omega arith };
+    control = grind (arith, by_change, removed_by);
     draws = let d = r.draws in let t = by_log (λ y. one_if y.no_chains_left) in record {
       given = d.given;
       few = d.few;

@@ -1,7 +1,7 @@
 -- A pass shows what it has seen, and another pass learns it: the rule holds afterwards. Neither is
 -- an atomic step.
-use Rattle.fx_counted.proofs.Words.{◌≡◌, ℕ, ◌+◌, ◌≤◌, [], ◌∷◌, sym, refl, ap, ◌∙◌, subst, arith, ⊎_elim, LogAgrees, Agrees, Shared, Log, Start, View}
-use Rattle.fx_counted.proofs.Words.{Seat, Closed, TableId, CountedPass, IsPassOf, contains_only, first_log, view_of, opening_of, some}
+use Rattle.fx_counted.proofs.Words.{◌≡◌, ℕ, ◌+◌, [], ◌∷◌, sym, refl, subst, arith, ⊎_elim, LogAgrees, Agrees, Shared, Log, Start, View}
+use Rattle.fx_counted.proofs.Words.{Seat, Closed, TableId, CountedPass, IsPassOf, contains_only, view_of, opening_of, some}
 use Rattle.fx_counted.proofs.Words.{get_elem?, Option, its_pass, seats, shown_view, total_same}
 use Rattle.std.proofs.Common.{set}
 use Rattle.atomic_table.proofs.Lists.{at_set}
@@ -12,7 +12,6 @@ use Rattle.fx_table.specs.Pass.{IsFront}
 use Rattle.fx_table.specs.Showing.{Learns}
 use Rattle.fx_counted.specs.Agrees.{ViewAgrees, PlacesNext}
 use Rattle.fx_counted.specs.declared.view.Work.{Work}
-use Rattle.fx_counted.specs.declared.view.Work.TheVariants.{Placing}
 use Rattle.fx_counted.specs.declared.view.Change.{Change}
 use Rattle.fx_counted.specs.declared.view.Change.TheVariants.{Outside}
 use Rattle.fx_counted.specs.Goes.{Goes}
@@ -45,8 +44,7 @@ module _ (k : Start) (id : ℕ) (v w : View) (x : Log) (one : v.logs ≡ x ∷ [
   learned = record v { logs = log ∷ [] }
 
   next_same : (d : Work) → PlacesNext k x d → PlacesNext k log d
-  next_same (Placing n) o = o
-  next_same _ o = o
+  next_same d o = grind arith
 
   now_log : LogAgrees k r.history r.phase v.work log
   now_log = let o = its_log in let next = next_same v.work o.next in assumption (o, next)
@@ -78,18 +76,7 @@ module _ (k : Start) (id : ℕ) (v w : View) (x : Log) (one : v.logs ≡ x ∷ [
       assumption (passed, front, numbers, looks)
 
   learns_so : HasLearned v w learned
-  learns_so = let first : first_log v.logs ≡ x = ap first_log one in record {
-    goes = record {
-      one = (log, refl);
-      adds = subst (λ (z : Start × Log). Adds (opening_of z.0) (shown z.1 v.work) [] (doing_in v.work) no_use (shown log v.work)) (λ i. (sym begun i, sym first i)) adds_here;
-      work = refl;
-      inside = within;
-      change = refl;
-      start = refl;
-      steps = subst (λ (z : Log). x.steps ≤ z.steps + 0) (sym first) (omega arith);
-    };
-    shown = known r.life other w there;
-  }
+  learns_so = grind (arith, shown, adds_here, known)
 
   pub may_learn : (z : View) × Agrees k record { words = s.words; homes = s.homes; views = set s.views id z } × HasLearned v w z
   may_learn = (learned, learned_agrees, learns_so)
@@ -104,8 +91,4 @@ module _ {id : TableId} {k : Start} {p : CountedPass} (fits : IsPassOf id k p) (
   outside = subst (λ (c : Change). Goes p.seat.me [] no_use p.seat.me.0.work c 0 seat.me) fits.seated.change goes
 
   pub learned_pass : IsPassOf id k (record p { seat = seat }) × Learns (opening_of k) w.known (view_of p) (view_of (record p { seat = seat }))
-  learned_pass = (
-    still_pass (record p { seat = seat }) fits outside table (slots ∙ fits.places) fits.seated.work refl refl (let e : p.numbers_left + 0 ≡ p.numbers_left = omega arith in e)
-        (let e : p.looks_left + 0 ≡ p.looks_left = omega arith in e) fits.knows.idle,
-    learned_so (opening_of k) w.known (view_of p) _ (adds_so fits goes) learns.shown,
-  )
+  learned_pass = grind (arith, still_pass, outside, learned_so, adds_so, goes)

@@ -1,3 +1,4 @@
+use Rattle.std.proofs.Common.{rules}
 -- Swaps, loads and exchanges keep the rule.
 use Rattle.fx_counted.proofs.Words.{◌≡◌, ◌≢◌, ℕ, ◌-◌, ◌<◌, ◌^◌, Bool, List, [], ◌∷◌, false, sym, refl, ap, ◌∙◌, subst, arith, eqb, Option, Some, None}
 use Rattle.fx_counted.proofs.Words.{inl, none, keeps, gives, rest, stepped, step, Closed, ◌▷◌, changed_at, numbered, File, Action, Put, Clear, Take}
@@ -26,8 +27,7 @@ module _ (turn : Turn) (s : ℕ) (inside : s < slots_of turn.v.start) where
   Facts = Effect turn s inside old refl
 
   pub cleared : Facts (Clear s old) None (state_after_all v.start r.history).fresh
-  cleared = let legal = legal_more v.start r.life.legal (in_size turn s inside, refl) tt in
-      record { legal = legal; state = refl; looked = refl; all = omega arith; held = refl }
+  cleared = search (rules, legal_more, in_size)
 
   pub taken : Facts (Take s old) None (state_after_all v.start r.history).fresh
   taken = record { legal = legal_more v.start r.life.legal (in_size turn s inside, refl) tt; state = refl; looked = refl; all = omega arith; held = refl }
@@ -135,8 +135,7 @@ module _ (turn : Turn) (slots s n old_word : ℕ) (file : Closed) (carried : Lis
   Goal y = Made turn carried (slot_place s) (λ _. y) (Exchanges (step slots (slot_place s) old_word new none) m)
 
   no_file : word ≡ old_word → (found : Option File) → (state_after_all v.start r.history).at s ≡ found → found ≡ None
-  no_file is None at = refl
-  no_file is (Some f) at = grind arith
+  no_file is found h3 = grind arith
 
   lost : word ≢ old_word → Goal word
   lost other = (

@@ -5,7 +5,7 @@ use Rattle.fx_counted.proofs.Words.{held_after, ◌▷◌, changed_at, with_remo
 use Rattle.fx_counted.proofs.Words.{range_of, event_of, takes_in, slot_word_of, name_made, entry_made, takes_made, Names, NodeAgrees, OwnerAgrees}
 use Rattle.fx_counted.proofs.Words.{WorkAgrees, PlacesNext, Agrees, ControlCounts, if_full, looks, all_looks, word_of, place_of, control_place}
 use Rattle.fx_counted.proofs.Words.{slot_place, opening_of, slots_of, IsNumber, state_after_all, shown, end_in, next_in, held_in, placing, holding}
-use Rattle.fx_counted.proofs.Words.{Phase, spare, placed, seated, leaving, owner, file_in, IsInside, Stepped, retiring, turned, Change, Log, View}
+use Rattle.fx_counted.proofs.Words.{Phase, spare, placed, seated, leaving, file_in, IsInside, Stepped, retiring, turned, Change, Log, View}
 use Rattle.fx_counted.proofs.Words.{Work, Idle, Placing, Retiring, Between, keeps, stepped, changed_here, changed_else, length-set, IsSeated}
 use Rattle.fx_counted.proofs.Steps.{sees_now, in_phase, seat_in, busy, owner_stays, does_now, IsHistory, grows_one, part_mine, held_mine, each_changed}
 use Rattle.fx_counted.proofs.Steps.{same_shape, Turn, Homes, word_at, now, logged, its_log, its_work, log_now, tells, went, tells_one, node_same}
@@ -23,12 +23,10 @@ abbrev pub NotOf : ℕ → Option File → Type 0
 NotOf n old = (f : File) → old ≡ Some f → n ≢ f.number
 
 out_else : (id : ℕ) (old : Option File) (takes : ℕ) (phase : ℕ → Phase) {n : ℕ} → NotOf n old → gone_out id old takes phase n ≡ phase n
-out_else id None takes phase other = refl
-out_else id (Some f) takes phase {n} other = changed_else phase f.number (leaving id takes f.identity) n (other f refl)
+out_else id old takes phase other = grind (arith, changed_else, leaving)
 
 removed_else : (removed : ℕ → Option File) (old : Option File) {n : ℕ} → NotOf n old → with_removed removed old n ≡ removed n
-removed_else removed None other = refl
-removed_else removed (Some f) {n} other = changed_else removed f.number (Some f) n (other f refl)
+removed_else removed old other = grind (arith, changed_else)
 
 by_old : (old : Option File) {n : ℕ} (P : Type 0) → ((f : File) → old ≡ Some f → n ≡ f.number → P) → (NotOf n old → P) → P
 by_old None P is else = else (λ f bad. absurd (cc bad))
@@ -37,8 +35,7 @@ by_old (Some f) {n} P is else = dite (ℕ_discrete n f.number) (λ same. is f re
 -- the work of a pass that has a file to retire, or none
 by_retiring : (old : Option File) (takes : ℕ) (P : Work → Type 0) → P (Between Idle)
     → ((f : File) → old ≡ Some f → P (Between (Retiring f takes))) → P (Between (retiring old takes))
-by_retiring None takes P idle retires = idle
-by_retiring (Some f) takes P idle retires = retires f refl
+by_retiring old takes P idle retires = grind arith
 
 module _ (turn : Turn) (s : ℕ) (inside : s < slots_of turn.v.start) where
   open turn use {st, v, r, id, x, here, one}
@@ -163,26 +160,16 @@ module _ (turn : Turn) (s : ℕ) (inside : s < slots_of turn.v.start) where
                 (λ f is same. rw (same, out_here is) (does_now st.views id v w (Between (Retiring f (takes_in found))) here
                 (ap (λ (o : Option File). Between (retiring o (takes_in found))) is)))
                 (λ other. subst (OwnerAgrees (set st.views id w) n) (sym (else_phase other)) (p.owners n has other));
-            no_other = λ n absent. ap (λ (z : State). z.removed n) p.does.state
-                ∙ (removed_else state.removed old {n = n}
-                (λ f o same. absent (subst (IsNumber v.start) (sym same) (seat_in v.start st r inside (was ∙ o)).0)) ∙ r.no_other n absent);
-            stays = record {
-              owned = λ n some not_mine. same_phase refl (not_old refl (λ f bad. some (ap owner bad))) (λ bad. not_mine (ap owner bad));
-              spared = λ n q is other. same_phase is (not_old is (λ f bad. cc bad)) (λ bad. cc bad);
-            };
+            no_other = λ n absent. grind (arith, removed_else, state, seat_in);
+            stays = grind (arith, same_phase, not_old);
             keeps = λ j u f other there holds. by_old old (file_in (phase' f.number) ≡ file_in (r.phase f.number))
                 (λ g is same. ap (λ (m : ℕ). file_in (phase' m)) same ∙ (ap file_in (out_here is)
                 ∙ (sym (ap file_in (seat_in v.start st r inside (was ∙ is)).2) ∙ ap (λ (m : ℕ). file_in (r.phase m)) (sym same))))
                 (λ apart. ap file_in (same_phase refl apart (λ bad. unheld turn f.number (ap file_in bad) j u f there holds refl)));
             seen = sees_now turn h' left x.looks_left;
-            log = log_now turn p.fewer
-                (held_mine (event_of (shown x v.work) a) r.history refl ∙ (p.does.held ∙ (o.held ∙ (p.none_held.0
-                ∙ by_retiring old (takes_in found) (λ w. None ≡ held_in w) refl (λ f is. refl)))))
-                tt (λ n low high. let q = p.spares n (omega arith) high in else_phase q.1 ∙ q.0);
-            work = by_retiring old (takes_in found) (WorkAgrees v.start phase' id) tt
-                (λ f is. ((seat_in v.start st r inside (was ∙ is)).0, out_here is));
-            holds = λ n. let a = p.none_held.1 n in let b = by_retiring old (takes_in found) (λ w. holding n w ≡ 0) refl (λ f is. refl) in
-                let g = ap (λ (z : State). z.holds n) p.does.state in omega arith;
+            log = grind (arith, log_now, held_mine, shown, by_retiring, else_phase);
+            work = grind (arith, by_retiring, seat_in, out_here);
+            holds = λ n. grind (arith, by_retiring);
             look_ups = let z = p.does.all in omega arith;
             control = control_now turn s inside word' (rw p.does.state p.control);
             draws = draws_now turn s inside word' h' left x.looks_left d c (λ n is. same_phase is (not_old is (λ f bad. cc bad)) (λ bad. cc bad));
@@ -212,10 +199,7 @@ module _ (turn : Turn) (s : ℕ) (inside : s < slots_of turn.v.start) where
             seat = tt;
             new_apart = λ f is. absurd (cc is);
             kept = λ n. inl refl;
-            nodes = λ n has other. node_same state after n (looks r.history n) (looks r.history n) _ _ _ _
-                (ap (λ (z : State). z.fresh n) does.state) (ap (λ (z : State). z.removed n) does.state ∙ removed_else state.removed old other)
-                (ap (λ (z : State). z.holds n) does.state) refl refl refl (ap (λ (z : State). z.size) does.state) (r.phase n)
-                (λ i g is there. ap (λ (z : State). z.at i) does.state ∙ changed_else state.at s None i (elsewhere other there)) (r.each_node n has);
+            nodes = λ n has other. grind (arith, node_same, state, looks, does, removed_else, changed_else, elsewhere);
             old_home = λ f is. refl;
             owners = λ n has other. owner_stays st.views id v removed_view here n (λ bad. let b = ap busy idle in omega arith) (r.phase n)
                 (r.each_owner n has);

@@ -65,7 +65,7 @@ pub use Rattle.fx_table.specs.declared.limits.TheConstants.{MAX_CHAINS, MAX_PASS
 pub use Rattle.fx_table.specs.declared.values.Retired.{Retired}
 pub use Rattle.fx_table.specs.declared.values.Task.TheVariants.{Holding, Idle, Retiring}
 pub use Rattle.fx_words.proofs.Parts.{entry_made, entry_more, name_made, name_more, named_suc, takes_made, takes_more}
-pub use Rattle.fx_words.specs.Words.{born, control_word_of, end_amount_of, entry_in, full_word_of, name_in, named, node_in, one_change}
+pub use Rattle.fx_words.specs.Words.{born, control_word_of, end_amount_of, full_word_of, name_in, named, node_in, one_change}
 pub use Rattle.fx_words.specs.Words.{retire_amount_of, slot_word_of, takes_in}
 pub use Rattle.std.proofs.Common.{Bool, IsSome, List, None, Option, Some, [], ap, arith, cond, eq-eqb, eqb, false, get_or, get_or-set_other}
 pub use Rattle.std.proofs.Common.{get_or-set_same, inl, inr, le-ltb, length, length-set, lt-ltb, map, nat_eq, nat_lt, refl, reverse, rules, set}
