@@ -6,8 +6,8 @@ use Rattle.fx_order.proofs.Words.{action_of, part_of_chain, identity_of, by_equa
 use Rattle.fx_order.proofs.Words.{PermitsAll, table_with, table_after, Access, access_of, accesses_of, accesses_of_chain, ChainAccess, ◌⊎◌, inl, inr}
 use Rattle.fx_order.proofs.Words.{Bool, false, true, ◌≢◌, ◌<◌, ◌≤◌, IsPermutation-push_more, arith, IsPermutation, IsPermutation-refl}
 use Rattle.fx_order.proofs.Words.{IsPermutation-sym, IsPermutation-trans, IsPermutation-cons, IsPermutation-middle, IsPermutation-map}
-use Rattle.fx_order.proofs.Words.{IsPermutation-pop_more, option_to_list, Close, IsSettled, with_removed, closes_in, closed_by, IsStart}
-use Rattle.fx_order.proofs.Words.{file_removed_by, files_removed_in, named, named_same, present, placed_one, tally, tally_all, tally_start, nat_tests}
+use Rattle.fx_order.proofs.Words.{IsPermutation-pop_more, IsSettled, with_removed, closes_in, closed_by, IsStart}
+use Rattle.fx_order.proofs.Words.{files_removed_in, named, named_same, present, placed_one, tally, tally_all, tally_start, nat_tests}
 
 -- a state without its file numbers, holds and removed files
 abbrev pub shown : State → Table
@@ -114,37 +114,20 @@ abbrev table_of_files : State → (ℕ → Option Closed) → Table
 table_of_files st at = record { size = st.size; range = st.range; at = at }
 
 pub shown-after : (st : State) (a : Action) → shown (after st a) ≡ table_after (shown st) (accesses_by a)
-shown-after st (Look slot None) = refl
-shown-after st (Put slot f replaced) = ap (table_of_files st) (identities-changed_at st.at slot (Some f))
-shown-after st (Clear slot found) = ap (table_of_files st) (identities-changed_at st.at slot None)
-shown-after st (Take slot found) = ap (table_of_files st) (identities-changed_at st.at slot None)
-shown-after st (Allocate slot f) = ap (table_of_files st) (identities-changed_at st.at slot (Some f))
-shown-after st action = refl
+shown-after st a = grind (arith, identities-changed_at)
 
 some_identity : (x : Option File) → IsSome x → IsSome (identity_of x)
-some_identity None is = absurd (cc is)
-some_identity (Some f) is = refl
+some_identity x is = grind arith
 
 pub permitted_by : (st : State) (a : Action) → Allows st a → PermitsAll (shown st) (accesses_by a)
-permitted_by st (Look slot found) may = ((may.0, ap identity_of may.1), tt)
-permitted_by st (Put slot f replaced) may = ((may.0, ap identity_of may.2), tt)
-permitted_by st (Clear slot found) may = ((may.0, ap identity_of may.1), tt)
-permitted_by st (Take slot found) may = ((may.0, ap identity_of may.1), tt)
-permitted_by st (Allocate slot f) may = (((may.0, ap identity_of (sym may.2)), may.1), tt)
-permitted_by st Full may = ((λ slot lt inside. some_identity (st.at slot) (may slot lt inside)), tt)
-permitted_by st action may = tt
+permitted_by st a may = grind (arith, some_identity)
 
 -- the accesses of a history are permitted, and lead to the same files
 pub permitted_along : (start : State) (h : List Action) → AllowsAll start h
     → PermitsAll (shown start) (accesses_in h) × (shown (state_after start h) ≡ table_after (shown start) (accesses_in h))
 permitted_along start [] may = (tt, refl)
 permitted_along start (a ∷ h) may =
-    let earlier = permitted_along start h may.0 in (
-      PermitsAll-append (shown start) (accesses_in h) (accesses_by a) earlier.0
-          (subst (λ (table : Table). PermitsAll table (accesses_by a)) earlier.1 (permitted_by (state_after start h) a may.1)),
-      shown-after (state_after start h) a ∙ (ap (λ (table : Table). table_after table (accesses_by a)) earlier.1
-          ∙ sym (table_after-append (shown start) (accesses_in h) (accesses_by a))),
-    )
+    grind (arith, permitted_along start h may.0, PermitsAll-append, permitted_by, state_after, shown-after, table_after-append)
 
 -- passes begin with the files of the table
 pub shown-opening : (st : State) (numbers : ℕ) → shown (opening st numbers) ≡ shown st
@@ -180,9 +163,7 @@ found_without n (f ∷ files) apart = let rest = found_without n files apart.1 i
 
 apart_without : (n : ℕ) (files : List File) → AreApart files → AreApart (without n files)
 apart_without n [] apart = tt
-apart_without n (f ∷ files) apart =
-    by_equality n f.number (λ b. AreApart (if b then files else f ∷ without n files))
-    (λ _. apart.1) (λ other. (found_without_other files (λ same. other (sym same)) ∙ apart.0, apart_without n files apart.1))
+apart_without n (f ∷ files) apart = grind (arith, apart_without n files apart.1, by_equality, found_without_other)
 
 moved_to_front : (n : ℕ) {f : File} (files : List File) → found_in n files ≡ Some f → IsPermutation files (f ∷ without n files)
 moved_to_front n [] = λ is. absurd (cc)
@@ -222,17 +203,14 @@ closed_one : {left : ℕ → Option File} (removed closed : List Closed) (f : Fi
 closed_one {left} removed closed f is a =
     let rest : List File = without f.number a.waiting in record {
       waiting = rest;
-      found = λ n. by_equality n f.number (λ b. (if b then None else left n) ≡ found_in n rest)
-          (λ same. sym (ap (λ (k : ℕ). found_in k rest) same ∙ found_without f.number a.waiting a.apart))
-          (λ other. a.found n ∙ sym (found_without_other a.waiting other));
+      found = λ n. grind (arith, by_equality, found_without, found_without_other);
       apart = apart_without f.number a.waiting a.apart;
       same_files = rw (append-nil removed) (IsPermutation-pop_more removed closed (map identity a.waiting) (map identity rest) f.identity a.same_files
           (IsPermutation-map identity a.waiting (f ∷ rest) (moved_to_front f.number a.waiting (sym (a.found f.number) ∙ is))));
     }
 
 none_present : (x : Option File) → present x ≡ 0 → x ≡ None
-none_present None is = refl
-none_present (Some f) is = absurd (omega arith)
+none_present x is = grind arith
 
 -- a file at a slot doesn't wait for its close
 not_waiting : (st : State) {slot : ℕ} {f : File} → slot < st.size → Some f ≡ st.at slot → tally f.number st ≤ 1 → st.removed f.number ≡ None
@@ -243,27 +221,17 @@ not_waiting st {slot} {f} lt is few =
 
 accounts_after : (st : State) (a : Action) {removed : List Closed} (closed : List Closed) → Allows st a → ((n : ℕ) → tally n st ≤ 1)
     → Accounts st.removed removed closed → Accounts (after st a).removed (removed ++ files_removed_in (accesses_by a)) (closed ++ closed_by a)
-accounts_after st (Look slot None) {removed} closed may few so_far = kept removed closed so_far
-accounts_after st (Put slot f (Some g)) {removed} closed may few so_far = leaves removed closed g (not_waiting st may.0 may.2 (few g.number)) so_far
-accounts_after st (Clear slot (Some g)) {removed} closed may few so_far = leaves removed closed g (not_waiting st may.0 may.1 (few g.number)) so_far
-accounts_after st (Take slot (Some g)) {removed} closed may few so_far = leaves removed closed g (not_waiting st may.0 may.1 (few g.number)) so_far
-accounts_after st (Close f) {removed} closed may few so_far = closed_one removed closed f may.0 so_far
-accounts_after st a {removed} closed may few so_far = kept removed closed so_far
+accounts_after st a closed may few so_far = grind (arith, kept, leaves, not_waiting, closed_one)
 
 pub files_removed_in-append : (xs ys : List Access) → files_removed_in (xs ++ ys) ≡ files_removed_in xs ++ files_removed_in ys
 files_removed_in-append [] ys = refl
-files_removed_in-append (x ∷ xs) ys = ap (λ (l : List Closed). option_to_list (file_removed_by x) ++ l) (files_removed_in-append xs ys)
-    ∙ sym (append_assoc (option_to_list (file_removed_by x)) (files_removed_in xs) (files_removed_in ys))
+files_removed_in-append (x ∷ xs) ys = grind (arith, files_removed_in-append xs ys)
 
 accounts_along : {start : State} (h : List Event) → IsStart start → AllowsAll start (map action_of h)
     → Accounts (state_after start (map action_of h)).removed (files_removed_in (accesses_in (map action_of h))) (closes_in (map action_of h))
 accounts_along [] begins may = record { waiting = []; found = begins.settled.closed; apart = tt; same_files = IsPermutation-refl [] }
 accounts_along {start} (e ∷ h) begins may =
-    let st : State = state_after start (map action_of h) in
-    let few : (n : ℕ) → tally n st ≤ 1 = λ n. let once = tally_start start n begins in let all = tally_all start h n once may.0 in omega arith in
-    subst (λ (l : List Closed). Accounts (after st e.action).removed l (closes_in (map action_of (e ∷ h))))
-    (sym (files_removed_in-append (accesses_in (map action_of h)) (accesses_by e.action)))
-    (accounts_after st e.action (closes_in (map action_of h)) may.1 few (accounts_along h begins may.0))
+    grind (arith, accounts_along h begins may.0, state_after, tally_start, tally_all, after, files_removed_in-append, accounts_after)
 
 none_waits : {left : ℕ → Option File} (waiting : List File) → ((n : ℕ) → left n ≡ None) → ((n : ℕ) → left n ≡ found_in n waiting) → waiting ≡ []
 none_waits [] settled found = refl

@@ -2,7 +2,7 @@
 use Rattle.fx_order.proofs.Words.{sum_by-le, ◌≡◌, Bool, refl, ap, Decides, Closed, Mark, ◌≢◌, ℕ, suc, ◌+◌, ◌<◌, ◌≤◌, ◌==◌, cond, List, [], ◌∷◌, ◌++◌}
 use Rattle.fx_order.proofs.Words.{length, take, drop, IsTrue, not-true, Decides-not, nil_from_length, ◌↔◌, subst, sym, ◌∙◌, arith, slice_index_or}
 use Rattle.fx_order.proofs.Words.{IsPermutation, remove, Decides-eqb, append-nil, length-append, take_all, take_more, split_at, sum_by-IsPermutation}
-use Rattle.fx_order.proofs.Words.{length_permutation, IsPermutation-more, sum_by-append, sum_by-cons, ◌⊎◌, inl, inr, ⊎_elim, Table, Puts, Allocates}
+use Rattle.fx_order.proofs.Words.{length_permutation, IsPermutation-more, sum_by-append, sum_by-cons, ◌⊎◌, inl, inr, ⊎_elim, Table}
 use Rattle.fx_order.proofs.Words.{Permits, Contains-get_or, recursion_from_All, IsDistinct-cons, PermitsAll, table_with, table_after, file_removed_by}
 use Rattle.fx_order.proofs.Words.{Access, files_removed_in, false, option_to_list, rules, Option, Some, None, option_eq}
 use Rattle.fx_base.specs.contracts.mark.MarkPartialEq.TheImpl.{eq-value as eq_of_mark}
@@ -24,10 +24,7 @@ pub file_Decides : (a b : Closed) → Decides (same_file a b) (a ≡ b)
 file_Decides a b = search rules
 
 pub option_Decides : {X : Type 0} {E : X → X → Bool} → ((a b : X) → Decides (E a b) (a ≡ b)) → (a b : Option X) → Decides (option_eq E a b) (a ≡ b)
-option_Decides each None None = (λ _. refl, λ _. refl)
-option_Decides each None (Some b) = search rules
-option_Decides each (Some a) None = search rules
-option_Decides each (Some a) (Some b) = (λ is. ap Some ((each a b).0 is), λ is. search (rules, each a b))
+option_Decides each a b = grind arith
 
 -- Lists with the same files: the number of times that a file is in each of them.
 
@@ -117,14 +114,11 @@ pub own_both : {P Q R : Closed → Type 0} (xs ys : List (ℕ × Closed)) → ((
 own_both xs ys left right apart first second = grind (arith, has_either, once_then)
 
 slot_of : {slot s : ℕ} {file f : Closed} → Has ((slot, file) ∷ []) s f → s ≡ slot
-slot_of (inl here) = λ i. (sym here i).0
-slot_of (inr none) = absurd none
+slot_of h1 = grind arith
 
 -- an access places one file at most
 one_placed : (x : Access) {s o : ℕ} (f g : Closed) → Has (placed_by x) s f → Has (placed_by x) o g → s ≡ o
-one_placed (Puts slot file removed) f g one other = slot_of one ∙ sym (slot_of other)
-one_placed (Allocates slot file) f g one other = slot_of one ∙ sym (slot_of other)
-one_placed x f g one other = absurd one
+one_placed x f g one other = grind (arith, slot_of)
 
 -- no two slots have one mark, none of them has one that is to be placed, and that is placed once
 pub record IsApart (t : Table) (l : List (ℕ × Closed)) : Type 0 where
@@ -146,8 +140,7 @@ module _ (t : Table) (x : Access) (xs : List Access) (apart : IsApart t (placed_
         (λ was. ⊎_elim (λ were. apart.distinct s o f g was were same) (λ new. absurd (here_unlike o g was new same)) (step_from t x are))
         (λ new. ⊎_elim (λ were. absurd (here_unlike s f were new (sym same))) (λ newer. one_placed x f g new newer) (step_from t x are))
         (step_from t x is);
-    unlike = λ s o f g is later. ⊎_elim (λ was. later_unlike o g was later)
-        (λ new. once_between (placed_by x) (placed xs) s o f g apart.once new later) (step_from t x is);
+    unlike = λ s o f g is later. grind (arith, later_unlike, once_between, placed, step_from);
     once = once_after (placed_by x) (placed xs) apart.once;
   }
 

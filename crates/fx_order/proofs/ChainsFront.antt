@@ -63,10 +63,7 @@ pub length-done : (catalogue : List FileEntry) (size : ℕ) (place : Place) (req
     → IsChainDone catalogue size place requests accesses cs → length cs ≡ length requests
 length-done catalogue size place [] accesses cs x = ap length x.1
 length-done catalogue size place (request ∷ requests) accesses cs x =
-    let rest = either_way {R = length x.3 ≡ length requests} (severs request x.2)
-    (λ _ y. ap length y.1 ∙ canceled_count (next_member place) requests)
-    (λ _. length-done catalogue size (next_member place) requests x.1 x.3) x.7 in
-    ap length x.5 ∙ omega arith
+    grind (arith, length-done catalogue size (next_member place) requests x.1 x.3, either_way, canceled_count, next_member)
 
 -- a chain that was done, of a submission's
 pub record IsChainOf (catalogue : List FileEntry) (size submission chain : ℕ) (order : List ChainAccess) (P : List Asked → Type 0) : Type 0 where

@@ -1,8 +1,9 @@
+use Rattle.std.proofs.Common.{rules}
 -- The history of an order: its accesses, each done at once.
 use Rattle.fx_order.proofs.Words.{EachOrderIsAHistory, ◌≡◌, ℕ, ◌+◌, ◌<◌, ◌≤◌, ◌==◌, true, List, [], ◌∷◌, ◌++◌, map, filter, cond, refl, sym, ap}
 use Rattle.fx_order.proofs.Words.{subst, ◌∙◌, append_assoc, All-contains, arith, All, Contains, append-nil, map-append, All-head, All-tail}
 use Rattle.fx_order.proofs.Words.{Contains-append_cases, filter-append, Event, Action, State, IsSettled, action_of, part_of_chain, AllowsAll, Leads}
-use Rattle.fx_order.proofs.Words.{AllReleaseTheirOwn, state_after, closes_in, by_equality, Table, PermitsAll, access_of, accesses_of}
+use Rattle.fx_order.proofs.Words.{AllReleaseTheirOwn, state_after, closes_in, by_equality, Table, PermitsAll, accesses_of}
 use Rattle.fx_order.proofs.Words.{accesses_of_chain, files_removed_in, table_after, Access, ChainAccess, leads_then, closes_in-then, ⊎_elim, All-map}
 use Rattle.fx_order.proofs.Words.{◌*◌, either_case, length, length-append, sum_by, sum_by-cons, FileEntry, IsAccepted, members_of, Completed}
 use Rattle.fx_order.proofs.Words.{next_member, severs, first_member, Asked, runs_of, Place, IsChainDone, AreChainsDone, chains_of, installs_of}
@@ -53,10 +54,7 @@ module _ (chains : ℕ) (st : State) (number : ℕ) (x : ChainAccess) (order : L
       ap (map action_of) (filter-append (λ e. e.chain == chain) rest.history mine)
       ∙ (map-append action_of (part_of_chain chain rest.history) (part_of_chain chain mine) ∙ (λ i. part ++ own i)) in
       let others : List ChainAccess = filter (λ y. y.chain == chain) order in
-      subst (AllDo (accesses_of_chain chain (x ∷ order))) (sym all)
-      (by_equality x.chain chain (λ b. AllDo (map access_of (cond b (x ∷ others) others)) (part ++ cond b one.own []))
-      (λ _. (one.own, part, refl, one.does, rest.parts chain))
-      (λ _. subst (AllDo (accesses_of_chain chain order)) (sym (append-nil part)) (rest.parts chain)))
+      search (rules, by_equality)
 
   one_more : Made chains st (x ∷ order)
   one_more = record {
@@ -153,8 +151,7 @@ history_of_order {old} {requests} {report} few accepted o =
       legal = record { leads = (m.allowed, refl); releases = subst AllReleaseTheirOwn (append-nil m.history) (m.releases [] tt) };
       settled = m.settled;
       chains = m.authors;
-      explained = all_chains_explained old.catalogue st.size report.submission 1 (runs_of requests) o.order m.history report.completions
-          m.parts o.is.done;
+      explained = grind (arith, all_chains_explained);
       closed = subst (λ (l : List Closed). HasClosed l report.closes) (sym m.closes) o.is.closed;
       submission = o.is.submission;
       after = o.after ∙ sym (ap (ring_after (ring_of old) (old.submissions + 1)) (table ∙ outline));

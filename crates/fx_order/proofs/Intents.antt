@@ -1,12 +1,12 @@
 -- A request's accesses are those that it intends, and its completion is the answer by what they
 -- found.
-use Rattle.fx_order.proofs.Words.{◌≡◌, ◌↔◌, ℕ, zero, suc, ◌+◌, ◌-◌, ◌≤◌, ℤ, pos, negsuc, List, [], ◌∷◌, ◌++◌, refl, sym, ap, ◌∙◌, Some, None, inl}
-use Rattle.fx_order.proofs.Words.{inr, ⊎_elim, FileEntry, Completed, Operation, Opens, Reads, Closes, Updates, Place, Slot, Any, Access, IsCatalogue}
-use Rattle.fx_order.proofs.Words.{arith, false, int_le, length, nat_tests, positions_from, positions_of, slice_get, Bool, IsTrue, completed, drop}
+use Rattle.fx_order.proofs.Words.{◌≡◌, ◌↔◌, ℕ, zero, suc, ◌+◌, ◌-◌, ◌≤◌, ℤ, pos, negsuc, List, [], ◌∷◌, ◌++◌, refl, ap, ◌∙◌, Some, None, inl}
+use Rattle.fx_order.proofs.Words.{⊎_elim, FileEntry, Completed, Operation, Opens, Reads, Closes, Updates, Place, Slot, Any, Access, IsCatalogue}
+use Rattle.fx_order.proofs.Words.{arith, length, positions_from, positions_of, slice_get, Bool, IsTrue, completed, drop}
 use Rattle.fx_order.proofs.Words.{refusal_of, slice_index_or, take, IsRequestDone, Allocates, Closed, FindsFull, Looks, Puts, Takes, installed}
 use Rattle.fx_order.proofs.Words.{name_at, IsOpened, allocated, answer_at_table, intents_of, list_intents, Intent, AllZip, IsOf, last_finding, Option}
 use Rattle.fx_chain.specs.declared.intent.Finding.TheVariants.{At, Free}
-use Rattle.fx_chain.specs.declared.intent.Intent.TheVariants.{Allocate, Look, Put, Take}
+use Rattle.fx_chain.specs.declared.intent.Intent.TheVariants.{Allocate}
 use Rattle.fx_order.specs.Requests.{AreIntended, IsOwnEntry, LacksMemory}
 use Rattle.fx_order.proofs.ChainsFront.{first_and_rest}
 
@@ -18,9 +18,7 @@ zip_append xs ys us vs first second = absurd first
 -- the accesses of a request that intends one
 pub single : (x : Intent) (Q : List Access → Type 0) (own : List Access) → AllZip IsOf (x ∷ []) own
     → ((a : Access) → IsOf x a → Q (a ∷ [])) → Q own
-single x Q [] all so = absurd all
-single x Q (a ∷ []) all so = so a all.0
-single x Q (a ∷ b ∷ own) all so = absurd all.1
+single x Q own all so = grind arith
 
 -- as many as are intended
 length_zip : (xs : List Intent) (us : List Access) → AllZip IsOf xs us → length us ≡ length xs
@@ -40,21 +38,18 @@ zip_at (x ∷ xs) (u ∷ front) a others all = zip_at xs front a others all.1
 -- each catalogue has one entry of a name
 pub same_opened : {catalogue : List FileEntry} → IsCatalogue catalogue → (operation : Operation) (e f : ℕ) → IsOpened catalogue operation e
     → IsOpened catalogue operation f → e ≡ f
-same_opened is (Opens name target) e f x y = is.distinct e f name x y
-same_opened is operation e f x y = x ∙ sym y
+same_opened is operation e f x y = grind arith
 
 module _ (place : Place) where
   length-intents : (in_list slot : ℕ) (list : List ℤ)
       → length (list_intents place in_list slot list) ≡ length (positions_from in_list list)
   length-intents in_list slot [] = refl
-  length-intents in_list slot (negsuc (suc n) ∷ list) =
-      let skip : int_le (negsuc 0) (negsuc (suc n)) ≡ false = grind (arith, nat_tests) in rw skip (length-intents (in_list + 1) (slot + 1) list)
+  length-intents in_list slot (negsuc (suc n) ∷ list) = grind (arith, length-intents (in_list + 1) (slot + 1) list)
   length-intents in_list slot (z ∷ list) = ap suc (length-intents (in_list + 1) (slot + 1) list)
 
   -- one intent for each position
   pub as_many_intents : (entry : ℕ) (operation : Operation) → length (intents_of place entry operation) ≡ length (positions_of operation)
-  as_many_intents entry (Updates off list) = length-intents 0 off list
-  as_many_intents entry operation = refl
+  as_many_intents entry operation = grind (arith, length-intents)
 
   pub as_many : (entry : ℕ) (operation : Operation) (own : List Access) → AllZip IsOf (intents_of place entry operation) own
       → length own ≡ length (positions_of operation)
@@ -76,8 +71,7 @@ drop_past (y ∷ xs) (suc i) is = drop_past xs i is
 pub next_fits : (xs : List Intent) (made : ℕ) (x : Intent) (accesses : List Access) (d : Access) → slice_get xs made ≡ Some x → 1 ≤ length accesses
     → (b e : Bool) → IsTrue b ↔ IsOf x (slice_index_or accesses 0 d) → IsTrue b
     → IsTrue e ↔ AllZip IsOf (drop (made + 1) xs) (take (length accesses - 1) (drop 1 accesses)) → IsTrue e ↔ AllZip IsOf (drop made xs) accesses
-next_fits xs made x accesses d got some b e fits met rest =
-    rw (first_and_rest accesses d some, drop_got xs made x got) (λ t. (fits.0 met, rest.0 t), λ z. rest.1 z.1)
+next_fits xs made x accesses d got some b e fits met rest = grind (arith, first_and_rest, drop_got)
 
 -- a property of the accesses that a request intends, by its operation and what they find
 module _ (catalogue : List FileEntry) (place : Place) (P : Operation → List Access → Type 0)
@@ -91,27 +85,16 @@ module _ (catalogue : List FileEntry) (place : Place) (P : Operation → List Ac
     (updates : (off : ℕ) (list : List ℤ) (own : List Access) → AllZip IsOf (list_intents place 0 off list) own → P (Updates off list) own) where
   found_free : (name : List ℕ) (entry : ℕ) → name_at catalogue entry ≡ Some name → (a : Access) → IsOf (Allocate (installed place 0 entry)) a
       → P (Opens name Any) (a ∷ [])
-  found_free name entry named a (inl x) = rw x.1 (allocates name x.0 entry named)
-  found_free name entry named a (inr x) = rw x (full name entry named)
+  found_free name entry named a h5 = grind arith
 
   pub by_intents : (operation : Operation) (own : List Access) → AreIntended catalogue place operation own → P operation own
-  by_intents (Opens name (Slot slot)) own x =
-      single (Put slot (installed place 0 x.0)) (P (Opens name (Slot slot))) own x.2 (λ a is. rw is.1 (puts name slot x.0 is.0 x.1))
-  by_intents (Opens name Any) own x = single (Allocate (installed place 0 x.0)) (P (Opens name Any)) own x.2 (found_free name x.0 x.1)
-  by_intents (Reads slot off len) own x = single (Look slot) (P (Reads slot off len)) own x.2 (λ a is. rw is.1 (looks slot off len is.0))
-  by_intents (Closes slot) own x = single (Take slot) (P (Closes slot)) own x.2 (λ a is. rw is.1 (takes slot is.0))
-  by_intents (Updates off list) own x = updates off list own x.2
+  by_intents operation own x = grind (arith, single, found_free)
 
 module _ (catalogue : List FileEntry) (place : Place) where
   -- the accesses are intended by the entry that was chosen
   pub chosen : (operation : Operation) (own : List Access) (entry : ℕ) → IsOpened catalogue operation entry
       → IsOwnEntry catalogue operation own entry → AreIntended catalogue place operation own → AllZip IsOf (intents_of place entry operation) own
-  chosen operation own entry opened mine x = by_intents catalogue place
-      (λ o l. IsOwnEntry catalogue o l entry → AllZip IsOf (intents_of place entry o) l)
-      (λ name slot e removed named mine. ((removed, ap (λ (k : ℕ). Puts slot (installed place 0 k) removed) (mine e refl named)), tt))
-      (λ name slot e named mine. (inl (slot, ap (λ (k : ℕ). Allocates slot (installed place 0 k)) (mine e refl named)), tt))
-      (λ name e named mine. (inr refl, tt)) (λ slot off len found mine. ((found, refl), tt)) (λ slot found mine. ((found, refl), tt))
-      (λ off list l fits mine. fits) operation own x mine
+  chosen operation own entry opened mine x = grind (arith, by_intents)
 
   list_found : (in_list slot free : ℕ) (list : List ℤ) (own : List Access) → AllZip IsOf (list_intents place in_list slot list) own
       → last_finding own ≡ Some (Free free) → ⊥
@@ -125,10 +108,7 @@ module _ (catalogue : List FileEntry) (place : Place) where
   -- only an open at any slot finds a free slot, and answers it
   pub free_answer : (operation : Operation) (own : List Access) (free : ℕ) → AreIntended catalogue place operation own
       → last_finding own ≡ Some (Free free) → answer_at_table catalogue place operation (last_finding own) ≡ completed place (pos free) []
-  free_answer operation own free = by_intents catalogue place
-      (λ o l. last_finding l ≡ Some (Free free) → answer_at_table catalogue place o (last_finding l) ≡ completed place (pos free) [])
-      (λ name slot entry removed named is. cc) (λ name slot entry named is. ap (allocated place) is) (λ name entry named is. cc)
-      (λ slot off len found is. cc) (λ slot found is. cc) (λ off list l fits is. absurd (list_found 0 off free list l fits is)) operation own
+  free_answer operation own free = grind (arith, by_intents, allocated, list_found)
 
   -- a request that isn't refused, and doesn't lack memory
   module _ (size : ℕ) (operation : Operation) (own : List Access) (c : Completed) (accepted : refusal_of catalogue size operation ≡ None) where
@@ -143,7 +123,4 @@ module _ (catalogue : List FileEntry) (place : Place) where
 
     pub as_answered : (Lacks → ⊥) → AreIntended catalogue place operation own → (b : Bool)
         → IsTrue b ↔ (c ≡ answer_at_table catalogue place operation (last_finding own)) → IsTrue b ↔ IsRequestDone catalogue size place operation own c
-    as_answered full fits b same = (
-      λ yes. rw accepted (inr (fits, same.0 yes)),
-      λ x. same.1 (⊎_elim (λ y. absurd (full y)) (λ y. y.1) (rw accepted at x)),
-    )
+    as_answered full fits b same = grind arith

@@ -4,7 +4,7 @@ use Rattle.fx_order.proofs.Words.{◌∙◌, arith, Option, Some, None, FileEntr
 use Rattle.fx_order.proofs.Words.{changed_at, identity_of, RingContents, RingState, ring_of, Table, Puts, Clears, Takes, Allocates, PermitsAll}
 use Rattle.fx_order.proofs.Words.{table_after, Access, get_or-eq_default, inl, inr, ⊎_elim, ◌+◌, length, sym, subst, All, not_yet, same_from_decides}
 use Rattle.fx_order.proofs.Words.{IsDistinct-IsPermutation, apart_from_distinct, get_or_from_slice_get, slice_get_within, IsDistinct, Contains}
-use Rattle.fx_order.proofs.Words.{slice_get, slice_index_or, All-map, Contains-permutation, IsPermutation-sym, IsCatalogue, Submitted, IsAccepted}
+use Rattle.fx_order.proofs.Words.{slice_get, slice_index_or, All-map, Contains-permutation, IsPermutation-sym, IsCatalogue, IsAccepted}
 use Rattle.fx_order.proofs.Words.{members_of, chains_of, first_member, Asked, runs_of, accepted-chains, members-are-runs, IsRing, Reported}
 use Rattle.fx_order.proofs.Words.{files_removed_in, accesses_of, accesses_of_chain, IsOfNext, IsOrderOf, table_of, ChainAccess, cases_lt, false≢true}
 use Rattle.fx_order.proofs.Words.{Decides-like, ring_so}
@@ -27,8 +27,7 @@ abbrev pub ring_with_files : RingState → RingContents
 ring_with_files ring = ring_with ring.catalogue (table_with_files (state_with_files ring)) ring.submissions ring.registrations
 
 same_file : (slot : ℕ) (x : Option Closed) → identity_of (option_map (numbered slot) x) ≡ x
-same_file slot None = refl
-same_file slot (Some file) = refl
+same_file slot x = grind arith
 
 pub shows_ring : (ring : RingState) → NonePast ring.size ring.at → ring_of (ring_with_files ring) ≡ ring
 shows_ring ring none =
@@ -85,8 +84,7 @@ module _ (old : RingState) (requests : List Asked) (report : Reported) (is : IsR
     apart = record {
       distinct = λ s other f g at too same. is.distinct s other f g at too same;
       unlike = λ s other f g at has same.
-          let (c, few, (m, j, low, b, n)) = of_chain AnyPlace any other g has in
-          not_yet old f.mark c m j (is.counted s f at) (same ∙ (n.mark ∙ ap (λ k. Submitted k c m j) o.submission));
+          let (c, few, (m, j, low, b, n)) = of_chain AnyPlace any other g has in grind (arith, of_chain, any, not_yet);
       once = order_places_once (length old.catalogue) AnyPlace report.submission chains order o.chains (each AnyPlace any);
     }
 
@@ -118,9 +116,7 @@ module _ (old : RingState) (requests : List Asked) (report : Reported) (is : IsR
         (⊎_elim (λ was. inl was) (λ new. inr (placed_too s f new)) (left_from (table_of old) (accesses_of one) s f at)))
 
 same_option : (a b : Option Closed) → ((f : Closed) → a ≡ Some f → b ≡ Some f) → ((f : Closed) → b ≡ Some f → a ≡ Some f) → a ≡ b
-same_option None None to back = refl
-same_option None (Some f) to back = back f refl
-same_option (Some f) b to back = sym (to f refl)
+same_option a b to back = grind arith
 
 pub each_report_leads_to_one_ring : EachReportLeadsToOneRing
 each_report_leads_to_one_ring old requests report left other catalogue is o p =

@@ -1,8 +1,7 @@
 -- The files that accesses place at slots, the files at the slots then, and the removed ones.
-use Rattle.fx_order.proofs.Words.{◌≡◌, ◌≢◌, ◌⊎◌, inl, inr, ⊎_elim, ℕ, ◌<◌, List, [], ◌∷◌, ◌++◌, Contains, refl, sym, ap, ◌∙◌, append_assoc, arith}
-use Rattle.fx_order.proofs.Words.{IsAt, with_file, Option, Some, None, option_to_list, Contains-append_right, Closed, contains_none, contains_head}
-use Rattle.fx_order.proofs.Words.{contains_cases, Table, Looks, Puts, Clears, Takes, Allocates, Permits, PermitsAll, table_with, table_after}
-use Rattle.fx_order.proofs.Words.{file_removed_by, files_removed_in, Access}
+use Rattle.fx_order.proofs.Words.{◌≡◌, ◌≢◌, ◌⊎◌, inl, inr, ⊎_elim, ℕ, ◌<◌, List, [], ◌∷◌, ◌++◌, Contains, refl, sym, ap, ◌∙◌, arith, IsAt, with_file}
+use Rattle.fx_order.proofs.Words.{Option, Some, None, option_to_list, Contains-append_right, Closed, contains_none, contains_head, contains_cases}
+use Rattle.fx_order.proofs.Words.{Table, Puts, Allocates, Permits, PermitsAll, table_with, table_after, file_removed_by, files_removed_in, Access}
 use Rattle.fx_order.proofs.Accesses.{at_itself}
 
 -- the file that an access places, with its slot
@@ -18,8 +17,7 @@ placed (access ∷ accesses) = placed_by access ++ placed accesses
 
 pub placed-append : (xs ys : List Access) → placed (xs ++ ys) ≡ placed xs ++ placed ys
 placed-append [] ys = refl
-placed-append (x ∷ xs) ys =
-    ap (λ (l : List (ℕ × Closed)). placed_by x ++ l) (placed-append xs ys) ∙ sym (append_assoc (placed_by x) (placed xs) (placed ys))
+placed-append (x ∷ xs) ys = grind (arith, placed-append xs ys)
 
 -- the file is one that was placed at the slot
 abbrev pub Has : List (ℕ × Closed) → ℕ → Closed → Type 0
@@ -56,18 +54,12 @@ is_placed {file} {f} here = let e : file ≡ f = cc (here.1) in inl (λ i. (sym 
 
 -- a file that is at a slot after an access was there, or the access placed it
 pub step_from : (t : Table) (x : Access) {s : ℕ} {f : Closed} → (table_with t x).at s ≡ Some f → (t.at s ≡ Some f) ⊎ Has (placed_by x) s f
-step_from t (Puts slot file removed) {s} {f} is = ⊎_elim (λ o. inl o.1) (λ h. inr (is_placed h)) (written t is)
-step_from t (Clears slot removed) {s} {f} is = ⊎_elim (λ o. inl o.1) (λ h. absurd (cc (h.1))) (written t is)
-step_from t (Takes slot removed) {s} {f} is = ⊎_elim (λ o. inl o.1) (λ h. absurd (cc (h.1))) (written t is)
-step_from t (Allocates slot file) {s} {f} is = ⊎_elim (λ o. inl o.1) (λ h. inr (is_placed h)) (written t is)
-step_from t x is = inl is
+step_from t x is = grind (arith, is_placed, written)
 
 -- a file that is at a slot after all of them was there, or was placed there
 pub left_from : (t : Table) (xs : List Access) (s : ℕ) (f : Closed) → (table_after t xs).at s ≡ Some f → (t.at s ≡ Some f) ⊎ Has (placed xs) s f
 left_from t [] s f is = inl is
-left_from t (x ∷ xs) s f is = ⊎_elim (λ now. ⊎_elim (λ was. inl was) (λ new. inr (has_left (placed_by x) (placed xs) s f new)) (step_from t x now))
-    (λ later. inr (has_right (placed_by x) (placed xs) s f later))
-    (left_from (table_with t x) xs s f is)
+left_from t (x ∷ xs) s f is = grind (arith, left_from (table_with t x) xs s f is, has_left, step_from, has_right)
 
 -- a file at a slot is there after a write, or the write removed it
 kept : (t : Table) (slot : ℕ) (removed new : Option Closed) (s : ℕ) (f : Closed) → removed ≡ t.at slot → t.at s ≡ Some f
@@ -76,19 +68,11 @@ kept t slot removed new s f found was = grind arith
 
 -- a file at a slot is there after an access, or the access removed it
 step_kept : (t : Table) (x : Access) {s : ℕ} {f : Closed} → Permits t x → t.at s ≡ Some f → ((table_with t x).at s ≡ Some f) ⊎ (file_removed_by x ≡ Some f)
-step_kept t (Puts slot file removed) {s} {f} may was = kept t slot removed (Some file) s f may.1 was
-step_kept t (Clears slot removed) {s} {f} may was = kept t slot removed None s f may.1 was
-step_kept t (Takes slot removed) {s} {f} may was = kept t slot removed None s f may.1 was
-step_kept t (Allocates slot file) {s} {f} may was = kept t slot None (Some file) s f may.0.1 was
-step_kept t x may was = inl was
+step_kept t x may was = grind (arith, kept)
 
 -- the file that an access places is there afterwards
 step_placed : (t : Table) (x : Access) (s : ℕ) {f : Closed} → Has (placed_by x) s f → (table_with t x).at s ≡ Some f
-step_placed t (Puts slot file removed) s {f} (inl here) = (λ i. (with_file t (here i).0 (Some (here i).1)).at s) ∙ at_itself s (Some f) (t.at s)
-step_placed t (Puts slot file removed) s (inr none) = absurd none
-step_placed t (Allocates slot file) s {f} (inl here) = (λ i. (with_file t (here i).0 (Some (here i).1)).at s) ∙ at_itself s (Some f) (t.at s)
-step_placed t (Allocates slot file) s (inr none) = absurd none
-step_placed t x s has = absurd has
+step_placed t x s h4 = grind (arith, at_itself)
 
 -- a file that was at a slot, or was placed there, is there after all of them, or they removed it
 pub left_or_removed : (t : Table) (xs : List Access) {s : ℕ} {f : Closed} → PermitsAll t xs → (t.at s ≡ Some f) ⊎ Has (placed xs) s f
@@ -115,14 +99,10 @@ emptied_at : {t : Table} {x : Access} {slot : ℕ} {removed new : Option Closed}
 emptied_at {t} {slot} {new} may is left puts = grind arith
 
 pub emptied : (t : Table) (x : Access) (g : Closed) → Permits t x → file_removed_by x ≡ Some g → IsEmptied t x g
-emptied t (Puts slot file removed) g may is = emptied_at may is (λ s f now. now) (λ s f h. is_placed h)
-emptied t (Clears slot removed) g may is = emptied_at may is (λ s f now. now) (λ s f h. absurd (cc (h.1)))
-emptied t (Takes slot removed) g may is = emptied_at may is (λ s f now. now) (λ s f h. absurd (cc (h.1)))
-emptied t x g may is = cc
+emptied t x g may is = grind (arith, emptied_at, is_placed)
 
 pub same_size : (t : Table) (x : Access) → (table_with t x).size ≡ t.size
-same_size t (Looks slot found) = refl
-same_size t x = refl
+same_size t x = grind arith
 
 -- the place that a removed file had
 pub record WasAt (t : Table) (l : List (ℕ × Closed)) (g : Closed) : Type 0 where
@@ -134,13 +114,7 @@ pub removed_from : (t : Table) (xs : List Access) (g : Closed) → PermitsAll t 
 removed_from t [] g may gone = absurd gone
 removed_from t (x ∷ xs) g may (inl now) = let e = emptied t x g may.0 now in record { slot = e.slot; inside = e.inside; was = inl e.was }
 removed_from t (x ∷ xs) g may (inr later) =
-    let w = removed_from (table_with t x) xs g may.1 later in record {
-      slot = w.slot;
-      inside = let lt = w.inside in let same = same_size t x in omega arith;
-      was = ⊎_elim (λ now. ⊎_elim (λ was. inl was) (λ new. inr (has_left (placed_by x) (placed xs) w.slot g new)) (step_from t x now))
-          (λ new. inr (has_right (placed_by x) (placed xs) w.slot g new))
-          w.was;
-    }
+    grind (arith, removed_from (table_with t x) xs g may.1 later, same_size, has_left, step_from, has_right)
 
 -- the list of what was removed has exactly the removed files
 pub contains_removed : (xs : List Access) {g : Closed} → Removes xs g → Contains (files_removed_in xs) g

@@ -43,10 +43,8 @@ InLimits m j = (m ≤ MOST_MEMBERS) × (j < LONGEST_UPDATE)
 pub reaches_all_limits : (member : ℕ) (requests : List Asked) → All IsWithinLimits requests → member + length requests ≤ MOST_MEMBERS + 1
     → ReachesAll InLimits member requests
 reaches_all_limits member [] limits few = tt
-reaches_all_limits member (r ∷ rs) limits few = (
-  λ j at. (omega arith, listed_short r.operation j (All-head IsWithinLimits r rs limits).update at),
-  reaches_all_limits (member + 1) rs (All-tail IsWithinLimits r rs limits) (omega arith),
-)
+reaches_all_limits member (r ∷ rs) limits few =
+    grind (arith, reaches_all_limits (member + 1) rs (All-tail IsWithinLimits r rs limits) (omega arith), listed_short, All-head, All-tail)
 
 module _ (catalogue : List FileEntry) (size : ℕ) (B : ℕ → ℕ → Type 0) where
   abbrev entries : ℕ

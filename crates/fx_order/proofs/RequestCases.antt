@@ -3,7 +3,7 @@
 use Rattle.fx_order.proofs.Words.{◌≡◌, ℕ, zero, suc, ◌+◌, ◌<◌, ◌≤◌, ℤ, pos, negsuc, false, if◌then◌else◌, List, [], ◌∷◌, ◌++◌, length, refl, sym, ap}
 use Rattle.fx_order.proofs.Words.{◌∙◌, arith, inl, inr, Option, Some, slice_get, slice_get_within, leb-false, list_any, or_parts, zero-add, add-zero}
 use Rattle.fx_order.proofs.Words.{int_eq, Submitted, Closed, Place, installed, is_bad_entry, list_installs, list_installs-cons, Access, FileEntry}
-use Rattle.fx_order.proofs.Words.{IsCatalogue, name_at, Errno, EBADF, ENFILE, ENOMEM, refusal_of, Operation, Opens, Reads, Closes, Updates, Target}
+use Rattle.fx_order.proofs.Words.{IsCatalogue, name_at, Errno, EBADF, ENFILE, ENOMEM, refusal_of, Operation, Opens, Updates, Target}
 use Rattle.fx_order.proofs.Words.{Completed, completed, refusal, Any, Slot, Allocates, completion_of_read, IsDoneAtTable, IsRequestDone, InstallsAt}
 use Rattle.fx_order.proofs.Words.{installs_of, is_long_update, LONGEST_UPDATE, positions_of, applied, None, either_option, IsOf, last_finding}
 use Rattle.fx_order.proofs.Words.{IsOpened, answer_at_table, close_answer, count_of, intents_of, list_intents, read_answer, Intent, AllZip}
@@ -13,7 +13,7 @@ use Rattle.fx_order.proofs.Placed.{placed}
 use Rattle.fx_base.proofs.Entries.{entry_named}
 use Rattle.fx_chain.proofs.Cases.{both_options}
 use Rattle.fx_chain.specs.declared.intent.Finding.{Finding}
-use Rattle.fx_chain.specs.declared.intent.Finding.TheVariants.{At, Free}
+use Rattle.fx_chain.specs.declared.intent.Finding.TheVariants.{At}
 use Rattle.fx_chain.specs.declared.intent.Intent.TheVariants.{Allocate, Put}
 
 -- a file of the catalogue without a tag, of a position in a request's list
@@ -50,10 +50,8 @@ module _ (place : Place) where
 
   list_few : (res : ℤ) (in_list slot : ℕ) (list : List ℤ) → length (planned (list_intents place in_list slot list) res) ≡ list_installs list
   list_few res in_list slot [] = refl
-  list_few res in_list slot (negsuc zero ∷ list) =
-      let rest = list_few res (in_list + 1) (slot + 1) list in let all = list_installs-cons (negsuc 0) list in omega arith
-  list_few res in_list slot (z ∷ list) =
-      let rest = list_few res (in_list + 1) (slot + 1) list in let all = list_installs-cons z list in omega arith
+  list_few res in_list slot (negsuc zero ∷ list) = grind (arith, list_few res (in_list + 1) (slot + 1) list, list_installs-cons)
+  list_few res in_list slot (z ∷ list) = grind (arith, list_few res (in_list + 1) (slot + 1) list, list_installs-cons)
 
   module _ (entries : ℕ) where
     later : (low : ℕ) (z : ℤ) (list : List ℤ) (f : Closed) → IsListed entries place (low + 1) list f → IsListed entries place low (z ∷ list) f
@@ -84,35 +82,28 @@ pub unless_refused : (place : Place) (P : List Access → Completed → Type 0) 
     (operation : Operation) → ((errno : Errno) → P [] (refusal place errno))
     → (refusal_of catalogue size operation ≡ None → IsDoneAtTable catalogue place operation own c → P own c)
     → IsRequestDone catalogue size place operation own c → P own c
-unless_refused place P own c catalogue size operation refused done given =
-    either_option {R = P own c} (refusal_of catalogue size operation) done (λ errno x. rw (x.0, x.1) (refused errno)) given
+unless_refused place P own c catalogue size operation refused done given = grind (arith, either_option)
 
 -- The answer is an error, the bytes of a file, or a number.
 
 module _ (catalogue : List FileEntry) (place : Place) (Q : Completed → Type 0) where
   read_so : (off len : ℕ) (found : Option Finding) → Q (refusal place EBADF) → ((file : Closed) → Q (completion_of_read catalogue place file off len))
       → Q (read_answer catalogue place off len found)
-  read_so off len (Some (At (Some file))) missed given = given file
-  read_so off len found missed given = missed
+  read_so off len found missed given = grind arith
 
   close_so : (found : Option Finding) → Q (refusal place EBADF) → Q (completed place (pos 0) []) → Q (close_answer place found)
-  close_so (Some (At (Some file))) missed taken = taken
-  close_so found missed taken = missed
+  close_so found missed taken = grind arith
 
 -- no answer is that of a request without memory
 pub has_memory : (catalogue : List FileEntry) (place : Place) (operation : Operation) (found : Option Finding)
     → int_eq (answer_at_table catalogue place operation found).res (negsuc 11) ≡ false
-has_memory catalogue place (Opens name Any) (Some (Free slot)) = refl
-has_memory catalogue place (Reads slot off len) (Some (At (Some file))) = refl
-has_memory catalogue place (Closes slot) (Some (At (Some file))) = refl
-has_memory catalogue place operation found = refl
+has_memory catalogue place operation found = grind arith
 
 module _ (catalogue : List FileEntry) (place : Place) where
   -- the accesses of a request are all of its operation's, but none if it lacks memory
   are_made : (operation : Operation) (own : List Access) (c : Completed) → IsDoneAtTable catalogue place operation own c
       → length own ≡ (if int_eq c.res (negsuc 11) then 0 else length (positions_of operation))
-  are_made operation own c (inl x) = rw (x.1.0, x.1.1) refl
-  are_made operation own c (inr x) = rw (x.1, has_memory catalogue place operation (last_finding own)) (as_many place x.0.0 operation own x.0.2)
+  are_made operation own c h4 = grind (arith, has_memory, as_many)
 
   -- as many as are counted, unless it lacks memory
   pub counted : (size : ℕ) (operation : Operation) (own : List Access) (c : Completed) → IsRequestDone catalogue size place operation own c
@@ -121,12 +112,7 @@ module _ (catalogue : List FileEntry) (place : Place) where
 
   pub few_made : (size : ℕ) (operation : Operation) (own : List Access) (c : Completed) → IsRequestDone catalogue size place operation own c
       → length own ≤ length (positions_of operation)
-  few_made size operation own c =
-      unless_refused place (λ l _. length l ≤ length (positions_of operation)) own c catalogue size operation (λ _. omega arith) (λ _. at_table)
-    where
-      at_table : IsDoneAtTable catalogue place operation own c → length own ≤ length (positions_of operation)
-      at_table (inl x) = rw x.1.0 (omega arith)
-      at_table (inr x) = let many = as_many place x.0.0 operation own x.0.2 in omega arith
+  few_made size operation own c = grind (arith, unless_refused, as_many)
 
   module _ (size : ℕ) (Q : Completed → Type 0) (own : List Access) (c : Completed) (failed : (errno : Errno) → Q (refusal place errno))
       (given : (file : Closed) (off len : ℕ) → Q (completion_of_read catalogue place file off len))
@@ -150,8 +136,7 @@ module _ (catalogue : List FileEntry) (place : Place) where
   -- the completion has the request's place
   pub request_place : (size : ℕ) (operation : Operation) (own : List Access) (c : Completed) → IsRequestDone catalogue size place operation own c
       → c.place ≡ place
-  request_place size operation own c =
-      completion_so size (λ d. d.place ≡ place) own c (λ _. refl) (λ _ _ _. refl) (λ _ _. refl) (λ _ _ _. refl) operation
+  request_place size operation own c = grind (arith, completion_so)
 
 module _ (catalogue : List FileEntry) (size : ℕ) (place : Place) where
   -- the files that a request places are those of its intents, by the entry that it opens
@@ -160,13 +145,7 @@ module _ (catalogue : List FileEntry) (size : ℕ) (place : Place) where
       (entry : ℕ) × IsOpened catalogue operation entry × (placed own ≡ planned (intents_of place entry operation) c.res)
 
   are_planned : (operation : Operation) (own : List Access) (c : Completed) → IsDoneAtTable catalogue place operation own c → ArePlanned operation own c
-  are_planned (Reads slot off len) own c (inl x) = (0, refl, ap placed x.1.0)
-  are_planned operation own c (inl x) = absurd (omega (arith, x.0))
-  are_planned operation own c (inr x) = rw x.1 (by_intents catalogue place
-      (λ o l. ArePlanned o l (answer_at_table catalogue place o (last_finding l)))
-      (λ name slot entry removed named. (entry, named, refl)) (λ name slot entry named. (entry, named, refl)) (λ name entry named. (entry, named, refl))
-      (λ slot off len found. (0, refl, refl)) (λ slot found. (0, refl, refl))
-      (λ off list l fits. (0, refl, list_placed place (pos (length list)) 0 off list l fits)) operation own x.0)
+  are_planned operation own c h4 = grind (arith, placed, by_intents, list_placed)
 
   -- by the completion alone, if no name is twice in the catalogue
   pub placed_same : IsCatalogue catalogue → (operation : Operation) (one other : List Access) (c : Completed)
@@ -180,9 +159,7 @@ module _ (catalogue : List FileEntry) (size : ℕ) (place : Place) where
 
   -- no more than the request's need of numbers
   few_of : (entry : ℕ) (operation : Operation) (res : ℤ) → length (planned (intents_of place entry operation) res) ≤ installs_of operation
-  few_of entry (Opens name Any) (pos n) = omega arith
-  few_of entry (Updates off list) res = let all = list_few place res 0 off list in omega arith
-  few_of entry operation res = omega arith
+  few_of entry operation res = grind (arith, list_few)
 
   pub few_placed : (operation : Operation) (own : List Access) (c : Completed) → IsRequestDone catalogue size place operation own c
       → length (placed own) ≤ installs_of operation
@@ -200,14 +177,7 @@ module _ (catalogue : List FileEntry) (size : ℕ) (place : Place) where
 
   open_own : (name : List ℕ) (target : Target) (entry slot n : ℕ) → name_at catalogue entry ≡ Some name
       → Own (IsInstalled (Opens name target) (completed place (pos n) [])) ((slot, installed place 0 entry) ∷ [])
-  open_own name target entry slot n named = own_one {P = IsInstalled (Opens name target) (completed place (pos n) [])} (record {
-    at = 0;
-    listed = refl;
-    is = record { mark = refl; inside = entry_named catalogue entry name named; untagged = refl };
-    here = refl;
-    res = n;
-    accepted = refl;
-  })
+  open_own name target entry slot n named = grind (arith, own_one, entry_named)
 
   each_at_table : (operation : Operation) (own : List Access) (c : Completed) → refusal_of catalogue size operation ≡ None
       → IsDoneAtTable catalogue place operation own c → Own (IsInstalled operation c) (placed own)

@@ -1,16 +1,16 @@
+use Rattle.std.proofs.Common.{rules}
 -- A request's accesses, and the steps that they are: each explains the answers that the other does.
 -- A new kind of request adds its cases here.
-use Rattle.fx_order.proofs.Words.{◌≡◌, ℕ, ◌+◌, ◌-◌, ◌<◌, ◌≤◌, ◌==◌, true, false, List, [], ◌∷◌, ◌++◌, length, map, refl, sym, ◌∙◌, arith, Option}
-use Rattle.fx_order.proofs.Words.{subst, Some, None, ReleasesItsOwn, if◌then◌else◌, option_to_list, Closed, File, Event, Action, Look, Release, Put}
-use Rattle.fx_order.proofs.Words.{Clear, Take, Allocate, Full, State, IsSettled, ◌▷◌, ◌▷▷◌, state_after, AllowsAll, AllReleaseTheirOwn, held_by}
-use Rattle.fx_order.proofs.Words.{close_of, closes_in, identity_of, by_equality, Looks, Puts, Clears, Takes, Allocates, FindsFull, Permits}
-use Rattle.fx_order.proofs.Words.{table_with, file_removed_by, Access, table_after, closed_by, Allows, after, with_removed, ap, inl, inr, zero, suc}
-use Rattle.fx_order.proofs.Words.{ℤ, pos, negsuc, same_options, refusal_of, IsDoneAtTable, AnswersAtTable, TakesAt, file_told, append_assoc}
-use Rattle.fx_order.proofs.Words.{append-nil, FileEntry, Errno, ENOMEM, Refuses, MayClose, ReadsAt, AppliesEntry, AppliesList, Answers, Completed}
-use Rattle.fx_order.proofs.Words.{Operation, Opens, Reads, Closes, Updates, Place, Slot, Any, IsRefused, IsRequestDone, installed, same_cases}
-use Rattle.fx_order.proofs.Words.{action_of, part_of_chain, next_member, Explains, severs, first_member, Asked, ExplainsParts, accesses_of_chain}
-use Rattle.fx_order.proofs.Words.{ChainAccess, IsChainDone, AreChainsDone, IsOpened, answer_at_table, close_answer, entry_intents, intents_of}
-use Rattle.fx_order.proofs.Words.{list_intents, read_answer, IsOf, finding_of, last_finding, AllZip}
+use Rattle.fx_order.proofs.Words.{◌≡◌, ℕ, ◌+◌, ◌<◌, ◌≤◌, ◌==◌, true, false, List, [], ◌∷◌, ◌++◌, length, map, refl, sym, ◌∙◌, arith, Option, subst}
+use Rattle.fx_order.proofs.Words.{Some, None, ReleasesItsOwn, if◌then◌else◌, option_to_list, Closed, File, Event, Action, Look, Release, Put, Clear}
+use Rattle.fx_order.proofs.Words.{Take, Allocate, Full, State, IsSettled, ◌▷◌, ◌▷▷◌, state_after, AllowsAll, AllReleaseTheirOwn, held_by, close_of}
+use Rattle.fx_order.proofs.Words.{closes_in, identity_of, by_equality, Looks, Puts, Clears, Takes, Allocates, FindsFull, Permits, table_with}
+use Rattle.fx_order.proofs.Words.{file_removed_by, Access, table_after, closed_by, Allows, after, with_removed, ap, inl, inr, zero, suc, ℤ, pos}
+use Rattle.fx_order.proofs.Words.{negsuc, same_options, refusal_of, IsDoneAtTable, AnswersAtTable, TakesAt, file_told, append_assoc, append-nil}
+use Rattle.fx_order.proofs.Words.{FileEntry, Errno, ENOMEM, Refuses, MayClose, ReadsAt, AppliesEntry, AppliesList, Answers, Completed, Operation}
+use Rattle.fx_order.proofs.Words.{Reads, Place, IsRefused, IsRequestDone, installed, same_cases, action_of, part_of_chain, next_member, Explains}
+use Rattle.fx_order.proofs.Words.{severs, Asked, ExplainsParts, accesses_of_chain, ChainAccess, IsChainDone, AreChainsDone, IsOpened, answer_at_table}
+use Rattle.fx_order.proofs.Words.{close_answer, entry_intents, intents_of, list_intents, read_answer, IsOf, finding_of, last_finding, AllZip}
 use Rattle.fx_chain.specs.declared.intent.Finding.TheVariants.{At}
 use Rattle.fx_order.proofs.Intents.{by_intents, zip_append}
 use Rattle.fx_order.proofs.Accesses.{accesses_by, at_itself, shown, accesses_in, accesses_in-then, order_in, accesses_of_chain-order_in}
@@ -56,8 +56,7 @@ pub record Done (st : State) (number : ℕ) (access : Access) : Type 0 where
   pub closes : closes_in own ≡ option_to_list (file_removed_by access)
 
 pub no_file : (x : Option File) → None ≡ identity_of x → x ≡ None
-no_file None is = refl
-no_file (Some f) is = absurd (cc)
+no_file x is = grind arith
 
 module _ (st : State) (number : ℕ) (settled : IsSettled st) where
   -- a step that leaves the holds, and the close of what it took from its slot
@@ -65,8 +64,7 @@ module _ (st : State) (number : ℕ) (settled : IsSettled st) where
       → table_after (shown st) (accesses_by a) ≡ table_with (shown st) access → (after st a).holds ≡ st.holds
       → (after st a).removed ≡ with_removed st.removed x → ((n : ℕ) → number + installs access ≤ n → (after st a).fresh n ≡ st.fresh n)
       → ((held : Option File) → ReleasesItsOwn held a) → closed_by a ≡ [] → identity_of x ≡ file_removed_by access → Done st number access
-  at_once a None does may shows holds removed fresh releases closes is = grind arith
-  at_once a (Some g) does may shows holds removed fresh releases closes is = grind arith
+  at_once a x does may shows holds removed fresh releases closes is = grind arith
 
   looked_up : {slot : ℕ} {found : Option Closed} (x : Option File) → slot < st.size → x ≡ st.at slot → identity_of x ≡ found
       → Done st number (Looks slot found)
@@ -80,12 +78,7 @@ module _ (st : State) (number : ℕ) (settled : IsSettled st) where
         does = (Some f, same, refl);
         allowed = ((tt, (lt, is)), omega arith);
         shows = refl;
-        settled = record {
-          unheld = λ n. by_equality n k
-              (λ b. (if b then (if k == k then st.holds k + 1 else st.holds k) - 1 else (if b then st.holds k + 1 else st.holds n)) ≡ 0)
-              (λ _. omega arith) (λ _. settled.unheld n);
-          closed = settled.closed;
-        };
+        settled = grind (arith, by_equality, settled);
         fresh = λ n _. refl;
         releases = λ chain h all. ((all, tt), at_itself chain (Some f) (held_by h chain));
         closes = refl;
@@ -140,15 +133,13 @@ one_done : (a : Access) (events : List Action) → AllDo (a ∷ []) events → D
 one_done a events all = subst (Does a) (sym (all.2 ∙ ap (λ (l : List Action). l ++ all.0) all.4)) all.3
 
 closes_at_once : (steps : List Action) (x : Option File) {events : List Action} → events ≡ steps ▷▷ close_of x → MayClose steps x events
-closes_at_once steps None is = is
-closes_at_once steps (Some f) is = inr is
+closes_at_once steps x is = grind arith
 
 -- The steps of the accesses that a request intends are those that its answer needs.
 
 put_steps : {slot : ℕ} {file : Closed} {a : Access} (events : List Action) → (removed : Option Closed) × (a ≡ Puts slot file removed) → Does a events
     → (f : File) × (replaced : Option File) × (f.identity ≡ file) × MayClose ([] ▷ Put slot f replaced) replaced events
-put_steps {slot} {file} events is does =
-    let d : Does (Puts slot file is.0) events = rw is.1 at does in (d.0, d.1, d.2, closes_at_once ([] ▷ Put slot d.0 d.1) d.1 d.4)
+put_steps events is does = grind (arith, closes_at_once)
 
 list_applied : (place : Place) (in_list slot : ℕ) (list : List ℤ) (own : List Access) (events : List Action) → AllDo own events
     → AllZip IsOf (list_intents place in_list slot list) own → AppliesList place in_list slot list events
@@ -159,29 +150,18 @@ list_applied place in_list slot (pos n ∷ list) (a ∷ own) events all x =
     (all.0, all.1, all.2, put_steps all.0 x.0 all.3, list_applied place (in_list + 1) (slot + 1) list own all.1 all.4 x.1)
 list_applied place in_list slot (negsuc zero ∷ list) [] events all x = absurd x
 list_applied place in_list slot (negsuc zero ∷ list) (a ∷ own) events all x =
-    let does : Does (Clears slot x.0.0) all.0 = rw x.0.1 at all.3 in (
-      all.0,
-      all.1,
-      all.2,
-      (does.0, closes_at_once ([] ▷ Clear slot does.0) does.0 does.2),
-      list_applied place (in_list + 1) (slot + 1) list own all.1 all.4 x.1,
-    )
+    grind (arith, list_applied place (in_list + 1) (slot + 1) list own all.1 all.4 x.1, closes_at_once)
 list_applied place in_list slot (negsuc (suc n) ∷ list) own events all x =
     ([], events, sym (append-nil events), refl, list_applied place (in_list + 1) (slot + 1) list own events all x)
 
 module _ (catalogue : List FileEntry) (place : Place) (events : List Action) where
   read_steps : (slot off len : ℕ) (found : Option Closed) → Does (Looks slot found) events
       → ReadsAt catalogue place slot off len events (read_answer catalogue place off len (Some (At found)))
-  read_steps slot off len None does =
-      inr (inl (does.2 ∙ ap (λ (o : Option File). [] ▷ Look slot o ▷▷ release_of o) (no_file does.0 (sym does.1)), refl))
-  read_steps slot off len (Some file) does = let (f, there, same) = file_told does.0 file does.1 in
-      inr (inr (f, inl (does.2 ∙ ap (λ (o : Option File). [] ▷ Look slot o ▷▷ release_of o) there), rw same refl))
+  read_steps slot off len found does = grind (arith, no_file, file_told)
 
   take_steps : (slot : ℕ) (found : Option Closed) → Does (Takes slot found) events
       → TakesAt place slot events (close_answer place (Some (At found)))
-  take_steps slot None does = inl (does.2 ∙ ap (λ (o : Option File). [] ▷ Take slot o ▷▷ close_of o) (no_file does.0 (sym does.1)), refl)
-  take_steps slot (Some file) does = let (f, there, same) = file_told does.0 file does.1 in
-      inr (f, inr (does.2 ∙ ap (λ (o : Option File). [] ▷ Take slot o ▷▷ close_of o) there), refl)
+  take_steps slot found does = grind (arith, no_file, file_told)
 
 module _ (catalogue : List FileEntry) (size : ℕ) (place : Place) (accesses : List Access) (events : List Action) (all : AllDo accesses events)
     (c : Completed) where
@@ -211,24 +191,17 @@ module _ (catalogue : List FileEntry) (size : ℕ) (place : Place) (accesses : L
 
 accesses_may_close : (steps : List Action) (removed : Option File) (events : List Action) → MayClose steps removed events
     → accesses_in events ≡ accesses_in steps
-accesses_may_close steps None events is = ap accesses_in is
-accesses_may_close steps (Some f) events closes = grind (arith, append-nil)
+accesses_may_close steps removed events h4 = search rules
 
 entry_intended : (place : Place) (in_list slot : ℕ) (entry : ℤ) (events : List Action) → AppliesEntry place in_list slot entry events
     → AllZip IsOf (entry_intents place in_list slot entry) (accesses_in events)
-entry_intended place in_list slot (pos entry) events x =
-    rw (accesses_may_close ([] ▷ Put slot x.0 x.1) x.1 events x.3) ((identity_of x.1, ap (λ (f : Closed). Puts slot f (identity_of x.1)) x.2), tt)
-entry_intended place in_list slot (negsuc zero) events x =
-    rw (accesses_may_close ([] ▷ Clear slot x.0) x.0 events x.1) ((identity_of x.0, refl), tt)
-entry_intended place in_list slot (negsuc (suc n)) events x = rw x tt
+entry_intended place in_list slot entry events x = grind (arith, accesses_may_close)
 
 list_intended : (place : Place) (in_list slot : ℕ) (list : List ℤ) (events : List Action) → AppliesList place in_list slot list events
     → AllZip IsOf (list_intents place in_list slot list) (accesses_in events)
 list_intended place in_list slot [] events x = rw x tt
 list_intended place in_list slot (entry ∷ list) events x =
-    rw (ap accesses_in x.2 ∙ accesses_in-then x.0 x.1)
-    (zip_append (entry_intents place in_list slot entry) (list_intents place (in_list + 1) (slot + 1) list) (accesses_in x.0) (accesses_in x.1)
-    (entry_intended place in_list slot entry x.0 x.3) (list_intended place (in_list + 1) (slot + 1) list x.1 x.4))
+    grind (arith, list_intended place (in_list + 1) (slot + 1) list x.1 x.4, accesses_in-then, zip_append, entry_intended)
 
 module _ (catalogue : List FileEntry) (size : ℕ) (place : Place) (events : List Action) (c : Completed) where
   refusal_done : (errno : Errno) → Refuses place errno events c → IsRefused place errno (accesses_in events) c
@@ -242,20 +215,7 @@ module _ (catalogue : List FileEntry) (size : ℕ) (place : Place) (events : Lis
 
   at_table_done : (operation : Operation) → AnswersAtTable catalogue place operation events c
       → IsDoneAtTable catalogue place operation (accesses_in events) c
-  at_table_done (Opens name (Slot slot)) (entry, named, (f, replaced, same, may, answer)) =
-      inr ((entry, named, entry_intended place 0 slot (pos entry) events (f, replaced, same, may)), answer)
-  at_table_done (Opens name Any) (entry, named, inl y) =
-      one_done_so (Opens name Any) entry (ap accesses_in y.3) named (inl (y.0, ap (λ (f : Closed). Allocates y.0 f) y.2), tt) y.4
-  at_table_done (Opens name Any) (entry, named, inr y) = one_done_so (Opens name Any) entry (ap accesses_in y.0) named (inr refl, tt) y.1
-  at_table_done (Reads slot off len) (inl y) = inl (y.0, refusal_done ENOMEM y.1)
-  at_table_done (Reads slot off len) (inr (inl z)) = one_done_so (Reads slot off len) 0 (ap accesses_in z.0) refl ((None, refl), tt) z.1
-  at_table_done (Reads slot off len) (inr (inr z)) =
-      one_done_so (Reads slot off len) 0 (accesses_may_close ([] ▷ Look slot (Some z.0) ▷ Release z.0) (Some z.0) events z.1) refl
-      ((Some z.0.identity, refl), tt) z.2
-  at_table_done (Closes slot) (inl y) = one_done_so (Closes slot) 0 (ap accesses_in y.0) refl ((None, refl), tt) y.1
-  at_table_done (Closes slot) (inr y) =
-      one_done_so (Closes slot) 0 (accesses_may_close ([] ▷ Take slot (Some y.0)) (Some y.0) events y.1) refl ((Some y.0.identity, refl), tt) y.2
-  at_table_done (Updates off list) x = inr ((0, refl, list_intended place 0 off list events x.0), x.1)
+  at_table_done operation h2 = grind (arith, entry_intended, one_done_so, refusal_done, accesses_may_close, list_intended)
 
   -- the accesses of steps that explain an answer explain it
   pub request_done : (operation : Operation) → Answers catalogue size place operation events c
@@ -284,9 +244,7 @@ module _ (catalogue : List FileEntry) (size : ℕ) where
       → AreChainsDone catalogue size submission chain runs order cs → ExplainsParts catalogue size submission chain runs h cs
   all_chains_explained submission chain [] order h cs parts x = x
   all_chains_explained submission chain (run ∷ runs) order h cs parts x =
-      let place = first_member submission chain in
-      let own = chain_explained (accesses_of_chain chain order) (map action_of (part_of_chain chain h)) (parts chain) place run x.0 x.3 in
-      (x.0, x.1, x.2, own, all_chains_explained submission (chain + 1) runs order h x.1 parts x.4)
+      grind (arith, all_chains_explained submission (chain + 1) runs order h x.1 parts x.4, chain_explained)
 
   -- the steps that explain a chain, by its accesses
   chain_done : (place : Place) (requests : List Asked) (events : List Action) (cs : List Completed)
@@ -302,5 +260,4 @@ module _ (catalogue : List FileEntry) (size : ℕ) where
       → ExplainsParts catalogue size submission chain runs h cs → AreChainsDone catalogue size submission chain runs (order_in h) cs
   all_explained submission chain [] h cs x = x
   all_explained submission chain (run ∷ runs) h cs x =
-      let own = chain_done (first_member submission chain) run (map action_of (part_of_chain chain h)) x.0 x.3 in
-      (x.0, x.1, x.2, rw (accesses_of_chain-order_in chain h) own, all_explained submission (chain + 1) runs h x.1 x.4)
+      grind (arith, all_explained submission (chain + 1) runs h x.1 x.4, chain_done, accesses_of_chain-order_in)

@@ -1,5 +1,4 @@
 -- The names that most proofs of this crate use.
-pub use Rattle.fx_base.specs.AddFault.{has_name}
 pub use Rattle.fx_base.specs.Catalogue.{FileEntry, IsCatalogue, name_at}
 pub use Rattle.fx_base.specs.CloseList.{mark_cmp}
 pub use Rattle.fx_base.specs.contracts.mark.MarkOrd.TheImpl.{ghosts}
@@ -12,7 +11,7 @@ pub use Rattle.fx_chain.proofs.Cases.{both_ways, either_case, either_option, eit
 pub use Rattle.fx_chain.proofs.Accepted.{accepted-chains, members-are-runs, applied}
 pub use Rattle.fx_chain.proofs.EntryKinds.{list_installs-cons}
 pub use Rattle.fx_chain.specs.Accepted.{IsAccepted, IsChain, IsWithinLimits, members_of}
-pub use Rattle.fx_chain.specs.Answers.{Answers, AnswersAtTable, AppliesEntry, AppliesList, MayClose, OpensAt, ReadsAt, Refuses, TakesAt, installed}
+pub use Rattle.fx_chain.specs.Answers.{Answers, AnswersAtTable, AppliesEntry, AppliesList, MayClose, ReadsAt, Refuses, TakesAt, installed}
 pub use Rattle.fx_chain.specs.Refusal.{is_bad_entry, refusal_of}
 pub use Rattle.fx_chain.specs.Chains.{chains_of}
 pub use Rattle.fx_chain.specs.Completed.{Completed, all_completed, completed, completed_of, next_member, refusal}
@@ -55,7 +54,7 @@ pub use Rattle.fx_plain.specs.State.{IsSettled, State, opening, vacant}
 pub use Rattle.fx_plain.specs.Step.{Allows, after, changed_at, with_removed}
 pub use Rattle.fx_plain.specs.Table.{identity_of, numbered}
 pub use Rattle.fx_plain.specs.declared.event.Action.{Action}
-pub use Rattle.fx_plain.specs.declared.event.Action.TheVariants.{Allocate, Clear, Close, Full, Look, Put, Release, Take}
+pub use Rattle.fx_plain.specs.declared.event.Action.TheVariants.{Allocate, Clear, Full, Look, Put, Release, Take}
 pub use Rattle.fx_plain.specs.declared.event.Event.{Event}
 pub use Rattle.fx_plain.specs.declared.event.File.{File}
 pub use Rattle.fx_ring.proofs.Rings.{file_told, not_yet, ring_so}
@@ -64,9 +63,9 @@ pub use Rattle.fx_ring.specs.Submission.{ExplainsParts, IsOneHistory, Reported}
 pub use Rattle.fx_table.proofs.SumLemmas.{contains_cases, contains_head, contains_none, contains_tail}
 pub use Rattle.fx_table.specs.Numbers.{numbers_for}
 pub use Rattle.std.proofs.Common.{All, Bool, Contains, Decides, IfOk, IsPermutation, IsSome, IsTrue, List, None, Option, Result, Some, [], ap}
-pub use Rattle.std.proofs.Common.{append_assoc, arith, cond, drop, eq-eqb, false, filter, if◌then◌else◌, inl, inr, int_le, length, map, min, negsuc}
-pub use Rattle.std.proofs.Common.{not, of_z, pos, refl, rules, slice_get, slice_index_or, subst, suc, sym, take, to_z, true, w32, zero, ℕ, ℤ, ⊎_elim}
-pub use Rattle.std.proofs.Common.{◌&&◌, ◌*◌, ◌++◌, ◌+◌, ◌-◌, ◌<◌, ◌==◌, ◌||◌, ◌↔◌, ◌∙◌, ◌∷◌, ◌≡◌, ◌≢◌, ◌≤◌, ◌⊎◌, add-zero, zero-add}
+pub use Rattle.std.proofs.Common.{append_assoc, arith, cond, drop, eq-eqb, false, filter, if◌then◌else◌, inl, inr, length, map, min, negsuc}
+pub use Rattle.std.proofs.Common.{not, pos, refl, rules, slice_get, slice_index_or, subst, suc, sym, take, true, zero, ℕ, ℤ, ⊎_elim}
+pub use Rattle.std.proofs.Common.{◌&&◌, ◌*◌, ◌++◌, ◌+◌, ◌-◌, ◌<◌, ◌==◌, ◌↔◌, ◌∙◌, ◌∷◌, ◌≡◌, ◌≢◌, ◌≤◌, ◌⊎◌, add-zero, zero-add}
 pub use Rattle.std.proofs.Math.ListN.{get_or-eq_default}
 pub use Rattle.std.proofs.Math.Seq.{drop-append_seam, split_at, take-append_seam, take-length}
 pub use Rattle.std.proofs.lemmas.Bool.{cases_lt, false≢true, le-ltb, leb-false, lt-ltb, not-true, or_parts, cases_Bool}
@@ -80,7 +79,7 @@ pub use Rattle.std.proofs.lemmas.List.Sorted.{IsPermutation-pop_more, IsPermutat
 pub use Rattle.std.proofs.lemmas.List.Sorted.{sum_by-IsPermutation, IsPermutation-push_more}
 pub use Rattle.std.proofs.lemmas.List.Sums.{sum_by-append, sum_by-cons, sum_by-le}
 pub use Rattle.std.proofs.lemmas.Map.Keys.{IsDistinct-IsPermutation, IsDistinct-cons, apart_from_distinct}
-pub use Rattle.std.proofs.lemmas.Option.{slice_get_past, get_or_from_slice_get, slice_get_within, slice_get_read}
+pub use Rattle.std.proofs.lemmas.Option.{slice_get_past, get_or_from_slice_get, slice_get_within}
 pub use Rattle.std.proofs.lemmas.Result.{IfOk-weaker}
 pub use Rattle.std.specs.Bool.{MatchBool}
 pub use Rattle.std.specs.Cmp.Lexicographic.{bytes_decides}
@@ -88,4 +87,3 @@ pub use Rattle.std.specs.Global.{Vec}
 pub use Rattle.std.specs.List.{list_any, remove, sum_by, AllByRecursion, AllZip, IsDistinct}
 pub use Rattle.std.specs.Option.{option_to_list, option_eq}
 pub use Rattle.std.specs.Ordering.{is_lt, int_eq}
-pub use Rattle.std.specs.Str.{bytes_eq}

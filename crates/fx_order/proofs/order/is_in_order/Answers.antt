@@ -1,5 +1,4 @@
-use Rattle.fx_order.proofs.Words.{◌≡◌, inl, inr, ℕ, ◌+◌, ◌-◌, ◌<◌, false, List, length, sym, ap, ◌∙◌, arith, slice_index_or, is_lt, cases_lt}
-use Rattle.fx_order.proofs.Words.{get_or_default, mark_cmp, Closed, ghosts}
+use Rattle.fx_order.proofs.Words.{◌≡◌, ℕ, ◌+◌, ◌-◌, ◌<◌, false, List, length, arith, slice_index_or, is_lt, get_or_default, mark_cmp, Closed, ghosts}
 use Rattle.fx_order.proofs.order.is_in_order.Goals as goal
 
 in_order_here : (files : List Closed) {i : ℕ} (k : ℕ) (d e f : Closed) → i < length files → k + 1 ≡ i
@@ -8,8 +7,4 @@ in_order_here : (files : List Closed) {i : ℕ} (k : ℕ) (d e f : Closed) → i
 in_order_here files {i} k d e f within next is = grind (arith, get_or_default)
 
 pub loop-i-preserved : goal.loop-i-preserved
-loop-i-preserved c = λ k d lt. elim (cases_lt (k + 1) c.loop-i.i) [
-  | inl before ↦ c.loop-i.invariant k d before
-  | inr here ↦ in_order_here c.args.files.now k d _ _ c.loop-i-test.true (omega arith)
-      (ap is_lt (sym c.cmp.ensures) ∙ (sym c.is_lt.ensures ∙ c.if-is_lt.false))
-]
+loop-i-preserved c = grind (arith, in_order_here, c.loop-i.invariant, c.loop-i-test.true, c.cmp.ensures, c.is_lt.ensures, c.if-is_lt.false)
