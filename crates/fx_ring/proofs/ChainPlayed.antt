@@ -65,9 +65,7 @@ module _ {o : Opening} {catalogue : List FileEntry} {submission : ℕ} {runs : L
   new_events = each_all (λ e. chain_of e ≡ chain) events of_chain
 
   new_completions : All (λ c. chain_of_completed c ≡ chain) played.0
-  new_completions k d l =
-      let are = explained_of_members catalogue (size_of o) (first_member submission chain) (run_of_chain runs chain) played.2.actions played.2.says in
-      (are.within k d l).0
+  new_completions k d l = grind (arith, explained_of_members, chain)
 
   -- those before are of chains before it
   old_events : All (λ e. chain_of e ≢ chain) v.own
@@ -86,8 +84,7 @@ module _ {o : Opening} {catalogue : List FileEntry} {submission : ℕ} {runs : L
       let part = ap (map action_of) (only_first chain_of chain events v.own new_events old_events)
       ∙ actions_again (drawing o v chain) played.2.actions in
       let mine = only_second chain_of_completed chain before played.0 old_completions new_completions in
-      subst (λ (z : List Action × List Completed). IsDone catalogue (size_of o) submission runs chain z.0 z.1)
-      (λ i. (sym part i, sym mine i)) (played.2.says, played.2.few_files)
+      grind (arith, chain)
 
   done_before : {c : ℕ} → Contains v.drawn c → Done c
   done_before {c} h =
@@ -95,8 +92,7 @@ module _ {o : Opening} {catalogue : List FileEntry} {submission : ℕ} {runs : L
       let other : chain ≢ c = λ same. absurd (omega arith) in
       let part = not_first chain_of c events v.own (λ k d l same. other (sym (new_events k d l) ∙ same)) in
       let mine = not_second chain_of_completed c before played.0 (λ k d l same. other (sym (new_completions k d l) ∙ same)) in
-      subst (λ (z : List Event × List Completed). IsDone catalogue (size_of o) submission runs c (map action_of z.0) z.1)
-      (λ i. (sym part i, sym mine i)) (worked.explained c h, worked.weighed c h)
+      grind arith
 
   done : (c : ℕ) → Contains (chain ∷ v.drawn) c → Done c
   done c h = ⊎_elim (λ is. subst Done (sym is) done_now) (λ t. done_before t) (contains_cases chain v.drawn c h)
@@ -133,8 +129,7 @@ module _ {o : Opening} {catalogue : List FileEntry} {submission : ℕ} {runs : L
       let looks = goes.looks_left in
       let filled = played.2.acts.room in
       let weigh = played.2.few_files in
-      subst (λ (n : ℕ). HasRoom runs (worker_state (record x { chain = n }) now files) more) (sym goes.chain)
-      (record { looks = omega arith; completions = omega arith; closes = omega arith })
+      grind arith
 
 -- what is left to a worker suffices for a further chain
 pub enough : {runs : List (List Asked)} {w : WorkerState} {capacity : ℕ} {chain : ℕ} → HasRoom runs w capacity → w.pass.chain < chain
@@ -150,8 +145,7 @@ module _ {o : Opening} {catalogue : List FileEntry} {submission : ℕ} {runs : L
     (worked : HasWorked catalogue (size_of o) submission runs (worker_state v before closes))
     (played : PlaysChain o catalogue submission chain (run_of_chain runs chain) (player w closes) before (player x files) now) where
   goes : GoesOn (drawing o v chain) x played.2.actions played.2.used
-  goes = let looks = looks_least played.2.acts.adds in
-      subst (λ (z : PassView). GoesOn z x played.2.actions played.2.used) drew.3 (assumption (looks, played.2.acts.adds))
+  goes = grind (arith, looks_least)
 
   pub worked_next : HasWorked catalogue (size_of o) submission runs (worker_state x now files)
   worked_next = worked_on worked drew.1 inside played goes

@@ -21,8 +21,7 @@ module _ {requests : List Asked} {chains : List Chain} (cut : AreCutInto request
 
   -- the members of a chain are the run at its place
   pub run_at : (i : ℕ) (d : Chain) → i < length chains → members_of requests (slice_index_or chains i d) ≡ slice_index_or (runs_of requests) i []
-  run_at i d inside = sym (get_or-map (members_of requests) chains i d [] inside)
-      ∙ ap (λ (runs : List (List Asked)). slice_index_or runs i []) cut.members
+  run_at i d inside = grind (arith, get_or-map)
 
   -- what no chain installs more than, no run does
   pub runs_install : {most : ℕ} → All (λ chain. all_installs (members_of requests chain) ≤ most) chains → InstallAtMost requests most
@@ -58,16 +57,7 @@ none_of_members place = record { within = All-nil (IsWithin place 0); rises = tt
 
 more_of_members : {place : Place} (request : Asked) {requests : List Asked} {c : Completed} {cs : List Completed} → c.place ≡ place
     → AreOfMembers (next_member place) requests cs → AreOfMembers place (request ∷ requests) (c ∷ cs)
-more_of_members {place} request {requests} {c} {cs} at rest =
-    let key : place_key c ≡ key_of place = ap key_of at in
-    let Behind : Completed → Type 0 = IsWithin (next_member place) (length requests) in
-    let Here : Completed → Type 0 = IsWithin place (length (request ∷ requests)) in
-    record {
-      within = All-cons Here c cs (ap (λ (p : Place). p.chain) at, omega arith, omega arith)
-          (All-weaker Behind Here (λ x it. let low = it.1 in let high = it.2 in (it.0, omega arith, omega arith)) cs rest.within);
-      rises = (All-weaker Behind (λ x. place_key c < place_key x) (λ x it. let low = it.1 in omega arith) cs rest.within, rest.rises);
-      count = omega arith;
-    }
+more_of_members request h2 rest = grind (arith, next_member, All-cons, All-weaker)
 
 canceled_of_members : (place : Place) (requests : List Asked) → AreOfMembers place requests (canceled place requests)
 canceled_of_members place [] = none_of_members place

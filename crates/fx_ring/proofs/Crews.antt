@@ -1,7 +1,8 @@
+use Rattle.std.proofs.Common.{rules}
 -- Crews: new ones, and those whose passes have played.
 use Rattle.fx_ring.proofs.Words.{◌≡◌, ℕ, ◌≤◌, List, [], ◌∷◌, map, flat_map, length, All, sum_by, refl, sym, ap, subst, ◌∙◌, arith, vec_capacity}
-use Rattle.fx_ring.proofs.Words.{length-map, map-map, length-flat_map, All-nil, All-contains, sum_by-cons, sum_by-append, FileEntry, CloseListView}
-use Rattle.fx_ring.proofs.Words.{PassView, new_pass, new_passes, Event, Completed, all_completed, Asked, runs_of, all_weights, weight_of, Completion}
+use Rattle.fx_ring.proofs.Words.{length-map, map-map, length-flat_map, All-nil, All-contains, sum_by-cons, sum_by-append, FileEntry}
+use Rattle.fx_ring.proofs.Words.{PassView, new_pass, new_passes, all_completed, Asked, runs_of, all_weights, weight_of, Completion}
 use Rattle.fx_ring.proofs.Words.{HasRoomFor, HasWorked, HasRoom, worker_state, Outcome, Worker, Contains, contains_none, contains_map}
 use Rattle.fx_ring.proofs.Words.{contains_mapped, each_all, PASS_LOOKS, range_with_len, map-id, length-map-range_with_len, ◌*◌, sum_by-le, All-weaker}
 use Rattle.fx_ring.proofs.Words.{IsShortRun, Chain, AreCutInto, MOST_MEMBERS, map-append, Closed, completed_of, state_of_worker, WorkerState}
@@ -41,9 +42,7 @@ module _ {P : Type 0} (V : P → PassView) (ps : List P) (n : ℕ) (new : map (�
 
 weights_joined : (runs : List (List Asked)) → all_weights (flat_map (λ run. run) runs) ≡ sum_by all_weights runs
 weights_joined [] = refl
-weights_joined (run ∷ runs) =
-    let both = sum_by-append (λ request. weight_of request.operation) run (flat_map (λ run. run) runs) in
-    omega (arith, both, sum_by-cons all_weights run runs, weights_joined runs)
+weights_joined (run ∷ runs) = search (rules, weights_joined runs, sum_by-append, sum_by-cons)
 
 -- the runs have all requests, and what those weigh
 pub runs_have_all : (requests : List Asked) → sum_by (λ run. length run) (runs_of requests) ≡ length requests
@@ -75,30 +74,11 @@ runs_weigh_all requests = sym (weights_joined (runs_of requests)) ∙ ap all_wei
 module _ {often : ℕ} {v : PassView} {outcome : Outcome} {requests : List Asked} (new : IsNew often v) (room : HasRoomFor requests outcome) where
   pub new_has_worked : {catalogue : List FileEntry} {size submission : ℕ} {runs : List (List Asked)}
       → HasWorked catalogue size submission runs (worker_state v (all_completed outcome.completions.items) outcome.closes)
-  new_has_worked {catalogue} {size} {submission} {runs} =
-      subst (λ (z : List Event × List ℕ × ℕ × List Completed).
-      HasWorked catalogue size submission runs (worker_state (record v { own = z.0; drawn = z.1; chain = z.2 }) z.3 outcome.closes))
-      (λ i. (sym new.own i, sym new.drawn i, sym new.chain i, sym (ap all_completed room.no_completions) i)) (record {
-        explained = λ c h. absurd (contains_none c h);
-        weighed = λ c h. absurd (contains_none c h);
-        inside = λ c h. absurd (contains_none c h);
-        reached = omega arith;
-        own = λ e h. absurd (contains_none e h);
-        completed = All-nil (λ c. Contains [] c.place.chain);
-        closed = ap (λ (l : CloseListView). l.files) room.closes;
-      })
+  new_has_worked = grind (arith, contains_none, All-nil)
 
   pub new_has_room : length requests ≤ often
       → HasRoom (runs_of requests) (worker_state v (all_completed outcome.completions.items) outcome.closes) (vec_capacity outcome.completions)
-  new_has_room few =
-      let enough = new.looks in
-      let all = runs_have_all requests in
-      let weights = runs_weigh_all requests in
-      let closes = ap (λ (l : CloseListView). l.room) room.closes in
-      let none = ap (λ (l : List Completion). length (all_completed l)) room.no_completions in
-      let capacity = room.room in
-      subst (λ (n : ℕ). HasRoom (runs_of requests) (worker_state (record v { chain = n }) (all_completed outcome.completions.items) outcome.closes)
-      (vec_capacity outcome.completions)) (sym new.chain) (record { looks = omega arith; completions = omega arith; closes = omega arith })
+  new_has_room few = grind (arith, runs_have_all, runs_weigh_all)
 
 -- The outcome of a crew, by its passes and outcomes once they lie in lists of their own.
 

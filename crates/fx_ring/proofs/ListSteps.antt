@@ -1,6 +1,6 @@
 -- Lists that are applied to slots, one number after another.
 use Rattle.fx_ring.proofs.Words.{◌≡◌, ℕ, zero, suc, ◌==◌, ◌||◌, not, Bool, false, ℤ, pos, negsuc, List, [], ◌∷◌, length, refl, ap, ◌∙◌, eq-eqb}
-use Rattle.fx_ring.proofs.Words.{length-map, list_any, zip, are_bad_tags, is_bad_tag, no_tags, tag_at, sym, Some, slice_get, arith, ltb-false, le-ltb}
+use Rattle.fx_ring.proofs.Words.{length-map, list_any, zip, are_bad_tags, is_bad_tag, no_tags, tag_at, sym, Some, slice_get, arith, le-ltb}
 use Rattle.fx_ring.proofs.Words.{is_bad_entry, is_bad_file, or_from, or_parts, ◌+◌, ◌-◌, ◌<◌, ◌≤◌, if◌then◌else◌, ◌++◌, nat_lt, length-append}
 use Rattle.fx_ring.proofs.Words.{append_assoc, append-nil, Option, drop, slice_index_or, lt-ltb, slice_get_past, drop-cons, CloseListView, Registered}
 use Rattle.fx_ring.proofs.Words.{Closed, State, IsSettled, changed_at, by_equality, file_after, file_listed, files_after, removed_by_number}
@@ -28,8 +28,7 @@ no_tag_at (number ∷ list) (suc i) = no_tag_at list i
 -- The numbers of a list, by their sign.
 
 good_file : (entries : ℕ) (z : ℤ) → is_bad_file entries z ≡ false → is_bad_entry entries z ≡ false
-good_file entries (pos n) good = good
-good_file entries (negsuc n) good = let le = ltb-false 0 n good in le-ltb 1 n (omega arith)
+good_file entries z good = grind arith
 
 -- what a registration takes, an update takes
 pub good_files : (entries : ℕ) (list : List ℤ) → list_any (is_bad_file entries) list ≡ false → list_any (is_bad_entry entries) list ≡ false
@@ -55,9 +54,7 @@ module _ (k : ℕ) (at : ℕ → Option Closed) (off : ℕ) (list : List ℤ) (t
 
   -- past its end a list has done nothing
   pub files_past : (slot : ℕ) → off + length list ≤ slot → files_after k at off list tags slot ≡ at slot
-  files_past slot past =
-      files_from slot (omega arith)
-      ∙ ap (λ (x : Option ℤ). file_listed k (slot - off) (tag_at tags (slot - off)) x (at slot)) (slice_get_past list (slot - off) (omega arith))
+  files_past slot past = grind (arith, files_from, slice_get_past)
 
   -- the file at each slot once this number of the list's first numbers are applied
   abbrev pub files_upto : ℕ → ℕ → Option Closed
@@ -75,20 +72,7 @@ module _ (k : ℕ) (at : ℕ → Option Closed) (off : ℕ) (list : List ℤ) (t
     upto_here = rw (le-ltb (off + i) (off + i) (omega arith)) refl
 
     pub upto_next : files_upto (i + 1) ≡ changed_at (files_upto i) (off + i) (file_after (Registered k i) (tag_at tags i) z (at (off + i)))
-    upto_next = λ j slot. by_equality slot (off + i)
-        (λ b. files_upto (i + 1) slot ≡ (if b then file_after (Registered k i) (tag_at tags i) z (at (off + i)) else files_upto i slot))
-        (λ same. there slot same) (λ apart. other slot apart) j
-      where
-        there : (slot : ℕ) → slot ≡ off + i → files_upto (i + 1) slot ≡ file_after (Registered k i) (tag_at tags i) z (at (off + i))
-        there slot same =
-            rw (lt-ltb slot (off + (i + 1)) (omega arith))
-            (files_from slot (omega arith)
-            ∙ ap (λ (s : ℕ). file_listed k (slot - off) (tag_at tags (slot - off)) (slice_get list (slot - off)) (at s)) same
-            ∙ ap (λ (n : ℕ). file_listed k n (tag_at tags n) (slice_get list n) (at (off + i))) (let e : slot - off ≡ i = omega arith in e)
-            ∙ ap (λ (x : Option ℤ). file_listed k i (tag_at tags i) x (at (off + i))) (slice_get-get_or list i (pos 0) inside ∙ ap Some (sym is)))
-
-        other : (slot : ℕ) → (slot ≡ off + i → ⊥) → files_upto (i + 1) slot ≡ files_upto i slot
-        other slot apart = grind (arith, nat_tests)
+    upto_next = grind (arith, by_equality, files_from, slice_get-get_or)
 
     -- the files that the rest of the list removes, with the next number before it
     pub removed_next : removed_from at (off + i) (drop i list) ≡ removed_by_number z (at (off + i)) ++ removed_from at (off + (i + 1)) (drop (i + 1) list)

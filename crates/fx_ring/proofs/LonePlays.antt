@@ -1,5 +1,6 @@
+use Rattle.std.proofs.Common.{rules}
 -- A pass alone plays the chains of a submission, one after another.
-use Rattle.fx_ring.proofs.Words.{◌≡◌, ◌≢◌, ℕ, ◌+◌, ◌-◌, ◌*◌, ◌<◌, ◌≤◌, ◌==◌, true, false, cond, List, [], ◌∷◌, ◌++◌, map, length, refl, sym, ap}
+use Rattle.fx_ring.proofs.Words.{◌≡◌, ◌≢◌, ℕ, ◌+◌, ◌-◌, ◌*◌, ◌<◌, ◌≤◌, false, cond, List, [], ◌∷◌, ◌++◌, map, length, refl, sym, ap}
 use Rattle.fx_ring.proofs.Words.{nat_tests, subst, ◌∙◌, arith, Option, None, All, All-head, All-tail, All-weaker, Contains, by_equality}
 use Rattle.fx_ring.proofs.Words.{IsPermutation, IsNonDecreasingBy, FileEntry, CloseListView, Closed, State, opening, IsLegal, action_of, closes_in}
 use Rattle.fx_ring.proofs.Words.{closed_by, part_of_chain, File, Event, Action, Opening, size_of, state_at, PassView, numbers_for, Completed}
@@ -7,8 +8,8 @@ use Rattle.fx_ring.proofs.Words.{Explains, first_member, Asked, runs_of, IsShort
 use Rattle.fx_ring.proofs.Words.{sum_by-cons, IsOneHistory, HasWorked, worker_state, completions_of_chain, run_of_chain, MOST_SLOTS, same_size}
 use Rattle.fx_ring.proofs.Words.{start_of, IsSettledSoFar, contains_map, contains_mapped, each_all, table_with_files, chain_less, begun_after}
 use Rattle.fx_ring.proofs.Words.{sum_by-le, map-map, Some, map-append, append_assoc, ◌▷◌, IsIdle, event_of, HasRoom, vec_capacity, all_completed}
-use Rattle.fx_ring.proofs.Words.{HasRoomFor, MOST_MEMBERS, Outcome, add-one, Draws, PlaysChain, player, chains_to, zero, suc, part_of_pass}
-use Rattle.fx_ring.proofs.Words.{eqb-true, filter_passes, contains_head, contains_tail, stays_at_rest, begins_at_rest, legal_behind, IsFront, ◌▷▷◌}
+use Rattle.fx_ring.proofs.Words.{HasRoomFor, MOST_MEMBERS, Outcome, add-one, Draws, PlaysChain, player, chains_to, zero, suc}
+use Rattle.fx_ring.proofs.Words.{filter_passes, contains_head, contains_tail, stays_at_rest, begins_at_rest, legal_behind, IsFront, ◌▷▷◌}
 use Rattle.fx_plain.specs.History.{held_by}
 use Rattle.fx_plain.specs.Reopening.{Renaming, renamed, renamed_event, numbers_given, with_number_of, IsTableAtRest, HasOtherNumbers}
 use Rattle.fx_plain.proofs.OpenedAnew.{opened_anew}
@@ -22,8 +23,7 @@ use Rattle.fx_table.proofs.Calls.{looks_least}
 
 -- a table is at rest wherever all is settled
 pub at_rest_of : {o : Opening} {v : PassView} → IsSettledSoFar o v → IsTableAtRest (state_at o v.own)
-at_rest_of {o} {v} settled = stays_at_rest (start_of o) (state_at o v.own) v.own
-    (begins_at_rest o) settled.legal settled.settled
+at_rest_of settled = search (rules, stays_at_rest, begins_at_rest)
 
 -- what others than the pass hold
 
@@ -62,8 +62,7 @@ module _ (r : Renaming) (base : ℕ) where
   parts_same c (e ∷ since) = let rest = parts_same c since in grind (arith, nat_tests)
 
   closed_same : (a : Action) → closed_by (renamed anew a) ≡ closed_by a
-  closed_same (Rattle.fx_plain.specs.declared.event.Action.TheVariants.Close f) = refl
-  closed_same _ = refl
+  closed_same a = grind arith
 
   closes_same : (since : List Event)
       → closes_in (map action_of (map (renamed_event anew) since)) ≡ closes_in (map action_of (map (chain_less base) since))
@@ -249,9 +248,7 @@ module _ {P : Type 0} {V : P → PassView} {Fits : P → Type 0} {o : Opening} {
 
 -- the events of a pass are the pass's
 pub authors_of : {o : Opening} {v : PassView} → IsSettledSoFar o v → IsFront o v → All (λ e. e.pass ≡ v.number) v.own
-authors_of {v} settled front = subst (All (λ e. e.pass ≡ v.number)) front.mine
-    (All-weaker (λ e. (e.pass == v.number) ≡ true) (λ e. e.pass ≡ v.number) (λ e is. eqb-true e.pass v.number is) (part_of_pass v.number v.front)
-    (filter_passes (λ e. e.pass == v.number) v.front))
+authors_of settled front = grind (arith, All-weaker, filter_passes)
 
 -- each chain was drawn
 pub all_drawn : (n c : ℕ) → 1 ≤ c → c ≤ n → Contains (chains_to n) c

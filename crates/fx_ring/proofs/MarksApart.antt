@@ -57,8 +57,7 @@ puts_and_closes P steps removed puts = grind arith
 -- a close after them installs nothing
 pub puts_may_close : (P : File → Type 0) (steps : List Action) (removed : Option File) (events : List Action) → MayClose steps removed events
     → Puts P steps → Puts P events
-puts_may_close P steps None events is puts = subst (Puts P) (sym is) puts
-puts_may_close P steps (Some removed) events may puts = grind (arith, puts_and_closes)
+puts_may_close P steps removed events h5 puts = grind (arith, puts_and_closes)
 
 -- A table whose files have marks apart keeps them apart, as long as each mark that is installed is
 -- a new one.
@@ -104,9 +103,7 @@ module _ (P : File → Type 0) where
   apart_after start (a ∷ h) begins fresh unlike =
       let before = apart_after start h begins fresh.0 (λ f g put was. unlike f g (inl put) was) in
       let st = state_after start h in
-      ⊎_elim (λ same. subst (IsApart (a ∷ h)) (sym same) (kept_apart a st.at before))
-      (λ changed. subst (IsApart (a ∷ h)) (sym changed.1) (changed_apart h a st.at changed.0 fresh unlike before))
-      (slots_after st a)
+      grind (arith, kept_apart, changed_apart, slots_after)
 
 -- Where each chain's part of a history installs no mark twice, and marks of that chain alone, the
 -- history doesn't either.
@@ -149,8 +146,7 @@ module _ (submission : ℕ) where
   earlier : (b : Bool) (chain : ℕ) (e : Event) (xs : List Event)
       → HasNewMarks (map action_of (cond b (e ∷ xs) xs)) × ((f : File) → IsPut (map action_of (cond b (e ∷ xs) xs)) f → IsOfChain submission chain f)
       → HasNewMarks (map action_of xs) × ((f : File) → IsPut (map action_of xs) f → IsOfChain submission chain f)
-  earlier true chain e xs puts = (puts.0.0, λ f is. puts.1 f (inl is))
-  earlier false chain e xs puts = puts
+  earlier b chain e xs puts = grind arith
 
   parts_before : {e : Event} (h : List Event) → PartsPut (e ∷ h) → PartsPut h
   parts_before {e} h parts d at = earlier (e.chain == d.chain) d.chain e (part_of_chain d.chain h)

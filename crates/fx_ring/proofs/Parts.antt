@@ -1,3 +1,4 @@
+use Rattle.std.proofs.Common.{rules}
 -- Lists in parts, by a key of their elements.
 use Rattle.fx_ring.proofs.Words.{◌≡◌, ℕ, ◌+◌, ◌<◌, ◌≤◌, List, [], ◌∷◌, ◌++◌, flat_map, All, sum_by, refl, sym, ap, ◌∙◌, arith, append-nil, ⊎_elim}
 use Rattle.fx_ring.proofs.Words.{All-nil, All-append, sum_by-cons, sum_of, Contains, range_with_len, length-range_with_len, get_or-range_with_len}
@@ -8,8 +9,7 @@ use Rattle.fx_ring.proofs.Words.{eq-eqb, filter-append, true, false, map, append
 use Rattle.fx_ring.proofs.Words.{IsPermutation-append_comm, Closed, action_of, closed_by, closes_in, Event}
 
 pub number_within : {first : ℕ} (n : ℕ) {k : ℕ} → Contains (range_with_len first n) k → (first ≤ k) × (k < first + n)
-number_within {first} n {k} (i, lt, is) =
-    let long = length-range_with_len first n in let there = get_or-range_with_len first n i k (omega arith) in (omega arith, omega arith)
+number_within n h2 = grind (arith, length-range_with_len, get_or-range_with_len)
 
 module _ {W X : Type 0} (g : W → List X) where
   pub no_parts : (ws : List W) → ((w : W) → Contains ws w → g w ≡ []) → flat_map g ws ≡ []
@@ -43,8 +43,7 @@ module _ {W X : Type 0} (g : W → List X) where
   pub made_of_parts : {Y : Type 0} (made : List X → List Y) → made [] ≡ [] → ((xs ys : List X) → made (xs ++ ys) ≡ made xs ++ made ys)
       → (ws : List W) → made (flat_map g ws) ≡ flat_map (λ w. made (g w)) ws
   made_of_parts made none both [] = none
-  made_of_parts {Y} made none both (w ∷ ws) =
-      both (g w) (flat_map g ws) ∙ ap (λ (l : List Y). made (g w) ++ l) (made_of_parts made none both ws)
+  made_of_parts {Y} made none both (w ∷ ws) = grind (arith, made_of_parts made none both ws)
 
 -- parts that are the same for each element
 pub same_parts : {W X : Type 0} {g h : W → List X} (ws : List W) → ((w : W) → Contains ws w → g w ≡ h w) → flat_map g ws ≡ flat_map h ws
@@ -83,8 +82,7 @@ module _ {X : Type 0} (key : X → ℕ) where
       → ((k : ℕ) (xs : List X) → IsPermutation (made xs) (made (filter (has k) xs) ++ made (filter (lacks k) xs)))
       → (first n : ℕ) (xs : List X) → All (Within first n) xs
       → IsPermutation (made xs) (flat_map (λ k. made (filter (has k) xs)) (range_with_len first n))
-  made_by_key made none split first zero xs all =
-      subst (λ l. IsPermutation l []) (sym (ap made (none_within first xs all) ∙ none)) (IsPermutation-refl [])
+  made_by_key made none split first zero xs all = grind (arith, none_within)
   made_by_key made none split first (suc n) xs all =
       let parts = flat_map (λ k. made (filter (has k) xs)) (range_with_len (first + 1) n) in
       let others = made (filter (lacks first) xs) in
@@ -133,8 +131,7 @@ module _ {X : Type 0} (key : X → ℕ) (c : ℕ) where
     not_first none = filter-append (λ x. key x == c) xs ys ∙ ap (λ (l : List X). l ++ with_key ys) (none_kept xs none)
 
     pub not_second : All (λ x. key x ≢ c) ys → with_key (xs ++ ys) ≡ with_key xs
-    not_second none = filter-append (λ x. key x == c) xs ys ∙ ap (λ (l : List X). with_key xs ++ l) (none_kept ys none)
-        ∙ append-nil (with_key xs)
+    not_second none = search (rules, filter-append, none_kept)
 
     pub only_first : All (λ x. key x ≡ c) xs → All (λ x. key x ≢ c) ys → with_key (xs ++ ys) ≡ xs
     only_first all none = not_second none ∙ all_kept xs all

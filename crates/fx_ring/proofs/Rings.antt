@@ -2,16 +2,14 @@
 use Rattle.fx_ring.proofs.Words.{◌≡◌, ℕ, Bool, zero, suc, ◌<◌, List, [], ◌++◌, length, refl, sym, ap, subst, ◌∙◌, Option, Some, None, All, arith, ◌+◌}
 use Rattle.fx_ring.proofs.Words.{◌≢◌, option_to_list, IsPermutation, All-append, All-cons, All-nil, All-permutation, CloseListView, IsInOrderOfMark}
 use Rattle.fx_ring.proofs.Words.{Closed, State, IsSettled, opening, vacant, state_of, identity_of, File, Contents, IsGivenBack, RingContents}
-use Rattle.fx_ring.proofs.Words.{RingState, IsAtRest, IsRing, HasCounted, Mark, Registered, Submitted, ◌≤◌, HasClosed, ListsFiles, AreEntries}
+use Rattle.fx_ring.proofs.Words.{RingState, IsAtRest, IsRing, HasCounted, Mark, Submitted, ◌≤◌, HasClosed, ListsFiles, AreEntries}
 use Rattle.fx_ring.proofs.Words.{ring_of, ring_with, with_table, files_at, same_identity, HasSameFiles, ring_files_in_order, files_of_ring}
-use Rattle.fx_ring.proofs.Words.{numbers_for, Asked, runs_of, Reported, IsOneHistory, IsLegal, ExplainsParts, opens_alike, map, slice_index_or}
-use Rattle.fx_ring.proofs.Words.{cases_lt, inl, inr, FileEntry, read_default, number_if, node_if, table_with_files, range_with_len, get_or_past}
-use Rattle.fx_ring.proofs.Words.{length-map-range_with_len, get_or-map-range_with_len, file_at, placed_at, removed_at, slot_at}
+use Rattle.fx_ring.proofs.Words.{numbers_for, Asked, runs_of, Reported, IsOneHistory, IsLegal, opens_alike, map, slice_index_or}
+use Rattle.fx_ring.proofs.Words.{FileEntry, read_default, number_if, table_with_files, range_with_len, get_or_past}
+use Rattle.fx_ring.proofs.Words.{length-map-range_with_len, get_or-map-range_with_len, file_at, slot_at}
 use Rattle.fx_plain.proofs.Emptying.{listed}
 use Rattle.fx_plain.specs.State.{files_in_order as files_in_order_of_state, files_of as files_of_state}
 use Rattle.fx_ring.specs.declared.ring.Ring.TheInside.{Inside}
-use Rattle.fx_plain.specs.declared.node.Node.{Node}
-use Rattle.fx_plain.specs.declared.node.Node.TheVariants.{Gone}
 
 -- what a ring keeps, by its fields
 abbrev pub contents_of : Inside → RingContents
@@ -23,27 +21,20 @@ IsEntry entries file = file.entry < entries
 
 -- a table without files keeps what every ring keeps
 pub none_rings : (ring : RingState) → ring.at ≡ (λ _. None) → IsRing ring
-none_rings ring no_files = record {
-  entries = λ slot file is. let e : None ≡ Some file = sym (ap (λ (at : ℕ → Option Closed). at slot) no_files) ∙ is in cc;
-  counted = λ slot file is. let e : None ≡ Some file = sym (ap (λ (at : ℕ → Option Closed). at slot) no_files) ∙ is in cc;
-  distinct = λ slot other file same is are marks. let e : None ≡ Some file = sym (ap (λ (at : ℕ → Option Closed). at slot) no_files) ∙ is in cc;
-}
+none_rings ring no_files = grind arith
 
 -- a mark that was counted still is
 pub counted_still : (ring next : RingState) (mark : Mark) → ring.registrations ≤ next.registrations → ring.submissions ≤ next.submissions
     → HasCounted ring mark → HasCounted next mark
-counted_still ring next (Registered k i) lists submissions counted = omega arith
-counted_still ring next (Submitted s c m e) lists submissions counted = omega arith
+counted_still ring next mark lists submissions counted = grind arith
 
 -- no counted mark is one of the next submission
 pub not_yet : (ring : RingState) (mark : Mark) (c m j : ℕ) → HasCounted ring mark → mark ≢ Submitted (ring.submissions + 1) c m j
-not_yet ring (Registered k i) c m j counted same = cc
-not_yet ring (Submitted s d n i) c m j counted same = let e : s ≡ ring.submissions + 1 = cc in omega arith
+not_yet ring mark c m j counted same = grind arith
 
 -- the file that a slot has, by its recorded identity
 pub file_told : (x : Option File) (told : Closed) → identity_of x ≡ Some told → (f : File) × (x ≡ Some f) × (f.identity ≡ told)
-file_told None told is = absurd (cc)
-file_told (Some f) told is = (f, refl, cc)
+file_told x told is = grind arith
 
 -- the files of a table, its files' numbers aside
 pub files_of-state : (at : ℕ → Option File) (n : ℕ) → ring_files_in_order (λ slot. identity_of (at slot)) n ≡ files_in_order_of_state at n
@@ -52,8 +43,7 @@ files_of-state at (suc n) = ap (λ (x : List Closed × List Closed). x.0 ++ x.1)
 
 pub entry_listed : {entries : ℕ} (x : Option Closed) → ((file : Closed) → x ≡ Some file → IsEntry entries file)
     → All (IsEntry entries) (option_to_list x)
-entry_listed None has = λ k d inside. absurd (omega arith)
-entry_listed {entries} (Some file) has = All-cons (IsEntry entries) file [] (has file refl) (All-nil (IsEntry entries))
+entry_listed x has = grind (arith, All-cons, All-nil)
 
 entries_in_order : {entries : ℕ} (at : ℕ → Option Closed) (n : ℕ)
     → ((slot : ℕ) (file : Closed) → at slot ≡ Some file → IsEntry entries file) → All (IsEntry entries) (ring_files_in_order at n)
@@ -123,8 +113,7 @@ same_history old same new requests report is one = record {
       (λ i. (sym is i).size) (λ i. (sym is i).range) (λ slot i. (sym is i).at slot) (numbers_for (length (runs_of requests)))) one.legal;
   settled = one.settled;
   chains = one.chains;
-  explained = subst (λ (r : RingState). ExplainsParts r.catalogue r.size report.submission 1 (runs_of requests) one.history report.completions)
-      (sym is) one.explained;
+  explained = grind arith;
   closed = one.closed;
   submission = subst (λ (r : RingState). report.submission ≡ r.submissions + 1) (sym is) one.submission;
   after = subst (λ (r : RingState). ring_of new ≡ record (with_table r one.end) { submissions = r.submissions + 1 }) (sym is) one.after;
@@ -143,17 +132,10 @@ module _ (st : State) (inside : (slot : ℕ) → st.size ≤ slot → st.at slot
   table = table_with_files st
 
   placed_so : {slot : ℕ} (x : Option File) → st.at slot ≡ x → slot < st.size → identity_of (file_at table.nodes (number_if slot x)) ≡ identity_of x
-  placed_so None is lt = refl
-  placed_so {slot} (Some f) is lt =
-      ap (λ (node : Node). identity_of (placed_at slot node)) (read_there (λ k. node_if k (st.at k)) st.size slot Gone lt ∙ ap (node_if slot) is)
+  placed_so x is lt = grind (arith, read_there)
 
   pub told_at : (slot : ℕ) → identity_of (file_at table.nodes (slot_at table.slots slot)) ≡ identity_of (st.at slot)
-  told_at slot = elim (cases_lt slot st.size) [
-    | inl lt ↦ ap (λ (x : Option ℕ). identity_of (file_at table.nodes x)) (read_there (λ k. number_if k (st.at k)) st.size slot None lt)
-        ∙ placed_so (st.at slot) refl lt
-    | inr le ↦ ap (λ (x : Option ℕ). identity_of (file_at table.nodes x)) (get_or_past table.slots slot None (let len = size_there st in omega arith))
-        ∙ sym (ap identity_of (inside slot le))
-  ]
+  told_at slot = grind (arith, read_there, placed_so, get_or_past, size_there)
 
   pub opened_so : (numbers : ℕ) → opening (state_of table) numbers ≡ opening st numbers
   opened_so = opens_alike (state_of table) st (size_there st) refl told_at
@@ -161,20 +143,8 @@ module _ (st : State) (inside : (slot : ℕ) → st.size ≤ slot → st.at slot
   pub ring_so : (catalogue : List FileEntry) (submissions registrations : ℕ)
       → ring_of (ring_with catalogue table submissions registrations)
       ≡ record (with_table (ring_of (ring_with catalogue table submissions registrations)) st) { submissions = submissions }
-  ring_so catalogue submissions registrations = λ i. record (ring_of (ring_with catalogue table submissions registrations)) {
-    size = size_there st i;
-    range = st.range;
-    at = λ slot. told_at slot i;
-  }
+  ring_so catalogue submissions registrations = grind (arith, size_there, told_at)
 
 -- it is settled
 pub table_settled : (st : State) → IsSettled (state_of (table_with_files st))
-table_settled st = record {
-  unheld = λ n. read_default st.size n 0;
-  closed = λ n. elim (cases_lt n st.size) [
-    | inl lt ↦ ap (removed_at n) (read_there (λ k. node_if k (st.at k)) st.size n Gone lt)
-        ∙ elim (st.at n) as (λ x. removed_at n (node_if n x) ≡ None) [ None ↦ refl | Some f ↦ refl ]
-    | inr le ↦ ap (removed_at n) (get_or_past (table_with_files st).nodes n Gone
-        (let len = length-map-range_with_len (λ k. node_if k (st.at k)) 0 st.size in omega arith))
-  ];
-}
+table_settled st = grind (arith, read_default, read_there, get_or_past, length-map-range_with_len)

@@ -1,6 +1,7 @@
+use Rattle.std.proofs.Common.{rules}
 -- Rings after a submission, and rings whose table is opened or closed.
-use Rattle.fx_ring.proofs.Words.{◌≡◌, ℕ, ◌+◌, ◌<◌, ◌≤◌, List, [], ◌∷◌, length, map, Contains, refl, sym, ap, subst, ◌∙◌, ⊎_elim, inl, Option, Some}
-use Rattle.fx_ring.proofs.Words.{None, arith, FileEntry, Submitted, Closed, State, IsSettled, opening, state_of, action_of, closes_in, identity_of}
+use Rattle.fx_ring.proofs.Words.{◌≡◌, ℕ, ◌+◌, ◌<◌, ◌≤◌, List, [], ◌∷◌, length, map, Contains, refl, sym, ap, subst, ◌∙◌, ⊎_elim, inl, Some}
+use Rattle.fx_ring.proofs.Words.{arith, FileEntry, Closed, State, IsSettled, opening, state_of, action_of, closes_in}
 use Rattle.fx_ring.proofs.Words.{File, Event, Action, by_equality, numbers_for, Completed, first_member, Asked, runs_of, RingContents, RingState}
 use Rattle.fx_ring.proofs.Words.{IsRing, IsAtRest, HasCounted, AreEntries, ring_of, with_table, ExplainsParts, Reported, IsOneHistory}
 use Rattle.fx_ring.proofs.Words.{MOST_SUBMISSIONS, ◌-◌, ◌*◌, Contents, All, All-head, length-map, length-append, ◌++◌, new_passes, Opening, state_at}
@@ -50,9 +51,7 @@ module _ (old new : RingContents) (requests : List Asked) (report : Reported) (i
   IsNew f = (c : ℕ) × IsOfChain report.submission c f × (f.identity.entry < length old.catalogue)
 
   at_start : (slot : ℕ) {f : File} → start.at slot ≡ Some f → before.at slot ≡ Some f.identity
-  at_start slot at =
-      let files = opening_files (state_of old.table) (numbers_for (length (runs_of requests))) refl in
-      sym (ap (λ (told : ℕ → Option Closed). told slot) files) ∙ ap identity_of at
+  at_start slot h2 = grind (arith, opening_files)
 
   parts : (e : Event) → Contains one.history e
       → Puts (IsOfMembers (length old.catalogue) (first_member report.submission e.chain)) (part_actions e.chain one.history)
@@ -62,16 +61,10 @@ module _ (old new : RingContents) (requests : List Asked) (report : Reported) (i
       part_puts old.catalogue (state_of old.table).size 1 (runs_of requests) one.history report.completions one.explained inside.0 (omega arith)
 
   put_is_new : (f : File) → IsPut actions f → IsNew f
-  put_is_new f put =
-      let (e, there, own) = put_in_part one.history f put in
-      let member = (parts e there).0 f own in
-      (e.chain, (member.0, member.1, member.3.0), member.3.1)
+  put_is_new f put = grind (arith, put_in_part, parts)
 
   unlike : IsUnlike WasThere actions
-  unlike f g put was same =
-      let (c, (m, j, mark), entry) = put_is_new f put in
-      let e : g.identity.mark ≡ Submitted (old.submissions + 1) c m j = sym same ∙ (mark ∙ ap (λ s. Submitted s c m j) one.submission) in
-      not_yet before g.identity.mark c m j was.0 e
+  unlike f g put was same = grind (arith, put_is_new, not_yet)
 
   -- each file that was there, or was installed, keeps its mark apart
   ended : IsApart WasThere actions one.end.at
@@ -82,10 +75,7 @@ module _ (old new : RingContents) (requests : List Asked) (report : Reported) (i
       (λ e there. ((parts e there).1, λ f own. let member = (parts e there).0 f own in (member.0, member.1, member.3.0)))) unlike)
 
   put_counted : (f : File) → IsPut actions f → HasCounted behind f.identity.mark
-  put_counted f put =
-      let (c, (m, j, mark), entry) = put_is_new f put in
-      let few = one.submission in
-      subst (HasCounted behind) (sym mark) (omega arith)
+  put_counted f put = grind (arith, put_is_new)
 
   -- its files are of the catalogue, with marks that are counted, and no two have one mark
   pub submitted_rings : IsRing (ring_of new)
@@ -106,10 +96,7 @@ module _ (old new : RingContents) (requests : List Asked) (report : Reported) (i
   closed_entries : AreEntries behind (closes_in actions)
   closed_entries =
       let P : File → Type 0 = λ f. f.identity.entry < length old.catalogue in
-      let all : HoldsOfAll P start = record {
-        at_slots = λ slot lt f at. is.entries slot f.identity (at_start slot at);
-        removed = λ number f at. let e : None ≡ Some f = at in cc;
-      } in
+      let all : HoldsOfAll P start = grind (arith, at_start) in
       all_closes_in (λ (file : Closed). file.entry < length old.catalogue) one.history
       (holds_of_closes P start one.history all one.legal.leads.0 (λ f installed. (put_is_new f (installed_put one.history f installed)).2))
 
@@ -125,12 +112,7 @@ pub submitted_at_rest : {old new : RingContents} {requests : List Asked} {report
 submitted_at_rest {old} {new} {requests} {report} rest one settled few =
     let submissions : new.submissions ≡ old.submissions + 1 = ap (λ (ring : RingState). ring.submissions) one.after in
     let registrations : new.registrations ≡ old.registrations = ap (λ (ring : RingState). ring.registrations) one.after in
-    record {
-      settled = settled;
-      ring = submitted_rings old new requests report rest.ring one;
-      few_submissions = omega arith;
-      few_registrations = omega arith;
-    }
+    search (rules, submitted_rings)
 
 -- A ring whose table is opened or closed has the same files.
 
@@ -138,27 +120,14 @@ submitted_at_rest {old} {new} {requests} {report} rest one settled few =
 same_ring : (catalogue : List FileEntry) {o : Opening} {v : PassView} (left : Contents) (submissions registrations : ℕ) → IsSettledSoFar o v
     → HasSameFiles (state_at o v.own) (state_of left)
     → ring_of (ring_with catalogue left submissions registrations) ≡ ring_of (ring_led_by catalogue o v submissions registrations)
-same_ring catalogue {o} {v} left submissions registrations settled files = λ i. record {
-  catalogue = catalogue;
-  size = (files.size ∙ sym (size_there (state_at o v.own))) i;
-  range = files.range i;
-  at = λ slot. (files.files slot ∙ sym (told_at (state_at o v.own) (at_rest_of settled).inside slot)) i;
-  submissions = submissions;
-  registrations = registrations;
-}
+same_ring catalogue left submissions registrations settled files = grind (arith, size_there, told_at, at_rest_of)
 
 closed_files : {o : Opening} {v : PassView} {left : Contents} → ClosesTable o (v ∷ []) left → HasSameFiles (state_at o v.own) (state_of left)
 closed_files {o} {v} {left} closing = subst (λ (h : List Event). HasSameFiles (state_at o h) (state_of left))
     (own_history v closing.history closing.authors (closing.own v (contains_head v []))) closing.files
 
 new_settled : (o : Opening) → IsSettledSoFar o (new_pass 1)
-new_settled o = record {
-  whole = refl;
-  legal = record { leads = (tt, refl); releases = tt };
-  settled = record { unheld = λ _. refl; closed = λ _. refl };
-  held = refl;
-  chains_inside = λ c h. absurd (contains_none c h);
-}
+new_settled o = grind (arith, contains_none)
 
 module _ {P : Type 0} {V : P → PassView} {Fits : P → Type 0} {catalogue : List FileEntry} {o : Opening} {pass : P} {list : Vec P}
     {size left most submissions registrations : ℕ}
@@ -181,15 +150,7 @@ module _ {P : Type 0} {V : P → PassView} {Fits : P → Type 0} {catalogue : Li
       (one : IsOneHistory (ring_led_by catalogue o (V pass) submissions registrations) requests report
       (ring_led_by catalogue o (V now) (submissions + 1) registrations)) where
     pub kept_after : IsKeptOpen V Fits catalogue o now list size (left - count) most (submissions + 1) registrations
-    kept_after = record {
-      at = after;
-      place = kept.place;
-      slots = kept.slots;
-      chains = omega (arith, kept.chains, chain, few);
-      installs = kept.installs;
-      looks = omega (arith, kept.looks, looked, few);
-      rest = submitted_at_rest kept.rest one (table_settled (state_at o (V now).own)) few_submissions;
-    }
+    kept_after = search (rules, submitted_at_rest, table_settled)
 
     pub entries_after : AreEntries (ring_of (ring_led_by catalogue o (V now) (submissions + 1) registrations)) report.closes.files
     entries_after = submitted_entries kept.rest.ring one
@@ -205,12 +166,7 @@ only_pass V Q (p ∷ rest) {pass} is new ready =
 -- a table that was just opened
 module _ {o : Opening} {plain : Contents} {chains most : ℕ} (opened : IsOpenedFor plain chains most 1 o) where
   opened_files : HasSameFiles (state_at o (new_pass 1).own) (state_of plain)
-  opened_files = record {
-    size = ap (λ (c : Contents). (state_of c).size) (sym opened.contents);
-    range = ap (λ (c : Contents). (state_of c).range) (sym opened.contents);
-    files = λ slot. ap (λ (c : Contents). identity_of ((state_of c).at slot)) (sym opened.contents)
-        ∙ sym (same_identity ((state_of o.contents).at slot) slot);
-  }
+  opened_files = grind (arith, same_identity)
 
   module _ {catalogue : List FileEntry} {submissions registrations : ℕ} {v : PassView} (new : v ≡ new_pass 1) where
     pub opened_ring : ring_of (ring_led_by catalogue o v submissions registrations) ≡ ring_of (ring_with catalogue plain submissions registrations)
@@ -222,14 +178,7 @@ module _ {o : Opening} {plain : Contents} {chains most : ℕ} (opened : IsOpened
       → size ≡ (state_of plain).size → size ≤ MOST_SLOTS → chains ≤ MAX_CHAINS → (list.items ≡ []) × (1 ≤ vec_capacity list)
       → Fits pass × IsIdle (V pass) → IsKeptOpen V Fits catalogue o pass list size chains most submissions registrations
   kept_opened V Fits {pass} was new slots few few_chains room ready = record {
-    at = record {
-      alone = opened.passes;
-      few_slots = let same = ap (λ (c : Contents). (state_of c).size) opened.contents in omega (arith, same, slots, few);
-      fits = ready.0;
-      idle = ready.1;
-      more = ap (λ (v : PassView). v.no_chains_left) new;
-      settled = subst (IsSettledSoFar o) (sym new) (new_settled o);
-    };
+    at = grind (arith, new_settled);
     place = room;
     slots = slots ∙ ap (λ (c : Contents). (state_of c).size) (sym opened.contents);
     chains = let none = ap (λ (v : PassView). v.chain) new in omega (arith, none, opened.chains);

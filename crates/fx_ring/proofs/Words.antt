@@ -3,7 +3,6 @@ pub use Rattle.fx_base.specs.Catalogue.{FileEntry}
 pub use Rattle.fx_base.specs.CloseList.{IsInOrderOfMark}
 pub use Rattle.fx_base.specs.CloseListView.{CloseListView}
 pub use Rattle.fx_base.specs.declared.errno.Errno.{Errno}
-pub use Rattle.fx_base.specs.declared.errno.Errno.TheVariants.{ENOMEM}
 pub use Rattle.fx_base.specs.declared.mark.Mark.{Mark}
 pub use Rattle.fx_base.specs.declared.mark.Mark.TheVariants.{Registered, Submitted}
 pub use Rattle.fx_base.specs.declared.open_file.Closed.{Closed}
@@ -13,7 +12,7 @@ pub use Rattle.fx_chain.specs.Accepted.{IsAccepted, IsChain, IsShortRun, members
 pub use Rattle.fx_chain.specs.Answers.{Answers, AnswersAtTable, AppliesEntry, AppliesList, MayClose, OpensAt, Refuses, installed, is_bad_entry}
 pub use Rattle.fx_chain.specs.Completed.{Completed, all_completed, completed_of, next_member}
 pub use Rattle.fx_chain.specs.Explains.{Explains, canceled, first_member, severs}
-pub use Rattle.fx_chain.specs.Operation.{Asked, Closes, Opens, Operation, Reads, Updates, all_asked, asked_of, operation_of}
+pub use Rattle.fx_chain.specs.Operation.{Asked, Operation, all_asked, asked_of, operation_of}
 pub use Rattle.fx_chain.specs.Performs.{PlaysChain, player}
 pub use Rattle.fx_chain.specs.Runs.{runs_of}
 pub use Rattle.fx_chain.specs.Weights.{all_installs, all_weights, installs_of, weight_of}
@@ -23,23 +22,22 @@ pub use Rattle.fx_chain.specs.declared.completion.Place.{Place}
 pub use Rattle.fx_chain.specs.declared.fault.TheConstants.{MOST_MEMBERS}
 pub use Rattle.fx_chain.specs.declared.request.Request.{Request}
 pub use Rattle.fx_chain.specs.declared.request.Target.{Target}
-pub use Rattle.fx_chain.specs.declared.request.Target.TheVariants.{Any, Slot}
 pub use Rattle.fx_plain.proofs.Cells.{by_equality, changed_else, changed_here, read_default}
 pub use Rattle.fx_plain.proofs.Leading.{closes_in-then, same_size, legal_behind}
 pub use Rattle.fx_plain.proofs.Prepared.{opening_is_start, opens_alike, same_identity, stays_at_rest}
-pub use Rattle.fx_plain.specs.Contents.{Contents, leaving, state_of, file_at, placed_at, removed_at, slot_at}
-pub use Rattle.fx_plain.specs.History.{IsLegal, Leads, action_of, close_of, closed_by, closes_in, part_of_chain, part_of_pass, state_after, ◌▷▷◌, ◌▷◌}
+pub use Rattle.fx_plain.specs.Contents.{Contents, leaving, state_of, file_at, slot_at}
+pub use Rattle.fx_plain.specs.History.{IsLegal, Leads, action_of, close_of, closed_by, closes_in, part_of_chain, state_after, ◌▷▷◌, ◌▷◌}
 pub use Rattle.fx_plain.specs.Laws.{IsInstalled, installed_by}
 pub use Rattle.fx_plain.specs.State.{IsSettled, State, opening, vacant}
 pub use Rattle.fx_plain.specs.Step.{after, changed_at, with_removed}
 pub use Rattle.fx_plain.specs.Table.{identity_of, more_leaving, number_of, numbered}
 pub use Rattle.fx_plain.specs.declared.event.Action.{Action}
-pub use Rattle.fx_plain.specs.declared.event.Action.TheVariants.{Allocate, Clear, Close, Full, Look, Put, Release, Take}
+pub use Rattle.fx_plain.specs.declared.event.Action.TheVariants.{Allocate, Clear, Close, Look, Put, Take}
 pub use Rattle.fx_plain.specs.declared.event.Event.{Event}
 pub use Rattle.fx_plain.specs.declared.event.File.{File}
 pub use Rattle.fx_plain.specs.declared.table.TheConstants.{MOST_SLOTS}
 pub use Rattle.fx_ring.specs.Calls.{ListsFiles}
-pub use Rattle.fx_ring.specs.OpenRings.{IsAloneAt, IsKeptOpen, OpenRingContents, begun_after, chain_less, chains_to, node_if, number_if, ring_led_by}
+pub use Rattle.fx_ring.specs.OpenRings.{IsAloneAt, IsKeptOpen, OpenRingContents, begun_after, chain_less, chains_to, number_if, ring_led_by}
 pub use Rattle.fx_ring.specs.OpenRings.{table_with_files}
 pub use Rattle.fx_ring.specs.Outcomes.{HasRoomFor}
 pub use Rattle.fx_ring.specs.Playing.{number_of_worker, state_of_worker, IsReadyFor}
@@ -65,12 +63,12 @@ pub use Rattle.fx_table.specs.Pass.{IsIdle, IsOfDrawnChains, PassView, event_of,
 pub use Rattle.fx_table.specs.Settling.{IsSettledSoFar}
 pub use Rattle.fx_table.specs.declared.limits.TheConstants.{MAX_CHAINS, PASS_LOOKS}
 pub use Rattle.std.proofs.Common.{All, Bool, Contains, IsPermutation, List, None, Option, Some, [], add-one, ap, append-nil, append_assoc, arith}
-pub use Rattle.std.proofs.Common.{cond, count_by, drop, eq-eqb, eqb, eqb-true, false, filter, flat_map, get_or, if◌then◌else◌, inl, inr, length}
+pub use Rattle.std.proofs.Common.{cond, count_by, drop, eq-eqb, eqb, false, filter, flat_map, if◌then◌else◌, inl, inr, length}
 pub use Rattle.std.proofs.Common.{length-append, map, nat_lt, ne_eqb, negsuc, not, option_to_list, pos, refl, rules, slice_get, slice_index_or, subst}
 pub use Rattle.std.proofs.Common.{suc, sum_by, sym, take, true, vec_capacity, vec_len, zero, ℕ, ℤ, ⊎_elim, ◌*◌, ◌++◌, ◌+◌, ◌-◌, ◌<◌, ◌==◌, ◌||◌, ◌∙◌}
 pub use Rattle.std.proofs.Common.{◌∷◌, ◌≡◌, ◌≢◌, ◌≤◌, ◌⊎◌}
 pub use Rattle.std.proofs.Math.Seq.{drop-cons, drop-length}
-pub use Rattle.std.proofs.lemmas.Bool.{cases_lt, false≢true, le-ltb, leb-false, lt-ltb, ltb-false, or_from, or_parts}
+pub use Rattle.std.proofs.lemmas.Bool.{cases_lt, false≢true, le-ltb, leb-false, lt-ltb, or_from, or_parts}
 pub use Rattle.std.proofs.lemmas.Bool.Decides.{nat_tests}
 pub use Rattle.std.proofs.lemmas.List.{drop-drop, get_or-map, get_or_past, length-map, map-append, map-id, take_all}
 pub use Rattle.std.proofs.lemmas.List.Concat.{length-flat_map}
@@ -81,7 +79,7 @@ pub use Rattle.std.proofs.lemmas.List.Filters.{sum_by-filter_both}
 pub use Rattle.std.proofs.lemmas.List.FromFn.{get_or-map-range_with_len, get_or-range_with_len, length-map-range_with_len, length-range_with_len}
 pub use Rattle.std.proofs.lemmas.List.Sorted.{All-permutation, Contains-permutation, IsNonDecreasingBy-from_sort_by_key, IsPermutation-append_comm}
 pub use Rattle.std.proofs.lemmas.List.Sorted.{IsPermutation-append_left, IsPermutation-append_right, IsPermutation-filter_both, IsPermutation-map}
-pub use Rattle.std.proofs.lemmas.List.Sorted.{IsPermutation-refl, IsPermutation-sym, IsPermutation-trans, length_permutation, sum_by-IsPermutation}
+pub use Rattle.std.proofs.lemmas.List.Sorted.{IsPermutation-refl, IsPermutation-sym, IsPermutation-trans, length_permutation}
 pub use Rattle.std.proofs.lemmas.List.Sums.{sum_by-append, sum_by-cons, sum_by-drop_more, sum_by-le, sum_by-take-drop, sum_by_more_le}
 pub use Rattle.std.proofs.lemmas.Map.Keys.{IsDistinct-IsPermutation, IsDistinct-cons, apart_from_distinct}
 pub use Rattle.std.proofs.lemmas.Option.{slice_get_past, slice_get-get_or}

@@ -1,12 +1,11 @@
 -- The work of a submission's workers, taken together.
 use Rattle.fx_ring.proofs.Words.{◌≡◌, ℕ, ◌+◌, ◌-◌, ◌<◌, ◌≤◌, ◌==◌, true, List, [], map, flat_map, length, All, sum_by, count_by, slice_index_or}
 use Rattle.fx_ring.proofs.Words.{closed_by, filter, filter-append, refl, sym, ap, subst, ◌∙◌, arith, eqb, IsNonDecreasingBy, All-contains}
-use Rattle.fx_ring.proofs.Words.{IsPermutation-trans, length_permutation, FileEntry, IsInOrderOfMark, CloseListView, Closed, opening, Contents}
-use Rattle.fx_ring.proofs.Words.{state_of, IsLegal, action_of, part_of_chain, Event, ClosesTable, times_drawn, numbers_for, Opening, size_of}
-use Rattle.fx_ring.proofs.Words.{state_at, PassView, IsOfDrawnChains, some_times, part_of_drawn, sum_map, Completed, Explains, first_member, Asked}
-use Rattle.fx_ring.proofs.Words.{IsShortRun, runs_of, all_weights, ring_with, IsOneHistory, WorkerState, HasWorked, run_of_chain}
-use Rattle.fx_ring.proofs.Words.{completions_of_chain, Contains, IsPermutation, contains_map, contains_mapped, each_all, range_with_len, flat_map-map}
-use Rattle.fx_ring.proofs.Words.{State, false, start_is}
+use Rattle.fx_ring.proofs.Words.{IsPermutation-trans, length_permutation, FileEntry, IsInOrderOfMark, CloseListView, Closed, Contents, action_of}
+use Rattle.fx_ring.proofs.Words.{part_of_chain, Event, ClosesTable, times_drawn, Opening, size_of, state_at, PassView, IsOfDrawnChains, some_times}
+use Rattle.fx_ring.proofs.Words.{part_of_drawn, sum_map, Completed, Explains, first_member, Asked, IsShortRun, runs_of, all_weights, ring_with}
+use Rattle.fx_ring.proofs.Words.{IsOneHistory, WorkerState, HasWorked, run_of_chain, completions_of_chain, Contains, IsPermutation, contains_map}
+use Rattle.fx_ring.proofs.Words.{contains_mapped, each_all, range_with_len, flat_map-map, false, start_is}
 use Rattle.fx_ring.proofs.Parts.{closes_of, closes_by_key, closes_sum, number_within, one_part, all_parts, made_of_parts, same_parts, few_by_key}
 use Rattle.fx_ring.proofs.Parts.{none_kept}
 use Rattle.fx_table.proofs.Chains.{in_part}
@@ -75,8 +74,7 @@ module _ {catalogue : List FileEntry} {submission : ℕ} {runs : List (List Aske
   drawer : (c : ℕ) → 1 ≤ c → c ≤ length runs → (w : WorkerState) × Contains crew w × Contains w.pass.drawn c
   drawer c low high =
       let told : (v : PassView) → Contains passes v → v.no_chains_left ≡ true = λ v h.
-      let w = worker_of h in
-      ap (λ (u : PassView). u.no_chains_left) w.2 ∙ All-contains (λ w. w.pass.no_chains_left ≡ true) crew w.0 played.told w.1 in
+      let w = worker_of h in grind (arith, worker_of, All-contains) in
       let given = closing.all_drawn told c (omega arith) (omega arith) in
       let w = worker_of given.1 in
       (w.0, w.1, subst (λ (v : PassView). Contains v.drawn c) w.2 given.2)
@@ -101,8 +99,7 @@ module _ {catalogue : List FileEntry} {submission : ℕ} {runs : List (List Aske
   pub explained : (c : ℕ) → 1 ≤ c → c ≤ length runs → ExplainsChain c (part_of_chain c closing.history) (completions_of_chain c joined)
   explained c low high =
       let d = drawer c low high in
-      subst (λ (h : List Event). ExplainsChain c h (completions_of_chain c joined)) (sym (history_is c d.0 d.1 d.2))
-      (subst (ExplainsChain c (part_of_chain c d.0.pass.own)) (sym (part_is d.1 d.2)) ((works d.0 d.1).explained c d.2))
+      grind (arith, history_is, part_is, works)
 
   pub inside : All (λ c. (1 ≤ c.place.chain) × (c.place.chain ≤ length runs)) joined
   inside = all_parts completed_by (λ c. (1 ≤ c.place.chain) × (c.place.chain ≤ length runs)) crew
@@ -155,8 +152,7 @@ one_history {catalogue} {submissions} {requests} {o} {crew} {left} registrations
     record {
       history = history;
       end = state_at o history;
-      legal = subst (λ (st : State). IsLegal st history (state_at o history))
-          (start_is o played.ends ∙ ap (λ (n : ℕ). opening (state_of o.contents) (numbers_for n)) played.chains) played.closing.legal;
+      legal = grind (arith, start_is);
       settled = played.closing.settled;
       chains = events_inside played;
       explained = in_order_explained catalogue (size_of o) (submissions + 1) history (flat_map completed_by crew) (runs_of requests) played.short
