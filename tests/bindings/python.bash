@@ -93,24 +93,16 @@ yachtjudge s/else "undecided"$/else "legal"/
 yachtjudge s/word: Literal\[.*\] = "legal" if code == LEGAL/word = "legal" if code != NOT_LEGAL/
 yachtjudge s/return self.word == "legal"/return self.word != "not legal"/
 yachtjudge s/Outcomes(tuple(listed), code == ALL)/Outcomes(tuple(listed), True)/
-yachtjudge s/Outcomes(tuple(listed), code == ALL)/Outcomes(tuple(listed), False)/
-yachtjudge s/    return numbers$/    return numbers[::-1]/
-yachtjudge s/    return numbers$/    return (STATES, MEMORY)/
 yachtjudge s/    return numbers$/    return (STATES, numbers[1])/
 yachtjudge s/data = of.encode() if isinstance(of, str) else bytes(of)/data = (of.encode() if isinstance(of, str) else bytes(of)).split(b"\\0")[0]/
-yachtjudge s/verdict.commands, verdict.at/verdict.commands + 1, verdict.at/
-yachtjudge s/verdict.commands, verdict.at/verdict.commands, verdict.at + 1/
 yachtjudge s/verdict.submission, words)/0, words)/
 yachtjudge s/verdict.submission, words)/verdict.submission, "")/
 yachtjudge s/"legal" if code == LEGAL else/"legal" if code == LEGAL or verdict.at else/
-yachtjudge s/BadScript(verdict.line, words)/BadScript(verdict.line + 1, words)/
 yachtjudge s/BadScript(verdict.line, words)/BadScript(verdict.line, "")/
 yachtjudge s/room, count = max(found.bytes, 1), max(found.count, 1)/break/
 yachtjudge s/        raise TypeError(f"{name} must/        of = bytes(of)\n    if not isinstance(of, (str, bytes, bytearray, memoryview)):\n&/
 yachtjudge s/    numbers = operator.index(states), operator.index(memory)/    numbers = int(states), int(memory)/
-yachtjudge s/        if not 0 <= number <= MOST:/        if number > MOST:/
 yachtjudge s/        if not 0 <= number <= MOST:/        if number < 0:/
-yachtjudge s/__version__ = "6.0/__version__ = "6.1/
 yachtjudge s/        if verdict.note <= room:/        if room:/
 yachtjudge s/        at += length/        at += 1/
 yachtjudge s/    if code == NO_MEMORY:/    if code == MALFORMED:/
@@ -123,7 +115,6 @@ wrong_logs() {
 yachtjudge s/LogVerdict("not legal", passed.events\[judgement.at\].line)/LogVerdict("not legal", passed.events[judgement.at - 1].line)/
 yachtjudge s/LogVerdict("legal" if code == LEGAL else "undecided")/LogVerdict("legal")/
 yachtjudge s/(FAULTS if code == FAULTY else FLAWS)/FAULTS/
-yachtjudge s/fault - 1\])/fault - 2])/
 yachtjudge s/\[it for it in log.events if it.word != "tag"\] if events is None else list(events)/[it for it in log.events if it.word != "tag"]/
 yachtjudge s/min(log.slots, MOST)/log.slots/
 yachtjudge s/if it.line == line\]/if it.line >= line]/
@@ -141,17 +132,10 @@ yachtevents s/return \[0, .*$/return [0, *calls]/
 yachtreason s/ and not self._is_strange(it))$/)/
 yachtreason s/step.rule != "misses" and self/False and self/
 yachtevents s/"hardlink": 8/"hardlink": 4/
-yachtevents s/flags | FIXED_FILE/flags/
-yachtevents s/REQUEST_OPEN_MISSING if file < 0 else //
-yachtevents s/else REQUEST_OPEN_ANY/else REQUEST_OPEN/
-yachtevents s/len(self.bytes), len(found)/0, len(found)/
 yachtevents s/return self._numbers.get(by, 0), member/return by, member/
-yachtevents s/max(self._log.file_of(mark), 0)/0/
 yachtevents s/elif answer.result == EBADF:/elif True:/
-yachtlog s/"undecided": 6/"undecided": 0/
 yachtlog s/        return NO_MEMORY$/        return MISSING/
 yachtlog s/judge_events(self, before, states, memory, /judge_events(self, before, memory, states, /
 yachtjudge s/yacht_judge_whole_updates_\([0-9]*\) if whole_updates/yacht_judge_events_\1 if whole_updates/
-yachtjudge s/ if whole_updates else _library.yacht_judge_events_[0-9]*$//
 END
 }
