@@ -23,16 +23,6 @@ def kept_numbers():
     return {name: (words.strip(), int(number)) for name, words, number in lines}
 
 
-def wrong_parts(name, left_out, kept):
-    """Returns the tools without which another number of cases was left out than tests/cases.txt has for this check and tool. An exact number
-    of cases has those that were left out too."""
-    counts = {}
-    for count, tool in left_out if kept.get(name, ("", 0))[0] else ():
-        counts[tool] = counts.get(tool, 0) + count
-    parts = {it: number for it, (_, number) in kept.items() if " without " in it}
-    return [tool for tool, count in counts.items() if not any(f"{name} without {tool}".startswith(it) and count == parts[it] for it in parts)]
-
-
 def comment(text):
     """Returns a text as a comment of the protocol."""
     return "# " + text.replace("\n", "\n# ")
@@ -66,14 +56,11 @@ def last_line(key, seen, wrong, what="looked at", left_out=()):
     if "HARNESS_ACTIVE" in os.environ or not sys.stdout.isatty():
         print(*protocol(seen, wrong, left_out, bool(words), number), sep="\n")
     is_kept = number > 0 and fits(cases, words, number)
-    others = wrong_parts(name_of(key), left_out, kept_numbers())
-    for tool in others:
-        print(f"# {key}: {CASES} has another number of cases that are left out if there is no {tool}, or none")
     if not is_kept:
         print(f"# {key}: {cases} cases were looked at, and {CASES} has {words and words + ' '}{number}")
     also = f" and {cases - seen} left out" if cases > seen else ""
     print(f"# {name_of(key)}: {seen} {what}{also}, {wrong} wrong", flush=True)
-    return 0 if is_kept and not wrong and not others else 1
+    return 0 if is_kept and not wrong else 1
 
 
 class Counted:

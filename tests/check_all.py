@@ -115,7 +115,7 @@ def check_all(checks):
     cases = [("", "", "well")] + [(it, "", "well") for it in [*commands, "scripts/run check_examples"]]
     cases += [("", it, "well") for it in commands if it.startswith("tests/")] + [("", "tests/check-steps few", "well")]
     cases += [("", "", it) for it in GATES if it != "well"]
-    kept = {file_of(it) for it in kept_numbers() if it == name_of(it) and " without " not in it and it not in (*INSIDE, APART)}
+    kept = {file_of(it) for it in kept_numbers() if it == name_of(it) and it not in (*INSIDE, APART)}
     checks.want(kept == {f"tests/{it}" for it in listed()}, f"tests/all runs other checks than have numbers in tests/cases.txt: {sorted(kept)}")
     with tempfile.TemporaryDirectory(prefix="all-") as room:
         # all are written before the first one runs: no program can be started while a child that

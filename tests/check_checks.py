@@ -19,13 +19,13 @@ SPOIL = os.path.join(BUILD, "spoil")
 CHANGES = "byte line status message"
 LAST = re.compile(r"[^:]+: (\d+) [^,]+, (\d+) wrong$")
 # numbers of cases, and checks with these claims: the status, and the lines but the last
-KEPT = {"exact": ("", 2), "least": ("at least", 2), "least without cc": ("", 1), "about": ("about", 20), "none": ("", 0)}
+KEPT = {"exact": ("", 2), "least": ("at least", 2), "about": ("about", 20), "none": ("", 0)}
 FEW, MANY, ALL, LEFT = "# exact: 1 cases were ", "# exact: 3 cases were ", "1..2\nok 1\nok 2\n", "# exact: 1 cases are left out: there is no cc\n"
 COUNTED = (
     ("exact", (True, True), 0, 0, ALL), ("exact", (True, False), 0, 1, "# exact: said\n1..2\nnot ok 1\nok 2\n"), ("exact", (True,), 0, 1, f"1..2\nok 1\n{FEW}"),
     ("exact", (True, True, True), 0, 1, f"{ALL}ok 3\n{MANY}"), ("least", (True, True, True), 0, 0, "1..3\nok 1\nok 2\nok 3 - 1 further cases\n"),
     ("least", (True,), 0, 1, "1..3\nok 1\n# least: 1 cases were "), ("least", (True, False, False, False), 0, 1, "# least: said\n"),
-    ("exact", (True,), 1, 0, f"{LEFT}1..2\nok 1\nok 2 # SKIP no cc\n"), ("least", (True,), 2, 1, "# least: 2 cases are left out"),
+    ("exact", (True,), 1, 0, f"{LEFT}1..2\nok 1\nok 2 # SKIP no cc\n"), ("least", (), 1, 1, "# least: 1 cases are left out"),
     ("least", (True, True), 1, 0, "# least: 1 cases are left out"), ("exact", (True, True), 1, 1, LEFT), ("unknown", (True,), 0, 1, "1..9"),
     ("none", (), 0, 1, "1..0\n# none: 0 cases were "), ("about", (True,) * 21, 0, 0, "1..21\nok 1\n"), ("about", (True,) * 19, 0, 1, "1..21\nok 1\n"),
     ("about", (True,) * 22, 0, 1, "1..21\nok 1\n"),
