@@ -60,7 +60,6 @@ static double requests(int is_direct, int count) {
 }
 
 static void one_life(int is_direct) {
-	int flag = is_direct ? IOSQE_FIXED_FILE : 0;
 	struct io_uring_sqe *sqe = request();
 	if (is_direct)
 		io_uring_prep_accept_direct(sqe, rig.listener, NULL, NULL, 0, 0);
@@ -68,19 +67,19 @@ static void one_life(int is_direct) {
 		io_uring_prep_accept(sqe, rig.listener, NULL, NULL, SOCK_CLOEXEC);
 	int file = submitted(1);
 	file = is_direct ? 0 : file;
-	sqe = request();
-	io_uring_prep_recv(sqe, file, buffer[1], BYTES, 0);
-	sqe->flags |= flag;
-	submitted(1);
-	sqe = request();
-	io_uring_prep_shutdown(sqe, file, SHUT_RDWR);
-	sqe->flags |= flag;
-	submitted(1);
-	sqe = request();
+	for (int nth = 0; nth < 2; nth++) {
+		sqe = request();
+		if (nth)
+			io_uring_prep_shutdown(sqe, file, SHUT_RDWR);
+		else
+			io_uring_prep_recv(sqe, file, buffer[1], BYTES, 0);
+		sqe->flags |= is_direct ? IOSQE_FIXED_FILE : 0;
+		submitted(1);
+	}
 	if (is_direct)
-		io_uring_prep_close_direct(sqe, 0);
+		io_uring_prep_close_direct(request(), 0);
 	else
-		io_uring_prep_close(sqe, file);
+		io_uring_prep_close(request(), file);
 	submitted(1);
 }
 

@@ -85,52 +85,42 @@ static inline void submit(struct rig *rig, struct io_uring_sqe *sqe, unsigned lo
 	must(io_uring_submit(&rig->ring) == 1, "io_uring_submit");
 }
 
-/* These submit one request each, with this user data. A slot below 0 leaves the choice to the
- * kernel. */
+/* Submits one request with this user data, which the statement prepares as `sqe`. */
+#define REQUEST(rig, data, ...) \
+	do { \
+		struct io_uring_sqe *sqe = io_uring_get_sqe(&(rig)->ring); \
+		__VA_ARGS__; \
+		submit(rig, sqe, data); \
+	} while (0)
+
+/* A slot below 0 leaves the choice to the kernel. */
 static inline void accept_at(struct rig *rig, int slot, unsigned long long data) {
-	struct io_uring_sqe *sqe = io_uring_get_sqe(&rig->ring);
-	io_uring_prep_accept(sqe, rig->listener, NULL, NULL, 0);
-	sqe->file_index = slot < 0 ? IORING_FILE_INDEX_ALLOC : (unsigned)slot + 1;
-	submit(rig, sqe, data);
+	REQUEST(rig, data, io_uring_prep_accept(sqe, rig->listener, NULL, NULL, 0),
+		sqe->file_index = slot < 0 ? IORING_FILE_INDEX_ALLOC : (unsigned)slot + 1);
 }
 
 static inline void accept_many(struct rig *rig, unsigned long long data) {
-	struct io_uring_sqe *sqe = io_uring_get_sqe(&rig->ring);
-	io_uring_prep_multishot_accept_direct(sqe, rig->listener, NULL, NULL, 0);
-	submit(rig, sqe, data);
+	REQUEST(rig, data, io_uring_prep_multishot_accept_direct(sqe, rig->listener, NULL, NULL, 0));
 }
 
 static inline void receive(struct rig *rig, int slot, char *buffer, unsigned long long data) {
-	struct io_uring_sqe *sqe = io_uring_get_sqe(&rig->ring);
-	io_uring_prep_recv(sqe, slot, buffer, BUFFER_BYTES, 0);
-	sqe->flags |= IOSQE_FIXED_FILE;
-	submit(rig, sqe, data);
+	REQUEST(rig, data, io_uring_prep_recv(sqe, slot, buffer, BUFFER_BYTES, 0), sqe->flags |= IOSQE_FIXED_FILE);
 }
 
 static inline void shut_down(struct rig *rig, int slot, unsigned long long data) {
-	struct io_uring_sqe *sqe = io_uring_get_sqe(&rig->ring);
-	io_uring_prep_shutdown(sqe, slot, SHUT_RDWR);
-	sqe->flags |= IOSQE_FIXED_FILE;
-	submit(rig, sqe, data);
+	REQUEST(rig, data, io_uring_prep_shutdown(sqe, slot, SHUT_RDWR), sqe->flags |= IOSQE_FIXED_FILE);
 }
 
 static inline void close_slot(struct rig *rig, int slot, unsigned long long data) {
-	struct io_uring_sqe *sqe = io_uring_get_sqe(&rig->ring);
-	io_uring_prep_close(sqe, 0);
-	sqe->file_index = (unsigned)slot + 1;
-	submit(rig, sqe, data);
+	REQUEST(rig, data, io_uring_prep_close(sqe, 0), sqe->file_index = (unsigned)slot + 1);
 }
 
 static inline void cancel_at(struct rig *rig, int slot, unsigned long long data) {
-	struct io_uring_sqe *sqe = io_uring_get_sqe(&rig->ring);
-	io_uring_prep_cancel_fd(sqe, slot, IORING_ASYNC_CANCEL_FD_FIXED);
-	submit(rig, sqe, data);
+	REQUEST(rig, data, io_uring_prep_cancel_fd(sqe, slot, IORING_ASYNC_CANCEL_FD_FIXED));
 }
 
 static inline void cancel_data(struct rig *rig, unsigned long long which, unsigned long long data) {
-	struct io_uring_sqe *sqe = io_uring_get_sqe(&rig->ring);
-	io_uring_prep_cancel64(sqe, which, 0);
-	submit(rig, sqe, data);
+	REQUEST(rig, data, io_uring_prep_cancel64(sqe, which, 0));
 }
 
 /* Returns the next completion that comes within `milliseconds`. */
