@@ -103,6 +103,11 @@ def is_legal(fixcheck, counts, script, text, what):
     counts.want((status, message, complaint) == (LEGAL, "", None), f"{what}, its history: status {status}, {complaint}", script, text)
 
 
+def is_legal_within(states, fixcheck, counts, script, text, what):
+    status, _, message = verdict(fixcheck, script, text, "--states", str(states))
+    counts.want((status, message) == (LEGAL, ""), f"{what}, with {states} states: status {status}, {message!r}", script, text)
+
+
 def check_examples(fixcheck, counts, is_few):
     for it in list(examples("examples"))[:: FEW if is_few else 1]:
         if not it.fault:
@@ -271,16 +276,14 @@ def check_played(fixcheck, counts):
         script = measure_fixcheck.one(rng, slots, chains, lambda rng, most=members: rng.randint(1, most)).encode()
         text, what = InTurns(parsed(script).files, workers, rng).play(parsed(script).commands), f"chains of {workers} workers at {slots} slots"
         is_legal(fixcheck, counts, script, text, what)
-        status, _, message = verdict(fixcheck, script, text, "--states", str(PLAYED_STATES))
-        counts.want((status, message) == (LEGAL, ""), f"{what}, with {PLAYED_STATES} states: status {status}, {message!r}", script, text)
+        is_legal_within(PLAYED_STATES, fixcheck, counts, script, text, what)
 
 
 def check_contended(fixcheck, counts, fixfiles):
     for seed in range(CONTENDED):
         script = measure_fixcheck.one(random.Random(seed), measure_fixcheck.SLOTS, CONTENDING_CHAINS, lambda _: measure_fixcheck.MEMBERS).encode()
         _, text, _ = run([fixfiles, "--workers", "1"], script)
-        status, _, message = verdict(fixcheck, script, text, "--states", str(CONTENDED_STATES))
-        counts.want((status, message) == (LEGAL, ""), f"chains that contend, by one worker: status {status}, {message!r}", script, text)
+        is_legal_within(CONTENDED_STATES, fixcheck, counts, script, text, "chains that contend, by one worker")
 
 
 def want_named(counts, is_few):
@@ -291,7 +294,6 @@ def want_named(counts, is_few):
     for kind in () if is_few else spoiled_lines.KINDS:
         refused, wrong = counts.of["refused", kind], counts.of[NOT_LEGAL, kind]
         counts.want(min(refused, wrong) >= LEAST_OF_A_KIND, f"of texts with {kind} {wrong} aren't legal, and of {refused} the names were looked at, which are few")
-        print(f"fixcheck: {kind}: {counts.of['named', kind]} of {refused} name the line")
 
 
 def want_enough(counts, count, is_few):
@@ -315,12 +317,8 @@ def command():
         check_sizes(fixcheck, counts)
         check_played(fixcheck, counts)
         check_contended(fixcheck, counts, fixfiles)
-    examples = counts.seen
     for those in in_processes(functools.partial(counts_of, fixcheck, fixfiles), good_scripts(count, given.seed), 4):
         counts.add(those)
     want_named(counts, is_few)
     want_enough(counts, count, is_few)
-    of = counts.of
-    print(f"fixcheck: {examples} examples, sizes and parts; {of['texts']} texts of {count} random scripts are legal, and so are their orders and histories; of the spoiled texts {counts.total(LEGAL)} "
-          f"are legal and {counts.total(NOT_LEGAL)} aren't, {of['left out']} have too many orders to look at; of {of['unordered']} the lines that have no order were looked at, and of {of['contradicting']} those that contradict each other; {of['broken']} have several breaks; {of['undecided']} undecided")
     return counts.end()
