@@ -2,6 +2,9 @@
  * (judge_rows.h), and nothing else. So each row is a test of what a binding passes, and of what it
  * makes of each answer. JUDGE_ROWS is the path of the rows. */
 #include "judge_rows.h"
+#include <pthread.h>
+
+static pthread_once_t once = PTHREAD_ONCE_INIT;
 
 static int is_same(const void *its, size_t its_length, const void *bytes, size_t length) { return its_length == length && !memcmp(its, bytes, length); }
 
@@ -9,7 +12,7 @@ static _Thread_local judge_row given;
 
 /* Returns the row with these arguments, and those of `given`. */
 static const judge_row *row_of(uint64_t kind, const uint8_t *script, size_t script_length, uint32_t states, uint32_t memory, int (*holds)(const judge_row *)) {
-    if (!judge_rows) read_judge_rows();
+    pthread_once(&once, read_judge_rows);
     for (const judge_row *it = judge_rows; it < judge_rows + judge_rows_length; it++)
         if (it->kind == kind && is_same(it->script, it->script_length, script, script_length) && it->states == states && it->memory == memory && holds(it)) return it;
     fprintf(stderr, "judge_stand_in.c: no row has these arguments: kind %u, states %u, memory %u\n", (unsigned)kind, states, memory);
