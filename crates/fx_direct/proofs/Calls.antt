@@ -1,35 +1,87 @@
--- Calls in flight, counted by slot, and what each says of its slot.
-use Rattle.fx_direct.proofs.Words.{arith, ◌≡◌, ◌≢◌, ℕ, ◌+◌, ◌<◌, ◌==◌, Bool, true, false, if◌then◌else◌, List, [], ◌∷◌, ◌++◌}
-use Rattle.fx_direct.proofs.Words.{AllByRecursion, Option, Some, None, eq-eqb, ne_eqb, File, Phase, Slot}
-use Rattle.fx_direct.proofs.Words.{Free, Opening, Live, Ending, Closing, is_installed, DirectCall, OpenAt, UseOf, CloseOf, key_of_call, Pending}
+-- Calls in flight, counted by kind and slot, and what each says of the file of its slot.
+use Rattle.fx_direct.proofs.Words.{arith, ◌≡◌, ◌≢◌, ℕ, zero, suc, ◌+◌, ◌<◌, ◌==◌, ◌&&◌, ◌⊎◌, Bool, true, false, if◌then◌else◌, List, [], ◌∷◌, ◌++◌, refl, sym}
+use Rattle.fx_direct.proofs.Words.{AllByRecursion, Option, Some, None, eq-eqb, ne_eqb, File, Phase, Member, Open, Request, CloseMember, bit, requests_in, is_opening, is_closing}
+use Rattle.fx_direct.proofs.Words.{Free, Opening, Live, Ending, Closing, Chained, Unseen, Installed, Failed, Later, Due, Awaited, Took, Left, ChainOpen, ChainEnd}
+use Rattle.fx_direct.proofs.Words.{DirectCall, OpenAt, UseOf, CloseOf, key_of_call, Stage, Waits, Made, Quit, Pending, pending, LifeKey, with_uses, with_close, waits_for, same_key}
+use Rattle.fx_direct.proofs.Words.{chain, chain_phase, is_chained, Slot}
 
 abbrev pub place_of : Pending → ℕ
 place_of p = (key_of_call p.call).slot
 
-abbrev pub at_slot : ℕ → Pending → ℕ
-at_slot s p = if place_of p == s then 1 else 0
+-- 1 if the call is of this kind
+abbrev pub is_member : Member → DirectCall → ℕ
+is_member Open (OpenAt k) = 1
+is_member Request (UseOf k) = 1
+is_member CloseMember (CloseOf k) = 1
+is_member m call = 0
 
--- the number of calls at a slot
-abbrev pub tally : ℕ → List Pending → ℕ
-tally s [] = 0
-tally s (p ∷ ps) = at_slot s p + tally s ps
+abbrev pub member_of : DirectCall → Member
+member_of (OpenAt k) = Open
+member_of (UseOf k) = Request
+member_of (CloseOf k) = CloseMember
 
-pub at_same : (s : ℕ) (p : Pending) → place_of p ≡ s → at_slot s p ≡ 1
-at_same s p e = rw (eq-eqb (place_of p) s e)
+pub own_member : (call : DirectCall) → is_member (member_of call) call ≡ 1
+own_member call = grind arith
 
-pub at_other : (s : ℕ) (p : Pending) → place_of p ≢ s → at_slot s p ≡ 0
-at_other s p e = rw (ne_eqb (place_of p) s e)
+abbrev pub at_slot : Member → ℕ → Pending → ℕ
+at_slot m s p = if place_of p == s then is_member m p.call else 0
 
-pub away : (s : ℕ) (p : Pending) → at_slot s p ≡ 0 → place_of p ≢ s
-away s p none e = let one = at_same s p e in omega arith
+-- the number of calls of this kind at a slot
+abbrev pub tally : Member → ℕ → List Pending → ℕ
+tally m s [] = 0
+tally m s (p ∷ ps) = at_slot m s p + tally m s ps
 
-tally-append : (s : ℕ) (xs ys : List Pending) → tally s (xs ++ ys) ≡ tally s xs + tally s ys
-tally-append s [] ys = omega arith
-tally-append s (x ∷ xs) ys = omega (arith, tally-append s xs ys)
+-- the calls of this kind that a phase counts
+abbrev pub count_in : Member → Phase → ℕ
+count_in Open p = bit (is_opening p)
+count_in Request p = requests_in p
+count_in CloseMember p = bit (is_closing p)
 
-pub tally-mid : (s : ℕ) (front rest : List Pending) (p : Pending)
-    → tally s (front ++ p ∷ rest) ≡ at_slot s p + tally s (front ++ rest)
-tally-mid s front rest p = omega (arith, tally-append s front (p ∷ rest), tally-append s front rest)
+pub at_same : (m : Member) (s : ℕ) (p : Pending) → place_of p ≡ s → at_slot m s p ≡ is_member m p.call
+at_same m s p e = rw (eq-eqb (place_of p) s e)
+
+pub at_other : (m : Member) (s : ℕ) (p : Pending) → place_of p ≢ s → at_slot m s p ≡ 0
+at_other m s p e = rw (ne_eqb (place_of p) s e)
+
+tally-append : (m : Member) (s : ℕ) (xs ys : List Pending) → tally m s (xs ++ ys) ≡ tally m s xs + tally m s ys
+tally-append m s [] ys = omega arith
+tally-append m s (x ∷ xs) ys = omega (arith, tally-append m s xs ys)
+
+pub tally-mid : (m : Member) (s : ℕ) (front rest : List Pending) (p : Pending)
+    → tally m s (front ++ p ∷ rest) ≡ at_slot m s p + tally m s (front ++ rest)
+tally-mid m s front rest p = omega (arith, tally-append m s front (p ∷ rest), tally-append m s front rest)
+
+-- the requests and the close of a chain
+abbrev pub uses_of : Member → ℕ → ℕ
+uses_of Request n = n
+uses_of m n = 0
+
+uses_zero : (m : Member) → uses_of m 0 ≡ 0
+uses_zero m = grind arith
+
+uses_more : (m : Member) (k : LifeKey) (n : ℕ) → uses_of m (suc n) ≡ is_member m (UseOf k) + uses_of m n
+uses_more m k n = grind arith
+
+pub tally-uses : (m : Member) (k : LifeKey) (n : ℕ) (ps : List Pending) → tally m k.slot (with_uses k n ps) ≡ uses_of m n + tally m k.slot ps
+tally-uses m k zero ps = let e = uses_zero m in omega arith
+tally-uses m k (suc n) ps =
+    let e = at_same m k.slot (pending (UseOf k) true Waits) refl in let u = uses_more m k n in let r = tally-uses m k n ps in omega arith
+
+pub tally-close : (m : Member) (k : LifeKey) (closes : Bool) (ps : List Pending)
+    → tally m k.slot (with_close k closes ps) ≡ (if closes then is_member m (CloseOf k) else 0) + tally m k.slot ps
+tally-close m k true ps = let e = at_same m k.slot (pending (CloseOf k) true Waits) refl in omega arith
+tally-close m k false ps = omega arith
+
+pub uses_else : (m : Member) (k : LifeKey) (n s : ℕ) (ps : List Pending) → s ≢ k.slot → tally m s (with_uses k n ps) ≡ tally m s ps
+uses_else m k zero s ps ne = refl
+uses_else m k (suc n) s ps ne =
+    let e = at_other m s (pending (UseOf k) true Waits) (λ (e : k.slot ≡ s). ne (sym e)) in let r = uses_else m k n s ps ne in omega arith
+
+pub close_else : (m : Member) (k : LifeKey) (closes : Bool) (s : ℕ) (ps : List Pending) → s ≢ k.slot → tally m s (with_close k closes ps) ≡ tally m s ps
+close_else m k true s ps ne = let e = at_other m s (pending (CloseOf k) true Waits) (λ (e : k.slot ≡ s). ne (sym e)) in omega arith
+close_else m k false s ps ne = refl
+
+-- Facts of each call.
 
 pub each-out : (P : Pending → Type 0) (front rest : List Pending) (p : Pending)
     → AllByRecursion P (front ++ p ∷ rest) → P p × AllByRecursion P (front ++ rest)
@@ -45,54 +97,153 @@ pub each-map : {A : Type 0} (P Q : A → Type 0) (ps : List A) → ((p : A) → 
 each-map P Q [] f all = tt
 each-map P Q (p ∷ ps) f all = (f p all.0, each-map P Q ps f all.1)
 
--- of calls of which none is at the slot
-pub each-away : (P Q : Pending → Type 0) (s : ℕ) (ps : List Pending) → tally s ps ≡ 0
-    → ((p : Pending) → place_of p ≢ s → P p → Q p) → AllByRecursion P ps → AllByRecursion Q ps
-each-away P Q s [] none f all = tt
-each-away P Q s (p ∷ ps) none f all =
-    let here : at_slot s p ≡ 0 = omega arith in let rest : tally s ps ≡ 0 = omega arith in
-    (f p (away s p here) all.0, each-away P Q s ps rest f all.1)
+pub each-both : (P R Q : Pending → Type 0) (ps : List Pending) → ((p : Pending) → P p → R p → Q p)
+    → AllByRecursion P ps → AllByRecursion R ps → AllByRecursion Q ps
+each-both P R Q [] f all too = tt
+each-both P R Q (p ∷ ps) f all too = (f p all.0 too.0, each-both P R Q ps f all.1 too.1)
+
+pub none_at : (m : Member) (s : ℕ) (ps : List Pending) → tally m s ps ≡ 0 → AllByRecursion (λ p. at_slot m s p ≡ 0) ps
+none_at m s [] none = tt
+none_at m s (p ∷ ps) none = (omega arith, none_at m s ps (omega arith))
+
+pub each-use : (P : Pending → Type 0) (k : LifeKey) (n : ℕ) (ps : List Pending) → P (pending (UseOf k) true Waits)
+    → AllByRecursion P ps → AllByRecursion P (with_uses k n ps)
+each-use P k zero ps own all = all
+each-use P k (suc n) ps own all = (own, each-use P k n ps own all)
+
+pub each-close : (P : Pending → Type 0) (k : LifeKey) (closes : Bool) (ps : List Pending) → P (pending (CloseOf k) true Waits)
+    → AllByRecursion P ps → AllByRecursion P (with_close k closes ps)
+each-close P k true ps own all = (own, all)
+each-close P k false ps own all = all
+
+-- Files of slots.
+
+-- the file of a slot's life: its open waits; its open has installed nothing; it is there; it was
+-- taken
+pub data Fate : Type 0 where
+  Expected : Fate
+  Missing : Fate
+  There : Fate
+  Gone : Fate
+
+abbrev pub not_gone : Fate → Bool
+not_gone Gone = false
+not_gone fate = true
 
 -- the file is at the slot, and it alone was installed under the key
 abbrev pub HasOne : Option File → List File → Type 0
 HasOne at files = (f : File) × (at ≡ Some f) × (files ≡ f ∷ [])
 
--- what a call in flight says of its slot
-abbrev pub Fits : DirectCall → Bool → Phase → Option File → List File → Type 0
-Fits (OpenAt k) false p at files = (p ≡ Opening) × (at ≡ None) × (files ≡ [])
-Fits (OpenAt k) true p at files = (p ≡ Opening) × HasOne at files
-Fits (UseOf k) made p at files = (is_installed p ≡ true) × (made ≡ false)
-Fits (CloseOf k) false p at files = (p ≡ Closing) × HasOne at files
-Fits (CloseOf k) true p at files = (p ≡ Closing) × (at ≡ None)
+-- what is at a slot, and what was installed under its key
+abbrev pub Has : Fate → Option File → List File → Type 0
+Has Expected at files = (at ≡ None) × (files ≡ [])
+Has Missing at files = (at ≡ None) × (files ≡ [])
+Has There at files = HasOne at files
+Has Gone at files = at ≡ None
 
--- what a slot says with no call
-abbrev pub Stands : Phase → Option File → List File → Type 0
-Stands Free at files = at ≡ None
-Stands (Live requests users) at files = HasOne at files
-Stands (Ending requests users) at files = HasOne at files
-Stands p at files = Unit {0}
+-- a call in flight at the slot
+abbrev pub fits : DirectCall → Stage → Fate → Bool
+fits (OpenAt k) Waits Expected = true
+fits (OpenAt k) Made There = true
+fits (OpenAt k) Made Gone = true
+fits (OpenAt k) Quit Missing = true
+fits (UseOf k) Waits fate = not_gone fate
+fits (UseOf k) Quit fate = true
+fits (CloseOf k) Waits fate = not_gone fate
+fits (CloseOf k) Made Gone = true
+fits (CloseOf k) Quit fate = not_gone fate
+fits call stage fate = false
 
-abbrev pub FitsAt : Pending → ℕ → Slot → Option File → List File → Type 0
-FitsAt p size slot at files =
-    (place_of p < size) × (slot.number ≡ (key_of_call p.call).number) × Fits p.call p.made slot.phase at files
+-- the completions of a chain
+abbrev pub suits_open : Fate → ChainOpen → Bool
+suits_open fate Unseen = true
+suits_open There Installed = true
+suits_open Gone Installed = true
+suits_open Missing Failed = true
+suits_open fate opened = false
 
--- the same fact, of equal things
-pub fits_same : (p : Pending) {n n' : ℕ} {slot slot' : Slot} {at at' : Option File} {files files' : List File}
-    → n' ≡ n → slot' ≡ slot → at' ≡ at → files' ≡ files → FitsAt p n slot at files → FitsAt p n' slot' at' files'
-fits_same p e1 e2 e3 e4 fits = rw (e1, e2, e3, e4) fits
+abbrev pub suits_end : Fate → ChainEnd → Bool
+suits_end fate Awaited = true
+suits_end Gone Took = true
+suits_end fate Took = false
+suits_end fate end = not_gone fate
 
-pub stands_same : {slot slot' : Slot} {at at' : Option File} {files files' : List File}
-    → slot' ≡ slot → at' ≡ at → files' ≡ files → Stands slot.phase at files → Stands slot'.phase at' files'
-stands_same e2 e3 e4 stands = rw (e2, e3, e4) stands
+-- the phase of the slot
+abbrev pub suits : Fate → Phase → Bool
+suits Missing Free = true
+suits Gone Free = true
+suits fate Opening = not_gone fate
+suits There (Live requests users) = true
+suits There (Ending requests users) = true
+suits There Closing = true
+suits Gone Closing = true
+suits fate (Chained c) = suits_open fate c.opened && suits_end fate c.end
+suits fate p = false
 
--- a call of an open slot is a request, and it fits every open phase
-pub open_stays : (call : DirectCall) (made : Bool) (p p' : Phase) (at : Option File) (files : List File)
-    → is_installed p ≡ true → is_installed p' ≡ true → Fits call made p at files → Fits call made p' at files
-open_stays call made p p' at files live live' fits = grind arith
+-- a request or a close that is linked
+abbrev pub is_bound : DirectCall → Bool → Bool
+is_bound (OpenAt k) linked = true
+is_bound call linked = linked
 
--- an open slot has its file
-pub open_stands : (p : Phase) (at : Option File) (files : List File) → is_installed p ≡ true → Stands p at files → HasOne at files
-open_stands p at files live stands = grind arith
+-- the call is of the slot's life; while that is chained, its requests and its close are linked
+abbrev pub FitsAt : Pending → ℕ → Slot → Fate → Type 0
+FitsAt p size slot fate =
+    (place_of p < size) × (slot.number ≡ (key_of_call p.call).number) × (fits p.call p.stage fate ≡ true)
+    × (is_chained slot.phase ≡ true → is_bound p.call p.linked ≡ true)
 
-pub stands_open : (p : Phase) (at : Option File) (files : List File) → is_installed p ≡ true → HasOne at files → Stands p at files
-stands_open p at files live one = grind arith
+-- the same facts, of equal things
+pub fits_same : (p : Pending) {size size' : ℕ} {slot slot' : Slot} {fate fate' : Fate}
+    → size' ≡ size → slot' ≡ slot → fate' ≡ fate → FitsAt p size slot fate → FitsAt p size' slot' fate'
+fits_same p e1 e2 e3 fits = rw (e1, e2, e3) fits
+
+pub has_same : {fate fate' : Fate} {at at' : Option File} {files files' : List File}
+    → fate' ≡ fate → at' ≡ at → files' ≡ files → Has fate at files → Has fate' at' files'
+has_same e1 e2 e3 has = rw (e1, e2, e3) has
+
+-- Phases and files.
+
+-- the calls of a chain's phase are those of the chain
+pub count_chain : (m : Member) (n : ℕ) (opened : ChainOpen) (end : ChainEnd)
+    → count_in m (chain_phase n opened end) ≡ count_in m (Chained (chain n opened end))
+count_chain m n opened end = grind arith
+
+-- the phase that a chain leaves suits what suited the chain
+pub suits_chain : (fate : Fate) (n : ℕ) (opened : ChainOpen) (end : ChainEnd)
+    → suits fate (Chained (chain n opened end)) ≡ true → suits fate (chain_phase n opened end) ≡ true
+suits_chain fate n opened end suit = grind arith
+
+-- a phase that a chain leaves is chained only if the chain was
+pub gone_free : (fate : Fate) (p : Phase) → suits fate p ≡ true → p ≡ Free → (fate ≡ Missing) ⊎ (fate ≡ Gone)
+gone_free fate p suit free = grind arith
+
+-- an open waits: the phase counts it
+pub expected_opens : (p : Phase) → suits Expected p ≡ true → bit (is_opening p) ≡ 1
+expected_opens p suit = grind arith
+
+-- a request or a close of a life that isn't chained has a file
+pub unchained_due : (p : Phase) → suits Expected p ≡ true → 0 < requests_in p + bit (is_closing p) → is_chained p ≡ true
+unchained_due p suit busy = grind arith
+
+-- a request or a close without a file is a chain's
+pub missing_chained : (p : Phase) → suits Missing p ≡ true → 0 < requests_in p + bit (is_closing p) → is_chained p ≡ true
+missing_chained p suit busy = grind arith
+
+-- Calls whose file changes.
+
+pub same_keys : (j k : LifeKey) → j.slot ≡ k.slot → j.number ≡ k.number → same_key j k ≡ true
+same_keys j k e n = rw (eq-eqb j.slot k.slot e, eq-eqb j.number k.number n) refl
+
+-- the open is done
+pub opened_fits : (call : DirectCall) (stage : Stage) (fate : Fate) → fits call stage Expected ≡ true → is_member Open call ≡ 0 → not_gone fate ≡ true
+    → fits call stage fate ≡ true
+opened_fits call stage fate fit other left = grind arith
+
+-- the close is done
+pub closed_fits : (call : DirectCall) (stage : Stage) (k : LifeKey) → fits call stage There ≡ true → is_member CloseMember call ≡ 0
+    → (waits_for (CloseOf k) call stage ≡ false) ⊎ (is_member Request call ≡ 0) → same_key (key_of_call call) k ≡ true → fits call stage Gone ≡ true
+closed_fits call stage k fit other turn same = grind arith
+
+-- an open that waits has its turn before the others of its chain
+pub no_open : (call : DirectCall) (stage : Stage) (k : LifeKey) → fits call stage Expected ≡ true → same_key (key_of_call call) k ≡ true
+    → (waits_for (UseOf k) call stage ≡ false) ⊎ (waits_for (CloseOf k) call stage ≡ false) → is_member Open call ≡ 0
+no_open call stage k fit same turn = grind arith

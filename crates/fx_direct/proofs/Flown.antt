@@ -1,6 +1,6 @@
 -- Flights from one empty slot, moment by moment: each world is the one that the moment leaves.
-use Rattle.fx_direct.proofs.Words.{arith, ◌<◌, ◌≤◌, ◌≡◌, List, [], ◌∷◌, ◌++◌, refl, Bool, false, Slot, World, Pending, pending, UseOf, Transition, DirectCall}
-use Rattle.fx_direct.proofs.Words.{Accesses, Does, Others, DirectMoment, Loses, TurnsCalls, MayMake, IsElsewhere, Allows, Action, slots_with, table_after, length}
+use Rattle.fx_direct.proofs.Words.{arith, ◌<◌, ◌≤◌, ◌≡◌, List, [], ◌∷◌, ◌++◌, refl, Bool, false, Slot, World, Pending, pending, Stage, Waits, Quit, UseOf, Transition, DirectCall}
+use Rattle.fx_direct.proofs.Words.{Accesses, Does, Quits, Others, DirectMoment, Loses, TurnsCalls, MayMake, IsInTurn, stage_after, IsElsewhere, Allows, Action, slots_with, table_after, length}
 use Rattle.fx_direct.specs.Flight.{IsDirectFlightBy}
 use Rattle.fx_direct.specs.Round.{one_slot, first_key}
 use Rattle.fx_direct.specs.declared.key.TheConstants.{MOST_LIVES}
@@ -14,12 +14,19 @@ one_life = omega arith
 pub two_lives : 2 ≤ MOST_LIVES
 two_lives = omega arith
 
+pub three_lives : 3 ≤ MOST_LIVES
+three_lives = omega arith
+
+-- a call that waits
+abbrev pub waits : DirectCall → Pending
+waits call = pending call false Waits
+
 -- a request of the first key
 abbrev pub use1 : Pending
-use1 = pending (UseOf first_key) false
+use1 = waits (UseOf first_key)
 
-pub only : (c : DirectCall) (made : Bool) (rest : List Pending) → Loses c made (pending c made ∷ rest) rest
-only c made rest = record { front = []; rest = rest; was = refl; is = refl }
+pub only : (c : DirectCall) (linked : Bool) (stage : Stage) (rest : List Pending) → Loses c stage (pending c linked stage ∷ rest) rest
+only c linked stage rest = record { front = []; rest = rest; linked = linked; was = refl; is = refl }
 
 -- a flight with these moments, under a condition of the machine's transitions
 pub record Flown (enabled : List Slot → Transition → Type 0) (h : List DirectMoment) : Type 0 where
@@ -38,11 +45,19 @@ module _ {enabled : List Slot → Transition → Type 0} {h : List DirectMoment}
   }
 
   -- an access by the call between `front` and `rest`
-  abbrev pub makes : (call : DirectCall) (a : Action) (earlier later : Bool) (front rest : List Pending) → Allows f.end.table a
-      → f.end.calls ≡ front ++ pending call earlier ∷ rest → MayMake call earlier a later → Flown enabled (Accesses call a ∷ h)
-  makes call a earlier later front rest allowed was may = record {
-    end = record { slots = f.end.slots; table = table_after f.end.table a; calls = front ++ pending call later ∷ rest };
-    flight = (f.end, f.flight, (allowed, record { front = front; rest = rest; earlier = earlier; later = later; was = was; is = refl; may = may }, refl));
+  abbrev pub makes : (call : DirectCall) (linked : Bool) (a : Action) (front rest : List Pending) → Allows f.end.table a
+      → f.end.calls ≡ front ++ pending call linked Waits ∷ rest → MayMake call a → IsInTurn call linked f.end.calls → Flown enabled (Accesses call a ∷ h)
+  makes call linked a front rest allowed was may turn = record {
+    end = record { slots = f.end.slots; table = table_after f.end.table a; calls = front ++ pending call linked (stage_after call a) ∷ rest };
+    flight = (f.end, f.flight, (allowed, record { front = front; rest = rest; linked = linked; was = was; is = refl; may = may; turn = turn }, refl));
+  }
+
+  -- the call between `front` and `rest` makes no access any more
+  abbrev pub quits : (call : DirectCall) (linked : Bool) (front rest : List Pending) → f.end.calls ≡ front ++ pending call linked Waits ∷ rest
+      → Flown enabled (Quits call ∷ h)
+  quits call linked front rest was = record {
+    end = record { slots = f.end.slots; table = f.end.table; calls = front ++ pending call linked Quit ∷ rest };
+    flight = (f.end, f.flight, (record { front = front; rest = rest; linked = linked; was = was; is = refl }, refl));
   }
 
   -- an action of others

@@ -1,6 +1,8 @@
+mod Accessing
 mod Asking
 mod Calls
 mod Counting
+mod Effects
 mod Flown
 mod Listing
 mod Lives

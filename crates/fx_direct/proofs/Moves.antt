@@ -1,21 +1,22 @@
--- The invariant of flights.
+-- The invariant of flights, and a transition of the machine.
 use Rattle.fx_direct.proofs.Words.{arith, ◌≡◌, ◌≢◌, ℕ, ◌<◌, ◌≤◌, true, List, [], ◌∷◌, ◌++◌, length, refl, sym, ap, inl, inr}
-use Rattle.fx_direct.proofs.Words.{◌∙◌, subst, cases_eq, get_or-set_same, get_or-set_other, length-set, File, LifeKey, Phase, Slot, State}
-use Rattle.fx_direct.proofs.Words.{AllByRecursion, key_of_call}
-use Rattle.fx_direct.proofs.Words.{Pending, DirectMoment, Does, Transition}
-use Rattle.fx_direct.proofs.Words.{calls_in, is_installed, life_at, slot_numbered, phase_at, key_concerned, phase_after, slots_with, files_under}
-use Rattle.fx_direct.proofs.Calls.{place_of, tally, at_same, at_other, tally-mid, each-out, each-map, each-away}
-use Rattle.fx_direct.proofs.Calls.{HasOne, Stands, FitsAt, fits_same, stands_same, open_stays, open_stands, stands_open}
+use Rattle.fx_direct.proofs.Words.{◌∙◌, subst, cases_eq, get_or-set_same, get_or-set_other, length-set, LifeKey, Phase, Slot, State, Member}
+use Rattle.fx_direct.proofs.Words.{AllByRecursion, key_of_call, is_chained, has_chain, Pending, DirectMoment, Does, Transition}
+use Rattle.fx_direct.proofs.Words.{life_at, slot_numbered, phase_at, key_concerned, phase_after, slots_with, files_under}
+use Rattle.fx_direct.proofs.Calls.{place_of, tally, at_other, tally-mid, count_in, each-both, is_bound, Fate, Has, FitsAt, fits_same, has_same, suits}
 
-abbrev pub Fitting : List Slot → State → List DirectMoment → Pending → Type 0
-Fitting slots table h p =
-    FitsAt p (length slots) (slot_numbered slots (place_of p)) (table.at (place_of p)) (files_under (key_of_call p.call) h)
+abbrev pub Fitting : List Slot → (ℕ → Fate) → Pending → Type 0
+Fitting slots fate p = FitsAt p (length slots) (slot_numbered slots (place_of p)) (fate (place_of p))
 
-pub record Sound (slots : List Slot) (table : State) (calls : List Pending) (h : List DirectMoment) : Type 0 where
+-- the calls in flight are those that the machine counts, and each slot has a file as its phase and
+-- its calls say
+pub record Sound (fate : ℕ → Fate) (slots : List Slot) (table : State) (calls : List Pending) (h : List DirectMoment) : Type 0 where
   pub inside : length slots ≤ table.size
-  pub counted : (s : ℕ) → tally s calls ≡ calls_in (phase_at slots s)
-  pub stands : (s : ℕ) → s < length slots → Stands (phase_at slots s) (table.at s) (files_under (life_at slots s) h)
-  pub fits : AllByRecursion (Fitting slots table h) calls
+  pub counted : (m : Member) (s : ℕ) → tally m s calls ≡ count_in m (phase_at slots s)
+  pub suit : (s : ℕ) → suits (fate s) (phase_at slots s) ≡ true
+  pub has : (s : ℕ) → s < length slots → Has (fate s) (table.at s) (files_under (life_at slots s) h)
+  pub linked : (s : ℕ) → is_chained (phase_at slots s) ≡ true → has_chain (life_at slots s) h ≡ true
+  pub fits : AllByRecursion (Fitting slots fate) calls
   pub unborn : (k : LifeKey) → (slot_numbered slots k.slot).number < k.number → files_under k h ≡ []
 
 abbrev written : Transition → List Slot → Slot
@@ -30,9 +31,13 @@ after-else slots d s ne = grind (arith, get_or-set_other)
 pub after-length : (slots : List Slot) (d : Transition) → length (slots_with slots d) ≡ length slots
 after-length slots d = grind (arith, length-set)
 
+-- a chain that was submitted stays so
+linked_more : (k : LifeKey) (d : Transition) (h : List DirectMoment) → has_chain k h ≡ true → has_chain k (Does d ∷ h) ≡ true
+linked_more k d h e = grind arith
+
 -- the machine turns one slot
-module _ {slots : List Slot} {table : State} {calls : List Pending} {h : List DirectMoment} (sound : Sound slots table calls h) (d : Transition)
-    (within : (key_concerned d).slot < length slots) where
+module _ {fate : ℕ → Fate} {slots : List Slot} {table : State} {calls : List Pending} {h : List DirectMoment} (sound : Sound fate slots table calls h)
+    (d : Transition) (within : (key_concerned d).slot < length slots) where
   abbrev k : LifeKey
   k = key_concerned d
 
@@ -42,36 +47,44 @@ module _ {slots : List Slot} {table : State} {calls : List Pending} {h : List Di
   abbrev p' : Phase
   p' = phase_after d p
 
-  -- a call at another slot fits as before
-  elsewhere : (x : Pending) → place_of x ≢ k.slot → Fitting slots table h x → Fitting (slots_with slots d) table (Does d ∷ h) x
-  elsewhere x ne fits = fits_same x (after-length slots d) (after-else slots d (place_of x) ne) refl refl fits
-
-  -- a call at this slot
-  at_this : (x : Pending) → place_of x ≡ k.slot
-      → FitsAt x (length slots) (written d slots) (table.at (place_of x)) (files_under (key_of_call x.call) h)
-      → Fitting (slots_with slots d) table (Does d ∷ h) x
-  at_this x e fits = grind (arith, after-here, fits_same, after-length)
-
-  pub turned : (calls' : List Pending) → tally k.slot calls' ≡ calls_in p'
-      → ((s : ℕ) → s ≢ k.slot → tally s calls' ≡ tally s calls)
-      → Stands p' (table.at k.slot) (files_under k h)
-      → AllByRecursion (Fitting (slots_with slots d) table (Does d ∷ h)) calls'
+  pub turned : (fate' : ℕ → Fate) (calls' : List Pending) → ((s : ℕ) → s ≢ k.slot → fate' s ≡ fate s)
+      → ((m : Member) → tally m k.slot calls' ≡ count_in m p')
+      → ((m : Member) (s : ℕ) → s ≢ k.slot → tally m s calls' ≡ tally m s calls)
+      → suits (fate' k.slot) p' ≡ true
+      → Has (fate' k.slot) (table.at k.slot) (files_under k h)
+      → (is_chained p' ≡ true → has_chain k (Does d ∷ h) ≡ true)
+      → AllByRecursion (Fitting (slots_with slots d) fate') calls'
       → (slot_numbered slots k.slot).number ≤ k.number
-      → Sound (slots_with slots d) table calls' (Does d ∷ h)
-  turned calls' count others stand fits grows = record {
+      → Sound fate' (slots_with slots d) table calls' (Does d ∷ h)
+  turned fate' calls' same count others suit has linked fits grows = record {
     inside = rw (after-length slots d) sound.inside;
-    counted = λ s. elim (cases_eq s k.slot) [
-      | inl e ↦ subst (λ (y : ℕ). tally y calls' ≡ calls_in (phase_at (slots_with slots d) y)) (sym e)
-          (count ∙ sym (ap (λ (x : Slot). calls_in x.phase) (after-here slots d within)))
-      | inr ne ↦ others s ne ∙ sound.counted s ∙ sym (ap (λ (x : Slot). calls_in x.phase) (after-else slots d s ne))
+    counted = λ m s. elim (cases_eq s k.slot) [
+      | inl e ↦ subst (λ (y : ℕ). tally m y calls' ≡ count_in m (phase_at (slots_with slots d) y)) (sym e)
+          (count m ∙ sym (ap (λ (x : Slot). count_in m x.phase) (after-here slots d within)))
+      | inr ne ↦ others m s ne ∙ sound.counted m s ∙ sym (ap (λ (x : Slot). count_in m x.phase) (after-else slots d s ne))
     ];
-    stands = λ s lt. elim (cases_eq s k.slot) [
-      | inl e ↦ subst (λ (y : ℕ). Stands (phase_at (slots_with slots d) y) (table.at y) (files_under (life_at (slots_with slots d) y) h)) (sym e)
-          (stands_same {slot = written d slots} (after-here slots d within) refl
-          (ap (λ (x : Slot). files_under (record { slot = k.slot; number = x.number }) h) (after-here slots d within)) stand)
-      | inr ne ↦ stands_same {slot = slot_numbered slots s} (after-else slots d s ne) refl
-          (ap (λ (x : Slot). files_under (record { slot = s; number = x.number }) h) (after-else slots d s ne))
-          (sound.stands s (rw (← after-length slots d) lt))
+    suit = λ s. elim (cases_eq s k.slot) [
+      | inl e ↦ subst (λ (y : ℕ). suits (fate' y) (phase_at (slots_with slots d) y) ≡ true) (sym e)
+          (ap (λ (x : Slot). suits (fate' k.slot) x.phase) (after-here slots d within) ∙ suit)
+      | inr ne ↦ ap (λ (g : Fate). suits g (phase_at (slots_with slots d) s)) (same s ne)
+          ∙ ap (λ (x : Slot). suits (fate s) x.phase) (after-else slots d s ne) ∙ sound.suit s
+    ];
+    has = λ s lt. elim (cases_eq s k.slot) [
+      | inl e ↦ subst (λ (y : ℕ). Has (fate' y) (table.at y) (files_under (life_at (slots_with slots d) y) h)) (sym e)
+          (has_same {fate = fate' k.slot} refl refl (ap (λ (x : Slot). files_under (record { slot = k.slot; number = x.number }) h) (after-here slots d within)) has)
+      | inr ne ↦ has_same (same s ne) refl (ap (λ (x : Slot). files_under (record { slot = s; number = x.number }) h) (after-else slots d s ne))
+          (sound.has s (rw (← after-length slots d) lt))
+    ];
+    linked = λ s chained. elim (cases_eq s k.slot) [
+      | inl e ↦
+          let c : is_chained p' ≡ true = sym (ap (λ (x : Slot). is_chained x.phase) (after-here slots d within))
+          ∙ subst (λ (y : ℕ). is_chained (phase_at (slots_with slots d) y) ≡ true) e chained in
+          subst (λ (y : ℕ). has_chain (life_at (slots_with slots d) y) (Does d ∷ h) ≡ true) (sym e)
+          (ap (λ (x : Slot). has_chain (record { slot = k.slot; number = x.number }) (Does d ∷ h)) (after-here slots d within) ∙ linked c)
+      | inr ne ↦
+          let c : is_chained (phase_at slots s) ≡ true = sym (ap (λ (x : Slot). is_chained x.phase) (after-else slots d s ne)) ∙ chained in
+          ap (λ (x : Slot). has_chain (record { slot = s; number = x.number }) (Does d ∷ h)) (after-else slots d s ne)
+          ∙ linked_more (life_at slots s) d h (sound.linked s c)
     ];
     fits = fits;
     unborn = λ j lt. elim (cases_eq j.slot k.slot) [
@@ -84,58 +97,44 @@ module _ {slots : List Slot} {table : State} {calls : List Pending} {h : List Di
     ];
   }
 
-  -- an open slot stays open
-  pub still : (calls' : List Pending) → (slot_numbered slots k.slot).number ≡ k.number → is_installed p ≡ true → is_installed p' ≡ true
-      → tally k.slot calls' ≡ calls_in p'
-      → ((s : ℕ) → s ≢ k.slot → tally s calls' ≡ tally s calls)
-      → AllByRecursion (Fitting slots table h) calls'
-      → Sound (slots_with slots d) table calls' (Does d ∷ h)
-  still calls' num live live' count others fits =
-      let files : files_under (life_at slots k.slot) h ≡ files_under k h = ap (λ (n : ℕ). files_under (record { slot = k.slot; number = n }) h) num in
-      let one : HasOne (table.at k.slot) (files_under k h) =
-      subst (λ (fs : List File). HasOne (table.at k.slot) fs) files (open_stands p (table.at k.slot) (files_under (life_at slots k.slot) h) live (sound.stands k.slot within)) in
-      turned calls' count others (stands_open p' (table.at k.slot) (files_under k h) live' one)
-      (each-map (Fitting slots table h) (Fitting (slots_with slots d) table (Does d ∷ h)) calls' (λ x fit. elim (cases_eq (place_of x) k.slot) [
-        | inl e ↦ at_this x e (
-          fit.0,
-          sym num ∙ ap (λ (s : ℕ). (slot_numbered slots s).number) (sym e) ∙ fit.1,
-          open_stays x.call x.made (phase_at slots (place_of x)) p' (table.at (place_of x)) (files_under (key_of_call x.call) h)
-              (subst (λ (s : ℕ). is_installed (phase_at slots s) ≡ true) (sym e) live) live' fit.2,
+  -- a call fits as before, if it is linked or at another slot where the life is chained
+  abbrev pub Binds : Pending → Type 0
+  Binds x = place_of x ≡ k.slot → is_chained p' ≡ true → is_bound x.call x.linked ≡ true
+
+  stays : (slot_numbered slots k.slot).number ≡ k.number → (x : Pending) → Fitting slots fate x → Binds x → Fitting (slots_with slots d) fate x
+  stays num x fit binds = elim (cases_eq (place_of x) k.slot) [
+    | inl e ↦
+        let here : slot_numbered (slots_with slots d) (place_of x) ≡ written d slots =
+        subst (λ (y : ℕ). slot_numbered (slots_with slots d) y ≡ written d slots) (sym e) (after-here slots d within) in
+        let number : (slot_numbered slots (place_of x)).number ≡ k.number = ap (λ (s : ℕ). (slot_numbered slots s).number) e ∙ num in (
+          rw (after-length slots d) fit.0,
+          ap (λ (y : Slot). y.number) here ∙ sym number ∙ fit.1,
+          fit.2,
+          λ c. binds e (sym (ap (λ (y : Slot). is_chained y.phase) here) ∙ c),
         )
-        | inr ne ↦ elsewhere x ne fit
-      ]) fits)
+    | inr ne ↦ fits_same x (after-length slots d) (after-else slots d (place_of x) ne) refl fit
+  ]
+
+  -- the file of the slot stays where it is
+  pub still : (calls' : List Pending) → (slot_numbered slots k.slot).number ≡ k.number
+      → ((m : Member) → tally m k.slot calls' ≡ count_in m p')
+      → ((m : Member) (s : ℕ) → s ≢ k.slot → tally m s calls' ≡ tally m s calls)
+      → suits (fate k.slot) p' ≡ true
+      → (is_chained p' ≡ true → has_chain k (Does d ∷ h) ≡ true)
+      → AllByRecursion (Fitting slots fate) calls'
+      → AllByRecursion Binds calls'
+      → Sound fate (slots_with slots d) table calls' (Does d ∷ h)
+  still calls' num count others suit linked fits binds =
+      turned fate calls' (λ s ne. refl) count others suit
+      (has_same {fate = fate k.slot} refl refl (sym (ap (λ (n : ℕ). files_under (record { slot = k.slot; number = n }) h) num)) (sound.has k.slot within)) linked
+      (each-both (Fitting slots fate) Binds (Fitting (slots_with slots d) fate) calls' (stays num) fits binds)
       (omega arith)
 
   -- one more call at the slot
-  pub more : (x : Pending) → place_of x ≡ k.slot → (s : ℕ) → s ≢ k.slot → tally s (x ∷ calls) ≡ tally s calls
-  more x e s ne = let o = at_other s x (λ (q : place_of x ≡ s). ne (sym q ∙ e)) in omega arith
-
-  -- the first call at a slot that had none
-  pub first : (x : Pending) → place_of x ≡ k.slot → calls_in p ≡ 0 → calls_in p' ≡ 1
-      → Stands p' (table.at k.slot) (files_under k h)
-      → FitsAt x (length slots) (written d slots) (table.at (place_of x)) (files_under (key_of_call x.call) h)
-      → (slot_numbered slots k.slot).number ≤ k.number
-      → Sound (slots_with slots d) table (x ∷ calls) (Does d ∷ h)
-  first x e none one stand fit grows =
-      let t = sound.counted k.slot in let u = at_same k.slot x e in let zero : tally k.slot calls ≡ 0 = t ∙ none in
-      turned (x ∷ calls) (omega arith) (more x e) stand
-      (at_this x e fit, each-away (Fitting slots table h) (Fitting (slots_with slots d) table (Does d ∷ h)) k.slot calls zero elsewhere sound.fits) grows
+  pub more : (x : Pending) → place_of x ≡ k.slot → (m : Member) (s : ℕ) → s ≢ k.slot → tally m s (x ∷ calls) ≡ tally m s calls
+  more x e m s ne = let o = at_other m s x (λ (q : place_of x ≡ s). ne (sym q ∙ e)) in omega arith
 
   -- a call at the slot is over
-  pub less : (x : Pending) (front rest : List Pending) → place_of x ≡ k.slot → calls ≡ front ++ x ∷ rest → (s : ℕ) → s ≢ k.slot
-      → tally s (front ++ rest) ≡ tally s calls
-  less x front rest e was s ne = grind (arith, at_other, tally-mid)
-
-  -- the only call at the slot is over
-  pub last : (x : Pending) (front rest : List Pending) → place_of x ≡ k.slot → calls ≡ front ++ x ∷ rest → calls_in p ≡ 1 → calls_in p' ≡ 0
-      → (FitsAt x (length slots) (slot_numbered slots (place_of x)) (table.at (place_of x)) (files_under (key_of_call x.call) h)
-      → Stands p' (table.at k.slot) (files_under k h))
-      → (slot_numbered slots k.slot).number ≤ k.number
-      → Sound (slots_with slots d) table (front ++ rest) (Does d ∷ h)
-  last x front rest e was one none stand grows =
-      let t = sound.counted k.slot in let u = at_same k.slot x e in let m = tally-mid k.slot front rest x in
-      let w : tally k.slot calls ≡ tally k.slot (front ++ x ∷ rest) = ap (tally k.slot) was in
-      let zero : tally k.slot (front ++ rest) ≡ 0 = omega arith in
-      let all = each-out (Fitting slots table h) front rest x (subst (AllByRecursion (Fitting slots table h)) was sound.fits) in
-      turned (front ++ rest) (zero ∙ sym none) (less x front rest e was) (stand all.0)
-      (each-away (Fitting slots table h) (Fitting (slots_with slots d) table (Does d ∷ h)) k.slot (front ++ rest) zero elsewhere all.1) grows
+  pub less : (x : Pending) (front rest : List Pending) → place_of x ≡ k.slot → calls ≡ front ++ x ∷ rest → (m : Member) (s : ℕ) → s ≢ k.slot
+      → tally m s (front ++ rest) ≡ tally m s calls
+  less x front rest e was m s ne = grind (arith, at_other, tally-mid)

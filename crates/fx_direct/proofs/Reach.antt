@@ -1,27 +1,40 @@
 -- Every flight keeps the invariant, and an access finds its own file.
-use Rattle.fx_direct.proofs.Words.{arith, ◌≡◌, ◌≢◌, ℕ, Bool, List, [], ◌∷◌, sym, ap, ◌∙◌, subst}
-use Rattle.fx_direct.proofs.Words.{Action}
-use Rattle.fx_direct.proofs.Words.{Look, Put, Take}
-use Rattle.fx_direct.proofs.Words.{life_at, phase_at, DirectCall, OpenAt, UseOf, CloseOf, Pending, pending, World, DirectMoment, Does, Accesses, Others, Makes}
-use Rattle.fx_direct.proofs.Words.{Comes, IsDirectFlight, files_under, IsEmptyStart, FindsItsOwn, AllByRecursion, ◌▷◌, ◌▷▷◌}
+use Rattle.fx_direct.proofs.Words.{arith, ◌≡◌, ◌≢◌, ◌<◌, ◌+◌, ℕ, List, [], ◌∷◌, ◌⊎◌, inl, inr, refl, sym, ap, ◌∙◌, subst, true, Bool, Option, File, Phase}
+use Rattle.fx_direct.proofs.Words.{Action, Look, Put, Take, LifeKey, Member, Request, CloseMember, Ending, length, ◌++◌, bit, requests_in, is_closing, is_chained, has_chain, slot_numbered}
+use Rattle.fx_direct.proofs.Words.{life_at, phase_at, DirectCall, OpenAt, UseOf, CloseOf, Waits, Pending, pending, World, DirectMoment, Does, Accesses, Quits, Others, Makes}
+use Rattle.fx_direct.proofs.Words.{Comes, IsDirectFlight, files_under, IsEmptyStart, IsFileOf, IsMissed, FindsItsOwn, NothingIsAt, Free, AllByRecursion, IsEnabled, Reserves, Asks, ◌▷◌, ◌▷▷◌}
 use Rattle.fx_direct.specs.Laws.{EachAccessFindsItsOwn, NothingIsLeft}
-use Rattle.fx_direct.proofs.Calls.{place_of, at_slot, tally, away, each-out, HasOne, open_stands}
+use Rattle.fx_direct.proofs.Calls.{place_of, at_same, tally, tally-mid, count_in, each-out, Has, Fate, Expected, Missing, There, fits, suits, not_gone, missing_chained, is_member}
 use Rattle.fx_direct.proofs.Moves.{Sound, Fitting}
-use Rattle.fx_direct.proofs.Turns.{does, accesses, others}
+use Rattle.fx_direct.proofs.Turns.{does, none_here, empty_at, none_free}
+use Rattle.fx_direct.proofs.Accessing.{accesses, quits, others_act, after_open, waits_expected}
 
 abbrev pub SoundWorld : World → List DirectMoment → Type 0
-SoundWorld w h = Sound w.slots w.table w.calls h
+SoundWorld w h = (fate : ℕ → Fate) × Sound fate w.slots w.table w.calls h
 
 at_start : (w : World) → IsEmptyStart w → SoundWorld w []
-at_start w start = grind arith
+at_start w start = (
+  λ s. Missing,
+  record {
+    inside = start.inside;
+    counted = λ m s. rw (start.idle, start.free s) (sym (none_free m));
+    suit = λ s. rw (start.free s) refl;
+    has = λ s lt. (start.empty s lt, refl);
+    linked = λ s c. absurd (cc (ap is_chained (sym (start.free s)) ∙ c));
+    fits = rw start.idle tt;
+    unborn = λ k later. refl;
+  },
+)
 
 one_moment : (w : World) (m : DirectMoment) (v : World) (h : List DirectMoment) → SoundWorld w h → Comes w m v → SoundWorld v (m ∷ h)
 one_moment w (Does d) v h sound comes =
-    subst (λ (x : World). SoundWorld x (Does d ∷ h)) (sym comes.2) (does sound d v.calls comes.0 comes.1)
+    subst (λ (x : World). SoundWorld x (Does d ∷ h)) (sym comes.2) (does sound.1 d v.calls comes.0 comes.1)
 one_moment w (Accesses c a) v h sound comes =
-    subst (λ (x : World). SoundWorld x (Accesses c a ∷ h)) (sym comes.2) (accesses sound c a v.calls comes.1)
+    subst (λ (x : World). SoundWorld x (Accesses c a ∷ h)) (sym comes.2) (accesses sound.1 c a v.calls comes.0 comes.1)
+one_moment w (Quits c) v h sound comes =
+    subst (λ (x : World). SoundWorld x (Quits c ∷ h)) (sym comes.1) (quits sound.1 c v.calls comes.0)
 one_moment w (Others a) v h sound comes =
-    subst (λ (x : World). SoundWorld x (Others a ∷ h)) (sym comes.2) (others sound a comes.1)
+    subst (λ (x : World). SoundWorld x (Others a ∷ h)) (sym comes.2) (sound.0, others_act sound.1 a comes.1)
 
 pub always : (start : World) (h : List DirectMoment) (end : World) → IsEmptyStart start → IsDirectFlight start h end → SoundWorld end h
 always start [] end begins flight = subst (λ (x : World). SoundWorld x []) (sym flight) (at_start start begins)
@@ -34,39 +47,67 @@ between : (start end : World) (earlier later : List DirectMoment) (m : DirectMom
 between start end earlier [] m flight = (flight.0, end, flight.1, flight.2)
 between start end earlier (x ∷ later) m flight = between start flight.0 earlier later m flight.1
 
--- the call that makes an access fits
-own_fit : (w : World) (h : List DirectMoment) (c : DirectCall) (a : Action) (calls' : List Pending) → SoundWorld w h → (makes : Makes c a w.calls calls')
-    → Fitting w.slots w.table h (pending c makes.earlier)
-own_fit w h c a calls' sound makes = grind (arith, each-out)
+-- a file that isn't gone and whose open is done: it is there, or it is missed by a chain
+finds_one : (h : List DirectMoment) (k : LifeKey) (f : Fate) (p : Phase) (at : Option File) → not_gone f ≡ true → f ≢ Expected → Has f at (files_under k h)
+    → suits f p ≡ true → 0 < requests_in p + bit (is_closing p) → (is_chained p ≡ true → has_chain k h ≡ true) → IsFileOf h k at ⊎ IsMissed h k at
+finds_one h k f p at left due has suit busy linked = grind (arith, missing_chained)
 
-finds : (w v : World) (h : List DirectMoment) (c : DirectCall) (a : Action) → SoundWorld w h → Comes w (Accesses c a) v → FindsItsOwn h c a
-finds w v h (OpenAt k) (Put slot f replaced) sound comes =
-    let may = comes.1.may in
-    let fit = subst (λ (b : Bool). Fitting w.slots w.table h (pending (OpenAt k) b)) may.1 (own_fit w h (OpenAt k) (Put slot f replaced) v.calls sound comes.1) in
-    (comes.0.2 ∙ ap w.table.at may.0 ∙ fit.2.1, fit.2.2)
-finds w v h (UseOf k) (Look slot found) sound comes =
-    let may = comes.1.may in
-    let fit = own_fit w h (UseOf k) (Look slot found) v.calls sound comes.1 in
-    let one : HasOne (w.table.at k.slot) (files_under (life_at w.slots k.slot) h) =
-    open_stands (phase_at w.slots k.slot) (w.table.at k.slot) (files_under (life_at w.slots k.slot) h) fit.2.0 (sound.stands k.slot fit.0) in
-    (one.0, comes.0.1 ∙ ap w.table.at may.0 ∙ one.1, ap (λ (n : ℕ). files_under (record { slot = k.slot; number = n }) h) (sym fit.1) ∙ one.2)
-finds w v h (CloseOf k) (Take slot found) sound comes =
-    let may = comes.1.may in
-    let fit = subst (λ (b : Bool). Fitting w.slots w.table h (pending (CloseOf k) b)) may.1 (own_fit w h (CloseOf k) (Take slot found) v.calls sound comes.1) in
-    let one = fit.2.1 in
-    (one.0, comes.0.1 ∙ ap w.table.at may.0 ∙ one.1, one.2)
-finds w v h _ _ sound comes = tt
+-- a call in flight is counted
+busy : {fate : ℕ → Fate} (w : World) (h : List DirectMoment) (c : DirectCall) (a : Action) (calls' : List Pending) (m : Member) → Sound fate w.slots w.table w.calls h
+    → (makes : Makes c a w.calls calls') → is_member m c ≡ 1 → 0 < count_in m (phase_at w.slots (place_of (pending c makes.linked Waits)))
+busy w h c a calls' m sound makes own =
+    let x = pending c makes.linked Waits in let e1 = tally-mid m (place_of x) makes.front makes.rest x in let e2 = at_same m (place_of x) x refl in
+    let e3 = sound.counted m (place_of x) in
+    let e4 : tally m (place_of x) w.calls ≡ tally m (place_of x) (makes.front ++ x ∷ makes.rest) = ap (tally m (place_of x)) makes.was in omega arith
+
+module _ (w v : World) (h : List DirectMoment) (sound : SoundWorld w h) where
+  -- the call that makes an access fits
+  own : (c : DirectCall) (a : Action) (calls' : List Pending) → (makes : Makes c a w.calls calls') → Fitting w.slots sound.0 (pending c makes.linked Waits)
+  own c a calls' makes =
+      (each-out (Fitting w.slots sound.0) makes.front makes.rest (pending c makes.linked Waits) (subst (AllByRecursion (Fitting w.slots sound.0)) makes.was sound.1.fits)).0
+
+  -- a request or a close, in its turn
+  finds_file : (k : LifeKey) (slot : ℕ) (found : Option File) → k.slot < length w.slots → (slot_numbered w.slots k.slot).number ≡ k.number
+      → not_gone (sound.0 k.slot) ≡ true → sound.0 k.slot ≢ Expected → slot ≡ k.slot → found ≡ w.table.at slot
+      → 0 < requests_in (phase_at w.slots k.slot) + bit (is_closing (phase_at w.slots k.slot)) → IsFileOf h k found ⊎ IsMissed h k found
+  finds_file k slot found inside num left due same is used =
+      let life : (X : LifeKey → Type 0) → X (life_at w.slots k.slot) → X k = λ X x. subst (λ (n : ℕ). X (record { slot = k.slot; number = n })) num x in
+      subst (λ (at : Option File). IsFileOf h k at ⊎ IsMissed h k at) (sym (is ∙ ap w.table.at same))
+      (finds_one h k (sound.0 k.slot) (phase_at w.slots k.slot) (w.table.at k.slot) left due
+      (life (λ j. Has (sound.0 k.slot) (w.table.at k.slot) (files_under j h)) (sound.1.has k.slot inside))
+      (sound.1.suit k.slot) used (λ c. life (λ j. has_chain j h ≡ true) (sound.1.linked k.slot c)))
+
+  finds : (c : DirectCall) (a : Action) → Comes w (Accesses c a) v → FindsItsOwn h c a
+  finds (OpenAt k) (Put slot f replaced) comes =
+      let fit = own (OpenAt k) (Put slot f replaced) v.calls comes.1 in
+      let due = waits_expected k (sound.0 k.slot) fit.2 in
+      let has : Has Expected (w.table.at k.slot) (files_under (life_at w.slots k.slot) h) =
+      subst (λ (g : Fate). Has g (w.table.at k.slot) (files_under (life_at w.slots k.slot) h)) due (sound.1.has k.slot fit.0) in
+      (comes.0.2 ∙ ap w.table.at comes.1.may ∙ has.0, ap (λ (n : ℕ). files_under (record { slot = k.slot; number = n }) h) (sym fit.1) ∙ has.1)
+  finds (UseOf k) (Look slot found) comes =
+      let fit = own (UseOf k) (Look slot found) v.calls comes.1 in
+      let b = busy w h (UseOf k) (Look slot found) v.calls Request sound.1 comes.1 refl in
+      finds_file k slot found fit.0 fit.1 fit.2 (after_open sound.1 k (UseOf k) comes.1.linked (λ other stage e. inl e) fit.1 fit.3 (omega (arith, b)) comes.1.turn) comes.1.may comes.0.1 (omega (arith, b))
+  finds (CloseOf k) (Take slot found) comes =
+      let fit = own (CloseOf k) (Take slot found) v.calls comes.1 in
+      let b = busy w h (CloseOf k) (Take slot found) v.calls CloseMember sound.1 comes.1 refl in
+      finds_file k slot found fit.0 fit.1 fit.2 (after_open sound.1 k (CloseOf k) comes.1.linked (λ other stage e. inr e) fit.1 fit.3 (omega (arith, b)) comes.1.turn) comes.1.may comes.0.1 (omega (arith, b))
+  finds _ _ comes = tt
 
 pub each_access_finds_its_own : EachAccessFindsItsOwn
 each_access_finds_its_own start end earlier later call a begins flight =
     let b = between start end earlier later (Accesses call a) flight in
-    finds b.0 b.1 earlier call a (always start earlier b.0 begins b.2) b.3
+    finds b.0 b.1 earlier (always start earlier b.0 begins b.2) call a b.3
 
--- a slot with 0 calls has no call
-none_at : (s : ℕ) (ps : List Pending) → tally s ps ≡ 0 → AllByRecursion (λ p. place_of p ≢ s) ps
-none_at s [] none = tt
-none_at s (p ∷ ps) none =
-    let here : at_slot s p ≡ 0 = omega arith in let rest : tally s ps ≡ 0 = omega arith in (away s p here, none_at s ps rest)
+none_ending : (m : Member) → count_in m (Ending 0 0) ≡ 0
+none_ending m = grind arith
 
 pub nothing_is_left : NothingIsLeft
-nothing_is_left start w h k begins flight = grind (arith, always, none_at)
+nothing_is_left start w h k begins flight =
+    let sound = (always start h w begins flight).1 in (
+      λ can. (
+        none_here k.slot w.calls (λ m. sound.counted m k.slot ∙ ap (count_in m) can.2 ∙ none_free m),
+        empty_at ((always start h w begins flight).0 k.slot) (phase_at w.slots k.slot) (w.table.at k.slot) (files_under (life_at w.slots k.slot) h) (sound.suit k.slot) can.2 (sound.has k.slot can.0),
+      ),
+      λ can. none_here k.slot w.calls (λ m. sound.counted m k.slot ∙ ap (count_in m) can.1 ∙ none_ending m),
+    )

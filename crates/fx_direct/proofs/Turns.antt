@@ -1,194 +1,216 @@
--- Each transition of the machine, and each access, keeps what is sound.
-use Rattle.fx_direct.proofs.Words.{arith, ◌≡◌, ◌≢◌, ℕ, ◌+◌, ◌-◌, ◌<◌, ◌≤◌, ◌==◌, Bool, true, false, List, [], ◌∷◌, ◌++◌, length, refl, sym, ap, inl, inr}
-use Rattle.fx_direct.proofs.Words.{AllByRecursion, ◌∙◌, subst, Option, Some, None, cases_eq, append-nil, ne_eqb, eq-eqb, File, LifeKey, Phase, Slot, State, if◌then◌else◌}
-use Rattle.fx_direct.proofs.Words.{calls_in, is_installed, life_at, FailsToClose, Ending, is_live, requests_in, users_in, with_counts, DirectCall, OpenAt, UseOf, CloseOf, key_of_call}
-use Rattle.fx_direct.proofs.Words.{Pending, pending, DirectMoment, Does, Accesses, Others, Transition, Reserves, Opens, Starts, Finishes, Holds, Releases, Ends, Asks, Closes}
-use Rattle.fx_direct.proofs.Words.{slot_numbered, phase_at, key_concerned, NamesLastLife, IsEnabled, slots_with, TurnsCalls, files_under, same_key}
-use Rattle.fx_direct.proofs.Words.{Action, Look, Put, Release, Take, changed_at, table_after, Makes, IsElsewhere}
-use Rattle.fx_direct.proofs.Calls.{place_of, at_slot, tally, at_same, tally-mid, each-out, each-in, each-map, each-away}
-use Rattle.fx_direct.proofs.Calls.{HasOne, Stands, fits_same, stands_same, open_stands}
-use Rattle.fx_direct.proofs.Moves.{Sound, Fitting, still, first, last, more, less}
-
--- Phases.
-
-live_open : (p : Phase) → is_live p ≡ true → is_installed p ≡ true
-live_open p e = grind arith
-
-used_open : (p : Phase) → 0 < requests_in p + users_in p → is_installed p ≡ true
-used_open p e = grind arith
-
--- an open phase: its calls are its requests, and with other counts it is open too
-is_open : (p : Phase) → is_installed p ≡ true
-    → (calls_in p ≡ requests_in p) × ((a b : ℕ) → (is_installed (with_counts p a b) ≡ true) × (calls_in (with_counts p a b) ≡ a))
-is_open p e = grind arith
+-- Each transition of the machine keeps what is sound.
+use Rattle.fx_direct.proofs.Words.{arith, ◌≡◌, ◌≢◌, ℕ, ◌+◌, ◌-◌, ◌<◌, ◌≤◌, ◌==◌, Bool, true, false, List, [], ◌∷◌, ◌++◌, length, refl, sym, ap, inl, inr, if◌then◌else◌}
+use Rattle.fx_direct.proofs.Words.{AllByRecursion, ◌∙◌, subst, cases_eq, LifeKey, Phase, State, Member, Open, Request, CloseMember}
+use Rattle.fx_direct.proofs.Words.{FailsToClose, is_chained, requests_in, users_in, with_counts, DirectCall, OpenAt, UseOf, CloseOf, key_of_call, Stage, Waits, Made, Quit}
+use Rattle.fx_direct.proofs.Words.{Pending, pending, DirectMoment, Does, Loses, Transition, Reserves, Chains, Opens, Starts, Finishes, Holds, Releases, Ends, Asks, Closes}
+use Rattle.fx_direct.proofs.Words.{slot_numbered, phase_at, key_concerned, phase_after, NamesLastLife, IsEnabled, slots_with, TurnsCalls, files_under, has_chain, life_at, changed_at}
+use Rattle.fx_direct.proofs.Words.{with_uses, with_close, Free, Opening, Ending, Closing, is_live, ne_eqb, eq-eqb, Slot, Option, None, File}
+use Rattle.fx_direct.proofs.Calls.{place_of, is_member, at_slot, tally, at_same, tally-mid, tally-uses, tally-close, uses_else, close_else, count_in, each-out, each-map, each-both, none_at, each-use, each-close}
+use Rattle.fx_direct.proofs.Calls.{Fate, Expected, fits, fits_same, Has, suits, same_keys, has_same, gone_free, not_gone, member_of, own_member, is_bound}
+use Rattle.fx_direct.proofs.Moves.{Sound, Fitting, Binds, turned, still, more, less, after-here, after-else, after-length}
+use Rattle.fx_direct.proofs.Effects.{reserves_one, chains_all, starts_one, asks_one, opens_one, finishes_one, closes_one, leaves_one, ends_none, holds_none}
+use Rattle.fx_direct.proofs.Effects.{chains_suits, opens_suits, fails_suits, counts_suits, closes_suits, leaves_suits, ends_suits}
+use Rattle.fx_direct.proofs.Effects.{opens_chained, counts_chained, closes_chained, leaves_chained, ends_chained}
 
 pub within : (slots : List Slot) (d : Transition) → IsEnabled slots d → (key_concerned d).slot < length slots
 within slots d can = grind arith
 
--- Transitions.
+live_unchained : (p : Phase) → is_live p ≡ true → is_chained p ≡ false
+live_unchained p live = grind arith
 
-module _ {slots : List Slot} {table : State} {calls : List Pending} {h : List DirectMoment} (sound : Sound slots table calls h) where
-  files_of_key : (k : LifeKey) → (slot_numbered slots k.slot).number ≡ k.number → files_under (life_at slots k.slot) h ≡ files_under k h
-  files_of_key k num = ap (λ (n : ℕ). files_under (record { slot = k.slot; number = n }) h) num
+used_unchained : (p : Phase) → 0 < users_in p → is_chained p ≡ false
+used_unchained p used = grind arith
 
-  -- an ended life has its file until it is taken
-  ended_one : (k : LifeKey) → NamesLastLife slots k → phase_at slots k.slot ≡ Ending 0 0 → HasOne (table.at k.slot) (files_under k h)
-  ended_one k names e = grind (arith, files_of_key, open_stands)
+has_linked : (k : LifeKey) (d : Transition) (h : List DirectMoment) → has_chain k h ≡ true → has_chain k (Does d ∷ h) ≡ true
+has_linked k d h e = grind arith
 
-  pub does : (d : Transition) (calls' : List Pending) → IsEnabled slots d → TurnsCalls d calls calls' → Sound (slots_with slots d) table calls' (Does d ∷ h)
-  does (Reserves k) calls' can turns = let d = Reserves k in
-      let empty : table.at k.slot ≡ None = subst (λ (p : Phase). Stands p (table.at k.slot) (files_under (life_at slots k.slot) h)) can.2 (sound.stands k.slot can.0) in
-      rw turns (first sound d can.0 (pending (OpenAt k) false) refl (ap calls_in can.2) refl tt
-      (can.0, refl, (refl, empty, sound.unborn k (omega arith))) (omega arith))
-  does (Opens k true) calls' can turns = let d = Opens k true in
-      rw turns.is (last sound d can.0.0 (pending (OpenAt k) true) turns.front turns.rest refl turns.was (ap calls_in can.1) refl (λ fit. fit.2.1) (omega arith))
-  does (Opens k false) calls' can turns = let d = Opens k false in
-      rw turns.is (last sound d can.0.0 (pending (OpenAt k) false) turns.front turns.rest refl turns.was (ap calls_in can.1) refl (λ fit. fit.2.1) (omega arith))
-  does (Starts k) calls' can turns = let d = Starts k in let x = pending (UseOf k) false in let p = phase_at slots k.slot in
-      let opened = live_open p can.1 in
-      let one = at_same k.slot x refl in let all = sound.counted k.slot in let r = (is_open p opened).0 in
-      let n = (is_open p opened).1 (requests_in p + 1) (users_in p) in
-      rw turns (still sound d can.0.0 (x ∷ calls) can.0.1 opened n.0 (omega arith) (more sound d can.0.0 x refl)
-      ((can.0.0, can.0.1, (opened, refl)), sound.fits))
-  does (Finishes k) calls' can turns = let d = Finishes k in let x = pending (UseOf k) false in let p = phase_at slots k.slot in
-      let opened = used_open p (omega (arith, can.1)) in
-      let one = at_same k.slot x refl in let all = sound.counted k.slot in let r = (is_open p opened).0 in
-      let n = (is_open p opened).1 (requests_in p - 1) (users_in p) in
-      let m = tally-mid k.slot turns.front turns.rest x in let w : tally k.slot calls ≡ tally k.slot (turns.front ++ x ∷ turns.rest) = ap (tally k.slot) turns.was in
-      rw turns.is (still sound d can.0.0 (turns.front ++ turns.rest) can.0.1 opened n.0 (omega arith)
-      (less sound d can.0.0 x turns.front turns.rest refl turns.was)
-      (each-out (Fitting slots table h) turns.front turns.rest x (subst (AllByRecursion (Fitting slots table h)) turns.was sound.fits)).1)
-  does (Holds k) calls' can turns = let d = Holds k in let p = phase_at slots k.slot in
-      let opened = live_open p can.1 in let all = sound.counted k.slot in let r = (is_open p opened).0 in
-      let n = (is_open p opened).1 (requests_in p) (users_in p + 1) in
-      rw turns (still sound d can.0.0 calls can.0.1 opened n.0 (omega arith) (λ s ne. refl) sound.fits)
-  does (Releases k) calls' can turns = let d = Releases k in let p = phase_at slots k.slot in
-      let opened = used_open p (omega (arith, can.1)) in let all = sound.counted k.slot in let r = (is_open p opened).0 in
-      let n = (is_open p opened).1 (requests_in p) (users_in p - 1) in
-      rw turns (still sound d can.0.0 calls can.0.1 opened n.0 (omega arith) (λ s ne. refl) sound.fits)
-  does (Ends k) calls' can turns = let d = Ends k in let p = phase_at slots k.slot in
-      let opened = live_open p can.1 in let all = sound.counted k.slot in let r = (is_open p opened).0 in
-      rw turns (still sound d can.0.0 calls can.0.1 opened refl (omega arith) (λ s ne. refl) sound.fits)
-  does (Asks k) calls' can turns = let d = Asks k in
-      rw turns (first sound d can.0.0 (pending (CloseOf k) false) refl (ap calls_in can.1) refl tt
-      (can.0.0, refl, (refl, ended_one k can.0 can.1)) (omega arith))
-  does (Closes k) calls' can turns = let d = Closes k in
-      rw turns.is (last sound d can.0.0 (pending (CloseOf k) true) turns.front turns.rest refl turns.was (ap calls_in can.1) refl (λ fit. fit.2.1) (omega arith))
-  does (FailsToClose k) calls' can turns = let d = FailsToClose k in
-      rw turns.is (last sound d can.0.0 (pending (CloseOf k) false) turns.front turns.rest refl turns.was (ap calls_in can.1) refl (λ fit. fit.2.1) (omega arith))
+has_begun : (k : LifeKey) (n : ℕ) (closes : Bool) (h : List DirectMoment) → has_chain k (Does (Chains k n closes) ∷ h) ≡ true
+has_begun k n closes h = rw (same_keys k k refl refl) refl
 
-  -- Accesses.
+module _ {fate : ℕ → Fate} {slots : List Slot} {table : State} {calls : List Pending} {h : List DirectMoment} (sound : Sound fate slots table calls h)
+    (d : Transition) (names : NamesLastLife slots (key_concerned d)) where
+  abbrev k : LifeKey
+  k = key_concerned d
 
-  -- a moment that changes no slot
-  quiet : (table' : State) (calls' : List Pending) (m : DirectMoment) → table'.size ≡ table.size
-      → ((s : ℕ) → s < length slots → table'.at s ≡ table.at s)
-      → ((k : LifeKey) → files_under k (m ∷ h) ≡ files_under k h)
-      → ((s : ℕ) → tally s calls' ≡ tally s calls)
-      → AllByRecursion (Fitting slots table h) calls'
-      → Sound slots table' calls' (m ∷ h)
-  quiet table' calls' m size h5 files count fits = grind (arith, stands_same, each-map, fits_same)
+  abbrev p : Phase
+  p = phase_at slots k.slot
 
-  -- the one call at a slot makes its access
-  made : (table' : State) (x y : Pending) (front rest : List Pending) (m : DirectMoment)
-      → calls ≡ front ++ x ∷ rest → place_of y ≡ place_of x → place_of x < length slots
-      → calls_in (phase_at slots (place_of x)) ≡ 1
-      → table'.size ≡ table.size
-      → ((s : ℕ) → s ≢ place_of x → table'.at s ≡ table.at s)
-      → ((k : LifeKey) → (k.slot ≡ place_of x → k.number ≡ (slot_numbered slots k.slot).number → ⊥) → files_under k (m ∷ h) ≡ files_under k h)
-      → Stands (phase_at slots (place_of x)) (table'.at (place_of x)) (files_under (life_at slots (place_of x)) (m ∷ h))
-      → Fitting slots table' (m ∷ h) y
-      → Sound slots table' (front ++ y ∷ rest) (m ∷ h)
-  made table' x y front rest m was same lt one size at files stand fit =
-      let s0 = place_of x in
-      let t = sound.counted s0 in let u = at_same s0 x refl in let mid = tally-mid s0 front rest x in
-      let w : tally s0 calls ≡ tally s0 (front ++ x ∷ rest) = ap (tally s0) was in
-      let zero : tally s0 (front ++ rest) ≡ 0 = omega arith in
-      let all = each-out (Fitting slots table h) front rest x (subst (AllByRecursion (Fitting slots table h)) was sound.fits) in
-      record {
-        inside = rw size sound.inside;
-        counted = λ s. let e1 = tally-mid s front rest y in let e2 = tally-mid s front rest x in
-            let e3 : at_slot s y ≡ at_slot s x = ap (λ (q : ℕ). if q == s then 1 else 0) same in
-            let e4 : tally s calls ≡ tally s (front ++ x ∷ rest) = ap (tally s) was in let e5 = sound.counted s in omega arith;
-        stands = λ s within. elim (cases_eq s s0) [
-          | inl e ↦ subst (λ (q : ℕ). Stands (phase_at slots q) (table'.at q) (files_under (life_at slots q) (m ∷ h))) (sym e) stand
-          | inr ne ↦ stands_same {slot = slot_numbered slots s} refl (at s ne) (files (life_at slots s) (λ e n. ne e)) (sound.stands s within)
-        ];
-        fits = each-in (Fitting slots table' (m ∷ h)) front rest y fit
-            (each-away (Fitting slots table h) (Fitting slots table' (m ∷ h)) s0 (front ++ rest) zero
-            (λ z ne f. fits_same z refl refl (at (place_of z) ne) (files (key_of_call z.call) (λ e n. ne e)) f) all.1);
-        unborn = λ k later. files k (λ e n. omega arith) ∙ sound.unborn k later;
-      }
+  -- a life that was chained is a chain's
+  linked : (is_chained (phase_after d p) ≡ true → is_chained p ≡ true) → is_chained (phase_after d p) ≡ true → has_chain k (Does d ∷ h) ≡ true
+  linked was chained = has_linked k d h
+      (ap (λ (n : ℕ). has_chain (record { slot = k.slot; number = n }) h) (sym names.1) ∙ sound.linked k.slot (was chained))
 
-  -- two keys that differ are told apart
-  apart : (j k : LifeKey) (f : File) → (k.slot ≡ j.slot → k.number ≡ j.number → ⊥) → (if same_key j k then f ∷ [] else []) ≡ []
-  apart j k f ne = grind arith
+  -- a call that was linked is
+  bound : (is_chained (phase_after d p) ≡ true → is_chained p ≡ true) → (x : Pending) → Fitting slots fate x → Binds sound d names.0 x
+  bound was x fit e c = fit.3 (subst (λ (s : ℕ). is_chained (phase_at slots s) ≡ true) (sym e) (was c))
 
-  at_changed : (s0 : ℕ) (x : Option File) (s : ℕ) → s ≢ s0 → changed_at table.at s0 x s ≡ table.at s
-  at_changed s0 x s ne = rw (ne_eqb s s0 ne) refl
+  -- no call begins or is over
+  kept : ((m : Member) → count_in m (phase_after d p) ≡ count_in m p) → suits (fate k.slot) (phase_after d p) ≡ true
+      → (is_chained (phase_after d p) ≡ true → is_chained p ≡ true) → Sound fate (slots_with slots d) table calls (Does d ∷ h)
+  kept count suit was =
+      still sound d names.0 calls names.1 (λ m. sound.counted m k.slot ∙ sym (count m)) (λ m s ne. refl) suit (linked was) sound.fits
+      (each-map (Fitting slots fate) (Binds sound d names.0) calls (bound was) sound.fits)
 
-  at_written : (s0 : ℕ) (x : Option File) → changed_at table.at s0 x s0 ≡ x
-  at_written s0 x = rw (eq-eqb s0 s0 refl) refl
+  -- a call that isn't linked begins
+  begun : (call : DirectCall) → key_of_call call ≡ k → ((m : Member) → count_in m (phase_after d p) ≡ is_member m call + count_in m p)
+      → suits (fate k.slot) (phase_after d p) ≡ true → (is_chained (phase_after d p) ≡ true → is_chained p ≡ true) → is_chained p ≡ false
+      → fits call Waits (fate k.slot) ≡ true → Sound fate (slots_with slots d) table (pending call false Waits ∷ calls) (Does d ∷ h)
+  begun call its count suit was unchained fit =
+      let x = pending call false Waits in let place : place_of x ≡ k.slot = ap (λ (j : LifeKey). j.slot) its in
+      still sound d names.0 (x ∷ calls) names.1
+      (λ m. let a = at_same m k.slot x place in let b = sound.counted m k.slot in let c = count m in omega arith)
+      (more sound d names.0 x place) suit (linked was) (
+        subst (λ (j : LifeKey). (j.slot < length slots) × ((slot_numbered slots j.slot).number ≡ j.number) × (fits call Waits (fate j.slot) ≡ true)
+            × (is_chained (phase_at slots j.slot) ≡ true → is_bound call false ≡ true)) (sym its)
+            (names.0, names.1, fit, λ c. absurd (cc (sym unchained ∙ c))),
+        sound.fits,
+      )
+      (λ e c. absurd (cc (sym unchained ∙ was c)), each-map (Fitting slots fate) (Binds sound d names.0) calls (bound was) sound.fits)
 
-  puts : (k : LifeKey) (f : File) (replaced : Option File) (front rest : List Pending)
-      → calls ≡ front ++ pending (OpenAt k) false ∷ rest
-      → Sound slots (table_after table (Put k.slot f replaced)) (front ++ pending (OpenAt k) true ∷ rest) (Accesses (OpenAt k) (Put k.slot f replaced) ∷ h)
-  puts k f replaced front rest was =
-      let x = pending (OpenAt k) false in
-      let own = (each-out (Fitting slots table h) front rest x (subst (AllByRecursion (Fitting slots table h)) was sound.fits)).0 in
-      let m = Accesses (OpenAt k) (Put k.slot f replaced) in
-      let files : files_under k (m ∷ h) ≡ f ∷ [] = rw (own.2.2, eq-eqb k.slot k.slot refl, eq-eqb k.number k.number refl) refl in
-      let at = at_written k.slot (Some f) in
-      made (table_after table (Put k.slot f replaced)) x (pending (OpenAt k) true) front rest m was refl own.0 (ap calls_in own.2.0) refl
-      (λ s ne. at_changed k.slot (Some f) s ne)
-      (λ j ne. ap (λ (fs : List File). files_under j h ++ fs) (apart k j f (λ e n. ne e (n ∙ sym own.1 ∙ ap (λ (s : ℕ). (slot_numbered slots s).number) (sym e)))) ∙ append-nil (files_under j h))
-      (subst (λ (p : Phase). Stands p (changed_at table.at k.slot (Some f) k.slot) (files_under (life_at slots k.slot) (m ∷ h))) (sym own.2.0) tt)
-      (own.0, own.1, (own.2.0, (f, at, files)))
+  -- a call is over
+  lost : (call : DirectCall) (stage : Stage) (calls' : List Pending) → key_of_call call ≡ k → Loses call stage calls calls'
+      → ((m : Member) → count_in m p ≡ is_member m call + count_in m (phase_after d p))
+      → (fits call stage (fate k.slot) ≡ true → suits (fate k.slot) (phase_after d p) ≡ true)
+      → (is_chained (phase_after d p) ≡ true → is_chained p ≡ true)
+      → Sound fate (slots_with slots d) table calls' (Does d ∷ h)
+  lost call stage calls' its turns count suit was =
+      let x = pending call turns.linked stage in let place : place_of x ≡ k.slot = ap (λ (j : LifeKey). j.slot) its in
+      let all = each-out (Fitting slots fate) turns.front turns.rest x (subst (AllByRecursion (Fitting slots fate)) turns.was sound.fits) in
+      rw turns.is (still sound d names.0 (turns.front ++ turns.rest) names.1
+      (λ m. let a = at_same m k.slot x place in let b = sound.counted m k.slot in let c = count m in let t = tally-mid m k.slot turns.front turns.rest x in
+      let w : tally m k.slot calls ≡ tally m k.slot (turns.front ++ x ∷ turns.rest) = ap (tally m k.slot) turns.was in omega arith)
+      (less sound d names.0 x turns.front turns.rest place turns.was)
+      (suit (subst (λ (s : ℕ). fits call stage (fate s) ≡ true) place all.0.2)) (linked was) all.1
+      (each-map (Fitting slots fate) (Binds sound d names.0) (turns.front ++ turns.rest) (bound was) all.1))
 
-  takes : (k : LifeKey) (found : Option File) (front rest : List Pending)
-      → calls ≡ front ++ pending (CloseOf k) false ∷ rest
-      → Sound slots (table_after table (Take k.slot found)) (front ++ pending (CloseOf k) true ∷ rest) (Accesses (CloseOf k) (Take k.slot found) ∷ h)
-  takes k found front rest was =
-      let x = pending (CloseOf k) false in
-      let own = (each-out (Fitting slots table h) front rest x (subst (AllByRecursion (Fitting slots table h)) was sound.fits)).0 in
-      let m = Accesses (CloseOf k) (Take k.slot found) in
-      made (table_after table (Take k.slot found)) x (pending (CloseOf k) true) front rest m was refl own.0 (ap calls_in own.2.0) refl
-      (λ s ne. at_changed k.slot None s ne)
-      (λ j ne. append-nil (files_under j h))
-      (subst (λ (p : Phase). Stands p (changed_at table.at k.slot None k.slot) (files_under (life_at slots k.slot) (m ∷ h))) (sym own.2.0) tt)
-      (own.0, own.1, (own.2.0, at_written k.slot None))
+-- a free slot is empty, and no call is in flight at it
 
-  -- a request makes an access, and is in flight as before
-  uses : (k : LifeKey) (a : Action) (table' : State) (front rest : List Pending) (earlier later : Bool) → calls ≡ front ++ pending (UseOf k) earlier ∷ rest
-      → later ≡ earlier → table'.size ≡ table.size → ((s : ℕ) → table'.at s ≡ table.at s)
-      → Sound slots table' (front ++ pending (UseOf k) later ∷ rest) (Accesses (UseOf k) a ∷ h)
-  uses k a table' front rest earlier later was same size at =
-      let was' : calls ≡ front ++ pending (UseOf k) later ∷ rest = was ∙ ap (λ (b : Bool). front ++ pending (UseOf k) b ∷ rest) (sym same) in
-      quiet table' (front ++ pending (UseOf k) later ∷ rest) (Accesses (UseOf k) a) size (λ s lt. at s) (λ j. append-nil (files_under j h))
-      (λ s. ap (tally s) (sym was')) (subst (AllByRecursion (Fitting slots table h)) was' sound.fits)
+pub empty_at : (f : Fate) (p : Phase) (at : Option File) (files : List File) → suits f p ≡ true → p ≡ Free → Has f at files → at ≡ None
+empty_at f p at files suit free has = grind (arith, gone_free)
 
-  pub accesses : (c : DirectCall) (a : Action) (calls' : List Pending) → Makes c a calls calls' → Sound slots (table_after table a) calls' (Accesses c a ∷ h)
-  accesses (OpenAt k) (Put slot f replaced) calls' makes =
-      rw (makes.is, makes.may.0, makes.may.2)
-      (puts k f replaced makes.front makes.rest (makes.was ∙ ap (λ (b : Bool). makes.front ++ pending (OpenAt k) b ∷ makes.rest) makes.may.1))
-  accesses (CloseOf k) (Take slot found) calls' makes =
-      rw (makes.is, makes.may.0, makes.may.2)
-      (takes k found makes.front makes.rest (makes.was ∙ ap (λ (b : Bool). makes.front ++ pending (CloseOf k) b ∷ makes.rest) makes.may.1))
-  accesses (UseOf k) (Look slot None) calls' makes =
-      rw makes.is (uses k (Look slot None) table makes.front makes.rest makes.earlier makes.later makes.was makes.may.1 refl (λ s. refl))
-  accesses (UseOf k) (Look slot (Some f)) calls' makes =
-      let a = Look slot (Some f) in
-      rw makes.is (uses k a (table_after table a) makes.front makes.rest makes.earlier makes.later makes.was makes.may.1 refl (λ s. refl))
-  accesses (UseOf k) (Release f) calls' makes =
-      let a = Release f in rw makes.is (uses k a (table_after table a) makes.front makes.rest makes.earlier makes.later makes.was makes.may refl (λ s. refl))
-  accesses _ _ calls' makes = absurd makes.may
+pub none_free : (m : Member) → count_in m Free ≡ 0
+none_free m = grind arith
 
-  -- an action of others
-  other_slot : (slot s : ℕ) (x : Option File) → length slots ≤ slot → s < length slots → changed_at table.at slot x s ≡ table.at s
-  other_slot slot s x le lt = at_changed slot x s (λ (e : s ≡ slot). omega arith)
+not_here : (s : ℕ) (y : Pending) → ((m : Member) → at_slot m s y ≡ 0) → place_of y ≢ s
+not_here s y none e = let a = at_same (member_of y.call) s y e in let b = none (member_of y.call) in let c = own_member y.call in omega arith
 
-  elsewhere : (a : Action) (table' : State) → table'.size ≡ table.size → ((s : ℕ) → s < length slots → table'.at s ≡ table.at s)
-      → Sound slots table' calls (Others a ∷ h)
-  elsewhere a table' size at = quiet table' calls (Others a) size at (λ j. refl) (λ s. refl) sound.fits
+pub none_here : (s : ℕ) (ps : List Pending) → ((m : Member) → tally m s ps ≡ 0) → AllByRecursion (λ y. place_of y ≢ s) ps
+none_here s [] none = tt
+none_here s (y ∷ ps) none =
+    (not_here s y (λ m. let e = none m in omega arith), none_here s ps (λ m. let e = none m in omega arith))
 
-  pub others : (a : Action) → IsElsewhere (length slots) a → Sound slots (table_after table a) calls (Others a ∷ h)
-  others a le = grind (arith, elsewhere, other_slot)
+live_fits : (f : Fate) (p : Phase) → suits f p ≡ true → is_live p ≡ true → not_gone f ≡ true
+live_fits f p suit live = grind arith
+
+asked_suits : (f : Fate) → suits f (Ending 0 0) ≡ true → (suits f Closing ≡ true) × (not_gone f ≡ true)
+asked_suits f suit = grind arith
+
+-- a call that is neither a request nor a close is an open
+open_bound : (call : DirectCall) (linked : Bool) → is_member Request call ≡ 0 → is_member CloseMember call ≡ 0 → is_bound call linked ≡ true
+open_bound call linked request close = grind arith
+
+-- a request and a close may wait at an opening slot
+opening_fits : (f : Fate) → suits f Opening ≡ true → not_gone f ≡ true
+opening_fits f suit = grind arith
+
+module _ {fate : ℕ → Fate} {slots : List Slot} {table : State} {calls : List Pending} {h : List DirectMoment} (sound : Sound fate slots table calls h) where
+  -- a life begins: no call is in flight at its slot
+  reserved : (k : LifeKey) → IsEnabled slots (Reserves k)
+      → Sound (changed_at fate k.slot Expected) (slots_with slots (Reserves k)) table (pending (OpenAt k) false Waits ∷ calls) (Does (Reserves k) ∷ h)
+  reserved k can =
+      let d = Reserves k in let x = pending (OpenAt k) false Waits in let fate' = changed_at fate k.slot Expected in
+      let here : fate' k.slot ≡ Expected = rw (eq-eqb k.slot k.slot refl) refl in
+      let away : (s : ℕ) → s ≢ k.slot → fate' s ≡ fate s = λ s ne. rw (ne_eqb s k.slot ne) refl in
+      let empty = empty_at (fate k.slot) (phase_at slots k.slot) (table.at k.slot) (files_under (life_at slots k.slot) h) (sound.suit k.slot) can.2 (sound.has k.slot can.0) in
+      let new = sound.unborn k (omega (arith, can.1)) in
+      let one : (m : Member) → tally m k.slot calls ≡ 0 = λ m. sound.counted m k.slot ∙ ap (count_in m) can.2 ∙ none_free m in
+      turned sound d can.0 fate' (x ∷ calls) away
+      (λ m. let a = at_same m k.slot x refl in let b = reserves_one m k in let c = one m in let z = none_free m in omega arith)
+      (more sound d can.0 x refl) (ap (λ (f : Fate). suits f Opening) here)
+      (has_same {fate = Expected} here refl refl (empty, new)) (λ chained. absurd (cc chained)) (
+        (
+          rw (after-length slots d) can.0,
+          ap (λ (y : Slot). y.number) (after-here slots d can.0),
+          ap (fits (OpenAt k) Waits) here,
+          λ c. refl,
+        ),
+        each-both (Fitting slots fate) (λ y. place_of y ≢ k.slot) (Fitting (slots_with slots d) fate') calls
+            (λ y fit ne. fits_same y (after-length slots d) (after-else slots d (place_of y) ne) (away (place_of y) ne) fit)
+            sound.fits (none_here k.slot calls one),
+      )
+      (omega (arith, can.1))
+
+  -- the members of a chain begin
+  chained : (k : LifeKey) (n : ℕ) (closes : Bool) → IsEnabled slots (Chains k n closes)
+      → Sound fate (slots_with slots (Chains k n closes)) table (with_close k closes (with_uses k n calls)) (Does (Chains k n closes) ∷ h)
+  chained k n closes can =
+      let d = Chains k n closes in
+      let suit : suits (fate k.slot) Opening ≡ true = sym (ap (suits (fate k.slot)) can.1) ∙ sound.suit k.slot in
+      let fit = opening_fits (fate k.slot) suit in
+      still sound d can.0.0 (with_close k closes (with_uses k n calls)) can.0.1
+      (λ m. let a = tally-close m k closes (with_uses k n calls) in let b = tally-uses m k n calls in let c = sound.counted m k.slot ∙ ap (count_in m) can.1 in
+      let e = chains_all m k n closes in omega arith)
+      (λ m s ne. close_else m k closes s (with_uses k n calls) ne ∙ uses_else m k n s calls ne)
+      (chains_suits (fate k.slot) n closes suit) (λ c. has_begun k n closes h)
+      (each-close (Fitting slots fate) k closes (with_uses k n calls) (can.0.0, can.0.1, fit, λ c. refl)
+      (each-use (Fitting slots fate) k n calls (can.0.0, can.0.1, fit, λ c. refl) sound.fits))
+      (each-close (Binds sound d can.0.0) k closes (with_uses k n calls) (λ e c. refl)
+      (each-use (Binds sound d can.0.0) k n calls (λ e c. refl)
+      (each-both (λ z. at_slot Request k.slot z ≡ 0) (λ z. at_slot CloseMember k.slot z ≡ 0) (Binds sound d can.0.0) calls
+      (λ z request close e c. open_bound z.call z.linked (sym (at_same Request k.slot z e) ∙ request) (sym (at_same CloseMember k.slot z e) ∙ close))
+      (none_at Request k.slot calls (sound.counted Request k.slot ∙ ap (count_in Request) can.1))
+      (none_at CloseMember k.slot calls (sound.counted CloseMember k.slot ∙ ap (count_in CloseMember) can.1)))))
+
+  pub does : (d : Transition) (calls' : List Pending) → IsEnabled slots d → TurnsCalls d calls calls'
+      → (fate' : ℕ → Fate) × Sound fate' (slots_with slots d) table calls' (Does d ∷ h)
+  does (Reserves k) calls' can turns = (changed_at fate k.slot Expected, rw turns (reserved k can))
+  does (Chains k n closes) calls' can turns = (fate, rw turns (chained k n closes can))
+  does (Opens k true) calls' can turns = let p = phase_at slots k.slot in (
+    fate,
+    lost sound (Opens k true) can.0 (OpenAt k) Made calls' refl turns (λ m. opens_one m k p true can.1)
+        (opens_suits (fate k.slot) p k can.1 (sound.suit k.slot)) (opens_chained p true can.1),
+  )
+  does (Opens k false) calls' can turns = let p = phase_at slots k.slot in (
+    fate,
+    lost sound (Opens k false) can.0 (OpenAt k) Quit calls' refl turns (λ m. opens_one m k p false can.1)
+        (fails_suits (fate k.slot) p k can.1 (sound.suit k.slot)) (opens_chained p false can.1),
+  )
+  does (Starts k) calls' can turns = let p = phase_at slots k.slot in (
+    fate,
+    rw turns (begun sound (Starts k) can.0 (UseOf k) refl (λ m. starts_one m k p can.1)
+        (counts_suits (fate k.slot) p (requests_in p + 1) (users_in p) (sound.suit k.slot)) (counts_chained p (requests_in p + 1) (users_in p)) (live_unchained p can.1)
+        (live_fits (fate k.slot) p (sound.suit k.slot) can.1)),
+  )
+  does (Finishes k) calls' can turns = let p = phase_at slots k.slot in (
+    fate,
+    lost sound (Finishes k) can.0 (UseOf k) Quit calls' refl turns (λ m. finishes_one m k p can.1)
+        (λ fit. counts_suits (fate k.slot) p (requests_in p - 1) (users_in p) (sound.suit k.slot)) (counts_chained p (requests_in p - 1) (users_in p)),
+  )
+  does (Holds k) calls' can turns = let p = phase_at slots k.slot in (
+    fate,
+    rw turns (kept sound (Holds k) can.0 (λ m. holds_none m k p (users_in p + 1) (live_unchained p can.1))
+        (counts_suits (fate k.slot) p (requests_in p) (users_in p + 1) (sound.suit k.slot)) (counts_chained p (requests_in p) (users_in p + 1))),
+  )
+  does (Releases k) calls' can turns = let p = phase_at slots k.slot in (
+    fate,
+    rw turns (kept sound (Releases k) can.0 (λ m. holds_none m k p (users_in p - 1) (used_unchained p can.1))
+        (counts_suits (fate k.slot) p (requests_in p) (users_in p - 1) (sound.suit k.slot)) (counts_chained p (requests_in p) (users_in p - 1))),
+  )
+  does (Ends k) calls' can turns = let p = phase_at slots k.slot in
+      (fate, rw turns (kept sound (Ends k) can.0 (λ m. ends_none m k p can.1) (ends_suits (fate k.slot) p can.1 (sound.suit k.slot)) (ends_chained p)))
+  does (Asks k) calls' can turns =
+      let suit : suits (fate k.slot) (Ending 0 0) ≡ true = sym (ap (suits (fate k.slot)) can.1) ∙ sound.suit k.slot in (
+        fate,
+        rw turns (begun sound (Asks k) can.0 (CloseOf k) refl (λ m. asks_one m k ∙ ap (λ (p : Phase). is_member m (CloseOf k) + count_in m p) (sym can.1))
+            (asked_suits (fate k.slot) suit).0 (λ chained. absurd (cc chained)) (ap is_chained can.1) (asked_suits (fate k.slot) suit).1),
+      )
+  does (Closes k) calls' can turns = let p = phase_at slots k.slot in (
+    fate,
+    lost sound (Closes k) can.0 (CloseOf k) Made calls' refl turns (λ m. closes_one m k p can.1)
+        (closes_suits (fate k.slot) p k can.1 (sound.suit k.slot)) (closes_chained p),
+  )
+  does (FailsToClose k) calls' can turns = let p = phase_at slots k.slot in (
+    fate,
+    lost sound (FailsToClose k) can.0 (CloseOf k) Quit calls' refl turns (λ m. leaves_one m k p can.1)
+        (leaves_suits (fate k.slot) p k can.1 (sound.suit k.slot)) (leaves_chained p),
+  )

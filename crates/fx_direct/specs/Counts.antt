@@ -1,67 +1,91 @@
 -- The transitions of a key, counted.
-use Rattle.std.specs.Prelude.{◌≡◌, ℕ, ◌+◌, ◌≤◌, ◌==◌, Bool, true, false, List, [], ◌∷◌}
+use Rattle.std.specs.Prelude.{◌≡◌, ℕ, ◌+◌, ◌<◌, ◌≤◌, ◌==◌, Bool, true, false, List, [], ◌∷◌}
 use Rattle.std.specs.Prelude.{if◌then◌else◌}
 use Rattle.fx_direct.specs.Living.{same_key}
-use Rattle.fx_direct.specs.Phases.{Free, AllFree, slot_numbered, phase_at, requests_in, users_in}
-use Rattle.fx_direct.specs.Phases.{is_installed, is_closing, is_live, is_opening}
-use Rattle.fx_direct.specs.Transitions.{Reserves, Opens, Starts, Finishes, Holds, Releases, Ends}
-use Rattle.fx_direct.specs.Transitions.{Asks, Closes, FailsToClose, IsEnabled, AreEnabled}
+use Rattle.fx_direct.specs.Phases.{Chained, Free, Installed, Later, Due, AllFree, bit}
+use Rattle.fx_direct.specs.Phases.{slot_numbered, phase_at, requests_in, users_in, is_installed}
+use Rattle.fx_direct.specs.Phases.{is_closing, is_live, is_opening}
+use Rattle.fx_direct.specs.Transitions.{Reserves, Chains, Opens, Starts, Finishes, Holds, Releases}
+use Rattle.fx_direct.specs.Transitions.{Ends, Asks, Closes, FailsToClose, IsEnabled, AreEnabled}
 use Rattle.fx_direct.specs.Transitions.{slots_left_by}
+use Rattle.fx_direct.specs.declared.chain.ChainEnd.{ChainEnd}
+use Rattle.fx_direct.specs.declared.chain.ChainOpen.{ChainOpen}
 use Rattle.fx_direct.specs.declared.key.LifeKey.{LifeKey}
 use Rattle.fx_direct.specs.declared.phase.Phase.{Phase}
 use Rattle.fx_direct.specs.declared.phase.Slot.{Slot}
 use Rattle.fx_direct.specs.declared.transition.Transition.{Transition}
 
-abbrev pub bit : Bool → ℕ
-bit true = 1
-bit false = 0
+-- the transitions, each counted as often as `each` says
+abbrev pub times : (Transition → ℕ) → List Transition → ℕ
+times each [] = 0
+times each (t ∷ h) = times each h + each t
 
--- how many of the transitions pass a test
-abbrev pub times : (Transition → Bool) → List Transition → ℕ
-times is [] = 0
-times is (t ∷ h) = times is h + bit (is t)
+-- a number, if the keys are the same
+abbrev pub of_key : LifeKey → LifeKey → ℕ → ℕ
+of_key j k n = if same_key j k then n else 0
 
-abbrev pub reserves : LifeKey → Transition → Bool
-reserves k (Reserves j) = same_key j k
-reserves k t = false
+abbrev pub reserves : LifeKey → Transition → ℕ
+reserves k (Reserves j) = of_key j k 1
+reserves k t = 0
+
+abbrev pub chains : LifeKey → Transition → ℕ
+chains k (Chains j requests closes) = of_key j k 1
+chains k t = 0
 
 -- an open that installed a file
-abbrev pub opens : LifeKey → Transition → Bool
-opens k (Opens j true) = same_key j k
-opens k t = false
+abbrev pub opens : LifeKey → Transition → ℕ
+opens k (Opens j true) = of_key j k 1
+opens k t = 0
 
-abbrev pub starts : LifeKey → Transition → Bool
-starts k (Starts j) = same_key j k
-starts k t = false
+-- a request, or those of a chain
+abbrev pub starts : LifeKey → Transition → ℕ
+starts k (Starts j) = of_key j k 1
+starts k (Chains j requests closes) = of_key j k requests
+starts k t = 0
 
-abbrev pub finishes : LifeKey → Transition → Bool
-finishes k (Finishes j) = same_key j k
-finishes k t = false
+abbrev pub finishes : LifeKey → Transition → ℕ
+finishes k (Finishes j) = of_key j k 1
+finishes k t = 0
 
-abbrev pub holds : LifeKey → Transition → Bool
-holds k (Holds j) = same_key j k
-holds k t = false
+abbrev pub holds : LifeKey → Transition → ℕ
+holds k (Holds j) = of_key j k 1
+holds k t = 0
 
-abbrev pub releases : LifeKey → Transition → Bool
-releases k (Releases j) = same_key j k
-releases k t = false
+abbrev pub releases : LifeKey → Transition → ℕ
+releases k (Releases j) = of_key j k 1
+releases k t = 0
 
-abbrev pub ends : LifeKey → Transition → Bool
-ends k (Ends j) = same_key j k
-ends k t = false
+-- an end, or the close of a chain
+abbrev pub ends : LifeKey → Transition → ℕ
+ends k (Ends j) = of_key j k 1
+ends k (Chains j requests closes) = of_key j k (bit closes)
+ends k t = 0
 
-abbrev pub asks : LifeKey → Transition → Bool
-asks k (Asks j) = same_key j k
-asks k t = false
+-- a close that is asked for, or that of a chain
+abbrev pub asks : LifeKey → Transition → ℕ
+asks k (Asks j) = of_key j k 1
+asks k (Chains j requests closes) = of_key j k (bit closes)
+asks k t = 0
 
-abbrev pub closes : LifeKey → Transition → Bool
-closes k (Closes j) = same_key j k
-closes k t = false
+abbrev pub closes : LifeKey → Transition → ℕ
+closes k (Closes j) = of_key j k 1
+closes k t = 0
 
 -- a close that failed
-abbrev pub fails : LifeKey → Transition → Bool
-fails k (FailsToClose j) = same_key j k
-fails k t = false
+abbrev pub fails : LifeKey → Transition → ℕ
+fails k (FailsToClose j) = of_key j k 1
+fails k t = 0
+
+-- a chain's close was asked for, and its open wasn't seen to succeed
+abbrev pub is_early_close : ChainOpen → ChainEnd → Bool
+is_early_close Installed end = false
+is_early_close opened Later = false
+is_early_close opened Due = false
+is_early_close opened end = true
+
+abbrev pub is_early : Phase → Bool
+is_early (Chained c) = is_early_close c.opened c.end
+is_early p = false
 
 -- the phase of a key's life. An earlier life of the slot has left nothing
 abbrev pub phase_of : List Slot → LifeKey → Phase
@@ -75,10 +99,13 @@ pub record IsBalanced (h : List Transition) (k : LifeKey) (p : Phase) : Type 0 w
   -- each user was released once, or is one now
   pub users : times (holds k) h ≡ times (releases k) h + users_in p
   -- the life of a file that was opened was ended once, or it is live
-  pub ended : times (opens k) h ≡ times (ends k) h + bit (is_live p)
+  pub ended : 0 < times (opens k) h → times (opens k) h ≡ times (ends k) h + bit (is_live p)
+  -- where no file was opened, a chain alone was ended
+  pub early : times (ends k) h ≤ times (opens k) h + times (chains k) h
   -- the close of a file that was opened was asked for once, and again each time that it failed, or
-  -- the file is there
-  pub asked : times (opens k) h + times (fails k) h ≡ times (asks k) h + bit (is_installed p)
+  -- the file is there. That of a chain was asked for before its open was seen
+  pub asked : times (opens k) h + times (fails k) h + bit (is_early p)
+      ≡ times (asks k) h + bit (is_installed p)
   -- each close that was asked for succeeded or failed, or is in flight
   pub closed : times (asks k) h ≡ times (closes k) h + times (fails k) h + bit (is_closing p)
   -- the key was given at most once, and then its open was completed at most once

@@ -1,7 +1,8 @@
 -- Flights: the transitions of the machine, and between them the accesses that the kernel makes for
 -- its calls. The table is the one of the model. A flight has its newest moment first.
-use Rattle.std.specs.Prelude.{◌≡◌, ℕ, ◌≤◌, Bool, true, false, List, [], ◌∷◌, ◌++◌, length}
-use Rattle.std.specs.Prelude.{if◌then◌else◌}
+use Rattle.std.specs.Prelude.{◌≡◌, ℕ, zero, suc, ◌≤◌, ◌||◌, Bool, true, false, List, [], ◌∷◌}
+use Rattle.std.specs.Prelude.{◌++◌, length, None, if◌then◌else◌}
+use Rattle.std.specs.List.{AllByRecursion}
 use Rattle.fx_plain.specs.State.{State}
 use Rattle.fx_plain.specs.Step.{Allows}
 use Rattle.fx_plain.specs.Step.{after as table_after}
@@ -10,7 +11,7 @@ use Rattle.fx_plain.specs.declared.event.Action.TheVariants.{Look, Release, Put,
 use Rattle.fx_plain.specs.declared.event.Action.TheVariants.{Allocate}
 use Rattle.fx_plain.specs.declared.event.File.{File}
 use Rattle.fx_direct.specs.Living.{same_key}
-use Rattle.fx_direct.specs.Transitions.{Reserves, Opens, Starts, Finishes, Asks, Closes}
+use Rattle.fx_direct.specs.Transitions.{Reserves, Chains, Opens, Starts, Finishes, Asks, Closes}
 use Rattle.fx_direct.specs.Transitions.{FailsToClose, IsEnabled, slots_with}
 use Rattle.fx_direct.specs.declared.key.LifeKey.{LifeKey}
 use Rattle.fx_direct.specs.declared.phase.Slot.{Slot}
@@ -28,13 +29,21 @@ key_of_call (OpenAt k) = k
 key_of_call (UseOf k) = k
 key_of_call (CloseOf k) = k
 
--- a call in flight, and whether it has installed its file, or taken the file from its slot
+-- what a call in flight has done: it waits for its turn or is at work; it has installed its file, or
+-- taken the file from its slot; or it makes no access any more, and has done neither
+pub data Stage : Type 0 where
+  Waits : Stage
+  Made : Stage
+  Quit : Stage
+
+-- a call in flight, and whether it is linked to the calls before it in a chain
 pub record Pending : Type 0 where
   pub call : DirectCall
-  pub made : Bool
+  pub linked : Bool
+  pub stage : Stage
 
-abbrev pub pending : DirectCall → Bool → Pending
-pending call made = record { call = call; made = made }
+abbrev pub pending : DirectCall → Bool → Stage → Pending
+pending call linked stage = record { call = call; linked = linked; stage = stage }
 
 -- the machine, the kernel's table, and the calls in flight
 pub record World : Type 0 where
@@ -42,53 +51,96 @@ pub record World : Type 0 where
   pub table : State
   pub calls : List Pending
 
--- what happens: a transition of the machine, with which a call begins or its completion is seen; an
--- access that the kernel makes for a call; or an action of others
+-- what happens: a transition of the machine, with which calls begin or the completion of one is
+-- seen; an access that the kernel makes for a call; the end of a call's accesses; or an action of
+-- others
 pub data DirectMoment : Type 0 where
   Does : Transition → DirectMoment
   Accesses : DirectCall → Action → DirectMoment
+  Quits : DirectCall → DirectMoment
   Others : Action → DirectMoment
 
 -- one call in flight is over
-pub record Loses (call : DirectCall) (made : Bool) (old new : List Pending) : Type 0 where
+pub record Loses (call : DirectCall) (stage : Stage) (old new : List Pending) : Type 0 where
   pub front : List Pending
   pub rest : List Pending
-  pub was : old ≡ front ++ pending call made ∷ rest
+  pub linked : Bool
+  pub was : old ≡ front ++ pending call linked stage ∷ rest
   pub is : new ≡ front ++ rest
 
--- the calls in flight after a transition. An open is answered by a success if and only if it has
--- installed its file, and a close if and only if it has taken the file from its slot
+-- the calls in flight with the requests of a chain, and with its close
+abbrev pub with_uses : LifeKey → ℕ → List Pending → List Pending
+with_uses k zero calls = calls
+with_uses k (suc n) calls = pending (UseOf k) true Waits ∷ with_uses k n calls
+
+abbrev pub with_close : LifeKey → Bool → List Pending → List Pending
+with_close k true calls = pending (CloseOf k) true Waits ∷ calls
+with_close k false calls = calls
+
+abbrev pub stage_of : Bool → Stage
+stage_of true = Made
+stage_of false = Quit
+
+-- the calls in flight after a transition. A completion is that of a call that makes no access any
+-- more. An open is answered by a success if and only if it has installed its file, and a close if
+-- and only if it has taken the file from its slot
 abbrev pub TurnsCalls : Transition → List Pending → List Pending → Type 0
-TurnsCalls (Reserves k) old new = new ≡ pending (OpenAt k) false ∷ old
-TurnsCalls (Opens k installed) old new = Loses (OpenAt k) installed old new
-TurnsCalls (Starts k) old new = new ≡ pending (UseOf k) false ∷ old
-TurnsCalls (Finishes k) old new = Loses (UseOf k) false old new
-TurnsCalls (Asks k) old new = new ≡ pending (CloseOf k) false ∷ old
-TurnsCalls (Closes k) old new = Loses (CloseOf k) true old new
-TurnsCalls (FailsToClose k) old new = Loses (CloseOf k) false old new
+TurnsCalls (Reserves k) old new = new ≡ pending (OpenAt k) false Waits ∷ old
+TurnsCalls (Chains k requests closes) old new =
+    new ≡ with_close k closes (with_uses k requests old)
+TurnsCalls (Opens k installed) old new = Loses (OpenAt k) (stage_of installed) old new
+TurnsCalls (Starts k) old new = new ≡ pending (UseOf k) false Waits ∷ old
+TurnsCalls (Finishes k) old new = Loses (UseOf k) Quit old new
+TurnsCalls (Asks k) old new = new ≡ pending (CloseOf k) false Waits ∷ old
+TurnsCalls (Closes k) old new = Loses (CloseOf k) Made old new
+TurnsCalls (FailsToClose k) old new = Loses (CloseOf k) Quit old new
 TurnsCalls t old new = new ≡ old
 
--- an access that a call may make, and whether the call has made its own one after it: an open puts
--- a file at the slot once, a request looks at the slot and releases what it found as often as it
--- likes, and a close takes the file from the slot once
-abbrev pub MayMake : DirectCall → Bool → Action → Bool → Type 0
-MayMake (OpenAt k) old (Put slot f replaced) new =
-    (slot ≡ k.slot) × (old ≡ false) × (new ≡ true)
-MayMake (UseOf k) old (Look slot found) new = (slot ≡ k.slot) × (new ≡ old)
-MayMake (UseOf k) old (Release f) new = new ≡ old
-MayMake (CloseOf k) old (Take slot found) new =
-    (slot ≡ k.slot) × (old ≡ false) × (new ≡ true)
-MayMake call old action new = ⊥
+-- an access that a call may make: an open puts a file at the slot, a request looks at the slot and
+-- releases what it found as often as it likes, and a close takes the file from the slot
+abbrev pub MayMake : DirectCall → Action → Type 0
+MayMake (OpenAt k) (Put slot f replaced) = slot ≡ k.slot
+MayMake (UseOf k) (Look slot found) = slot ≡ k.slot
+MayMake (UseOf k) (Release f) = Unit {0}
+MayMake (CloseOf k) (Take slot found) = slot ≡ k.slot
+MayMake call action = ⊥
 
--- a call in flight makes an access
+-- the call after an access of its own. A close that found no file has done nothing
+abbrev pub stage_after : DirectCall → Action → Stage
+stage_after (UseOf k) action = Waits
+stage_after (CloseOf k) (Take slot None) = Quit
+stage_after call action = Made
+
+-- the order of a chain: a request makes its accesses after the open of its key, and a close after
+-- the open and the requests. The call has to wait for the other one, which is in this stage
+abbrev pub waits_for : DirectCall → DirectCall → Stage → Bool
+waits_for (UseOf k) (OpenAt j) Waits = same_key j k
+waits_for (CloseOf k) (OpenAt j) Waits = same_key j k
+waits_for (CloseOf k) (UseOf j) Waits = same_key j k
+waits_for call other stage = false
+
+-- if the call is linked, it has to wait for none of these
+abbrev pub IsInTurn : DirectCall → Bool → List Pending → Type 0
+IsInTurn call true calls = AllByRecursion (λ p. waits_for call p.call p.stage ≡ false) calls
+IsInTurn call false calls = Unit {0}
+
+-- a call in flight makes an access, in its turn
 pub record Makes (call : DirectCall) (action : Action) (old new : List Pending) : Type 0 where
   pub front : List Pending
   pub rest : List Pending
-  pub earlier : Bool
-  pub later : Bool
-  pub was : old ≡ front ++ pending call earlier ∷ rest
-  pub is : new ≡ front ++ pending call later ∷ rest
-  pub may : MayMake call earlier action later
+  pub linked : Bool
+  pub was : old ≡ front ++ pending call linked Waits ∷ rest
+  pub is : new ≡ front ++ pending call linked (stage_after call action) ∷ rest
+  pub may : MayMake call action
+  pub turn : IsInTurn call linked old
+
+-- a call in flight makes no access any more: its accesses are done, or the kernel skips it
+pub record Stops (call : DirectCall) (old new : List Pending) : Type 0 where
+  pub front : List Pending
+  pub rest : List Pending
+  pub linked : Bool
+  pub was : old ≡ front ++ pending call linked Waits ∷ rest
+  pub is : new ≡ front ++ pending call linked Quit ∷ rest
 
 -- an action of others doesn't write the machine's slots. It may look at them, and close removed
 -- files
@@ -107,6 +159,9 @@ ComesBy enabled w (Does t) v =
 ComesBy enabled w (Accesses call a) v =
     Allows w.table a × Makes call a w.calls v.calls
     × (v ≡ record { slots = w.slots; table = table_after w.table a; calls = v.calls })
+ComesBy enabled w (Quits call) v =
+    Stops call w.calls v.calls
+    × (v ≡ record { slots = w.slots; table = w.table; calls = v.calls })
 ComesBy enabled w (Others a) v =
     Allows w.table a × IsElsewhere (length w.slots) a
     × (v ≡ record { slots = w.slots; table = table_after w.table a; calls = w.calls })
@@ -134,4 +189,15 @@ abbrev pub files_under : LifeKey → List DirectMoment → List File
 files_under k [] = []
 files_under k (Does t ∷ h) = files_under k h
 files_under k (Accesses call a ∷ h) = files_under k h ++ files_put_by k call a
+files_under k (Quits call ∷ h) = files_under k h
 files_under k (Others a ∷ h) = files_under k h
+
+-- a chain was submitted under the key
+abbrev pub is_chain_of : LifeKey → Transition → Bool
+is_chain_of k (Chains j requests closes) = same_key j k
+is_chain_of k t = false
+
+abbrev pub has_chain : LifeKey → List DirectMoment → Bool
+has_chain k [] = false
+has_chain k (Does t ∷ h) = is_chain_of k t || has_chain k h
+has_chain k (m ∷ h) = has_chain k h

@@ -1,17 +1,19 @@
--- A flight that goes wrong because a close doesn't wait.
-use Rattle.std.specs.Prelude.{◌≡◌, ℕ, List, [], true, Some, None}
-use Rattle.fx_base.specs.declared.mark.Mark.TheVariants.{Registered}
+-- Two flights that go wrong: a close doesn't wait, and a slot is free before its chain is over.
+use Rattle.std.specs.Prelude.{◌≡◌, ℕ, ◌+◌, ◌<◌, ◌≤◌, Bool, List, [], length, true, false, Some, None}
 use Rattle.fx_plain.specs.History.{◌▷◌}
 use Rattle.fx_plain.specs.declared.event.Action.TheVariants.{Look, Put, Take}
-use Rattle.fx_plain.specs.declared.event.File.{File}
-use Rattle.fx_direct.specs.Phases.{Ending, phase_at}
-use Rattle.fx_direct.specs.Transitions.{Reserves, Opens, Starts, Ends, Asks, Closes, IsEnabled}
-use Rattle.fx_direct.specs.Transitions.{NamesLastLife}
+use Rattle.fx_direct.specs.Phases.{Chained, Ending, Failed, Free, phase_at, slot_numbered}
+use Rattle.fx_direct.specs.Transitions.{Reserves, Chains, Opens, Starts, Ends, Asks, Closes}
+use Rattle.fx_direct.specs.Transitions.{IsEnabled, NamesLastLife}
+use Rattle.fx_direct.specs.declared.chain.ChainOpen.{ChainOpen}
+use Rattle.fx_direct.specs.declared.key.TheConstants.{MOST_LIVES}
+use Rattle.fx_direct.specs.declared.phase.Phase.{Phase}
 use Rattle.fx_direct.specs.declared.phase.Slot.{Slot}
 use Rattle.fx_direct.specs.declared.transition.Transition.{Transition}
 use Rattle.fx_direct.specs.Flight.{World, OpenAt, UseOf, CloseOf, DirectMoment, Does, Accesses}
+use Rattle.fx_direct.specs.Flight.{Quits}
 use Rattle.fx_direct.specs.Flight.{IsDirectFlightBy}
-use Rattle.fx_direct.specs.Round.{one_slot, some_file, first_key, second_key}
+use Rattle.fx_direct.specs.Round.{one_slot, some_file, next_file, first_key, second_key}
 
 -- the machine's condition, but a close may be asked for while requests and users are left
 abbrev pub IsEnabledInHaste : List Slot → Transition → Type 0
@@ -20,12 +22,6 @@ IsEnabledInHaste slots (Asks k) =
     × (phase_at slots k.slot ≡ Ending requests users)
 IsEnabledInHaste slots t = IsEnabled slots t
 
-abbrev pub other_file : File
-other_file = record {
-  number = 8;
-  identity = record { mark = Registered 1 1; entry = 1; tag = 0 };
-}
-
 -- a request of the first key finds the file of the second one
 abbrev pub mistake : List DirectMoment
 mistake =
@@ -33,9 +29,37 @@ mistake =
     ▷ Does (Opens first_key true) ▷ Does (Starts first_key) ▷ Does (Ends first_key)
     ▷ Does (Asks first_key) ▷ Accesses (CloseOf first_key) (Take 0 (Some some_file))
     ▷ Does (Closes first_key) ▷ Does (Reserves second_key)
-    ▷ Accesses (OpenAt second_key) (Put 0 other_file None)
-    ▷ Accesses (UseOf first_key) (Look 0 (Some other_file))
+    ▷ Accesses (OpenAt second_key) (Put 0 next_file None)
+    ▷ Accesses (UseOf first_key) (Look 0 (Some next_file))
 
 -- under that condition it happens
 abbrev pub HasteIsWrong : Type 0
 HasteIsWrong = (end : World) × IsDirectFlightBy IsEnabledInHaste one_slot mistake end
+
+abbrev pub is_failed : ChainOpen → Bool
+is_failed Failed = true
+is_failed opened = false
+
+-- the machine's condition, but a slot is free once the open of its chain was seen to fail
+abbrev pub is_free_early : Phase → Bool
+is_free_early Free = true
+is_free_early (Chained c) = is_failed c.opened
+is_free_early p = false
+
+abbrev pub IsEnabledEarly : List Slot → Transition → Type 0
+IsEnabledEarly slots (Reserves k) =
+    (k.slot < length slots) × (k.number ≡ (slot_numbered slots k.slot).number + 1)
+    × (is_free_early (phase_at slots k.slot) ≡ true) × (k.number ≤ MOST_LIVES)
+IsEnabledEarly slots t = IsEnabled slots t
+
+-- the close of a chain whose open failed takes the file of another key
+abbrev pub chain_mistake : List DirectMoment
+chain_mistake =
+    [] ▷ Does (Reserves first_key) ▷ Does (Chains first_key 0 true) ▷ Quits (OpenAt first_key)
+    ▷ Does (Opens first_key false) ▷ Does (Reserves second_key)
+    ▷ Accesses (OpenAt second_key) (Put 0 some_file None)
+    ▷ Accesses (CloseOf first_key) (Take 0 (Some some_file))
+
+-- under that condition it happens
+abbrev pub ChainIsNotAnOpen : Type 0
+ChainIsNotAnOpen = (end : World) × IsDirectFlightBy IsEnabledEarly one_slot chain_mistake end

@@ -1,5 +1,5 @@
 -- Laws of flights.
-use Rattle.std.specs.Prelude.{◌≡◌, ◌≢◌, ℕ, ◌≤◌, ◌<◌, List, [], ◌∷◌, length, Option}
+use Rattle.std.specs.Prelude.{◌≡◌, ◌≢◌, ◌⊎◌, ℕ, ◌≤◌, ◌<◌, true, List, [], ◌∷◌, length, Option}
 use Rattle.std.specs.Prelude.{Some, None}
 use Rattle.std.specs.List.{AllByRecursion}
 use Rattle.fx_plain.specs.History.{◌▷◌, ◌▷▷◌}
@@ -11,7 +11,7 @@ use Rattle.fx_direct.specs.Phases.{AllFree}
 use Rattle.fx_direct.specs.Transitions.{Reserves, Asks, IsEnabled}
 use Rattle.fx_direct.specs.Flight.{World, DirectCall, OpenAt, UseOf, CloseOf, DirectMoment}
 use Rattle.fx_direct.specs.Flight.{Accesses}
-use Rattle.fx_direct.specs.Flight.{IsDirectFlight, files_under, key_of_call}
+use Rattle.fx_direct.specs.Flight.{IsDirectFlight, files_under, has_chain, key_of_call}
 
 -- no slot has begun a life that isn't over, the machine's slots are in the table, those are empty,
 -- and no call is in flight
@@ -25,15 +25,19 @@ pub record IsEmptyStart (w : World) : Type 0 where
 abbrev pub IsFileOf : List DirectMoment → LifeKey → Option File → Type 0
 IsFileOf h k found = (f : File) × (found ≡ Some f) × (files_under k h ≡ f ∷ [])
 
+-- nothing was found, and nothing was installed under the key, which is that of a chain
+abbrev pub IsMissed : List DirectMoment → LifeKey → Option File → Type 0
+IsMissed h k found = (found ≡ None) × (files_under k h ≡ []) × (has_chain k h ≡ true)
+
 -- what the access finds, after these moments
 abbrev pub FindsItsOwn : List DirectMoment → DirectCall → Action → Type 0
 FindsItsOwn h (OpenAt k) (Put slot f replaced) = (replaced ≡ None) × (files_under k h ≡ [])
-FindsItsOwn h (UseOf k) (Look slot found) = IsFileOf h k found
-FindsItsOwn h (CloseOf k) (Take slot found) = IsFileOf h k found
+FindsItsOwn h (UseOf k) (Look slot found) = IsFileOf h k found ⊎ IsMissed h k found
+FindsItsOwn h (CloseOf k) (Take slot found) = IsFileOf h k found ⊎ IsMissed h k found
 FindsItsOwn h call action = Unit {0}
 
 -- an open finds its slot empty, and is the only one under its key; a request, and a close, find the
--- file that the open of their key installed
+-- file that the open of their key installed, or, in a chain whose open installed nothing, no file
 abbrev pub EachAccessFindsItsOwn : Type 0
 EachAccessFindsItsOwn =
     (start end : World) (earlier later : List DirectMoment) (call : DirectCall) (a : Action)

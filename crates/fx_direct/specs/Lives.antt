@@ -1,10 +1,10 @@
 -- Laws of a whole life.
 use Rattle.std.specs.Prelude.{◌≡◌, ℕ, ◌+◌, ◌≤◌, ◌<◌, List, Option}
 use Rattle.fx_plain.specs.History.{◌▷▷◌}
-use Rattle.fx_direct.specs.Counts.{times, reserves, opens, starts, finishes, holds, releases, ends}
-use Rattle.fx_direct.specs.Counts.{asks, closes, fails}
-use Rattle.fx_direct.specs.Phases.{Ending, AllFree, phase_at}
-use Rattle.fx_direct.specs.Transitions.{Reserves, Opens, Starts, Holds, Closes, key_concerned}
+use Rattle.fx_direct.specs.Counts.{times, reserves, chains, opens, starts, finishes, holds}
+use Rattle.fx_direct.specs.Counts.{releases, ends, asks, closes, fails, phase_of}
+use Rattle.fx_direct.specs.Phases.{Ending, AllFree, bit, is_chained, phase_at}
+use Rattle.fx_direct.specs.Transitions.{Reserves, Chains, Starts, Holds, key_concerned}
 use Rattle.fx_direct.specs.Transitions.{HasLife}
 use Rattle.fx_direct.specs.Transitions.{IsEnabled, AreEnabled, slots_left_by, Advances}
 use Rattle.fx_direct.specs.Transitions.{AdvancesAndAsks}
@@ -16,13 +16,12 @@ use Rattle.fx_direct.specs.declared.transition.Transition.{Transition}
 abbrev pub NoCloseIsDue : List Slot → Type 0
 NoCloseIsDue slots = (slot : ℕ) → phase_at slots slot ≡ Ending 0 0 → ⊥
 
--- the calls of the machine that never ask for a close
+-- the transitions after which no close is due
 abbrev pub NeverAsks : Transition → Type 0
 NeverAsks (Reserves k) = Unit {0}
-NeverAsks (Opens k installed) = Unit {0}
+NeverAsks (Chains k requests closes) = Unit {0}
 NeverAsks (Starts k) = Unit {0}
 NeverAsks (Holds k) = Unit {0}
-NeverAsks (Closes k) = Unit {0}
 NeverAsks t = ⊥
 
 -- no close is due when a machine begins, nor after any of its calls: none is asked for late
@@ -34,17 +33,23 @@ NoCloseIsLate =
     × ((old new : List Slot) (t : Transition) (ask : Option ℕ)
     → NoCloseIsDue old → AdvancesAndAsks old t ask new → NoCloseIsDue new)
 
--- the close of a file that was installed is asked for at most once, and again each time that it
--- failed. Once the life was ended and each request and each user came back, it has been asked for
+-- the close of a file is asked for at most once, and again each time that it failed; where no file
+-- was installed, only by a chain. It succeeds at most once, and where no file was installed, only
+-- until its chain is over. Once the life of an installed file was ended and each request and each
+-- user came back, its close has been asked for
 abbrev pub EachCloseIsAskedForOnce : Type 0
 EachCloseIsAskedForOnce =
     (start : List Slot) (h : List Transition) (k : LifeKey)
     → AllFree start
     → AreEnabled start h
     → (times (opens k) h ≤ 1)
-    × (times (asks k) h ≤ times (opens k) h + times (fails k) h)
-    × (times (closes k) h ≤ times (opens k) h)
+    × (times (asks k) h ≤ 1 + times (fails k) h)
+    × (times (asks k) h ≤ times (opens k) h + times (chains k) h + times (fails k) h)
+    × (times (closes k) h ≤ 1)
+    × (times (closes k) h
+    ≤ times (opens k) h + bit (is_chained (phase_of (slots_left_by start h) k)))
     × (NoCloseIsDue (slots_left_by start h)
+    → 0 < times (opens k) h
     → 0 < times (ends k) h
     → times (starts k) h ≡ times (finishes k) h
     → times (holds k) h ≡ times (releases k) h

@@ -8,6 +8,7 @@ use Rattle.fx_direct.specs.Phases.{lives_of}
 use Rattle.fx_direct.specs.Transitions.{with_phase}
 use Rattle.fx_direct.specs.declared.key.LifeKey.{LifeKey}
 use Rattle.fx_direct.specs.declared.key.TheConstants.{MOST_LIVES, MOST_SLOTS}
+use Rattle.fx_direct.specs.declared.phase.Phase.{Phase}
 use Rattle.fx_direct.specs.declared.phase.Slot.{Slot}
 
 -- these are the lives under way and the calls in flight
@@ -15,7 +16,8 @@ pub record AreCounted (slots : List Slot) (lives calls : ℕ) : Type 0 where
   pub few : length slots ≤ MOST_SLOTS
   pub lives_are : lives ≡ lives_of slots
   pub calls_are : calls ≡ calls_in_flight slots
-  pub each : (slot : ℕ) → calls_in (phase_at slots slot) < 2 ^ 32
+  -- an open, 2^32 - 1 requests and a close at most
+  pub each : (slot : ℕ) → calls_in (phase_at slots slot) ≤ 2 ^ 32 + 1
 
 -- the slot may begin one more life
 abbrev pub is_vacant : Slot → Bool
@@ -29,9 +31,10 @@ pub record IsMachine (slots : List Slot) (order : Order) : Type 0 where
       → is_among_vacant order slot ≡ is_vacant (slot_numbered slots slot)
   pub numbers : (slot : ℕ) → (slot_numbered slots slot).number ≤ MOST_LIVES
 
--- the counts of an ending slot are written, or its close is asked for if both are 0
-abbrev pub WritesEnding : List Slot → LifeKey → ℕ → ℕ → Option ℕ → List Slot → Type 0
-WritesEnding old k requests users None new =
-    (new ≡ with_phase old k (Ending requests users)) × (0 < requests + users)
-WritesEnding old k requests users (Some slot) new =
-    (slot ≡ k.slot) × (requests ≡ 0) × (users ≡ 0) × (new ≡ with_phase old k Closing)
+-- the phase is written. If it leaves no request and no user of an ending slot, its close is asked
+-- for
+abbrev pub WritesPhase : List Slot → LifeKey → Phase → Option ℕ → List Slot → Type 0
+WritesPhase old k phase None new =
+    (new ≡ with_phase old k phase) × (phase ≡ Ending 0 0 → ⊥)
+WritesPhase old k phase (Some slot) new =
+    (slot ≡ k.slot) × (phase ≡ Ending 0 0) × (new ≡ with_phase old k Closing)

@@ -1,7 +1,8 @@
 -- Why the machine refuses a transition.
-use Rattle.std.specs.Prelude.{◌≡◌, ◌-◌, ◌^◌, List}
-use Rattle.fx_direct.specs.Phases.{phase_at, requests_in, users_in}
-use Rattle.fx_direct.specs.Transitions.{Starts, Holds, HasLife, IsEnabled, key_concerned}
+use Rattle.std.specs.Prelude.{◌≡◌, ◌-◌, ◌^◌, true, false, List}
+use Rattle.fx_direct.specs.Phases.{phase_at, requests_in, users_in, is_chained, ends_anyway}
+use Rattle.fx_direct.specs.Transitions.{Starts, Holds, Ends, HasLife, IsEnabled, key_concerned}
+use Rattle.fx_direct.specs.declared.key.LifeKey.{LifeKey}
 use Rattle.fx_direct.specs.declared.phase.Slot.{Slot}
 use Rattle.fx_direct.specs.declared.refusal.LifeRefusal.{LifeRefusal}
 use Rattle.fx_direct.specs.declared.refusal.LifeRefusal.TheVariants.{Stale, Is, TooManyRequests}
@@ -21,3 +22,16 @@ RefusesTransition slots t TooManyRequests =
 RefusesTransition slots t TooManyUsers =
     IsEnabled slots t × (t ≡ Holds (key_concerned t))
     × (users_in (phase_at slots (key_concerned t).slot) ≡ 2 ^ 32 - 1)
+
+-- the same of a call that isn't for chains: a life that is chained refuses it
+abbrev pub RefusesUnchained : List Slot → Transition → LifeRefusal → Type 0
+RefusesUnchained slots t (Is phase) =
+    HasLife slots (key_concerned t) × (phase ≡ phase_at slots (key_concerned t).slot)
+    × (IsEnabled slots t → is_chained phase ≡ true)
+RefusesUnchained slots t why = RefusesTransition slots t why
+
+-- the life of the key isn't under way, or it can't be ended and no chain ends it
+abbrev pub RefusesEnd : List Slot → LifeKey → LifeRefusal → Type 0
+RefusesEnd slots k (Is phase) =
+    RefusesTransition slots (Ends k) (Is phase) × (ends_anyway phase ≡ false)
+RefusesEnd slots k why = RefusesTransition slots (Ends k) why

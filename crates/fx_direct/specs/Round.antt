@@ -6,10 +6,10 @@ use Rattle.fx_plain.specs.declared.event.Action.TheVariants.{Look, Release, Put,
 use Rattle.fx_plain.specs.declared.event.File.{File}
 use Rattle.fx_direct.specs.declared.key.LifeKey.{LifeKey}
 use Rattle.fx_direct.specs.Phases.{unused}
-use Rattle.fx_direct.specs.Transitions.{Reserves, Opens, Starts, Finishes, Holds, Releases, Ends}
-use Rattle.fx_direct.specs.Transitions.{Asks, Closes, FailsToClose}
+use Rattle.fx_direct.specs.Transitions.{Reserves, Chains, Opens, Starts, Finishes, Holds, Releases}
+use Rattle.fx_direct.specs.Transitions.{Ends, Asks, Closes, FailsToClose}
 use Rattle.fx_direct.specs.Flight.{World, OpenAt, UseOf, CloseOf, DirectMoment, Does, Accesses}
-use Rattle.fx_direct.specs.Flight.{Others}
+use Rattle.fx_direct.specs.Flight.{Quits, Others}
 use Rattle.fx_direct.specs.Flight.{IsDirectFlight}
 use Rattle.fx_direct.specs.Laws.{IsEmptyStart}
 
@@ -40,17 +40,37 @@ first_key = record { slot = 0; number = 1 }
 abbrev pub second_key : LifeKey
 second_key = record { slot = 0; number = 2 }
 
--- a life with a request and a user, whose first close fails, and a second life, whose open fails
+abbrev pub third_key : LifeKey
+third_key = record { slot = 0; number = 3 }
+
+abbrev pub next_file : File
+next_file = record {
+  number = 8;
+  identity = record { mark = Registered 1 1; entry = 1; tag = 0 };
+}
+
+-- a life with a request and a user, whose first close fails; a chain, which opens a file, reads it
+-- and closes it, whose close is seen first; and a chain whose open fails, after which its close
+-- finds no file
 abbrev pub round : List DirectMoment
 round =
     [] ▷ Does (Reserves first_key) ▷ Accesses (OpenAt first_key) (Put 0 some_file None)
     ▷ Does (Opens first_key true) ▷ Does (Starts first_key) ▷ Does (Holds first_key)
     ▷ Accesses (UseOf first_key) (Look 0 (Some some_file)) ▷ Does (Ends first_key)
-    ▷ Accesses (UseOf first_key) (Release some_file) ▷ Does (Finishes first_key)
-    ▷ Does (Releases first_key) ▷ Does (Asks first_key) ▷ Does (FailsToClose first_key)
-    ▷ Does (Asks first_key)
+    ▷ Accesses (UseOf first_key) (Release some_file) ▷ Quits (UseOf first_key)
+    ▷ Does (Finishes first_key) ▷ Does (Releases first_key) ▷ Does (Asks first_key)
+    ▷ Quits (CloseOf first_key) ▷ Does (FailsToClose first_key) ▷ Does (Asks first_key)
     ▷ Accesses (CloseOf first_key) (Take 0 (Some some_file)) ▷ Others (Close some_file)
-    ▷ Does (Closes first_key) ▷ Does (Reserves second_key) ▷ Does (Opens second_key false)
+    ▷ Does (Closes first_key)
+    ▷ Does (Reserves second_key) ▷ Does (Chains second_key 1 true)
+    ▷ Accesses (OpenAt second_key) (Put 0 next_file None)
+    ▷ Accesses (UseOf second_key) (Look 0 (Some next_file))
+    ▷ Accesses (UseOf second_key) (Release next_file) ▷ Quits (UseOf second_key)
+    ▷ Accesses (CloseOf second_key) (Take 0 (Some next_file)) ▷ Does (Closes second_key)
+    ▷ Does (Finishes second_key) ▷ Does (Opens second_key true)
+    ▷ Does (Reserves third_key) ▷ Does (Chains third_key 0 true) ▷ Quits (OpenAt third_key)
+    ▷ Accesses (CloseOf third_key) (Take 0 None) ▷ Does (Opens third_key false)
+    ▷ Does (FailsToClose third_key)
 
 -- there is a flight with these moments, from a start
 abbrev pub GoesRound : Type 0

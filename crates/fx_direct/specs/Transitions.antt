@@ -1,14 +1,21 @@
 -- The transitions of the machine: when each one is possible, and the slots after it.
 use Rattle.std.specs.Prelude.{◌≡◌, ◌≢◌, ℕ, ◌+◌, ◌-◌, ◌<◌, ◌≤◌, Bool, true, false, List, [], ◌∷◌}
-use Rattle.std.specs.Prelude.{length, slice_set, Option, Some, None}
-use Rattle.fx_direct.specs.Phases.{Free, Opening, Live, Ending, Closing, slot_numbered, phase_at}
-use Rattle.fx_direct.specs.Phases.{requests_in, users_in, is_live}
+use Rattle.std.specs.Prelude.{length, slice_set, Option, Some, None, ◌⊎◌}
+use Rattle.fx_direct.specs.Phases.{Free, Opening, Live, Ending, Closing, Chained, Installed, Failed}
+use Rattle.fx_direct.specs.Phases.{Unseen, Later, Due, Awaited, Took, Left, chain, chain_of}
+use Rattle.fx_direct.specs.Phases.{chain_phase, slot_numbered, phase_at, requests_in, users_in}
+use Rattle.fx_direct.specs.Phases.{is_live, is_closing, ends_anyway}
+use Rattle.fx_direct.specs.declared.chain.ChainEnd.{ChainEnd}
+use Rattle.fx_direct.specs.declared.chain.ChainOpen.{ChainOpen}
+use Rattle.fx_direct.specs.declared.chain.Member.{Member}
+use Rattle.fx_direct.specs.declared.chain.Member.TheVariants.{Open, Request, Close}
 use Rattle.fx_direct.specs.declared.key.LifeKey.{LifeKey}
 use Rattle.fx_direct.specs.declared.key.TheConstants.{MOST_LIVES}
 use Rattle.fx_direct.specs.declared.phase.Phase.{Phase}
 use Rattle.fx_direct.specs.declared.phase.Slot.{Slot}
 use Rattle.fx_direct.specs.declared.transition.Transition.{Transition}
-pub use Rattle.fx_direct.specs.declared.transition.Transition.TheVariants.{Reserves, Opens, Starts}
+pub use Rattle.fx_direct.specs.declared.transition.Transition.TheVariants.{Reserves, Chains, Opens}
+pub use Rattle.fx_direct.specs.declared.transition.Transition.TheVariants.{Starts}
 pub use Rattle.fx_direct.specs.declared.transition.Transition.TheVariants.{Finishes, Holds}
 pub use Rattle.fx_direct.specs.declared.transition.Transition.TheVariants.{Releases, Ends, Asks}
 pub use Rattle.fx_direct.specs.declared.transition.Transition.TheVariants.{Closes, FailsToClose}
@@ -16,6 +23,7 @@ pub use Rattle.fx_direct.specs.declared.transition.Transition.TheVariants.{Close
 -- the key that the transition is about
 abbrev pub key_concerned : Transition → LifeKey
 key_concerned (Reserves k) = k
+key_concerned (Chains k requests closes) = k
 key_concerned (Opens k installed) = k
 key_concerned (Starts k) = k
 key_concerned (Finishes k) = k
@@ -34,43 +42,109 @@ NamesLastLife slots k = (k.slot < length slots) × ((slot_numbered slots k.slot)
 abbrev pub HasLife : List Slot → LifeKey → Type 0
 HasLife slots k = NamesLastLife slots k × (phase_at slots k.slot ≢ Free)
 
+-- the completion of a chain's open may be seen. A close takes no file of an open that failed
+abbrev pub can_open : Bool → ChainOpen → ChainEnd → Bool
+can_open false Unseen Took = false
+can_open installed Unseen end = true
+can_open installed opened end = false
+
+-- the completion of a chain's close that took the file may be seen
+abbrev pub can_close : ChainOpen → ChainEnd → Bool
+can_close Failed Awaited = false
+can_close opened Awaited = true
+can_close opened end = false
+
+abbrev pub may_open : Bool → Phase → Bool
+may_open installed Opening = true
+may_open installed (Chained c) = can_open installed c.opened c.end
+may_open installed p = false
+
+abbrev pub goes_on : ChainEnd → Bool
+goes_on Later = true
+goes_on end = false
+
+abbrev pub may_end : Phase → Bool
+may_end (Live requests users) = true
+may_end (Chained c) = goes_on c.end
+may_end p = false
+
+abbrev pub may_close : Phase → Bool
+may_close Closing = true
+may_close (Chained c) = can_close c.opened c.end
+may_close p = false
+
+-- the condition of a transition on its slot's phase
+abbrev pub IsPossible : Transition → Phase → Type 0
+IsPossible (Reserves k) p = p ≡ Free
+IsPossible (Chains k requests closes) p = p ≡ Opening
+IsPossible (Opens k installed) p = may_open installed p ≡ true
+IsPossible (Starts k) p = is_live p ≡ true
+IsPossible (Finishes k) p = 0 < requests_in p
+IsPossible (Holds k) p = is_live p ≡ true
+IsPossible (Releases k) p = 0 < users_in p
+IsPossible (Ends k) p = may_end p ≡ true
+IsPossible (Asks k) p = p ≡ Ending 0 0
+IsPossible (Closes k) p = may_close p ≡ true
+IsPossible (FailsToClose k) p = is_closing p ≡ true
+
 -- the condition of a transition, in the slots before it
 abbrev pub IsEnabled : List Slot → Transition → Type 0
 IsEnabled slots (Reserves k) =
     (k.slot < length slots) × (k.number ≡ (slot_numbered slots k.slot).number + 1)
     × (phase_at slots k.slot ≡ Free) × (k.number ≤ MOST_LIVES)
-IsEnabled slots (Opens k installed) = NamesLastLife slots k × (phase_at slots k.slot ≡ Opening)
-IsEnabled slots (Starts k) = NamesLastLife slots k × (is_live (phase_at slots k.slot) ≡ true)
-IsEnabled slots (Finishes k) = NamesLastLife slots k × (0 < requests_in (phase_at slots k.slot))
-IsEnabled slots (Holds k) = NamesLastLife slots k × (is_live (phase_at slots k.slot) ≡ true)
-IsEnabled slots (Releases k) = NamesLastLife slots k × (0 < users_in (phase_at slots k.slot))
-IsEnabled slots (Ends k) = NamesLastLife slots k × (is_live (phase_at slots k.slot) ≡ true)
-IsEnabled slots (Asks k) = NamesLastLife slots k × (phase_at slots k.slot ≡ Ending 0 0)
-IsEnabled slots (Closes k) = NamesLastLife slots k × (phase_at slots k.slot ≡ Closing)
-IsEnabled slots (FailsToClose k) = NamesLastLife slots k × (phase_at slots k.slot ≡ Closing)
+IsEnabled slots t =
+    NamesLastLife slots (key_concerned t) × IsPossible t (phase_at slots (key_concerned t).slot)
+
+-- the completion of a member of a chain
+abbrev pub completion : LifeKey → Member → Bool → Transition
+completion k Open succeeded = Opens k succeeded
+completion k Request succeeded = Finishes k
+completion k Close true = Closes k
+completion k Close false = FailsToClose k
 
 abbrev pub with_counts : Phase → ℕ → ℕ → Phase
 with_counts (Live a b) requests users = Live requests users
 with_counts (Ending a b) requests users = Ending requests users
+with_counts (Chained c) requests users = chain_phase requests c.opened c.end
 with_counts phase requests users = phase
 
+-- a chain's open, by whether it installed a file
+abbrev pub open_seen : Bool → ChainOpen
+open_seen true = Installed
+open_seen false = Failed
+
 -- the phase after an open, by whether it installed a file
-abbrev pub when_opened : Bool → Phase
-when_opened true = Live 0 0
-when_opened false = Free
+abbrev pub when_opened : Bool → Phase → Phase
+when_opened installed (Chained c) = chain_phase c.requests (open_seen installed) c.end
+when_opened true p = Live 0 0
+when_opened false p = Free
+
+abbrev pub when_ended : Phase → Phase
+when_ended (Chained c) = Chained (chain c.requests c.opened Due)
+when_ended p = Ending (requests_in p) (users_in p)
+
+abbrev pub when_closed : Phase → Phase
+when_closed (Chained c) = chain_phase c.requests c.opened Took
+when_closed p = Free
+
+-- the phase after a close that left the file
+abbrev pub when_left : Phase → Phase
+when_left (Chained c) = chain_phase c.requests c.opened Left
+when_left p = Ending 0 0
 
 -- the phase of the transition's slot after it
 abbrev pub phase_after : Transition → Phase → Phase
 phase_after (Reserves k) p = Opening
-phase_after (Opens k installed) p = when_opened installed
+phase_after (Chains k requests closes) p = Chained (chain_of requests closes)
+phase_after (Opens k installed) p = when_opened installed p
 phase_after (Starts k) p = with_counts p (requests_in p + 1) (users_in p)
 phase_after (Finishes k) p = with_counts p (requests_in p - 1) (users_in p)
 phase_after (Holds k) p = with_counts p (requests_in p) (users_in p + 1)
 phase_after (Releases k) p = with_counts p (requests_in p) (users_in p - 1)
-phase_after (Ends k) p = Ending (requests_in p) (users_in p)
+phase_after (Ends k) p = when_ended p
 phase_after (Asks k) p = Closing
-phase_after (Closes k) p = Free
-phase_after (FailsToClose k) p = Ending 0 0
+phase_after (Closes k) p = when_closed p
+phase_after (FailsToClose k) p = when_left p
 
 -- the slots, with this life and phase at the slot of a key
 abbrev pub with_phase : List Slot → LifeKey → Phase → List Slot
@@ -103,3 +177,9 @@ AdvancesAndAsks old t None new =
 AdvancesAndAsks old t (Some slot) new =
     (slot ≡ (key_concerned t).slot) × IsEnabled old t
     × Advances (slots_with old t) (Asks (key_concerned t)) new
+
+-- the life of a key is ended. Where its chain ends it anyway, nothing changes
+abbrev pub EndsLife : List Slot → LifeKey → Option ℕ → List Slot → Type 0
+EndsLife old k ask new =
+    AdvancesAndAsks old (Ends k) ask new
+    ⊎ (HasLife old k × (ends_anyway (phase_at old k.slot) ≡ true) × (ask ≡ None) × (new ≡ old))

@@ -3,10 +3,11 @@
 //!
 //! A flight assumes this of the kernel and of the program: a completion comes once and brings its
 //! user data back; an open succeeds if and only if it put its file at its slot, and a close if and
-//! only if it took a file from its slot; and nobody else writes these slots.
+//! only if it took a file from its slot; a member of a chain makes its access after that of its
+//! predecessor, or makes none; and nobody else writes these slots.
 ghost use Rattle.std.specs.Prelude.{◌≡◌, ◌-◌, ◌^◌};
 ghost use Rattle.fx_direct.specs.Counts.{EachKeyIsBalanced, NothingIsLeftOfALife, KeysAreGivenOnce};
-ghost use Rattle.fx_direct.specs.Haste.{HasteIsWrong};
+ghost use Rattle.fx_direct.specs.Haste.{ChainIsNotAnOpen, HasteIsWrong};
 ghost use Rattle.fx_direct.specs.Keys.{KeyBitsComeBack};
 ghost use Rattle.fx_direct.specs.Laws.{EachAccessFindsItsOwn, NothingIsLeft};
 ghost use Rattle.fx_direct.specs.Lives.{EachCloseIsAskedForOnce, NoCloseIsLate, StaleKeysStayStale};
@@ -22,7 +23,8 @@ pub fn limits_are_numbers()
 {}
 
 /// States that in every flight an open finds its slot empty, and that each request and each close
-/// finds the file that the open of its own key installed.
+/// finds the file that the open of its own key installed. In a chain whose open installed nothing
+/// they find an empty slot.
 #[tactic(auto, using(crate::proofs::Reach::each_access_finds_its_own))]
 pub fn each_access_finds_its_own()
     ensures { EachAccessFindsItsOwn }
@@ -35,16 +37,17 @@ pub fn nothing_is_left()
     ensures { NothingIsLeft }
 {}
 
-/// States that each key is balanced whatever is done: each request that was started under it was
-/// finished once or is in flight, each user was released once or is one now, and the close of a
-/// file that was opened was asked for once, and again for each time that it failed, or the file is
-/// there.
+/// States that each key is balanced whatever is done: each request that was started under it, or
+/// was in its chain, was finished once or is in flight, each user was released once or is one now,
+/// and the close of a file that was opened was asked for once, and again for each time that it
+/// failed, or the file is there.
 pub fn each_key_is_balanced()
     ensures { EachKeyIsBalanced }
 {}
 
-/// States that the close of an installed file is asked for at most once, and again only after each
-/// failure. Once its life was ended, and all its requests and users came back, it was asked for.
+/// States that the close of a file is asked for at most once, and again only after each failure.
+/// Without a file, only a chain asks for it. Once the life of an installed file was ended, and all
+/// its requests and users came back, it was asked for.
 pub fn each_close_is_asked_for_once()
     ensures { EachCloseIsAskedForOnce }
 {}
@@ -89,4 +92,11 @@ pub fn a_flight_goes_round()
 #[tactic(auto, using(crate::proofs::Mistakes::haste_is_wrong))]
 pub fn haste_is_wrong()
     ensures { HasteIsWrong }
+{}
+
+/// States that if the slot of a chain were free once its open failed, there would be a flight in
+/// which the chain's close takes the file of another key.
+#[tactic(auto, using(crate::proofs::Mistakes::chain_is_not_an_open))]
+pub fn chain_is_not_an_open()
+    ensures { ChainIsNotAnOpen }
 {}

@@ -9,7 +9,9 @@
 //! then `slots.rt` and `specs/Flight.antt`.
 #![tactic(auto)]
 
+mod chain;
 mod crossing;
+mod ending;
 mod key;
 mod keys;
 pub mod laws;
@@ -20,6 +22,7 @@ mod slot_order;
 mod slots;
 mod transition;
 
+pub use chain::{Chain, ChainEnd, ChainOpen, Member};
 pub use crossing::machine_crosses;
 pub use key::{KINDS, LifeKey, MOST_LIVES, MOST_SLOTS};
 pub use keys::Keys;

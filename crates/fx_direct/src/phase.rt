@@ -1,7 +1,8 @@
 //! The phases of a slot's life.
-ghost use Rattle.std.specs.Prelude.{◌≡◌};
+ghost use Rattle.std.specs.Prelude.{◌≡◌, ◌≤◌, ◌+◌, ◌^◌};
 ghost use Rattle.fx_direct.specs.Phases.{calls_in, lives_in, requests_in, users_in};
 
+use crate::chain::Chain;
 use std::fmt;
 
 /// The phase of a slot. The counts are those of the requests in flight, and of the other users.
@@ -17,18 +18,22 @@ pub enum Phase {
     Ending(u32, u32),
     /// A close of the slot is in flight.
     Closing,
+    /// A chain that opens the slot's file is in flight.
+    Chained(Chain),
 }
 
 impl Phase {
     // Returns the number of calls in flight at a slot in this phase.
     #[inline(always)]
-    pub(crate) fn calls(self) -> u32
-        ensures { result ≡ calls_in self }
+    pub(crate) fn calls(self) -> u64
+        ensures calls { result ≡ calls_in self }
+        ensures few { result ≤ 2 ^ 32 + 1 }
     {
         match self {
             Phase::Free => 0,
             Phase::Opening | Phase::Closing => 1,
-            Phase::Live(requests, _) | Phase::Ending(requests, _) => requests,
+            Phase::Live(requests, _) | Phase::Ending(requests, _) => u64::from(requests),
+            Phase::Chained(chain) => chain.calls(),
         }
     }
 
@@ -39,6 +44,7 @@ impl Phase {
     {
         match self {
             Phase::Live(requests, _) | Phase::Ending(requests, _) => requests,
+            Phase::Chained(chain) => chain.requests,
             _ => 0,
         }
     }
@@ -74,6 +80,7 @@ impl fmt::Display for Phase {
             Phase::Live(_, _) => "live",
             Phase::Ending(_, _) => "ending",
             Phase::Closing => "closing",
+            Phase::Chained(_) => "chained",
         })
     }
 }

@@ -108,7 +108,7 @@ impl SlotList {
             phase,
         };
         self.lives = self.lives - old.lives() + phase.lives();
-        self.calls = self.calls - u64::from(old.calls()) + u64::from(phase.calls());
+        self.calls = self.calls - old.calls() + phase.calls();
     }
 
     // Returns the number of lives under way.

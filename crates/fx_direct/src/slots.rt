@@ -1,23 +1,23 @@
 //! The machine: the life of each slot of one ring's table of direct descriptors.
-ghost use Rattle.std.specs.Prelude.{◌≡◌, ℕ, ◌≤◌, ◌<◌, ◌==◌, nat_lt, length, if◌then◌else◌};
-ghost use Rattle.std.specs.Prelude.{MatchOption, MatchResult, IfOk, IfSome, Some, false};
+ghost use Rattle.std.specs.Prelude.{◌≡◌, ◌≤◌, length, MatchOption, MatchResult, IfOk, IfSome};
+ghost use Rattle.std.specs.Prelude.{None, Some};
 ghost use Rattle.std.specs.List.{AllByRecursion};
 ghost use Rattle.fx_direct.specs.Keys.{FitsBits};
 ghost use Rattle.fx_direct.specs.Living.{AreKeysOf, keys_left};
-ghost use Rattle.fx_direct.specs.Machine.{WritesEnding};
-ghost use Rattle.fx_direct.specs.Order.{is_among_vacant};
-ghost use Rattle.fx_direct.specs.Phases.{AllFree, AllUnused, Closing, Free, calls_in_flight};
-ghost use Rattle.fx_direct.specs.Phases.{lives_of, phase_at};
-ghost use Rattle.fx_direct.specs.Refusals.{RefusesTransition};
+ghost use Rattle.fx_direct.specs.Phases.{AllFree, AllUnused, calls_in_flight, lives_of, phase_at};
+ghost use Rattle.fx_direct.specs.Refusals.{RefusesEnd, RefusesTransition, RefusesUnchained};
 ghost use Rattle.fx_direct.specs.Transitions.{HasLife, IsEnabled, Advances, AdvancesAndAsks};
-ghost use Rattle.fx_direct.specs.Transitions.{with_phase};
-ghost use Rattle.fx_direct.specs.declared.key.TheConstants.{MOST_LIVES, MOST_SLOTS};
-ghost use Rattle.fx_direct.specs.declared.transition.Transition.TheVariants.{Reserves, Opens};
+ghost use Rattle.fx_direct.specs.Transitions.{EndsLife, completion};
+ghost use Rattle.fx_direct.specs.declared.key.TheConstants.{MOST_SLOTS};
+ghost use Rattle.fx_direct.specs.declared.transition.Transition.TheVariants.{Reserves, Chains};
+ghost use Rattle.fx_direct.specs.declared.transition.Transition.TheVariants.{Opens};
 ghost use Rattle.fx_direct.specs.declared.transition.Transition.TheVariants.{Starts, Finishes};
-ghost use Rattle.fx_direct.specs.declared.transition.Transition.TheVariants.{Holds, Releases, Ends};
+ghost use Rattle.fx_direct.specs.declared.transition.Transition.TheVariants.{Holds, Releases};
 ghost use Rattle.fx_direct.specs.declared.transition.Transition.TheVariants.{Closes, FailsToClose};
 
-use crate::key::{LifeKey, MOST_LIVES};
+use crate::chain::{Chain, ChainEnd, Member};
+use crate::ending::{ask_again, free, set_ending, write};
+use crate::key::LifeKey;
 use crate::keys::Keys;
 use crate::phase::Phase;
 use crate::refusal::{Full, LifeRefusal};
@@ -98,8 +98,9 @@ impl DirectSlots {
     /// `Stale`, or `Is` with the phase, if the key's life isn't opening.
     #[inline(always)]
     pub fn opened(&mut self, key: LifeKey, installed: bool) -> Result<(), LifeRefusal>
-        ensures { MatchResult result (λ _. Advances self.old (Opens key installed) self.new)
-            (λ why. (self.new ≡ self.old) × RefusesTransition self.old (Opens key installed) why) }
+        ensures { MatchResult result
+            (λ _. AdvancesAndAsks self.old (Opens key installed) None self.new)
+            (λ why. (self.new ≡ self.old) × RefusesUnchained self.old (Opens key installed) why) }
     {
         match self.list.get(key)? {
             Phase::Opening => {
@@ -111,6 +112,58 @@ impl DirectSlots {
                 Ok(())
             }
             phase => Err(LifeRefusal::Is(phase)),
+        }
+    }
+
+    /// Counts an open, this number of requests on its file and, if `closes`, its close, and returns
+    /// the key's slot. Then submit them together under the key, by hard or soft links, and report
+    /// each completion by [`Self::chained`]. The slot is taken until the last one.
+    ///
+    /// # Errors
+    /// `Stale`, or `Is` with the phase, if the key's life isn't opening.
+    #[inline(always)]
+    pub fn chain(&mut self, key: LifeKey, requests: u32, closes: bool) -> Result<u32, LifeRefusal>
+        ensures { MatchResult result
+            (λ slot. (slot ≡ key.slot) × Advances self.old (Chains key requests closes) self.new)
+            (λ why. (self.new ≡ self.old)
+            × RefusesTransition self.old (Chains key requests closes) why) }
+    {
+        match self.list.get(key)? {
+            Phase::Opening => {
+                let chain = Chain::of(requests, closes);
+                self.list.set(key, Phase::Chained(chain));
+                Ok(key.slot)
+            }
+            phase => Err(LifeRefusal::Is(phase)),
+        }
+    }
+
+    /// Reports that a member of the chain under a key was completed. They come in any order. An open
+    /// succeeded if it installed a file, and a close if it took the file. After the last completion
+    /// the slot is free, unless the file is left: then this returns the slot, so submit a close of
+    /// it. A chain without a close is a live life once its open succeeded.
+    ///
+    /// # Errors
+    /// `Stale`, or `Is` with the phase, if no such call is in flight under the key, or if the open
+    /// failed and the close took a file.
+    #[inline(always)]
+    pub fn chained(
+        &mut self,
+        key: LifeKey,
+        member: Member,
+        succeeded: bool,
+    ) -> Result<Option<u32>, LifeRefusal>
+        ensures { MatchResult result
+            (λ ask. AdvancesAndAsks self.old (completion key member succeeded) ask self.new)
+            (λ why. (self.new ≡ self.old)
+            × RefusesTransition self.old (completion key member succeeded) why) }
+    {
+        match self.list.get(key)? {
+            Phase::Chained(chain) => match chain.after(member, succeeded) {
+                Some(phase) => Ok(write(&mut self.list, &mut self.order, key, phase)),
+                None => Err(LifeRefusal::Is(Phase::Chained(chain))),
+            },
+            _ => self.completed(key, member, succeeded),
         }
     }
 
@@ -149,7 +202,7 @@ impl DirectSlots {
     pub fn finish(&mut self, key: LifeKey) -> Result<Option<u32>, LifeRefusal>
         ensures { MatchResult result
             (λ ask. AdvancesAndAsks self.old (Finishes key) ask self.new)
-            (λ why. (self.new ≡ self.old) × RefusesTransition self.old (Finishes key) why) }
+            (λ why. (self.new ≡ self.old) × RefusesUnchained self.old (Finishes key) why) }
     {
         match self.list.get(key)? {
             Phase::Live(requests, users) if requests > 0 => {
@@ -211,18 +264,27 @@ impl DirectSlots {
 
     /// Ends the life of a key: its file gets no new requests and users. If this returns a slot,
     /// submit a close of it; else the last [`Self::finish`] or [`Self::release`] returns the
-    /// slot.
+    /// slot. The life of a chain ends where the chain ends.
     ///
     /// # Errors
-    /// `Stale`, or `Is` with the phase, if the key's life isn't live.
+    /// `Stale`, or `Is` with the phase, if the key's life is neither live nor chained.
     #[inline(always)]
     pub fn end(&mut self, key: LifeKey) -> Result<Option<u32>, LifeRefusal>
-        ensures { MatchResult result
-            (λ ask. AdvancesAndAsks self.old (Ends key) ask self.new)
-            (λ why. (self.new ≡ self.old) × RefusesTransition self.old (Ends key) why) }
+        ensures { MatchResult result (λ ask. EndsLife self.old key ask self.new)
+            (λ why. (self.new ≡ self.old) × RefusesEnd self.old key why) }
     {
         match self.list.get(key)? {
             Phase::Live(requests, users) => { Ok(set_ending(&mut self.list, key, requests, users)) }
+            Phase::Chained(chain) => {
+                if chain.end == ChainEnd::Later {
+                    let ended = Chain {
+                        end: ChainEnd::Due,
+                        ..chain
+                    };
+                    self.list.set(key, Phase::Chained(ended));
+                }
+                Ok(None)
+            }
             phase => Err(LifeRefusal::Is(phase)),
         }
     }
@@ -234,8 +296,8 @@ impl DirectSlots {
     /// `Stale`, or `Is` with the phase, if the key's life isn't closing.
     #[inline(always)]
     pub fn closed(&mut self, key: LifeKey) -> Result<(), LifeRefusal>
-        ensures { MatchResult result (λ _. Advances self.old (Closes key) self.new)
-            (λ why. (self.new ≡ self.old) × RefusesTransition self.old (Closes key) why) }
+        ensures { MatchResult result (λ _. AdvancesAndAsks self.old (Closes key) None self.new)
+            (λ why. (self.new ≡ self.old) × RefusesUnchained self.old (Closes key) why) }
     {
         match self.list.get(key)? {
             Phase::Closing => {
@@ -255,11 +317,37 @@ impl DirectSlots {
     pub fn close_failed(&mut self, key: LifeKey) -> Result<u32, LifeRefusal>
         ensures { MatchResult result
             (λ slot. AdvancesAndAsks self.old (FailsToClose key) (Some slot) self.new)
-            (λ why. (self.new ≡ self.old) × RefusesTransition self.old (FailsToClose key) why) }
+            (λ why. (self.new ≡ self.old) × RefusesUnchained self.old (FailsToClose key) why) }
     {
         match self.list.get(key)? {
             Phase::Closing => Ok(ask_again(&mut self.list, key)),
             phase => Err(LifeRefusal::Is(phase)),
+        }
+    }
+
+    // Reports a completion under a key whose life isn't chained.
+    fn completed(
+        &mut self,
+        key: LifeKey,
+        member: Member,
+        succeeded: bool,
+    ) -> Result<Option<u32>, LifeRefusal>
+        ensures { MatchResult result
+            (λ ask. AdvancesAndAsks self.old (completion key member succeeded) ask self.new)
+            (λ why. (self.new ≡ self.old)
+            × RefusesUnchained self.old (completion key member succeeded) why) }
+    {
+        match member {
+            Member::Open => {
+                self.opened(key, succeeded)?;
+                Ok(None)
+            }
+            Member::Request => self.finish(key),
+            Member::Close if succeeded => {
+                self.closed(key)?;
+                Ok(None)
+            }
+            Member::Close => Ok(Some(self.close_failed(key)?)),
         }
     }
 
@@ -309,48 +397,4 @@ impl DirectSlots {
     {
         Keys::new(&self.list, self.order.others())
     }
-}
-
-// Frees the slot of a key. Unless that was its last life, it is vacant again.
-#[inline(always)]
-fn free(list: &mut SlotList, order: &mut SlotOrder, key: LifeKey)
-    requires inside { key.slot < length list.old }
-    requires same { length order.old.place ≡ length list.old }
-    requires out { is_among_vacant order.old key.slot ≡ false }
-    ensures list { list.new ≡ with_phase list.old key Free }
-    ensures same { length order.new.place ≡ length order.old.place }
-    ensures order { (other : ℕ) → other < length order.old.place → is_among_vacant order.new other
-        ≡
-        (if other == key.slot then nat_lt key.number MOST_LIVES
-        else is_among_vacant order.old other) }
-{
-    list.set(key, Phase::Free);
-    if key.number < MOST_LIVES {
-        order.put(key.slot);
-    }
-}
-
-// Asks for the close of a slot again, and returns the slot.
-#[inline(always)]
-fn ask_again(list: &mut SlotList, key: LifeKey) -> u32
-    requires { key.slot < length list.old }
-    ensures slot { result ≡ key.slot }
-    ensures list { list.new ≡ with_phase list.old key Closing }
-{
-    list.set(key, Phase::Closing);
-    key.slot
-}
-
-// Writes the counts of an ending slot. If both are 0, asks for its close, and returns the slot.
-#[inline(always)]
-fn set_ending(list: &mut SlotList, key: LifeKey, requests: u32, users: u32) -> Option<u32>
-    requires { key.slot < length list.old }
-    ensures { WritesEnding list.old key requests users result list.new }
-{
-    if requests == 0 && users == 0 {
-        list.set(key, Phase::Closing);
-        return Some(key.slot);
-    }
-    list.set(key, Phase::Ending(requests, users));
-    None
 }

@@ -6,6 +6,9 @@ use crate::key::LifeKey;
 pub enum Transition {
     /// A slot begins a life under a new key. An open at the slot is to be submitted.
     Reserves(LifeKey),
+    /// The open is to be submitted in a chain, with this number of requests on its file. They are
+    /// followed by a close of it, if the bool is true.
+    Chains(LifeKey, u32, bool),
     /// The completion of that open was seen, and whether the open installed a file.
     Opens(LifeKey, bool),
     /// A request on the file is to be submitted.

@@ -8,4 +8,4 @@ overflow_add-self c = let i = c.self.invariant in let few = i.few in let are = i
 
 pub overflow_add-self-2 : goal.overflow_add-self-2
 overflow_add-self-2 c = let i = c.self.invariant in let few = i.few in let are = i.calls_are in
-    let high = calls_high c.self.inside.slots.items i.each in let is = c.from-2.ensures in let small = c.calls-2.type_inv in omega arith
+    let high = calls_high c.self.inside.slots.items i.each in let is = c.calls-2.ensures.calls in let small = c.calls-2.ensures.few in omega arith

@@ -1,0 +1,93 @@
+//! What a call leaves of a life: its slot is free, its close is asked for, or its phase is written.
+ghost use Rattle.std.specs.Prelude.{◌≡◌, ℕ, ◌&&◌, ◌<◌, ◌==◌, false, nat_lt, length};
+ghost use Rattle.std.specs.Prelude.{if◌then◌else◌};
+ghost use Rattle.fx_direct.specs.Machine.{WritesPhase};
+ghost use Rattle.fx_direct.specs.Order.{is_among_vacant};
+ghost use Rattle.fx_direct.specs.Phases.{Closing, Ending, Free, is_free};
+ghost use Rattle.fx_direct.specs.Transitions.{with_phase};
+ghost use Rattle.fx_direct.specs.declared.key.TheConstants.{MOST_LIVES};
+
+use crate::key::{LifeKey, MOST_LIVES};
+use crate::phase::Phase;
+use crate::slot_list::SlotList;
+use crate::slot_order::SlotOrder;
+
+// Frees the slot of a key. Unless that was its last life, it is vacant again.
+#[inline(always)]
+pub(crate) fn free(list: &mut SlotList, order: &mut SlotOrder, key: LifeKey)
+    requires inside { key.slot < length list.old }
+    requires same { length order.old.place ≡ length list.old }
+    requires out { is_among_vacant order.old key.slot ≡ false }
+    ensures list { list.new ≡ with_phase list.old key Free }
+    ensures same { length order.new.place ≡ length order.old.place }
+    ensures order { (other : ℕ) → other < length order.old.place → is_among_vacant order.new other
+        ≡
+        (if other == key.slot then nat_lt key.number MOST_LIVES
+        else is_among_vacant order.old other) }
+{
+    list.set(key, Phase::Free);
+    if key.number < MOST_LIVES {
+        order.put(key.slot);
+    }
+}
+
+// Asks for the close of a slot again, and returns the slot.
+#[inline(always)]
+pub(crate) fn ask_again(list: &mut SlotList, key: LifeKey) -> u32
+    requires { key.slot < length list.old }
+    ensures slot { result ≡ key.slot }
+    ensures list { list.new ≡ with_phase list.old key Closing }
+{
+    list.set(key, Phase::Closing);
+    key.slot
+}
+
+// Writes the counts of an ending slot. If both are 0, asks for its close, and returns the slot.
+#[inline(always)]
+pub(crate) fn set_ending(
+    list: &mut SlotList,
+    key: LifeKey,
+    requests: u32,
+    users: u32,
+) -> Option<u32>
+    requires { key.slot < length list.old }
+    ensures { WritesPhase list.old key (Ending requests users) result list.new }
+{
+    if requests == 0 && users == 0 {
+        list.set(key, Phase::Closing);
+        return Some(key.slot);
+    }
+    list.set(key, Phase::Ending(requests, users));
+    None
+}
+
+// Writes the phase of a slot, which is not vacant. If the phase is that of an ending slot without
+// requests and users, asks for its close, and returns the slot.
+pub(crate) fn write(
+    list: &mut SlotList,
+    order: &mut SlotOrder,
+    key: LifeKey,
+    phase: Phase,
+) -> Option<u32>
+    requires inside { key.slot < length list.old }
+    requires same { length order.old.place ≡ length list.old }
+    requires out { is_among_vacant order.old key.slot ≡ false }
+    ensures list { WritesPhase list.old key phase result list.new }
+    ensures same { length order.new.place ≡ length order.old.place }
+    ensures order { (other : ℕ) → other < length order.old.place → is_among_vacant order.new other
+        ≡
+        (if other == key.slot then is_free phase && nat_lt key.number MOST_LIVES
+        else is_among_vacant order.old other) }
+{
+    match phase {
+        Phase::Free => {
+            free(list, order, key);
+            None
+        }
+        Phase::Ending(requests, users) => set_ending(list, key, requests, users),
+        _ => {
+            list.set(key, phase);
+            None
+        }
+    }
+}
