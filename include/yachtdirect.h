@@ -15,6 +15,12 @@
  * yacht_direct_release. After yacht_direct_end there is no new request and no new user, and once
  * the last of both is gone, a call returns YACHT_DIRECT_CLOSE: now the slot is to be closed.
  *
+ * Chain. An open, requests on its file and perhaps its close may be submitted at once, by hard or
+ * soft links: yacht_direct_chain counts them all, and yacht_direct_chained takes each completion.
+ * Each member has one completion, whatever it is. The slot is taken until the last of them: after
+ * an open that failed, the later members of a hard link run, and answer -EBADF. A chain with a
+ * second open or close at the slot is not one life, and the machine can't notice it.
+ *
  * Keys. A key names one life of a slot, and no later life has it. It is a number of 64 bits: the
  * number of the life in 40, the slot in 20, and 4 that are the caller's own, the kind. So it is
  * the user_data of a request, with the kind in the lowest bits: `key | kind`. Each call takes a
@@ -27,7 +33,8 @@
  * answers -ECANCELED without IORING_CQE_F_MORE, and its notification follows.
  *
  * Promise. In every run in which the premises below hold: a request that was started under a key
- * finds the file that the open under this key installed, and no other one. An open finds its slot
+ * finds the file that the open under this key installed, and no other one. So do the members of a
+ * chain, or they find no file, if the open failed. An open finds its slot
  * empty. Each file is asked to be closed at most once, or once more after each close that failed;
  * and exactly once if its life was ended, and each request and user came back. When a slot is
  * reserved, no request, no user and no file of an earlier life is left there. This is proved
@@ -38,8 +45,9 @@
  *   are empty, and no request is in flight at them. So before another machine is opened for the
  *   same ring, yacht_direct_len of the earlier one is 0.
  * - Each call that this header names is made, and one submission for each: of an open after
- *   `reserve`, of a request after `start`, of a close after YACHT_DIRECT_CLOSE. `finish` is called
- *   once, after the last completion of the request.
+ *   `reserve`, of a request after `start`, of the rest of a chain after `chain`, of a close after
+ *   YACHT_DIRECT_CLOSE. `finish` is called once, after the last completion of the request.
+ * - A member of a chain begins after the completion of the one before it, as a link makes it.
  * - Each key goes to the machine that returned it. A key doesn't name its machine, and the first
  *   keys of two machines are equal: with a key of another machine, yacht_direct_release may ask for
  *   the close of a file that is in use.
@@ -91,7 +99,8 @@ enum {
     YACHT_DIRECT_IS_ENDING = -13,       /* the life was ended, and requests or users are left */
     YACHT_DIRECT_IS_CLOSING = -14,      /* the close was asked for, and isn't completed */
     YACHT_DIRECT_TOO_MANY_REQUESTS = -15, /* 2^32 - 1 requests are in flight under the key */
-    YACHT_DIRECT_TOO_MANY_USERS = -16   /* the key has 2^32 - 1 users */
+    YACHT_DIRECT_TOO_MANY_USERS = -16,  /* the key has 2^32 - 1 users */
+    YACHT_DIRECT_IS_CHAINED = -17       /* the chain of the key isn't over */
 };
 
 /* The phases of a life, as yacht_direct_phase returns them. */
@@ -99,7 +108,15 @@ enum {
     YACHT_DIRECT_OPENING = 1,
     YACHT_DIRECT_LIVE = 2,
     YACHT_DIRECT_ENDING = 3,
-    YACHT_DIRECT_CLOSING = 4
+    YACHT_DIRECT_CLOSING = 4,
+    YACHT_DIRECT_CHAINED = 5
+};
+
+/* The members of a chain. */
+enum {
+    YACHT_DIRECT_OPEN_OF_CHAIN = 0,
+    YACHT_DIRECT_REQUEST_OF_CHAIN = 1,
+    YACHT_DIRECT_CLOSE_OF_CHAIN = 2
 };
 
 /* A machine. The field is the library's own. */
@@ -131,8 +148,28 @@ int yacht_direct_reserve(yacht_direct *machine, uint64_t *key, uint32_t *slot);
 /* Takes the result of the open. If it is 0 or more, the file is open, and else the life is over
  * and the slot is free.
  * Returns YACHT_DIRECT_DONE, YACHT_DIRECT_STALE, or the phase in which the life is instead of
- * opening: YACHT_DIRECT_IS_LIVE, .._IS_ENDING or .._IS_CLOSING. */
+ * opening: YACHT_DIRECT_IS_LIVE, .._IS_ENDING, .._IS_CLOSING or .._IS_CHAINED. */
 int yacht_direct_opened(yacht_direct *machine, uint64_t key, int32_t result);
+
+/* Counts a chain in place of an open alone: the open, 0 to 2^32 - 1 requests on its file and,
+ * unless `closes` is 0, a close, all under this key. Writes the slot. The caller submits the chain
+ * there. Until its last completion yacht_direct_start and yacht_direct_hold are refused; in a chain
+ * without a close only until its open is seen to succeed. yacht_direct_end is taken, and the close
+ * is due when the chain is over.
+ * Returns YACHT_DIRECT_DONE, YACHT_DIRECT_STALE, or the phase in which the life is instead of
+ * opening. */
+int yacht_direct_chain(yacht_direct *machine, uint64_t key, uint32_t requests, uint32_t closes, uint32_t *slot);
+
+/* Takes the completion of a chain's member, in any order, with its result: of the open, a request
+ * or the close. A negative one is a failure. After the last one the slot is free if the open failed
+ * or the close took the file. If the open succeeded and the close was canceled (a read that is
+ * shorter than its buffer breaks a soft link), the slot is to be closed. A chain without a close is
+ * a live life once its open is seen to succeed, and this takes its other requests as
+ * yacht_direct_finish does.
+ * Returns YACHT_DIRECT_DONE; or YACHT_DIRECT_CLOSE, and writes the slot, which the caller closes;
+ * or YACHT_DIRECT_STALE; or the phase in which the life is, if no such member is in flight, or the
+ * open failed and the close took a file; or YACHT_DIRECT_BAD_ARGUMENT at any other member. */
+int yacht_direct_chained(yacht_direct *machine, uint64_t key, uint32_t member, int32_t result, uint32_t *slot);
 
 /* Counts a request on the file, and writes the slot. The caller submits the request there, with
  * IOSQE_FIXED_FILE.
@@ -159,7 +196,8 @@ int yacht_direct_release(yacht_direct *machine, uint64_t key, uint32_t *slot);
 /* Ends a life: from now on no request is started, and no user counted. What is in flight isn't
  * canceled: a shutdown of the socket, started before, makes its requests complete.
  * Returns YACHT_DIRECT_DONE if requests or users are left; or YACHT_DIRECT_CLOSE, and writes the
- * slot; or YACHT_DIRECT_STALE; or the phase in which the life is instead of live. */
+ * slot; or YACHT_DIRECT_STALE; or the phase in which the life is instead of live or chained. A
+ * chain's life ends where the chain ends: YACHT_DIRECT_DONE. */
 int yacht_direct_end(yacht_direct *machine, uint64_t key, uint32_t *slot);
 
 /* Takes the completion of a close after which the slot is empty: it succeeded, or its result is
@@ -177,7 +215,7 @@ int yacht_direct_closed(yacht_direct *machine, uint64_t key);
 int yacht_direct_close_failed(yacht_direct *machine, uint64_t key, uint32_t *slot);
 
 /* Writes the numbers of requests in flight and of users of a life. In the phases opening and
- * closing both are 0.
+ * closing both are 0. A chain's open and close are not among its requests.
  * Returns the phase, or YACHT_DIRECT_STALE. */
 int yacht_direct_phase(yacht_direct *machine, uint64_t key, uint32_t *requests, uint32_t *users);
 

@@ -39,6 +39,7 @@ const char *yacht_direct_strerror(int answer) {
     case YACHT_DIRECT_IS_CLOSING: return "the close is not completed";
     case YACHT_DIRECT_TOO_MANY_REQUESTS: return "too many requests are in flight";
     case YACHT_DIRECT_TOO_MANY_USERS: return "there are too many users";
+    case YACHT_DIRECT_IS_CHAINED: return "the chain is not over";
     default: return "not a number of yachtdirect.h";
     }
 }

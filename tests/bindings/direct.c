@@ -34,6 +34,26 @@ static void one_life(void) {
     yacht_direct_free(machine);
 }
 
+/* a chain whose close is canceled, and one whose open fails */
+static void chains(void) {
+    uint64_t key, next;
+    uint32_t requests, users;
+    WANT(yacht_direct_open(&machine, 1) == YACHT_DIRECT_DONE && yacht_direct_reserve(&machine, &key, &slot) == YACHT_DIRECT_DONE);
+    WANT(yacht_direct_chain(&machine, key, 1, 1, &slot) == YACHT_DIRECT_DONE && yacht_direct_in_flight(&machine) == 3);
+    WANT(yacht_direct_phase(&machine, key, &requests, &users) == YACHT_DIRECT_CHAINED && requests == 1 && users == 0);
+    WANT(yacht_direct_start(&machine, key, &slot) == YACHT_DIRECT_IS_CHAINED && yacht_direct_opened(&machine, key, -2) == YACHT_DIRECT_IS_CHAINED);
+    WANT(yacht_direct_end(&machine, key, &slot) == YACHT_DIRECT_DONE && yacht_direct_chained(&machine, key, 3, 0, &slot) == YACHT_DIRECT_BAD_ARGUMENT);
+    WANT(yacht_direct_chained(&machine, key, YACHT_DIRECT_CLOSE_OF_CHAIN, -125, &slot) == YACHT_DIRECT_DONE);
+    WANT(yacht_direct_chained(&machine, key, YACHT_DIRECT_REQUEST_OF_CHAIN, 3, &slot) == YACHT_DIRECT_DONE);
+    WANT(yacht_direct_chained(&machine, key, YACHT_DIRECT_OPEN_OF_CHAIN, 0, &slot) == YACHT_DIRECT_CLOSE && slot == 0);
+    WANT(yacht_direct_closed(&machine, key) == YACHT_DIRECT_DONE && yacht_direct_reserve(&machine, &key, &slot) == YACHT_DIRECT_DONE);
+    WANT(yacht_direct_chain(&machine, key, 0, 1, &slot) == YACHT_DIRECT_DONE);
+    WANT(yacht_direct_chained(&machine, key, YACHT_DIRECT_OPEN_OF_CHAIN, -2, &slot) == YACHT_DIRECT_DONE);
+    WANT(yacht_direct_reserve(&machine, &next, &slot) == YACHT_DIRECT_FULL);
+    WANT(yacht_direct_chained(&machine, key, YACHT_DIRECT_CLOSE_OF_CHAIN, -9, &slot) == YACHT_DIRECT_DONE && yacht_direct_len(&machine) == 0);
+    yacht_direct_free(machine);
+}
+
 struct thread {
     yacht_direct_queue *queue;
     yacht_direct_note notes[NOTES];
@@ -79,7 +99,7 @@ static void words(void) {
         {0, "done"}, {1, "the slot is to be closed"}, {-6, "no slot is free"}, {-8, "an argument is out of its range"},
         {-9, "an allocation failed"}, {-10, "the life of the key is over"}, {-11, "the open is not completed"},
         {-12, "the file is open"}, {-13, "the life was ended"}, {-14, "the close is not completed"},
-        {-15, "too many requests are in flight"}, {-16, "there are too many users"}, {1234, "not a number of yachtdirect.h"},
+        {-15, "too many requests are in flight"}, {-16, "there are too many users"}, {-17, "the chain is not over"}, {1234, "not a number of yachtdirect.h"},
     };
     for (size_t nth = 0; nth < sizeof said / sizeof *said; nth++) WANT(!strcmp(yacht_direct_strerror(said[nth].number), said[nth].words));
     WANT(!strcmp(yacht_direct_version(), YACHT_DIRECT_VERSION));
@@ -101,6 +121,7 @@ static void failing_allocations(void) {
 
 int main(void) {
     one_life();
+    chains();
     threads_post();
     words();
     failing_allocations();

@@ -2,9 +2,9 @@
 use Rattle.fx_direct.proofs.Words.{arith, ◌≡◌, ◌≢◌, ℕ, ◌+◌, ◌<◌, ◌≤◌, ◌==◌, Bool, true, false, List, [], ◌∷◌, ◌++◌, length, refl, sym, ap, inl, inr, ◌⊎◌, if◌then◌else◌}
 use Rattle.fx_direct.proofs.Words.{AllByRecursion, ◌∙◌, subst, Option, Some, None, cases_eq, append-nil, ne_eqb, eq-eqb, File, LifeKey, Phase, Slot, State, Member, Open, Request, CloseMember, bit, requests_in, is_chained}
 use Rattle.fx_direct.proofs.Words.{slot_numbered, phase_at, life_at, is_closing, is_opening, DirectCall, OpenAt, UseOf, CloseOf, key_of_call, Stage, Waits, Made, Quit, Pending, pending, DirectMoment, Accesses, Quits, Others}
-use Rattle.fx_direct.proofs.Words.{Action, Look, Put, Release, Take, Allows, changed_at, table_after, Makes, Stops, IsElsewhere, IsInTurn, waits_for, stage_after, files_put_by, files_under, has_chain, same_key}
+use Rattle.fx_direct.proofs.Words.{Action, Look, Put, Release, Take, Allows, changed_at, table_after, Makes, Stops, IsElsewhere, IsInTurn, waits_for, files_under, has_chain, same_key}
 use Rattle.fx_direct.proofs.Calls.{place_of, is_member, at_slot, tally, at_same, at_other, tally-mid, count_in, each-out, each-in, each-map, each-both, none_at, same_keys}
-use Rattle.fx_direct.proofs.Calls.{Fate, Expected, Missing, There, Gone, not_gone, HasOne, Has, fits, suits, fits_same, has_same, opened_fits, closed_fits, no_open, expected_opens, unchained_due, is_bound}
+use Rattle.fx_direct.proofs.Calls.{Fate, Expected, Missing, There, Gone, not_gone, Has, fits, suits, fits_same, has_same, opened_fits, closed_fits, no_open, expected_opens, unchained_due, is_bound}
 use Rattle.fx_direct.proofs.Moves.{Sound, Fitting}
 use Rattle.fx_direct.proofs.Effects.{done_suits, taken_suits}
 
@@ -183,7 +183,7 @@ module _ {fate : ℕ → Fate} {slots : List Slot} {table : State} {calls : List
       ]) sound.fits turns) in
       omega arith
 
-  -- the requests of a slot, whose close has its turn: they make no access any more, or there is none
+  -- the requests of a slot whose close has its turn make no access any more, or there is none
   requests_done : (k : LifeKey) (linked : Bool) → (is_chained (phase_at slots k.slot) ≡ true → linked ≡ true) → is_closing (phase_at slots k.slot) ≡ true
       → IsInTurn (CloseOf k) linked calls → AllByRecursion (λ z. (waits_for (CloseOf k) z.call z.stage ≡ false) ⊎ (at_slot Request k.slot z ≡ 0)) calls
   requests_done k true bound closing turn =

@@ -1,5 +1,5 @@
 -- A transition that leaves an ending slot, and the close that is asked for then.
-use Rattle.fx_direct.proofs.Words.{arith, ◌≡◌, List, sym, ap, ◌∙◌, Option, Some, None, Slot, Transition, Phase, Ending, Closing, ℕ}
+use Rattle.fx_direct.proofs.Words.{◌≡◌, List, sym, ap, ◌∙◌, Option, Some, None, Slot, Transition, Phase, Closing, ℕ}
 use Rattle.fx_direct.proofs.Words.{AdvancesAndAsks, with_phase, Asks, key_concerned, IsEnabled, phase_at, phase_after, slots_with}
 use Rattle.fx_direct.proofs.Words.{Bool, true, false, LifeKey, Member, Open, Request, CloseMember, NamesLastLife, IsPossible, Opens, Finishes, Closes, FailsToClose}
 use Rattle.std.proofs.lemmas.List.{set-set}

@@ -1,7 +1,7 @@
 -- Calls in flight, counted by kind and slot, and what each says of the file of its slot.
 use Rattle.fx_direct.proofs.Words.{arith, ◌≡◌, ◌≢◌, ℕ, zero, suc, ◌+◌, ◌<◌, ◌==◌, ◌&&◌, ◌⊎◌, Bool, true, false, if◌then◌else◌, List, [], ◌∷◌, ◌++◌, refl, sym}
 use Rattle.fx_direct.proofs.Words.{AllByRecursion, Option, Some, None, eq-eqb, ne_eqb, File, Phase, Member, Open, Request, CloseMember, bit, requests_in, is_opening, is_closing}
-use Rattle.fx_direct.proofs.Words.{Free, Opening, Live, Ending, Closing, Chained, Unseen, Installed, Failed, Later, Due, Awaited, Took, Left, ChainOpen, ChainEnd}
+use Rattle.fx_direct.proofs.Words.{Free, Opening, Live, Ending, Closing, Chained, Unseen, Installed, Failed, Awaited, Took, ChainOpen, ChainEnd}
 use Rattle.fx_direct.proofs.Words.{DirectCall, OpenAt, UseOf, CloseOf, key_of_call, Stage, Waits, Made, Quit, Pending, pending, LifeKey, with_uses, with_close, waits_for, same_key}
 use Rattle.fx_direct.proofs.Words.{chain, chain_phase, is_chained, Slot}
 

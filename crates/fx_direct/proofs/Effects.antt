@@ -1,9 +1,9 @@
 -- What each transition does to the calls that its slot's phase counts, and to the file of the slot.
-use Rattle.fx_direct.proofs.Words.{arith, ◌≡◌, ℕ, ◌+◌, ◌-◌, ◌<◌, ◌&&◌, Bool, true, false, if◌then◌else◌, LifeKey, Phase, Member, Chain, refl, sym, ◌∙◌, ap}
-use Rattle.fx_direct.proofs.Words.{Free, Opening, Live, Ending, Closing, Chained, Unseen, Installed, Failed, Took, Left, chain, chain_of, chain_phase, ChainOpen, ChainEnd, bit}
-use Rattle.fx_direct.proofs.Words.{requests_in, users_in, is_live, is_closing, is_chained, with_counts, when_opened, OpenAt, UseOf, CloseOf, Waits, Made, Quit}
+use Rattle.fx_direct.proofs.Words.{arith, ◌≡◌, ℕ, ◌+◌, ◌-◌, ◌<◌, Bool, true, false, if◌then◌else◌, LifeKey, Phase, Member}
+use Rattle.fx_direct.proofs.Words.{Free, Opening, Ending, Closing, Chained, Unseen, chain, chain_of, ChainOpen, ChainEnd}
+use Rattle.fx_direct.proofs.Words.{requests_in, users_in, is_live, is_closing, is_chained, with_counts, when_opened, OpenAt, UseOf, CloseOf, Made, Quit}
 use Rattle.fx_direct.specs.Transitions.{may_open, may_end, may_close, when_ended, when_closed, when_left, open_seen}
-use Rattle.fx_direct.proofs.Calls.{count_in, is_member, uses_of, count_chain, suits_chain, Fate, Expected, Missing, There, Gone, not_gone, fits, suits, suits_open, suits_end}
+use Rattle.fx_direct.proofs.Calls.{count_in, is_member, uses_of, count_chain, suits_chain, Fate, Expected, There, Gone, not_gone, fits, suits}
 
 module _ (m : Member) (k : LifeKey) where
   -- the calls that begin, and those that are over

@@ -1,7 +1,7 @@
 -- Laws of a whole life.
 use Rattle.fx_direct.proofs.Words.{arith, ◌≡◌, ◌≢◌, ℕ, ◌+◌, ◌<◌, ◌≤◌, ◌⊎◌, inl, inr, Bool, true, false, List, [], ◌∷◌, length, refl, sym, ap, ◌∙◌, subst}
-use Rattle.fx_direct.proofs.Words.{Option, Some, None, cases_eq, cases_lt, ◌▷▷◌, Transition, LifeKey, Phase, Slot, Reserves}
-use Rattle.fx_direct.proofs.Words.{Asks, Free, Ending, Closing, slot_numbered, phase_at, requests_in, users_in, is_live, is_installed, is_closing, is_chained, bit}
+use Rattle.fx_direct.proofs.Words.{Option, Some, None, cases_eq, cases_lt, ◌▷▷◌, Transition, LifeKey, Phase, Slot}
+use Rattle.fx_direct.proofs.Words.{Asks, Free, Ending, Closing, slot_numbered, phase_at, requests_in, users_in, is_live, is_installed, is_chained, bit}
 use Rattle.fx_direct.proofs.Words.{key_concerned, HasLife, IsPossible, IsEnabled, phase_after, slots_with, AreEnabled, slots_left_by, Advances, AdvancesAndAsks}
 use Rattle.fx_direct.specs.Counts.{times, chains, opens, starts, finishes, holds, releases, ends, asks, closes, fails, is_early, phase_of, IsBalanced}
 use Rattle.fx_direct.specs.Lives.{NoCloseIsDue, NeverAsks, NoCloseIsLate, EachCloseIsAskedForOnce, StaleKeysStayStale}

@@ -1,5 +1,5 @@
 -- A flight in which a close doesn't wait, and one in which a slot is free before its chain is over.
-use Rattle.fx_direct.proofs.Words.{[], ◌∷◌, refl, true, false, Some, None, pending, Waits, Made, Quit, OpenAt, UseOf, CloseOf, Reserves, Chains, Opens, Starts, Ends, Asks, Closes, Put, Look, Take}
+use Rattle.fx_direct.proofs.Words.{[], ◌∷◌, refl, true, false, Some, None, pending, Waits, Made, OpenAt, UseOf, CloseOf, Reserves, Chains, Opens, Starts, Ends, Asks, Closes, Put, Look, Take}
 use Rattle.fx_direct.proofs.Flown.{begun, does, inside, makes, one_life, only, quits, two_lives, use1, waits}
 use Rattle.fx_direct.specs.Round.{some_file, next_file, first_key, second_key}
 use Rattle.fx_direct.specs.Haste.{IsEnabledInHaste, IsEnabledEarly, HasteIsWrong, ChainIsNotAnOpen}

@@ -1,7 +1,7 @@
 -- The invariant of flights, and a transition of the machine.
 use Rattle.fx_direct.proofs.Words.{arith, ◌≡◌, ◌≢◌, ℕ, ◌<◌, ◌≤◌, true, List, [], ◌∷◌, ◌++◌, length, refl, sym, ap, inl, inr}
 use Rattle.fx_direct.proofs.Words.{◌∙◌, subst, cases_eq, get_or-set_same, get_or-set_other, length-set, LifeKey, Phase, Slot, State, Member}
-use Rattle.fx_direct.proofs.Words.{AllByRecursion, key_of_call, is_chained, has_chain, Pending, DirectMoment, Does, Transition}
+use Rattle.fx_direct.proofs.Words.{AllByRecursion, is_chained, has_chain, Pending, DirectMoment, Does, Transition}
 use Rattle.fx_direct.proofs.Words.{life_at, slot_numbered, phase_at, key_concerned, phase_after, slots_with, files_under}
 use Rattle.fx_direct.proofs.Calls.{place_of, tally, at_other, tally-mid, count_in, each-both, is_bound, Fate, Has, FitsAt, fits_same, has_same, suits}
 

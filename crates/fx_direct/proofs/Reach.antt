@@ -1,10 +1,10 @@
 -- Every flight keeps the invariant, and an access finds its own file.
-use Rattle.fx_direct.proofs.Words.{arith, ◌≡◌, ◌≢◌, ◌<◌, ◌+◌, ℕ, List, [], ◌∷◌, ◌⊎◌, inl, inr, refl, sym, ap, ◌∙◌, subst, true, Bool, Option, File, Phase}
+use Rattle.fx_direct.proofs.Words.{arith, ◌≡◌, ◌≢◌, ◌<◌, ◌+◌, ℕ, List, [], ◌∷◌, ◌⊎◌, inl, inr, refl, sym, ap, ◌∙◌, subst, true, Option, File, Phase}
 use Rattle.fx_direct.proofs.Words.{Action, Look, Put, Take, LifeKey, Member, Request, CloseMember, Ending, length, ◌++◌, bit, requests_in, is_closing, is_chained, has_chain, slot_numbered}
 use Rattle.fx_direct.proofs.Words.{life_at, phase_at, DirectCall, OpenAt, UseOf, CloseOf, Waits, Pending, pending, World, DirectMoment, Does, Accesses, Quits, Others, Makes}
-use Rattle.fx_direct.proofs.Words.{Comes, IsDirectFlight, files_under, IsEmptyStart, IsFileOf, IsMissed, FindsItsOwn, NothingIsAt, Free, AllByRecursion, IsEnabled, Reserves, Asks, ◌▷◌, ◌▷▷◌}
+use Rattle.fx_direct.proofs.Words.{Comes, IsDirectFlight, files_under, IsEmptyStart, IsFileOf, IsMissed, FindsItsOwn, AllByRecursion, ◌▷◌, ◌▷▷◌}
 use Rattle.fx_direct.specs.Laws.{EachAccessFindsItsOwn, NothingIsLeft}
-use Rattle.fx_direct.proofs.Calls.{place_of, at_same, tally, tally-mid, count_in, each-out, Has, Fate, Expected, Missing, There, fits, suits, not_gone, missing_chained, is_member}
+use Rattle.fx_direct.proofs.Calls.{place_of, at_same, tally, tally-mid, count_in, each-out, Has, Fate, Expected, Missing, suits, not_gone, missing_chained, is_member}
 use Rattle.fx_direct.proofs.Moves.{Sound, Fitting}
 use Rattle.fx_direct.proofs.Turns.{does, none_here, empty_at, none_free}
 use Rattle.fx_direct.proofs.Accessing.{accesses, quits, others_act, after_open, waits_expected}

@@ -1,5 +1,5 @@
 -- The counts of all slots, and one slot that is written.
-use Rattle.fx_direct.proofs.Words.{arith, ◌≡◌, ℕ, ◌+◌, ◌<◌, ◌≤◌, List, length, ap, Phase, Slot, unused, phase_at}
+use Rattle.fx_direct.proofs.Words.{arith, ◌≡◌, ℕ, ◌+◌, ◌≤◌, List, length, ap, Phase, Slot, unused, phase_at}
 use Rattle.fx_direct.proofs.Words.{calls_in, lives_in}
 use Rattle.fx_direct.specs.Phases.{calls_in_flight, lives_of}
 use Rattle.std.specs.Prelude.{◌*◌, ◌^◌}

@@ -1,7 +1,7 @@
 -- Each transition of the machine keeps what is sound.
-use Rattle.fx_direct.proofs.Words.{arith, ◌≡◌, ◌≢◌, ℕ, ◌+◌, ◌-◌, ◌<◌, ◌≤◌, ◌==◌, Bool, true, false, List, [], ◌∷◌, ◌++◌, length, refl, sym, ap, inl, inr, if◌then◌else◌}
-use Rattle.fx_direct.proofs.Words.{AllByRecursion, ◌∙◌, subst, cases_eq, LifeKey, Phase, State, Member, Open, Request, CloseMember}
-use Rattle.fx_direct.proofs.Words.{FailsToClose, is_chained, requests_in, users_in, with_counts, DirectCall, OpenAt, UseOf, CloseOf, key_of_call, Stage, Waits, Made, Quit}
+use Rattle.fx_direct.proofs.Words.{arith, ◌≡◌, ◌≢◌, ℕ, ◌+◌, ◌-◌, ◌<◌, Bool, true, false, List, [], ◌∷◌, ◌++◌, length, refl, sym, ap}
+use Rattle.fx_direct.proofs.Words.{AllByRecursion, ◌∙◌, subst, LifeKey, Phase, State, Member, Request, CloseMember}
+use Rattle.fx_direct.proofs.Words.{FailsToClose, is_chained, requests_in, users_in, DirectCall, OpenAt, UseOf, CloseOf, key_of_call, Stage, Waits, Made, Quit}
 use Rattle.fx_direct.proofs.Words.{Pending, pending, DirectMoment, Does, Loses, Transition, Reserves, Chains, Opens, Starts, Finishes, Holds, Releases, Ends, Asks, Closes}
 use Rattle.fx_direct.proofs.Words.{slot_numbered, phase_at, key_concerned, phase_after, NamesLastLife, IsEnabled, slots_with, TurnsCalls, files_under, has_chain, life_at, changed_at}
 use Rattle.fx_direct.proofs.Words.{with_uses, with_close, Free, Opening, Ending, Closing, is_live, ne_eqb, eq-eqb, Slot, Option, None, File}

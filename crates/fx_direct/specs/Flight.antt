@@ -29,8 +29,8 @@ key_of_call (OpenAt k) = k
 key_of_call (UseOf k) = k
 key_of_call (CloseOf k) = k
 
--- what a call in flight has done: it waits for its turn or is at work; it has installed its file, or
--- taken the file from its slot; or it makes no access any more, and has done neither
+-- what a call in flight has done: it waits for its turn, or is at work; it has installed its file,
+-- or taken the file from its slot; or it makes no access any more, and has done neither
 pub data Stage : Type 0 where
   Waits : Stage
   Made : Stage

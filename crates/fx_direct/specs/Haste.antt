@@ -1,5 +1,6 @@
 -- Two flights that go wrong: a close doesn't wait, and a slot is free before its chain is over.
-use Rattle.std.specs.Prelude.{◌≡◌, ℕ, ◌+◌, ◌<◌, ◌≤◌, Bool, List, [], length, true, false, Some, None}
+use Rattle.std.specs.Prelude.{◌≡◌, ℕ, ◌+◌, ◌<◌, ◌≤◌, Bool, true, false, List, [], length}
+use Rattle.std.specs.Prelude.{Some, None}
 use Rattle.fx_plain.specs.History.{◌▷◌}
 use Rattle.fx_plain.specs.declared.event.Action.TheVariants.{Look, Put, Take}
 use Rattle.fx_direct.specs.Phases.{Chained, Ending, Failed, Free, phase_at, slot_numbered}

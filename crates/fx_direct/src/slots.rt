@@ -138,10 +138,10 @@ impl DirectSlots {
         }
     }
 
-    /// Reports that a member of the chain under a key was completed. They come in any order. An open
-    /// succeeded if it installed a file, and a close if it took the file. After the last completion
-    /// the slot is free, unless the file is left: then this returns the slot, so submit a close of
-    /// it. A chain without a close is a live life once its open succeeded.
+    /// Reports that a member of the chain under a key was completed. They come in any order. An
+    /// open succeeded if it installed a file, and a close if it took the file. After the last
+    /// completion the slot is free, unless the file is left: then this returns the slot, so submit
+    /// a close of it. A chain without a close is a live life once its open succeeded.
     ///
     /// # Errors
     /// `Stale`, or `Is` with the phase, if no such call is in flight under the key, or if the open

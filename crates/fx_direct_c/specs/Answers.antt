@@ -1,14 +1,20 @@
 -- The numbers that the functions return for C, and what they write.
 use Rattle.std.specs.Prelude.{◌≡◌, ◌⊎◌, ℕ, ℤ, ◌≤◌, List, length, map, take, slice_index, Option}
-use Rattle.std.specs.Prelude.{Some, None, Result, Ok, Err, MatchResult}
+use Rattle.std.specs.Prelude.{Some, None, Result, Ok, Err, MatchResult, MatchOption, Bool, ◌==◌}
+use Rattle.std.specs.Prelude.{if◌then◌else◌}
 use Rattle.fx_direct.specs.Keys.{FitsBits, bits_of}
 use Rattle.fx_direct.specs.Living.{AreKeysOf}
 use Rattle.fx_direct.specs.Phases.{AllUnused, phase_at}
+use Rattle.fx_direct.specs.declared.chain.Member.{Member}
+use Rattle.fx_direct.specs.declared.chain.Member.TheVariants.{Open, Request}
+use Rattle.fx_direct.specs.declared.chain.Member.TheVariants.{Close as CloseOfChain}
 use Rattle.fx_direct.specs.declared.phase.Phase.TheVariants.{Free, Opening, Live, Ending, Closing}
+use Rattle.fx_direct.specs.declared.phase.Phase.TheVariants.{Chained}
 use Rattle.fx_direct.specs.Phases.{requests_in, users_in}
-use Rattle.fx_direct.specs.Refusals.{RefusesTransition}
-use Rattle.fx_direct.specs.Transitions.{HasLife, IsEnabled, Advances, AdvancesAndAsks}
-use Rattle.fx_direct.specs.declared.transition.Transition.TheVariants.{Reserves, Starts}
+use Rattle.fx_direct.specs.Refusals.{RefusesEnd, RefusesTransition, RefusesUnchained}
+use Rattle.fx_direct.specs.Transitions.{HasLife, IsEnabled, Advances, AdvancesAndAsks, EndsLife}
+use Rattle.fx_direct.specs.Transitions.{completion, key_concerned}
+use Rattle.fx_direct.specs.declared.transition.Transition.TheVariants.{Reserves}
 use Rattle.fx_direct.specs.declared.key.LifeKey.{LifeKey}
 use Rattle.fx_direct.specs.declared.phase.Phase.{Phase}
 use Rattle.fx_direct.specs.declared.phase.Slot.{Slot}
@@ -19,7 +25,9 @@ use Rattle.fx_direct.specs.declared.transition.Transition.{Transition}
 use Rattle.fx_direct_c.specs.declared.codes.TheConstants.{DONE, CLOSE, FULL, STALE, IS_OPENING}
 use Rattle.fx_direct_c.specs.declared.codes.TheConstants.{IS_LIVE, IS_ENDING, IS_CLOSING, OPENING}
 use Rattle.fx_direct_c.specs.declared.codes.TheConstants.{TOO_MANY_REQUESTS, TOO_MANY_USERS, LIVE}
-use Rattle.fx_direct_c.specs.declared.codes.TheConstants.{ENDING, CLOSING}
+use Rattle.fx_direct_c.specs.declared.codes.TheConstants.{ENDING, CLOSING, CHAINED, IS_CHAINED}
+use Rattle.fx_direct_c.specs.declared.codes.TheConstants.{OPEN_OF_CHAIN, REQUEST_OF_CHAIN}
+use Rattle.fx_direct_c.specs.declared.codes.TheConstants.{CLOSE_OF_CHAIN, BAD_ARGUMENT}
 
 -- the number of a phase. No life that is under way is free
 abbrev pub phase_code : Phase → ℤ
@@ -28,6 +36,15 @@ phase_code Opening = OPENING
 phase_code (Live requests users) = LIVE
 phase_code (Ending requests users) = ENDING
 phase_code Closing = CLOSING
+phase_code (Chained c) = CHAINED
+
+-- the member of a chain that has this number
+abbrev pub member_numbered : ℕ → Option Member
+member_numbered number =
+    if number == OPEN_OF_CHAIN then Some Open
+    else if number == REQUEST_OF_CHAIN then Some Request
+    else if number == CLOSE_OF_CHAIN then Some CloseOfChain
+    else None
 
 -- the number of a refusal
 abbrev pub code_of_refusal : LifeRefusal → ℤ
@@ -37,6 +54,7 @@ code_of_refusal (Is Opening) = IS_OPENING
 code_of_refusal (Is (Live requests users)) = IS_LIVE
 code_of_refusal (Is (Ending requests users)) = IS_ENDING
 code_of_refusal (Is Closing) = IS_CLOSING
+code_of_refusal (Is (Chained c)) = IS_CHAINED
 code_of_refusal TooManyRequests = TOO_MANY_REQUESTS
 code_of_refusal TooManyUsers = TOO_MANY_USERS
 
@@ -57,31 +75,62 @@ pub record OpensMachine (slots : ℕ) (place : Option (List Slot)) : Type 0 wher
   pub size : length machine ≡ slots
   pub unused : AllUnused machine
 
--- the transition was refused, for the reason of this number
-pub record Refuses (old : List Slot) (t : Transition) (code : ℤ) (new : List Slot) : Type 0 where
+-- the call was refused, for a reason of this number
+pub record RefusesBy (refuses : LifeRefusal → Type 0) (old : List Slot) (code : ℤ) (new : List Slot)
+    : Type 0 where
   pub why : LifeRefusal
   pub its_code : code ≡ code_of_refusal why
-  pub refused : RefusesTransition old t why
+  pub refused : refuses why
   pub same : new ≡ old
 
 -- the transition was made, or refused
 abbrev pub MakesAs : List Slot → Transition → ℤ → List Slot → Type 0
-MakesAs old t code new = ((code ≡ DONE) × Advances old t new) ⊎ Refuses old t code new
+MakesAs old t code new =
+    ((code ≡ DONE) × Advances old t new) ⊎ RefusesBy (RefusesTransition old t) old code new
 
--- a request was counted, or refused
-abbrev pub StartsAs : List Slot → LifeKey → ℤ → (old_slot new_slot : ℕ) → List Slot → Type 0
-StartsAs old k code old_slot new_slot new =
-    ((code ≡ DONE) × (new_slot ≡ k.slot) × Advances old (Starts k) new)
-    ⊎ ((new_slot ≡ old_slot) × Refuses old (Starts k) code new)
+-- the completion was that of no chain's member, and left no close that is due; or it was refused
+abbrev pub CompletesAs : List Slot → Transition → ℤ → List Slot → Type 0
+CompletesAs old t code new =
+    ((code ≡ DONE) × AdvancesAndAsks old t None new)
+    ⊎ RefusesBy (RefusesUnchained old t) old code new
 
--- the transition was made, and the close that is due was asked for; or it was refused
-pub record ClosesAs (old : List Slot) (t : Transition) (code : ℤ) (old_slot new_slot : ℕ)
-    (new : List Slot) : Type 0 where
+-- the calls of a transition were counted, and the slot was written; or it was refused
+abbrev pub StartsAs : List Slot → Transition → ℤ → (old_slot new_slot : ℕ) → List Slot → Type 0
+StartsAs old t code old_slot new_slot new =
+    ((code ≡ DONE) × (new_slot ≡ (key_concerned t).slot) × Advances old t new)
+    ⊎ ((new_slot ≡ old_slot) × RefusesBy (RefusesTransition old t) old code new)
+
+-- the call was done, and the close that is due was asked for; or it was refused
+pub record ClosesBy (asks : Option ℕ → Type 0) (refuses : LifeRefusal → Type 0) (old : List Slot)
+    (code : ℤ) (old_slot new_slot : ℕ) (new : List Slot) : Type 0 where
   pub answer : Result (Option ℕ) LifeRefusal
   pub its_code : code ≡ close_code answer
   pub its_slot : new_slot ≡ close_slot answer old_slot
-  pub made : MatchResult answer (λ ask. AdvancesAndAsks old t ask new)
-      (λ why. (new ≡ old) × RefusesTransition old t why)
+  pub made : MatchResult answer asks (λ why. (new ≡ old) × refuses why)
+
+abbrev pub ClosesAs : List Slot → Transition → ℤ → (old_slot new_slot : ℕ) → List Slot → Type 0
+ClosesAs old t code old_slot new_slot new =
+    ClosesBy (λ ask. AdvancesAndAsks old t ask new) (RefusesTransition old t) old code old_slot
+    new_slot new
+
+-- the same of a call that isn't for chains
+abbrev pub FinishesAs : List Slot → Transition → ℤ → (old_slot new_slot : ℕ) → List Slot → Type 0
+FinishesAs old t code old_slot new_slot new =
+    ClosesBy (λ ask. AdvancesAndAsks old t ask new) (RefusesUnchained old t) old code old_slot
+    new_slot new
+
+-- the life was ended, or the call was refused
+abbrev pub EndsAs : List Slot → LifeKey → ℤ → (old_slot new_slot : ℕ) → List Slot → Type 0
+EndsAs old k code old_slot new_slot new =
+    ClosesBy (λ ask. EndsLife old k ask new) (RefusesEnd old k) old code old_slot new_slot new
+
+-- the completion of a chain's member was seen; or it was refused, or no member has this number
+abbrev pub ChainedAs : List Slot → LifeKey → (member : ℕ) → (succeeded : Bool) → ℤ
+    → (old_slot new_slot : ℕ) → List Slot → Type 0
+ChainedAs old k number succeeded code old_slot new_slot new =
+    MatchOption (member_numbered number)
+    ((code ≡ BAD_ARGUMENT) × (new_slot ≡ old_slot) × (new ≡ old))
+    (λ member. ClosesAs old (completion k member succeeded) code old_slot new_slot new)
 
 -- a life began under this key, or none could
 abbrev pub ReservesAs : List Slot → ℤ → (old_key new_key old_slot new_slot : ℕ) → List Slot → Type 0

@@ -1,12 +1,14 @@
 //! The numbers of the machine's answers.
 ghost use Rattle.std.specs.Prelude.{◌≡◌};
-ghost use Rattle.fx_direct_c.specs.Answers.{close_code, close_slot, code_of_refusal, phase_code};
+ghost use Rattle.fx_direct_c.specs.Answers.{close_code, close_slot, code_of_refusal};
+ghost use Rattle.fx_direct_c.specs.Answers.{member_numbered, phase_code};
 
 use crate::codes::{
-    CLOSE, CLOSING, DONE, ENDING, IS_CLOSING, IS_ENDING, IS_LIVE, IS_OPENING, LIVE, OPENING, STALE,
-    TOO_MANY_REQUESTS, TOO_MANY_USERS,
+    CHAINED, CLOSE, CLOSE_OF_CHAIN, CLOSING, DONE, ENDING, IS_CHAINED, IS_CLOSING, IS_ENDING,
+    IS_LIVE, IS_OPENING, LIVE, OPEN_OF_CHAIN, OPENING, REQUEST_OF_CHAIN, STALE, TOO_MANY_REQUESTS,
+    TOO_MANY_USERS,
 };
-use fx_direct::{LifeRefusal, Phase};
+use fx_direct::{LifeRefusal, Member, Phase};
 
 // Returns the number of a refusal.
 #[inline(always)]
@@ -19,6 +21,7 @@ pub(crate) fn of_refusal(why: LifeRefusal) -> i32
         LifeRefusal::Is(Phase::Live(_, _)) => IS_LIVE,
         LifeRefusal::Is(Phase::Ending(_, _)) => IS_ENDING,
         LifeRefusal::Is(Phase::Closing) => IS_CLOSING,
+        LifeRefusal::Is(Phase::Chained(_)) => IS_CHAINED,
         LifeRefusal::TooManyRequests => TOO_MANY_REQUESTS,
         LifeRefusal::TooManyUsers => TOO_MANY_USERS,
     }
@@ -50,5 +53,19 @@ pub(crate) fn of_phase(phase: Phase) -> i32
         Phase::Live(_, _) => LIVE,
         Phase::Ending(_, _) => ENDING,
         Phase::Closing => CLOSING,
+        Phase::Chained(_) => CHAINED,
+    }
+}
+
+// Returns the member of a chain that has this number.
+#[inline(always)]
+pub(crate) fn member_of(number: u32) -> Option<Member>
+    ensures { result ≡ member_numbered number }
+{
+    match number {
+        OPEN_OF_CHAIN => Some(Member::Open),
+        REQUEST_OF_CHAIN => Some(Member::Request),
+        CLOSE_OF_CHAIN => Some(Member::Close),
+        _ => None,
     }
 }

@@ -36,6 +36,9 @@ pub const TOO_MANY_REQUESTS: i32 = -15;
 /// The file has 2^32 - 1 users that are not requests.
 pub const TOO_MANY_USERS: i32 = -16;
 
+/// The life is chained, so the call is refused.
+pub const IS_CHAINED: i32 = -17;
+
 /// The phase of a life: its open is in flight.
 pub const OPENING: i32 = 1;
 
@@ -47,3 +50,15 @@ pub const ENDING: i32 = 3;
 
 /// The phase of a life: its close is in flight.
 pub const CLOSING: i32 = 4;
+
+/// The phase of a life: a chain that opens its file is in flight.
+pub const CHAINED: i32 = 5;
+
+/// The member of a chain that is its open.
+pub const OPEN_OF_CHAIN: u32 = 0;
+
+/// A member of a chain that is a request.
+pub const REQUEST_OF_CHAIN: u32 = 1;
+
+/// The member of a chain that is its close.
+pub const CLOSE_OF_CHAIN: u32 = 2;

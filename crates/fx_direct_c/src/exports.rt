@@ -1,18 +1,20 @@
 //! The functions that C calls. Each borrows the handle of a machine, and calls the machine. Keys
 //! are bits: a call ignores the kind of the key that it gets, and the keys that it writes have the
 //! kind 0.
-ghost use Rattle.std.specs.Prelude.{◌≡◌, ◌≢◌, ◌⊎◌, ◌↔◌, ◌≤◌, ◌<◌, int_le, pos};
+ghost use Rattle.std.specs.Prelude.{◌≡◌, ◌≢◌, ◌⊎◌, ◌↔◌, ◌≤◌, ◌<◌, int_le, nat_lt, pos};
 ghost use Rattle.fx_direct.specs.Keys.{key_in_bits};
 ghost use Rattle.fx_direct.specs.Phases.{calls_in_flight, lives_of};
 ghost use Rattle.fx_direct.specs.declared.key.TheConstants.{MOST_SLOTS};
-ghost use Rattle.fx_direct.specs.declared.transition.Transition.TheVariants.{Opens, Finishes};
-ghost use Rattle.fx_direct.specs.declared.transition.Transition.TheVariants.{Holds, Releases, Ends};
+ghost use Rattle.fx_direct.specs.declared.transition.Transition.TheVariants.{Chains, Opens};
+ghost use Rattle.fx_direct.specs.declared.transition.Transition.TheVariants.{Starts, Finishes};
+ghost use Rattle.fx_direct.specs.declared.transition.Transition.TheVariants.{Holds, Releases};
 ghost use Rattle.fx_direct.specs.declared.transition.Transition.TheVariants.{Closes, FailsToClose};
-ghost use Rattle.fx_direct_c.specs.Answers.{ClosesAs, MakesAs, OpensMachine, ReservesAs, ShowsKey};
-ghost use Rattle.fx_direct_c.specs.Answers.{ShowsPhase, StartsAs, WritesKeys};
+ghost use Rattle.fx_direct_c.specs.Answers.{ChainedAs, ClosesAs, CompletesAs, EndsAs, FinishesAs};
+ghost use Rattle.fx_direct_c.specs.Answers.{MakesAs, OpensMachine, ReservesAs, ShowsKey, ShowsPhase};
+ghost use Rattle.fx_direct_c.specs.Answers.{StartsAs, WritesKeys};
 ghost use Rattle.fx_direct_c.specs.declared.codes.TheConstants.{BAD_ARGUMENT, DONE, NO_MEMORY};
 
-use crate::answers::{of_close, of_phase, of_refusal};
+use crate::answers::{member_of, of_close, of_phase, of_refusal};
 use crate::codes::{BAD_ARGUMENT, DONE, FULL, NO_MEMORY, STALE};
 use crate::handle::{MachineHandle, MachinePlace};
 use fx_direct::{DirectSlots, LifeKey, MOST_SLOTS};
@@ -74,8 +76,8 @@ pub extern "C" fn yacht_direct_opened(
     key: u64,
     result_of_open: i32,
 ) -> i32
-    ensures { MakesAs machine.old.slots (Opens (key_in_bits key) (int_le (pos 0) result_of_open)) result
-        machine.new.slots }
+    ensures { CompletesAs machine.old.slots (Opens (key_in_bits key) (int_le (pos 0) result_of_open))
+        result machine.new.slots }
 {
     let installed = result_of_open >= 0;
     match machine
@@ -87,11 +89,59 @@ pub extern "C" fn yacht_direct_opened(
     }
 }
 
+/// Counts an open, this number of requests and, unless `closes` is 0, a close that are submitted
+/// together, and writes the slot. It returns `DONE`; or why it is refused, and writes nothing.
+#[unsafe(no_mangle)]
+pub extern "C" fn yacht_direct_chain(
+    machine: &mut MachineHandle,
+    key: u64,
+    requests: u32,
+    closes: u32,
+    slot: &mut u32,
+) -> i32
+    ensures { StartsAs machine.old.slots (Chains (key_in_bits key) requests (nat_lt 0 closes))
+        result slot.old slot.new machine.new.slots }
+{
+    let its_key = LifeKey::from_bits(key).0;
+    match machine.as_mut().chain(its_key, requests, closes > 0) {
+        Ok(its_slot) => {
+            *slot = its_slot;
+            DONE
+        }
+        Err(why) => of_refusal(why),
+    }
+}
+
+/// Reports the completion of a chain's member, 0 for its open, 1 for a request, 2 for its close,
+/// with its result: a negative one is a failure. It returns what `yacht_direct_finish` returns; or
+/// `BAD_ARGUMENT` for another number.
+#[unsafe(no_mangle)]
+pub extern "C" fn yacht_direct_chained(
+    machine: &mut MachineHandle,
+    key: u64,
+    member: u32,
+    result_of_member: i32,
+    slot: &mut u32,
+) -> i32
+    ensures { ChainedAs machine.old.slots (key_in_bits key) member
+        (int_le (pos 0) result_of_member) result slot.old slot.new machine.new.slots }
+{
+    let Some(its_member) = member_of(member) else {
+        return BAD_ARGUMENT;
+    };
+    let its_key = LifeKey::from_bits(key).0;
+    let succeeded = result_of_member >= 0;
+    of_close(
+        machine.as_mut().chained(its_key, its_member, succeeded),
+        slot,
+    )
+}
+
 /// Counts a request, and writes the slot. It returns `DONE`; or why it is refused, and writes
 /// nothing.
 #[unsafe(no_mangle)]
 pub extern "C" fn yacht_direct_start(machine: &mut MachineHandle, key: u64, slot: &mut u32) -> i32
-    ensures { StartsAs machine.old.slots (key_in_bits key) result slot.old slot.new
+    ensures { StartsAs machine.old.slots (Starts (key_in_bits key)) result slot.old slot.new
         machine.new.slots }
 {
     match machine.as_mut().start(LifeKey::from_bits(key).0) {
@@ -107,7 +157,7 @@ pub extern "C" fn yacht_direct_start(machine: &mut MachineHandle, key: u64, slot
 /// is refused.
 #[unsafe(no_mangle)]
 pub extern "C" fn yacht_direct_finish(machine: &mut MachineHandle, key: u64, slot: &mut u32) -> i32
-    ensures { ClosesAs machine.old.slots (Finishes (key_in_bits key)) result slot.old slot.new
+    ensures { FinishesAs machine.old.slots (Finishes (key_in_bits key)) result slot.old slot.new
         machine.new.slots }
 {
     of_close(machine.as_mut().finish(LifeKey::from_bits(key).0), slot)
@@ -136,7 +186,7 @@ pub extern "C" fn yacht_direct_release(machine: &mut MachineHandle, key: u64, sl
 /// Ends the life of a key. It returns what `yacht_direct_finish` returns.
 #[unsafe(no_mangle)]
 pub extern "C" fn yacht_direct_end(machine: &mut MachineHandle, key: u64, slot: &mut u32) -> i32
-    ensures { ClosesAs machine.old.slots (Ends (key_in_bits key)) result slot.old slot.new
+    ensures { EndsAs machine.old.slots (key_in_bits key) result slot.old slot.new
         machine.new.slots }
 {
     of_close(machine.as_mut().end(LifeKey::from_bits(key).0), slot)
@@ -146,7 +196,7 @@ pub extern "C" fn yacht_direct_end(machine: &mut MachineHandle, key: u64, slot: 
 /// refused.
 #[unsafe(no_mangle)]
 pub extern "C" fn yacht_direct_closed(machine: &mut MachineHandle, key: u64) -> i32
-    ensures { MakesAs machine.old.slots (Closes (key_in_bits key)) result machine.new.slots }
+    ensures { CompletesAs machine.old.slots (Closes (key_in_bits key)) result machine.new.slots }
 {
     match machine.as_mut().closed(LifeKey::from_bits(key).0) {
         Ok(()) => DONE,
@@ -162,7 +212,7 @@ pub extern "C" fn yacht_direct_close_failed(
     key: u64,
     slot: &mut u32,
 ) -> i32
-    ensures { ClosesAs machine.old.slots (FailsToClose (key_in_bits key)) result slot.old slot.new
+    ensures { FinishesAs machine.old.slots (FailsToClose (key_in_bits key)) result slot.old slot.new
         machine.new.slots }
 {
     of_close(

@@ -16,8 +16,9 @@ macro_rules! numbers {
 // the answers, as yachtdirect.h describes them
 numbers! { DONE 0, CLOSE 1, FULL -6, BAD_ARGUMENT -8, NO_MEMORY -9, STALE -10, IS_OPENING -11 }
 numbers! { IS_LIVE -12, IS_ENDING -13, IS_CLOSING -14, TOO_MANY_REQUESTS -15, TOO_MANY_USERS -16 }
+numbers! { IS_CHAINED -17 }
 // the phases
-numbers! { OPENING 1, LIVE 2, ENDING 3, CLOSING 4 }
+numbers! { OPENING 1, LIVE 2, ENDING 3, CLOSING 4, CHAINED 5 }
 
 /// The largest number of slots.
 pub(super) const MOST_SLOTS: u32 = 1_048_576;
@@ -32,6 +33,20 @@ unsafe extern "C" {
     pub(super) fn yacht_direct_reserve(machine: *mut Machine, key: *mut u64, slot: *mut u32)
         -> i32;
     pub(super) fn yacht_direct_opened(machine: *mut Machine, key: u64, result: i32) -> i32;
+    pub(super) fn yacht_direct_chain(
+        machine: *mut Machine,
+        key: u64,
+        requests: u32,
+        closes: u32,
+        slot: *mut u32,
+    ) -> i32;
+    pub(super) fn yacht_direct_chained(
+        machine: *mut Machine,
+        key: u64,
+        member: u32,
+        result: i32,
+        slot: *mut u32,
+    ) -> i32;
     pub(super) fn yacht_direct_start(machine: *mut Machine, key: u64, slot: *mut u32) -> i32;
     pub(super) fn yacht_direct_finish(machine: *mut Machine, key: u64, slot: *mut u32) -> i32;
     pub(super) fn yacht_direct_hold(machine: *mut Machine, key: u64) -> i32;

@@ -1,13 +1,11 @@
 //! A plain machine in place of the verified one, with nothing proved: for sanitizers, which can't
 //! see into a library that they have not compiled. It has the same functions and numbers.
 use super::core::{
-    Machine, BAD_ARGUMENT, CLOSE, CLOSING, DONE, ENDING, FULL, LIVE, MOST_SLOTS, OPENING, STALE,
-    TOO_MANY_REQUESTS, TOO_MANY_USERS,
+    Machine, BAD_ARGUMENT, CHAINED, CLOSE, CLOSING, DONE, ENDING, FULL, IS_CHAINED, LIVE,
+    MOST_SLOTS, OPENING, STALE, TOO_MANY_REQUESTS, TOO_MANY_USERS,
 };
 
 const FREE: i32 = 0;
-/// What a phase's refusal is below.
-const IS_FREE: i32 = -10;
 const LAST_NUMBER: u64 = (1 << 40) - 1;
 
 #[derive(Clone, Copy)]
@@ -16,8 +14,28 @@ struct Life {
     phase: i32,
     requests: u32,
     users: u32,
+    chain: Chain,
     // its index in `order`
     at: usize,
+}
+
+// What was seen of a chain: whether its open succeeded; whether it has a close, and whether that
+// took the file; and whether the life was ended.
+#[derive(Clone, Copy, Default)]
+struct Chain {
+    opened: Option<bool>,
+    closes: bool,
+    took: Option<bool>,
+    ended: bool,
+}
+
+// Returns the number of a refusal in this phase.
+fn refusal(phase: i32) -> i32 {
+    if phase == CHAINED {
+        IS_CHAINED
+    } else {
+        STALE - phase
+    }
 }
 
 struct Plain {
@@ -51,7 +69,7 @@ impl Plain {
     fn in_phase(&mut self, key: u64, phase: i32) -> Result<&mut Life, i32> {
         let life = self.life(key)?;
         if life.phase != phase {
-            return Err(IS_FREE - life.phase);
+            return Err(refusal(life.phase));
         }
         Ok(life)
     }
@@ -64,10 +82,15 @@ impl Plain {
     }
 
     fn end_of_life(&mut self, key: u64, phase: i32) -> Result<i32, i32> {
-        let life = self.in_phase(key, phase)?;
+        self.in_phase(key, phase)?;
+        self.in_flight -= 1;
+        self.free_slot(key)
+    }
+
+    fn free_slot(&mut self, key: u64) -> Result<i32, i32> {
+        let life = self.life(key)?;
         life.phase = FREE;
         let (at, is_last) = (life.at, life.number == LAST_NUMBER);
-        self.in_flight -= 1;
         self.len -= 1;
         self.swap(at, self.len);
         if is_last {
@@ -108,9 +131,87 @@ impl Plain {
         Ok(DONE)
     }
 
+    fn opened(&mut self, key: u64, installed: bool) -> Result<i32, i32> {
+        if !installed {
+            return self.end_of_life(key, OPENING);
+        }
+        self.in_phase(key, OPENING)?.phase = LIVE;
+        self.in_flight -= 1;
+        Ok(DONE)
+    }
+
+    fn chain(&mut self, key: u64, requests: u32, closes: bool) -> Result<i32, i32> {
+        let life = self.in_phase(key, OPENING)?;
+        (life.phase, life.requests) = (CHAINED, requests);
+        life.chain = Chain {
+            closes,
+            ended: closes,
+            ..Chain::default()
+        };
+        self.in_flight += u64::from(requests) + u64::from(closes);
+        Ok(DONE)
+    }
+
+    fn chained(&mut self, key: u64, member: u32, succeeded: bool) -> Result<i32, i32> {
+        if self.life(key)?.phase != CHAINED {
+            return match member {
+                0 => self.opened(key, succeeded),
+                1 => self.finish(key),
+                _ if succeeded => self.end_of_life(key, CLOSING),
+                _ => self.in_phase(key, CLOSING).map(|_| CLOSE),
+            };
+        }
+        let life = self.life(key)?;
+        let chain = &mut life.chain;
+        match member {
+            0 if chain.opened.is_none() && (succeeded || chain.took != Some(true)) => {
+                chain.opened = Some(succeeded);
+            }
+            1 if life.requests > 0 => life.requests -= 1,
+            2 if chain.closes
+                && chain.took.is_none()
+                && !(succeeded && chain.opened == Some(false)) =>
+            {
+                chain.took = Some(succeeded);
+            }
+            _ => return Err(IS_CHAINED),
+        }
+        self.in_flight -= 1;
+        self.settle_chain(key)
+    }
+
+    // Ends a chain whose last completion was seen, or, without a close, whose open has succeeded.
+    fn settle_chain(&mut self, key: u64) -> Result<i32, i32> {
+        let life = self.life(key)?;
+        let (chain, is_last) = (
+            life.chain,
+            life.requests == 0 && life.chain.closes == life.chain.took.is_some(),
+        );
+        match chain.opened {
+            Some(true) if !chain.closes => life.phase = if chain.ended { ENDING } else { LIVE },
+            Some(true) if is_last && chain.took == Some(false) => life.phase = ENDING,
+            Some(_) if is_last => return self.free_slot(key),
+            _ => return Ok(DONE),
+        }
+        self.settle(key)
+    }
+
+    fn end(&mut self, key: u64) -> Result<i32, i32> {
+        let life = self.life(key)?;
+        match life.phase {
+            CHAINED => life.chain.ended = true,
+            LIVE => life.phase = ENDING,
+            phase => return Err(refusal(phase)),
+        }
+        self.settle(key)
+    }
+
     fn finish(&mut self, key: u64) -> Result<i32, i32> {
         let life = self.life(key)?;
-        let refusal = IS_FREE - life.phase;
+        let refusal = refusal(life.phase);
+        if life.phase == CHAINED {
+            return Err(refusal);
+        }
         life.requests = life.requests.checked_sub(1).ok_or(refusal)?;
         self.in_flight -= 1;
         self.settle(key)
@@ -118,7 +219,7 @@ impl Plain {
 
     fn release(&mut self, key: u64) -> Result<i32, i32> {
         let life = self.life(key)?;
-        let refusal = IS_FREE - life.phase;
+        let refusal = refusal(life.phase);
         life.users = life.users.checked_sub(1).ok_or(refusal)?;
         self.settle(key)
     }
@@ -140,7 +241,14 @@ pub(super) unsafe extern "C" fn yacht_direct_open_6(machine: *mut Machine, slots
     if !(1..=MOST_SLOTS).contains(&slots) {
         return BAD_ARGUMENT;
     }
-    let life = |at| Life { number: 0, phase: FREE, requests: 0, users: 0, at };
+    let life = |at| Life {
+        number: 0,
+        phase: FREE,
+        requests: 0,
+        users: 0,
+        chain: Chain::default(),
+        at,
+    };
     let made = Box::new(Plain {
         lives: (0..slots as usize).map(life).collect(),
         order: (0..slots).collect(),
@@ -176,13 +284,32 @@ pub(super) unsafe extern "C" fn yacht_direct_opened(
     key: u64,
     result: i32,
 ) -> i32 {
-    let plain = unsafe { plain(machine) };
-    if result < 0 {
-        return number(plain.end_of_life(key, OPENING));
+    number(unsafe { plain(machine) }.opened(key, result >= 0))
+}
+
+pub(super) unsafe extern "C" fn yacht_direct_chain(
+    machine: *mut Machine,
+    key: u64,
+    requests: u32,
+    closes: u32,
+    slot: *mut u32,
+) -> i32 {
+    let counted = unsafe { plain(machine) }.chain(key, requests, closes > 0);
+    unsafe { at_slot(counted, key, slot) }
+}
+
+pub(super) unsafe extern "C" fn yacht_direct_chained(
+    machine: *mut Machine,
+    key: u64,
+    member: u32,
+    result: i32,
+    slot: *mut u32,
+) -> i32 {
+    if member > 2 {
+        return BAD_ARGUMENT;
     }
-    let opened = plain.in_phase(key, OPENING).map(|life| life.phase = LIVE);
-    plain.in_flight -= u64::from(opened.is_ok());
-    number(opened.map(|()| DONE))
+    let seen = unsafe { plain(machine) }.chained(key, member, result >= 0);
+    unsafe { at_slot(seen, key, slot) }
 }
 
 /// Defines the calls by a key that write its slot.
@@ -200,10 +327,7 @@ calls_of_a_slot! {
     yacht_direct_start(it, key) it.start(key);
     yacht_direct_finish(it, key) it.finish(key);
     yacht_direct_release(it, key) it.release(key);
-    yacht_direct_end(it, key) {
-        let ended = it.in_phase(key, LIVE).map(|life| life.phase = ENDING);
-        ended.and_then(|()| it.settle(key))
-    };
+    yacht_direct_end(it, key) it.end(key);
     yacht_direct_close_failed(it, key) it.in_phase(key, CLOSING).map(|_| CLOSE);
 }
 
