@@ -12,7 +12,8 @@
 //! `socket`). The life of the slot has a name, its [`Key`], which is also the `user_data` of each
 //! request. A request on the file is counted from before its submission ([`Slots::start`]) until
 //! its last completion ([`Slots::finish`]). After [`Slots::end`] no request is started, and once
-//! none is left, a call returns [`Next::Close`]: now the slot is to be closed.
+//! none is left, a call returns [`Next::Close`]: now the slot is to be closed. An open, requests
+//! and a close may also be submitted at once, linked: [`Slots::chain`].
 //!
 //! ```
 //! use yachtbanyan::direct::{Key, Next, Slots};
@@ -118,7 +119,7 @@ mod tests;
 pub use errors::{Full, OpenError, Refusal};
 pub use key::{Key, MOST_KIND};
 pub use releases::{Releases, User};
-pub use slots::{Next, Phase, Slots};
+pub use slots::{Chained, Member, Next, Phase, Slots};
 
 /// The largest number of slots.
 pub const MOST_SLOTS: u32 = core::MOST_SLOTS;

@@ -1,7 +1,7 @@
 //! The errors. None of them changes anything.
 use super::core::{
-    FULL, IS_CLOSING, IS_ENDING, IS_LIVE, IS_OPENING, MOST_SLOTS, STALE, TOO_MANY_REQUESTS,
-    TOO_MANY_USERS,
+    FULL, IS_CHAINED, IS_CLOSING, IS_ENDING, IS_LIVE, IS_OPENING, MOST_SLOTS, STALE,
+    TOO_MANY_REQUESTS, TOO_MANY_USERS,
 };
 use super::key::Key;
 use std::error::Error;
@@ -92,6 +92,8 @@ refusals! {
     TooManyRequests TOO_MANY_REQUESTS "too many requests are in flight"
     /// The key has 2^32 - 1 users.
     TooManyUsers TOO_MANY_USERS "there are too many users"
+    /// The chain isn't over.
+    IsChained IS_CHAINED "the chain is not over"
 }
 
 impl Refusal {
@@ -100,7 +102,7 @@ impl Refusal {
         self.parts().0
     }
 
-    /// Returns the number that the header yachtdirect.h has for it, from -16 to -10.
+    /// Returns the number that the header yachtdirect.h has for it, from -17 to -10.
     pub fn number(self) -> i32 {
         self.parts().1
     }

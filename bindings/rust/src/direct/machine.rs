@@ -5,7 +5,7 @@
 use super::core::{self, Machine as Raw, CLOSE, DONE, NO_MEMORY};
 use super::errors::{Full, OpenError, Refusal};
 use super::key::Key;
-use super::slots::{Next, Phase};
+use super::slots::{Member, Next, Phase};
 use std::cell::UnsafeCell;
 use std::mem::MaybeUninit;
 
@@ -70,6 +70,35 @@ impl Machine {
         done(answer, key)
     }
 
+    pub(super) fn chain(&mut self, key: Key, requests: u32, closes: bool) -> Result<u32, Refusal> {
+        let (mut slot, closes) = (0, u32::from(closes));
+        // SAFETY: the machine is open, and no other thread uses it.
+        let answer = unsafe {
+            core::yacht_direct_chain(self.raw.get(), key.bits(), requests, closes, &mut slot)
+        };
+        done(answer, key)?;
+        Ok(slot)
+    }
+
+    pub(super) fn chained(
+        &mut self,
+        key: Key,
+        member: Member,
+        result: i32,
+    ) -> Result<Next, Refusal> {
+        let (mut slot, member) = (0, member as u32);
+        // SAFETY: the machine is open, and no other thread uses it.
+        let answer = unsafe {
+            core::yacht_direct_chained(self.raw.get(), key.bits(), member, result, &mut slot)
+        };
+        done(answer, key)?;
+        Ok(if answer == CLOSE {
+            Next::Close(slot)
+        } else {
+            Next::Nothing
+        })
+    }
+
     pub(super) fn start(&mut self, key: Key) -> Result<u32, Refusal> {
         Ok(self.numbered(core::yacht_direct_start, key)?.1)
     }
@@ -111,6 +140,7 @@ impl Machine {
             core::LIVE => Some(Phase::Live { requests, users }),
             core::ENDING => Some(Phase::Ending { requests, users }),
             core::CLOSING => Some(Phase::Closing),
+            core::CHAINED => Some(Phase::Chained { requests }),
             _ => None,
         }
     }

@@ -37,6 +37,34 @@ pub enum Phase {
     },
     /// The close was asked for, and isn't completed.
     Closing,
+    /// A chain is in flight.
+    Chained {
+        /// The number of its requests in flight.
+        requests: u32,
+    },
+}
+
+/// A member of a chain.
+#[derive(Clone, Copy, Debug, PartialEq, Eq)]
+pub enum Member {
+    /// The open.
+    Open,
+    /// A request on the file.
+    Request,
+    /// The close.
+    Close,
+}
+
+/// What the completion of a chain's member leaves.
+#[must_use = "a slot that isn't closed is never free again"]
+#[derive(Clone, Copy, Debug, PartialEq, Eq)]
+pub enum Chained<T> {
+    /// Members are in flight, or the life goes on.
+    Nothing,
+    /// Submit the close of this slot: the chain is over, and has left the file there.
+    Close(u32),
+    /// The life is over and the slot is free. Its value is returned.
+    Over(T),
 }
 
 /// The slots of one ring's table of direct descriptors, with a value for each life.
@@ -121,6 +149,53 @@ impl<T> Slots<T> {
     pub fn opened(&mut self, key: Key, result: i32) -> Result<Option<T>, Refusal> {
         self.machine.opened(key, result)?;
         Ok(if result < 0 { self.take(key) } else { None })
+    }
+
+    /// Counts an open, requests on its file and, if `closes`, its close, and returns the slot. The
+    /// caller submits them there together, by links, in place of an open alone. Until the last of
+    /// their completions the slot isn't free, whatever they are.
+    ///
+    /// ```
+    /// use yachtbanyan::direct::{Chained, Member, Slots};
+    ///
+    /// let mut slots = Slots::new(1)?;
+    /// let key = slots.reserve_with(|key| format!("file {key}"))?;
+    /// slots.chain(key, 1, true)?; // submit an openat, a read and a close, linked
+    /// assert_eq!(slots.chained(key, Member::Open, -2)?, Chained::Nothing); // no such file
+    /// assert!(slots.reserve_with(|_| String::new()).is_err());
+    /// assert_eq!(slots.chained(key, Member::Request, -125)?, Chained::Nothing);
+    /// let over = slots.chained(key, Member::Close, -125)?;
+    /// assert_eq!(over, Chained::Over(format!("file {key}")));
+    /// # Ok::<(), Box<dyn std::error::Error>>(())
+    /// ```
+    ///
+    /// # Errors
+    ///
+    /// The life isn't opening.
+    pub fn chain(&mut self, key: Key, requests: u32, closes: bool) -> Result<u32, Refusal> {
+        self.machine.chain(key, requests, closes)
+    }
+
+    /// Takes the completion of a chain's member with its result, in any order. A chain without a
+    /// close is a live life once its open has succeeded; this takes its other requests too.
+    ///
+    /// # Errors
+    ///
+    /// No such member is in flight, or the open failed and the close took a file.
+    pub fn chained(
+        &mut self,
+        key: Key,
+        member: Member,
+        result: i32,
+    ) -> Result<Chained<T>, Refusal> {
+        if let Next::Close(slot) = self.machine.chained(key, member, result)? {
+            return Ok(Chained::Close(slot));
+        }
+        if self.machine.phase(key).is_some() {
+            return Ok(Chained::Nothing);
+        }
+        let value = self.take(key).ok_or(Refusal::Stale { key })?;
+        Ok(Chained::Over(value))
     }
 
     /// Counts a request, and returns the slot. The caller submits the request there.

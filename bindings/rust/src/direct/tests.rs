@@ -1,5 +1,5 @@
 //! Lives against a model that counts on its own, with random calls.
-use super::{Full, Key, Next, OpenError, Phase, Refusal, Releases, Slots};
+use super::{Chained, Full, Key, Member, Next, OpenError, Phase, Refusal, Releases, Slots};
 use std::collections::HashMap;
 use std::sync::atomic::{AtomicU32, Ordering::Relaxed};
 use std::sync::{Arc, OnceLock};
@@ -11,6 +11,17 @@ enum Life {
     Live(u32, u32),
     Ending(u32, u32),
     Closing,
+    Chained(Chain),
+}
+
+/// A chain, as the lists of the completions that are to come and of those that were seen.
+#[derive(Clone, Copy, PartialEq, Debug)]
+struct Chain {
+    requests: u32,
+    closes: bool,
+    open: Option<bool>,
+    close: Option<bool>,
+    ended: bool,
 }
 
 fn phase_of(life: Life) -> Phase {
@@ -19,6 +30,9 @@ fn phase_of(life: Life) -> Phase {
         Life::Live(requests, users) => Phase::Live { requests, users },
         Life::Ending(requests, users) => Phase::Ending { requests, users },
         Life::Closing => Phase::Closing,
+        Life::Chained(chain) => Phase::Chained {
+            requests: chain.requests,
+        },
     }
 }
 
@@ -29,6 +43,7 @@ fn refusal(life: Option<Life>, key: Key) -> Refusal {
         Some(Life::Live(..)) => Refusal::IsLive { key },
         Some(Life::Ending(..)) => Refusal::IsEnding { key },
         Some(Life::Closing) => Refusal::IsClosing { key },
+        Some(Life::Chained(_)) => Refusal::IsChained { key },
     }
 }
 
@@ -52,6 +67,72 @@ impl Model {
             Next::Close(key.slot())
         } else {
             Next::Nothing
+        }
+    }
+
+    // What a completion of a chain's member leaves, or nothing if it can't come.
+    fn chained(
+        &mut self,
+        key: Key,
+        mut chain: Chain,
+        member: Member,
+        good: bool,
+    ) -> Option<Chained<Key>> {
+        match member {
+            Member::Open if chain.open.is_none() => chain.open = Some(good),
+            Member::Request if chain.requests > 0 => chain.requests -= 1,
+            Member::Close if chain.closes && chain.close.is_none() => chain.close = Some(good),
+            _ => return None,
+        }
+        if (chain.open, chain.close) == (Some(false), Some(true)) {
+            return None;
+        }
+        let is_over = chain.requests == 0 && chain.closes == chain.close.is_some();
+        let life = match chain.open {
+            Some(true) if !chain.closes && !chain.ended => Life::Live(chain.requests, 0),
+            Some(true) if !chain.closes => Life::Ending(chain.requests, 0),
+            Some(true) if is_over && chain.close == Some(false) => Life::Ending(0, 0),
+            Some(_) if is_over => {
+                self.lives.remove(&key);
+                return Some(Chained::Over(key));
+            }
+            _ => Life::Chained(chain),
+        };
+        Some(match self.left(key, life) {
+            Next::Nothing => Chained::Nothing,
+            Next::Close(slot) => Chained::Close(slot),
+        })
+    }
+
+    // A completion of a member, or a chain's begin.
+    fn call_of_a_chain(&mut self, slots: &mut Slots<Key>, key: Key, what: usize) {
+        let life = self.lives.get(&key).copied();
+        let no = refusal(life, key);
+        let (requests, good) = (self.below(3) as u32, self.below(3) > 0);
+        let member = [Member::Open, Member::Request, Member::Close][what % 3];
+        match (what, life) {
+            (0, Some(Life::Opening)) => {
+                let (closes, open, close) = (good, None, None);
+                let ended = false;
+                self.lives.insert(
+                    key,
+                    Life::Chained(Chain {
+                        requests,
+                        closes,
+                        open,
+                        close,
+                        ended,
+                    }),
+                );
+                assert_eq!(slots.chain(key, requests, closes), Ok(key.slot()));
+            }
+            (0, _) => assert_eq!(slots.chain(key, requests, good), Err(no)),
+            (_, Some(Life::Chained(chain))) => {
+                let seen = self.chained(key, chain, member, good);
+                let result = if good { requests as i32 } else { -125 };
+                assert_eq!(slots.chained(key, member, result), seen.ok_or(no));
+            }
+            _ => {}
         }
     }
 
@@ -95,6 +176,11 @@ impl Model {
             (8, Some(Life::Live(r, u))) => {
                 assert_eq!(slots.end(key), Ok(self.left(key, Life::Ending(r, u))));
             }
+            (8, Some(Life::Chained(mut chain))) => {
+                chain.ended = true;
+                self.lives.insert(key, Life::Chained(chain));
+                assert_eq!(slots.end(key), Ok(Next::Nothing));
+            }
             (8, _) => assert_eq!(slots.end(key), Err(no)),
             (9, Some(Life::Closing)) => {
                 self.lives.remove(&key);
@@ -132,6 +218,10 @@ impl Model {
         let in_flight = self.lives.values().map(|life| match life {
             Life::Opening | Life::Closing => 1,
             Life::Live(requests, _) | Life::Ending(requests, _) => u64::from(*requests),
+            Life::Chained(it) => {
+                let others = [it.open.is_none(), it.closes && it.close.is_none()];
+                others.into_iter().map(u64::from).sum::<u64>() + u64::from(it.requests)
+            }
         });
         assert_eq!(slots.in_flight(), in_flight.sum::<u64>());
         for key in self.all.iter().rev().take(20) {
@@ -159,8 +249,11 @@ fn random_calls_answer_as_the_model() {
                 let back = model.below(model.all.len().min(60));
                 let latest = model.all[model.all.len() - 1 - back];
                 let key = living.filter(|_| back % 4 != 0).unwrap_or(latest);
-                let what = model.below(11);
-                model.call(&mut slots, key, what);
+                let what = model.below(18);
+                match what {
+                    0..=10 => model.call(&mut slots, key, what),
+                    _ => model.call_of_a_chain(&mut slots, key, what % 4),
+                }
             }
             if round % 16 == 0 {
                 model.agrees(&mut slots);
