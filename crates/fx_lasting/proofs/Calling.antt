@@ -1,9 +1,8 @@
 -- The places of a call's steps.
-use Rattle.fx_lasting.proofs.Words.{File, HoldsBesides, Placement, Renewing, Relieving, Nearing, subst, ◌≡◌, ◌<◌, ◌≤◌, ℕ, ◌*◌, arith, ⊎_elim, Start}
-use Rattle.fx_lasting.proofs.Words.{LastingTable, list_place, slot_place, hold_place, node_place, word_of, hold_word_of, nodes_of, slots_of, HasPlace, IsAtWork}
-use Rattle.fx_lasting.proofs.Words.{Sat, Emptying, LastingPass, IsPassOfTable, Option, Closed, List, Bool, cond, le-ltb, length, pass_in, get_elem?, some, ◌∙◌}
-use Rattle.fx_lasting.proofs.Words.{sym, mul-le-mul_right, ap, groups_in, group_place, range_at_start, IsGroup, tag_place, number_place, tag_word_of}
-use Rattle.fx_lasting.proofs.Words.{number_word_of, MOST_NODES}
+use Rattle.fx_lasting.proofs.Words.{Placement, ◌≡◌, ◌<◌, ◌≤◌, ℕ, arith, Start, LastingTable, list_place, slot_place, hold_place, node_place, word_of}
+use Rattle.fx_lasting.proofs.Words.{hold_word_of, nodes_of, slots_of, HasPlace, IsAtWork, Sat, LastingPass, IsPassOfTable, Option, Closed, List, Bool, cond}
+use Rattle.fx_lasting.proofs.Words.{le-ltb, length, pass_in, get_elem?, some, ◌∙◌, sym, ap, groups_in, group_place, range_at_start, IsGroup, tag_place}
+use Rattle.fx_lasting.proofs.Words.{number_place, tag_word_of, number_word_of, MOST_NODES}
 use Rattle.fx_lasting.proofs.Frames.{HasBesides, alone_cases}
 use Rattle.table_range.proofs.GroupSlots.{few_groups}
 use Rattle.fx_lasting.proofs.Running.{its_inside, stock_is}

@@ -1,6 +1,6 @@
 -- Counts over the numbers of passes, where one of them changes.
 use Rattle.fx_lasting.proofs.Words.{◌≡◌, ◌≢◌, ℕ, zero, suc, ◌+◌, ◌<◌, ◌≤◌, Bool, true, false, eqb, sym, refl, ap, ◌∙◌, arith, dite, ℕ_discrete, cold_takes}
-use Rattle.fx_lasting.proofs.Words.{cond, changed_at, changed_here, changed_else, one_if, tally, owed, eq-eqb, eqb-true}
+use Rattle.fx_lasting.proofs.Words.{changed_at, changed_here, changed_else, one_if, tally, owed, eq-eqb}
 
 -- each pass counts for one at most
 pub tally_few : (f : ℕ → Bool) (n : ℕ) → tally f n ≤ n

@@ -1,14 +1,13 @@
 -- A step of one seat leaves other seats, slots and nodes as they were.
 use Rattle.fx_lasting.proofs.Words.{alone_in, Placement, Renewing, Nearing, Relieving, HoldsBesides, ◌≡◌, ◌≢◌, ℕ, ◌+◌, ◌<◌, ◌≤◌, List, set, sym, refl, ap, ◌∙◌}
-use Rattle.fx_lasting.proofs.Words.{subst, arith, Option, Some, None, File, inl, inr, some, some-injective, get_elem?, set_here, set_else, stands_at, ⊎_elim}
-use Rattle.fx_lasting.proofs.Words.{◌⊎◌, dite, ℕ_discrete, dec_le, SlotAgrees, NodeAgrees, OwnerAgrees, WorkAgrees, LogAgrees, HoldAgrees, GuardAgrees, Does}
-use Rattle.fx_lasting.proofs.Words.{GlanceAgrees, Heats, MayBeUncharged, in_stock, Contains, IsHot, HoldsAt, Home, IsFileOfNode, IsVacant, IsBorn, full_name_in}
-use Rattle.fx_lasting.proofs.Words.{count_in, word_of, hold_word_of, slots_of, nodes_of, state_after_all, held_in, Nodes, Start, tally, Phase, free, placed}
-use Rattle.fx_lasting.proofs.Words.{seated, leaving, retired, emptied, kept, owner, Glance, Log, View, Work, Idle, Announced, Counted, Guarded, Owing, Yielding}
-use Rattle.fx_lasting.proofs.Words.{Searching, Placing, Retiring, Emptying, Keeping, Nothing, Hot, Cold, Heating, taken_of, owed, sum_by, suc, Deed, untouched}
-use Rattle.fx_lasting.proofs.Words.{over, heated, has_acted, has_heated, Written, Unlabelled, label_of, written_in, file_in, Bool, Event}
+use Rattle.fx_lasting.proofs.Words.{subst, arith, Option, Some, None, File, inl, inr, some, some-injective, get_elem?, set_here, set_else, stands_at, ◌⊎◌, dite}
+use Rattle.fx_lasting.proofs.Words.{ℕ_discrete, SlotAgrees, NodeAgrees, OwnerAgrees, WorkAgrees, LogAgrees, HoldAgrees, GuardAgrees, Does, GlanceAgrees, Heats}
+use Rattle.fx_lasting.proofs.Words.{MayBeUncharged, in_stock, Contains, IsHot, HoldsAt, Home, IsFileOfNode, IsVacant, IsBorn, full_name_in, count_in, word_of}
+use Rattle.fx_lasting.proofs.Words.{hold_word_of, slots_of, nodes_of, state_after_all, held_in, Nodes, Start, Phase, free, seated, leaving, owner, Glance, Log}
+use Rattle.fx_lasting.proofs.Words.{View, Work, Idle, Announced, Counted, Guarded, Owing, Yielding, Searching, Placing, Retiring, Emptying, Keeping, taken_of}
+use Rattle.fx_lasting.proofs.Words.{owed, sum_by, Deed, untouched, over, Written, Unlabelled, label_of, written_in, file_in, Event}
 use Rattle.fx_lasting.proofs.Counts.{tally_same}
-use Rattle.fx_lasting.proofs.Keeping.{NodeIn, Turn, After, Homes, Keeps, NodesStep, LeavesFiles, LabelSame, labels_same, w, word_at, slot_word}
+use Rattle.fx_lasting.proofs.Keeping.{Turn, After, Homes, Keeps, NodesStep, LeavesFiles, LabelSame, labels_same, w, word_at, slot_word}
 
 -- the node that a pass alone works with, plus 1, or 0
 abbrev pub busy : Work → ℕ

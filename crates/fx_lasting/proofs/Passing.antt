@@ -3,12 +3,11 @@ use Rattle.fx_lasting.proofs.Words.{Renewing, Relieving, HoldsAlone, MeetsMore, 
 use Rattle.fx_lasting.proofs.Words.{refl, ap, ◌∙◌, subst, arith, Bool, true, false, Option, Some, None, Start, Sat, Work, Glance, Change, Nothing, Outside}
 use Rattle.fx_lasting.proofs.Words.{Runs, IsAtWork, as_swapped, nodes_of, set, part_of_pass, TableId, Idle, Counted, Guarded, Retiring, Keeping, LastingPass}
 use Rattle.fx_lasting.proofs.Words.{LastingTable, IsSeatOf, IsPassOf, IsPassOfTable, IsBetweenCalls, Knows, MayPlace, opening_of, view_of, pass_of, pass_in}
-use Rattle.fx_lasting.proofs.Words.{numbers_of_pass, doing_in, hold_at, retired_at, retiring_work, IsHistory, Action, ◌▷◌, Put, Take, Release, Close, Look}
-use Rattle.fx_lasting.proofs.Words.{File, Closed, numbered, full_name_in, count_in, LetsFileGo, option_map, Result, Ok, Err, ok_or, is_some, not, ◌==◌, ◌≢◌}
-use Rattle.fx_lasting.proofs.Words.{not-false, not-true, Use, no_use, one_number, one_look, Adds, IsNewFile, Placed, Taken, ReleasesFile, LookedAfter, LookedUp}
-use Rattle.fx_lasting.proofs.Words.{adds_then, HoldsOn, new_round, LetsChargeGo, Announced, first_visit, heat_in, cond, inl, inr, Opening, PassView, IsIdle}
-use Rattle.fx_lasting.proofs.Words.{IsFileRemoval, Doing, DoesNothing, Holding, Hold, Retired, dite, dec_le, lt-ltb, IsIdleSeatOf, HasNoFile, Searching, is_in}
-use Rattle.fx_lasting.proofs.Words.{account, uncounted, group_of, Covered, groups_in, range_at_start}
+use Rattle.fx_lasting.proofs.Words.{numbers_of_pass, doing_in, hold_at, retired_at, retiring_work, IsHistory, Action, ◌▷◌, Put, Take, Close, Look, File, Closed}
+use Rattle.fx_lasting.proofs.Words.{numbered, full_name_in, count_in, LetsFileGo, option_map, Result, Ok, Err, ok_or, is_some, not, ◌≢◌, not-false, Use, no_use}
+use Rattle.fx_lasting.proofs.Words.{one_number, one_look, Adds, IsNewFile, Placed, Taken, ReleasesFile, LookedAfter, LookedUp, adds_then, HoldsOn, new_round}
+use Rattle.fx_lasting.proofs.Words.{LetsChargeGo, Announced, first_visit, inl, inr, Opening, PassView, IsIdle, IsFileRemoval, Doing, DoesNothing, Holding, Hold}
+use Rattle.fx_lasting.proofs.Words.{Retired, IsIdleSeatOf, HasNoFile, is_in, account, uncounted, group_of, Covered, groups_in, range_at_start}
 use Rattle.fx_table.specs.declared.values.Doing.TheVariants.{Retiring as Retires}
 use Rattle.fx_table.specs.declared.values.Empty.{Empty}
 use Rattle.fx_table.specs.declared.values.LookFault.{LookFault}

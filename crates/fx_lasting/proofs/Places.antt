@@ -1,7 +1,7 @@
 -- Places are inside, and apart; and what a write to one of them leaves as it was.
 use Rattle.fx_lasting.proofs.Words.{◌≡◌, ◌≢◌, ℕ, ◌<◌, ◌≤◌, List, set, sym, arith, get_or-set_other, get_or-set_same, list_place, slot_place, word_of}
 use Rattle.fx_lasting.proofs.Words.{hold_word_of, slots_of, nodes_of, slot_of, pass_at, Start, PlacesAreInside, PlacesAreApart, LabelsAreApart}
-use Rattle.fx_lasting.proofs.Words.{NodesAreInOneLine, IsNoLabel, tag_word_of, number_word_of, length, length-set, refl, dite, ℕ_discrete, subst, ap, ◌∙◌}
+use Rattle.fx_lasting.proofs.Words.{NodesAreInOneLine, IsNoLabel, tag_word_of, number_word_of, length, length-set, ap, ◌∙◌}
 use Rattle.table_range.proofs.Counting.{CountAlike}
 use Rattle.fx_lasting.proofs.Keeping.{Turn, word_at, slot_word, LabelSame}
 

@@ -1,9 +1,8 @@
 -- Some steps in a row, and the seat after them.
-use Rattle.fx_lasting.proofs.Words.{TakesAs, HoldsBesides, HoldsOn, Placement, Renewing, Relieving, as_listed, as_asked, as_stocked, as_swapped, IsStockOf}
-use Rattle.fx_lasting.proofs.Words.{Survey, true, set, set_here, set_else, length-set, stands_at, get_elem?, some, some-injective, ◌≡◌, ◌≤◌, ℕ, ◌+◌, List, []}
-use Rattle.fx_lasting.proofs.Words.{◌++◌, map, sym, refl, ap, ◌∙◌, subst, arith, ◌▷▷◌, Action, Event, Sat, Stepped, Goes, Runs, Change, IsAtWork, Log}
-use Rattle.fx_lasting.proofs.Words.{first_log, ◌∷◌, ◌-◌, ◌<◌, ⊎_elim, inl, dite, ℕ_discrete, eq-eqb, ne_eqb, Option, Some, None, Closed, File, ◌▷◌, Release}
-use Rattle.fx_lasting.proofs.Words.{Close, Look, Idle, Owing, Yielding, Counted, Cold, TakesOut, LettingGo, glance_after, LetsChargeGo, LetsFileGo, HasPlace}
+use Rattle.fx_lasting.proofs.Words.{TakesAs, HoldsOn, as_listed, as_asked, as_stocked, as_swapped, IsStockOf, Survey, true, set, set_here, set_else, length-set}
+use Rattle.fx_lasting.proofs.Words.{stands_at, get_elem?, some, some-injective, ◌≡◌, ◌≤◌, ℕ, ◌+◌, List, [], ◌++◌, map, sym, ap, ◌∙◌, subst, arith, ◌▷▷◌, Action}
+use Rattle.fx_lasting.proofs.Words.{Event, Sat, Stepped, Goes, Runs, Change, IsAtWork, Log, first_log, ◌∷◌, ◌-◌, ◌<◌, dite, ℕ_discrete, Option, Some, None}
+use Rattle.fx_lasting.proofs.Words.{Closed, File, ◌▷◌, Release, Close, Look, Idle, Cold, TakesOut, LettingGo, glance_after, LetsChargeGo, LetsFileGo, HasPlace}
 use Rattle.fx_lasting.proofs.Words.{IsReleasing, HasToLetGo, nodes_of, full_name_in, file_node_in, At, Glance, Work, Start, IsHistory, pass_in, pass_event}
 use Rattle.fx_lasting.proofs.Words.{part_of_pass, IsInside, rested, append_assoc, map-append, seen_further, Bool}
 

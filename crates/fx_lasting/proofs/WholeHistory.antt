@@ -1,14 +1,13 @@
 -- One history has what all passes did, and each removed file that is open has a user.
-use Rattle.fx_lasting.proofs.Words.{its_pass, Renewing, Relieving, StillNames, contents_of, ◌≡◌, ℕ, suc, ◌+◌, ◌<◌, ◌≤◌, List, [], ◌∷◌, length, sym, refl, ap}
-use Rattle.fx_lasting.proofs.Words.{◌∙◌, subst, arith, Some, None, some, get_elem?, ⊎_elim, dite, dec_le, eqb, Bool, true, false, cond, at_index, found_sum}
-use Rattle.fx_lasting.proofs.Words.{File, Agrees, WorkAgrees, HoldAgrees, HoldsAt, OwnerAgrees, Shared, Start, View, Work, Phase, Counted, Guarded, Yielding}
-use Rattle.fx_lasting.proofs.Words.{Retiring, seated, leaving, retired, file_in, removed_in, file_if_numbered, eq-eqb, taken_of, taking, owed, sum_by, bit_else}
-use Rattle.fx_lasting.proofs.Words.{slots_of, nodes_of, state_after_all, state_at_start, node_of_number, state_of, lt-ltb, ℕ_discrete, not, eqb-true}
-use Rattle.fx_lasting.proofs.Words.{named_same, opening_is_start, numbered_anew, PassView, find_pass, zero, ◌⊎◌, le-ltb, opening_of}
+use Rattle.fx_lasting.proofs.Words.{its_pass, Relieving, StillNames, ◌≡◌, ℕ, suc, ◌+◌, ◌<◌, ◌≤◌, List, [], ◌∷◌, length, sym, refl, ap, ◌∙◌, subst, arith, Some}
+use Rattle.fx_lasting.proofs.Words.{None, some, get_elem?, ⊎_elim, dite, dec_le, Bool, true, false, at_index, found_sum, File, Agrees, WorkAgrees, HoldAgrees}
+use Rattle.fx_lasting.proofs.Words.{HoldsAt, OwnerAgrees, Shared, Start, View, Work, Phase, Guarded, Yielding, Retiring, seated, leaving, retired, file_in}
+use Rattle.fx_lasting.proofs.Words.{removed_in, file_if_numbered, eq-eqb, taken_of, taking, owed, sum_by, bit_else, nodes_of, state_after_all, state_at_start}
+use Rattle.fx_lasting.proofs.Words.{node_of_number, ℕ_discrete, named_same, opening_is_start, numbered_anew, PassView, find_pass, ◌⊎◌}
 use Rattle.fx_lasting.proofs.Frames.{alone_cases}
 use Rattle.fx_table.specs.Numbers.{once as once_in}
 use Rattle.fx_plain.proofs.Cells.{named}
-use Rattle.fx_plain.proofs.LawHolds.{tally, tally_start, tally_all, placed_one, present, closed_at_most_once}
+use Rattle.fx_plain.proofs.LawHolds.{tally, tally_start, tally_all, placed_one, closed_at_most_once}
 use Rattle.fx_plain.specs.Laws.{IsStart, closes_of}
 use Rattle.fx_lasting.proofs.Counts.{owed_found}
 use Rattle.fx_lasting.proofs.Histories.{same_shape}

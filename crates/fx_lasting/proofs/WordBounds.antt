@@ -1,7 +1,7 @@
 -- The bounds of the words.
-use Rattle.fx_lasting.proofs.Words.{◌≡◌, ℕ, ◌+◌, ◌<◌, ◌≤◌, Option, Some, None, subst, arith, File, Agrees, Names, IsSeated, WorkAgrees, slots_of}
-use Rattle.fx_lasting.proofs.Words.{state_after_all, count_in, full_name_in, Shared, Start, range_at_start, group_start, group_len, full_few, cold_takes}
-use Rattle.fx_lasting.proofs.Words.{has_acted, has_heated, AreBounded, slot_word_in, node_word_in}
+use Rattle.fx_lasting.proofs.Words.{◌≡◌, ℕ, ◌+◌, ◌<◌, ◌≤◌, Option, subst, arith, File, Agrees, Names, IsSeated, WorkAgrees, slots_of, state_after_all, count_in}
+use Rattle.fx_lasting.proofs.Words.{full_name_in, Shared, Start, range_at_start, group_start, group_len, full_few, cold_takes, has_acted, has_heated}
+use Rattle.fx_lasting.proofs.Words.{AreBounded, slot_word_in, node_word_in}
 use Rattle.table_range.proofs.GroupSlots.{few_slots}
 use Rattle.fx_lasting.proofs.range_lemmas.GroupSteps.{owing_most}
 use Rattle.fx_lasting.proofs.Counts.{tally_few, few_cold}

@@ -37,12 +37,12 @@ pub use Rattle.fx_lasting.specs.Fields.{heat_unit, count_in, heat_in, IsHot, col
 pub use Rattle.fx_lasting.specs.Fields.{full_name_in, file_node_in, file_word_of, empty_word_of, without_file, name_mask, most_carried, MayCarry}
 pub use Rattle.fx_lasting.specs.Passes.{alone_in, node_of_number, HasNoFile, Shared, Sat, state_at_start, slots_of, range_at_start, nodes_of, first_stock}
 pub use Rattle.fx_lasting.specs.Passes.{word_of, hold_word_of, lengths, state_after_all, IsHistory, new_log, first_log, held_in, if_file, held_of, taking}
-pub use Rattle.fx_lasting.specs.Passes.{taken_of, tag_word_of, number_word_of, HoldsOn, contents_of, HoldsAlone, HoldsBesides, is_guarding}
+pub use Rattle.fx_lasting.specs.Passes.{taken_of, tag_word_of, number_word_of, HoldsOn, HoldsAlone, HoldsBesides, is_guarding}
 pub use Rattle.fx_lasting.specs.nodes.Stocks.{Whereabouts, at_slot, in_stock, IsInStock, NamesItsNode, IsStockOf, StockAgrees}
 pub use Rattle.fx_lasting.proofs.slot_lemmas.SlotWords.{name_of_file, same_full_name, empty_name_made, empty_file_made, empty_takes_made, name_left}
 pub use Rattle.fx_lasting.proofs.slot_lemmas.SlotWords.{no_file_left, no_takes_left, mask_leaves_name, name_carried, full_name_carried, entry_carried}
 pub use Rattle.fx_lasting.proofs.slot_lemmas.SlotWords.{takes_carried, heat_carried, takes_are_few, one_less}
-pub use Rattle.std.specs.Prelude.{bit_and, sum_by, Contains, Ok, Err, Result, is_some, not, option_map, ok_or, ◌==◌, vec_len}
+pub use Rattle.std.specs.Prelude.{bit_and, sum_by, Contains, Ok, Err, Result, is_some, not, option_map, ok_or, vec_len}
 pub use Rattle.fx_lasting.specs.nodes.Phases.{Phase, owner, file_in, file_if_numbered, removed_in, written_in, free, placed, seated, leaving, retired, emptied}
 pub use Rattle.fx_lasting.specs.nodes.Phases.{kept}
 pub use Rattle.fx_lasting.specs.Runs.{Runs}
@@ -53,9 +53,9 @@ pub use Rattle.fx_lasting.specs.declared.table.LastingTable.{LastingTable}
 pub use Rattle.fx_lasting.specs.Effects.{TakesAs, At, rested, Lists, Skims, IsOnList, as_listed, round_at, round_from, new_round, Announces, Shows, Confirms}
 pub use Rattle.fx_lasting.specs.Effects.{Withdraws, glance_after, Takes, HeatsSlot, StepsDown, TakesOut, slot_of, pass_at, pass_event, pass_in, IsInside}
 pub use Rattle.fx_lasting.specs.Effects.{Stepped, Goes, Glances, Exchanges, LettingGo, Seeks, Births, Rests, Visits, Charges, Retires, first_visit}
-pub use Rattle.fx_lasting.specs.Effects.{retiring_work, Found, Installs, Removes, Turns, Asks, Peeks, as_asked, as_stocked, IsWatching, MeetsOne, FindsChange}
-pub use Rattle.fx_lasting.specs.Effects.{changes_in, IsOvertaken, HasGap, as_swapped, NamesANode, Lowers, Checks, Breaks, Raises, Begins, Counts, Decides, Sees}
-pub use Rattle.fx_lasting.specs.Effects.{HasAnnounced, HasItsHold, EndsItsHold, announcing, guarded_round, guarding, leaving_work, removal_work}
+pub use Rattle.fx_lasting.specs.Effects.{retiring_work, Found, Installs, Removes, Turns, Asks, Peeks, as_asked, as_stocked, IsWatching, changes_in, IsOvertaken}
+pub use Rattle.fx_lasting.specs.Effects.{HasGap, as_swapped, NamesANode, Lowers, Checks, Breaks, Raises, Begins, Counts, Decides, Sees, HasAnnounced}
+pub use Rattle.fx_lasting.specs.Effects.{HasItsHold, EndsItsHold, announcing, guarded_round, guarding, leaving_work, removal_work}
 pub use Rattle.fx_lasting.specs.holds.Visits.{HasVisited, round_to}
 pub use Rattle.fx_lasting.specs.nodes.Searches.{next_of}
 pub use Rattle.table_range.specs.declared.views.Change.{Change}
@@ -77,13 +77,13 @@ pub use Rattle.fx_lasting.specs.declared.view.Written.{Written}
 pub use Rattle.fx_lasting.specs.declared.view.Placement.{Placement}
 pub use Rattle.fx_lasting.specs.declared.view.Written.TheVariants.{Nothing as Unlabelled, Tag, Label}
 pub use Rattle.fx_plain.proofs.Cells.{changed_here, changed_else, by_equality, read_default, named_same}
-pub use Rattle.fx_plain.specs.Contents.{state_of, Contents, slot_at, node_at, moved_node, removed_at, placed_at}
+pub use Rattle.fx_plain.specs.Contents.{state_of, Contents, slot_at, node_at, moved_node, removed_at}
 pub use Rattle.fx_plain.specs.History.{◌▷◌, held_by, held_after, part_of_pass, IsSeenBy, action_of, ◌▷▷◌, ReleasesItsOwn}
 pub use Rattle.fx_plain.specs.State.{State, IsSettled, vacant, file_numbered}
 pub use Rattle.fx_plain.specs.Step.{changed_at, with_removed, after}
 pub use Rattle.fx_plain.specs.Table.{numbered, number_of, identity_of}
 pub use Rattle.fx_plain.specs.declared.event.Action.{Action}
-pub use Rattle.fx_plain.specs.declared.event.Action.TheVariants.{Look, Put, Clear, Take, Allocate, Close, Release, Full}
+pub use Rattle.fx_plain.specs.declared.event.Action.TheVariants.{Look, Put, Take, Allocate, Close, Release, Full}
 pub use Rattle.fx_plain.specs.declared.event.Event.{Event}
 pub use Rattle.fx_plain.specs.declared.event.File.{File}
 pub use Rattle.fx_table.proofs.SumLemmas.{contains_head, contains_map, contains_only, stands_at, one_if, bit_here, bit_else, once_is, one_more_at, one_less_at}
@@ -124,7 +124,7 @@ pub use Rattle.fx_lasting.specs.declared.answers.Miss.{Miss}
 pub use Rattle.fx_lasting.specs.declared.key_answers.KeyFault.{KeyFault}
 pub use Rattle.fx_table.specs.declared.values.Retired.{Retired}
 pub use Rattle.fx_lasting.specs.declared.life.layout.TheConstants.{MOST_NODES, MOST_SLOTS, MOST_PASSES, MOST_INSTALLING}
-pub use Rattle.std.proofs.lemmas.Bool.{eqb-true, not-false, not-true}
+pub use Rattle.std.proofs.lemmas.Bool.{not-false}
 pub use Rattle.fx_lasting.specs.range.Questions.{HasAsked, AsksSo, DecidesIf}
 pub use Rattle.fx_lasting.specs.slots.AtEmpty.{FitsSight, SeesFile, WasLost, HadGap, FellShort, FallsShort, FailsToFill, LooksFor}
 pub use Rattle.fx_plain.proofs.Prepared.{inside_behind, opens_inside, numbered_anew, opening_is_start}

@@ -1,8 +1,8 @@
 -- Steps of a pass on its own hold word keep the rule: it announces a node, withdraws, or steps
 -- down.
 use Rattle.fx_lasting.proofs.Words.{◌≡◌, ℕ, ◌+◌, ◌<◌, List, [], ◌∷◌, sym, refl, ap, ◌∙◌, subst, arith, Option, none, keeps, Closed, File, Event, Release, ◌▷◌}
-use Rattle.fx_lasting.proofs.Words.{WorkAgrees, HoldAgrees, GuardAgrees, NamesNode, HoldsAt, state_after_all, nodes_of, hold_word_of, held_in, held_of, if_file}
-use Rattle.fx_lasting.proofs.Words.{taking, pass_event, Work, Idle, Announced, Guarded, Owing, Yielding, Hot, Announces, Withdraws, StepsDown, AnnouncesKeep}
+use Rattle.fx_lasting.proofs.Words.{WorkAgrees, HoldAgrees, GuardAgrees, NamesNode, HoldsAt, state_after_all, nodes_of, hold_word_of, held_in, taking}
+use Rattle.fx_lasting.proofs.Words.{pass_event, Work, Idle, Announced, Guarded, Owing, Yielding, Hot, Announces, Withdraws, StepsDown, AnnouncesKeep}
 use Rattle.fx_lasting.proofs.Words.{WithdrawsKeep, StepsDownKeep, Goes, announced, step, inl, ⊎_elim, dite, ℕ_discrete, one_less_at, bit_here, sum_at, IsInside}
 use Rattle.fx_lasting.proofs.Words.{IsAllowed, true, ◌⊎◌, inr, alone_in, announcing, MayAnnounce, Placement, Placing, Nearing, IsIn, placed}
 use Rattle.fx_lasting.proofs.Histories.{grows_none, grows_one, legal_more, part_mine, held_mine}

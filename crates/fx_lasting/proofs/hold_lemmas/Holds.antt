@@ -1,7 +1,6 @@
 -- A node is that of one file while the file is held.
-use Rattle.fx_lasting.proofs.Words.{Renewing, Relieving, ◌≡◌, ◌≢◌, ℕ, ◌+◌, Option, Some, None, ap, sym, ◌∙◌, subst, arith, File, node_of_number, Agrees, Names}
-use Rattle.fx_lasting.proofs.Words.{IsSeated, WorkAgrees, HoldsAt, full_name_in, Phase, Shared, Start, Work, Counted, Guarded, Retiring, seated, leaving}
-use Rattle.fx_lasting.proofs.Words.{retired, file_in, Holding, Hold, Retired, slot_word_in, node_word_in, doing_in}
+use Rattle.fx_lasting.proofs.Words.{◌≡◌, ◌≢◌, ℕ, ◌+◌, Some, sym, arith, File, Agrees, Names, Phase, Shared, Start, Work, seated, Holding, Hold, Retired}
+use Rattle.fx_lasting.proofs.Words.{Option, node_of_number, IsSeated, WorkAgrees, HoldsAt, full_name_in, leaving, file_in, slot_word_in, node_word_in, doing_in}
 use Rattle.fx_table.specs.declared.values.Doing.TheVariants.{Retiring as Retires}
 use Rattle.fx_lasting.specs.holds.Holds.{IsHeldBy, HoldsNameFiles, HoldKeepsNode}
 use Rattle.fx_lasting.proofs.Counts.{few_cold}

@@ -1,10 +1,10 @@
 -- A pass that subtracts a charge or a take from the word of a node keeps the rule.
 use Rattle.fx_lasting.proofs.Words.{◌≡◌, ◌≢◌, ℕ, ◌+◌, ◌-◌, ◌%◌, ◌^◌, ◌<◌, ◌≤◌, List, [], ◌∷◌, set, sym, refl, ap, ◌∙◌, subst, arith, Option, Some, none, some}
 use Rattle.fx_lasting.proofs.Words.{keeps, takes, Closed, ◌▷◌, File, Event, Release, Action, pass_event, NodeAgrees, OwnerAgrees, MayBeUncharged, HoldsAt}
-use Rattle.fx_lasting.proofs.Words.{WorkAgrees, state_after_all, slots_of, nodes_of, word_of, hold_word_of, held_in, held_of, taken_of, taking, if_file, owed}
-use Rattle.fx_lasting.proofs.Words.{count_in, Phase, seated, leaving, retired, owner, file_in, removed_in, changed_at, changed_here, changed_else, Work, Idle}
-use Rattle.fx_lasting.proofs.Words.{Counted, Owing, Yielding, Goes, TakesOut, Sat, LettingGo, LettingGoKeeps, step, inl, inr, ⊎_elim, ◌⊎◌, dite, ℕ_discrete}
-use Rattle.fx_lasting.proofs.Words.{eqb, one_if, sum_by, sum_at, one_less_at, get_elem?, bit_here, bit_else, Agrees}
+use Rattle.fx_lasting.proofs.Words.{WorkAgrees, state_after_all, slots_of, nodes_of, word_of, hold_word_of, held_in, taken_of, taking, owed, count_in, Phase}
+use Rattle.fx_lasting.proofs.Words.{seated, leaving, retired, owner, file_in, removed_in, changed_at, changed_here, changed_else, Idle, Counted, Owing}
+use Rattle.fx_lasting.proofs.Words.{Yielding, Goes, TakesOut, Sat, LettingGo, LettingGoKeeps, step, inl, inr, ⊎_elim, ◌⊎◌, dite, ℕ_discrete, eqb, one_if}
+use Rattle.fx_lasting.proofs.Words.{sum_by, sum_at, one_less_at, get_elem?, bit_here, bit_else, Agrees}
 use Rattle.fx_lasting.proofs.Counts.{owed_changed, owed_at}
 use Rattle.fx_lasting.proofs.Histories.{grows_one, legal_more, part_mine, held_mine}
 use Rattle.fx_lasting.proofs.Frames.{busy, owner_stays, covers_same}

@@ -1,11 +1,11 @@
 -- A pass lets a file go: it subtracts a take or a charge from the word of the file's node, or it
 -- retires the file.
-use Rattle.fx_lasting.proofs.Words.{Renewing, ◌≡◌, ◌≢◌, ℕ, ◌+◌, ◌-◌, ◌%◌, ◌^◌, ◌<◌, ◌≤◌, List, ◌∷◌, ◌++◌, map, set, sym, refl, ap, ◌∙◌, arith, Option, Some}
-use Rattle.fx_lasting.proofs.Words.{None, none, some, set_here, set_else, Closed, ◌▷◌, File, Event, Close, Action, pass_event, held_by, part_of_pass}
-use Rattle.fx_lasting.proofs.Words.{NodeAgrees, OwnerAgrees, MayBeUncharged, HoldsAt, state_after_all, slots_of, hold_word_of, held_of, taken_of, taking}
-use Rattle.fx_lasting.proofs.Words.{if_file, owed, count_in, IsHistory, Phase, free, seated, emptied, owner, file_in, removed_in, file_if_numbered, changed_at}
-use Rattle.fx_lasting.proofs.Words.{changed_here, changed_else, View, Work, Idle, Counted, Emptying, Goes, TakesOut, length-set, inr, ◌⊎◌, dite, ℕ_discrete}
-use Rattle.fx_lasting.proofs.Words.{eq-eqb, ne_eqb, one_if, sum_by, by_equality, sum_set, Agrees, get_elem?, Labels, written_in, subst}
+use Rattle.fx_lasting.proofs.Words.{◌≡◌, ◌≢◌, ℕ, ◌+◌, ◌-◌, ◌%◌, ◌^◌, ◌<◌, ◌≤◌, List, ◌∷◌, ◌++◌, map, set, sym, refl, ap, ◌∙◌, arith, Option, Some, None, none}
+use Rattle.fx_lasting.proofs.Words.{some, set_here, set_else, Closed, ◌▷◌, File, Event, Close, Action, pass_event, held_by, part_of_pass, NodeAgrees}
+use Rattle.fx_lasting.proofs.Words.{OwnerAgrees, MayBeUncharged, HoldsAt, state_after_all, slots_of, hold_word_of, held_of, taken_of, taking, if_file, owed}
+use Rattle.fx_lasting.proofs.Words.{count_in, IsHistory, Phase, free, seated, emptied, owner, file_in, removed_in, file_if_numbered, changed_at, changed_here}
+use Rattle.fx_lasting.proofs.Words.{changed_else, View, Work, Idle, Emptying, Goes, TakesOut, length-set, inr, ◌⊎◌, dite, ℕ_discrete, eq-eqb, ne_eqb, sum_by}
+use Rattle.fx_lasting.proofs.Words.{by_equality, sum_set, Agrees, get_elem?, Labels, written_in, subst}
 use Rattle.fx_lasting.proofs.Histories.{Grows, grows_more, legal_more, part_mine, held_mine, each_changed}
 use Rattle.fx_lasting.proofs.Frames.{busy, does_now, written_of}
 use Rattle.fx_lasting.proofs.Keeping.{Turn, After, Homes, word_at, slot_word, in_range, tells, w, end, labels_same, LeavesFiles}

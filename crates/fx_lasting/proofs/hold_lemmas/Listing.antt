@@ -1,7 +1,6 @@
 -- A step that sets a pass's bit in the list keeps the rule.
-use Rattle.fx_lasting.proofs.Words.{Nearing, Relieving, ℕ, ◌≤◌, ◌^◌, List, Option, Closed, refl, inl, inr, arith, none, keeps, Announced, Guarded, Retiring}
-use Rattle.fx_lasting.proofs.Words.{true, bit_or, bit_of, list_place, step, length-set, dite, ℕ_discrete, Work, IsAllowed, Lists, ListsKeep, [], Bool, ◌≡◌, ◌+◌}
-use Rattle.fx_lasting.proofs.Words.{◌%◌, ◌<◌, ◌∙◌, sym, false, Agrees, first_log}
+use Rattle.fx_lasting.proofs.Words.{ℕ, ◌≤◌, ◌^◌, List, Option, Closed, refl, inl, inr, arith, none, keeps, true, bit_or, bit_of, list_place, step, length-set}
+use Rattle.fx_lasting.proofs.Words.{Work, IsAllowed, Lists, ListsKeep, [], Bool, ◌≡◌, ◌+◌, ◌%◌, ◌<◌, ◌∙◌, false, Agrees, first_log}
 use Rattle.fx_lasting.proofs.Histories.{grows_none}
 use Rattle.fx_lasting.proofs.Frames.{guards_same, covers_same, sees_same}
 use Rattle.fx_lasting.proofs.Keeping.{Turn, turn_of, After, word_at, Made, by_turn, its_log, its_work, in_range, w, end, met_same, none_added, range_left}

@@ -1,5 +1,5 @@
 -- The bits of the list, before and after a step.
-use Rattle.fx_lasting.proofs.Words.{◌≡◌, ℕ, ◌<◌, ◌^◌, subst, sym, arith, ◌⊎◌, ⊎_elim, inl, inr, bit_or, bit_of, IsListedIn, list_place, Bool, true}
+use Rattle.fx_lasting.proofs.Words.{◌≡◌, ℕ, ◌<◌, ◌^◌, arith, ◌⊎◌, bit_or, bit_of, IsListedIn, list_place, Bool, true}
 use Rattle.table_range.proofs.Bits.{bit_stays, bit_was}
 
 -- a word of the list, which has a pass's bit, after a step of the pass `own`, which is listed now

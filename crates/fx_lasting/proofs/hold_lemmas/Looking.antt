@@ -1,11 +1,11 @@
 -- A look-up loads the slot's word: at first, and again when it has announced a node.
-use Rattle.fx_lasting.proofs.Words.{Aims, IsIn, List, refl, Some, None, none, File, Look, Work, Idle, Cold, Goes, Shows, IsHot, Deed, false, Start, AimsKeep}
-use Rattle.fx_lasting.proofs.Words.{alone_in, guarding, IsOnList, first_log, arith, NamesNode, Announced, untouched, IsHistory, HasNoFile, HasAnnounced}
-use Rattle.fx_lasting.proofs.Words.{GuardAgrees, GlanceAgrees, state_after_all, GlancesKeep, ConfirmsKeep, full_name_in, hold_word_of, IsAllowed, Placement}
-use Rattle.fx_lasting.proofs.Words.{Relieving, subst, WorkAgrees, pass_event, has_heated, slot_place, ℕ_discrete, one_more_at, Nearing, IsSeated, slots_of}
-use Rattle.fx_lasting.proofs.Words.{nodes_of, held_in, if_file, file_in, Guarded, Heating, Nothing, Confirms, IsInside, placed, ℕ, Option, keeps, Closed, Event}
-use Rattle.fx_lasting.proofs.Words.{Heats, Names, taking, seated, Glance, Glances, heat_in, heated, ⊎_elim, Log, ◌≡◌, ◌≢◌, ◌+◌, ◌-◌, ◌<◌, [], ◌∷◌, sym, ap, ◌∙◌}
-use Rattle.fx_lasting.proofs.Words.{◌▷◌, Hot, over, step, inl, inr, ◌⊎◌, dite, Bool, true}
+use Rattle.fx_lasting.proofs.Words.{Aims, IsIn, List, refl, Some, None, none, File, Look, Work, Idle, Cold, Goes, Shows, IsHot, Deed, Start, AimsKeep, alone_in}
+use Rattle.fx_lasting.proofs.Words.{guarding, IsOnList, first_log, arith, NamesNode, Announced, untouched, IsHistory, HasNoFile, HasAnnounced, GuardAgrees}
+use Rattle.fx_lasting.proofs.Words.{GlanceAgrees, state_after_all, GlancesKeep, ConfirmsKeep, full_name_in, hold_word_of, IsAllowed, Placement, Relieving}
+use Rattle.fx_lasting.proofs.Words.{subst, WorkAgrees, pass_event, has_heated, slot_place, ℕ_discrete, one_more_at, Nearing, slots_of, nodes_of, held_in}
+use Rattle.fx_lasting.proofs.Words.{if_file, file_in, Guarded, Heating, Nothing, Confirms, IsInside, placed, ℕ, Option, keeps, Closed, Event, Heats, taking}
+use Rattle.fx_lasting.proofs.Words.{seated, Glance, Glances, heat_in, heated, ⊎_elim, Log, ◌≡◌, ◌≢◌, ◌+◌, ◌-◌, ◌<◌, [], ◌∷◌, sym, ap, ◌∙◌, ◌▷◌, Hot, over, step}
+use Rattle.fx_lasting.proofs.Words.{inl, inr, ◌⊎◌, dite, true}
 use Rattle.fx_lasting.proofs.range_lemmas.GroupSteps.{its_inside}
 use Rattle.fx_lasting.proofs.Histories.{grows_none, grows_one, legal_more, part_mine, held_mine, same_shape}
 use Rattle.fx_lasting.proofs.Frames.{busy}

@@ -2,7 +2,7 @@
 use Rattle.fx_lasting.proofs.Words.{Bool, StillNames, false, hold_word_of, Round, IsPassed, ⊎_elim, ◌≢◌, ◌≡◌, ℕ, ◌+◌, ◌-◌, ◌%◌, ◌^◌, ◌<◌, ◌≤◌, List, [], sym}
 use Rattle.fx_lasting.proofs.Words.{refl, ap, ◌∙◌, subst, arith, Option, Some, none, keeps, takes, Closed, File, WorkAgrees, MayBeUncharged, state_after_all}
 use Rattle.fx_lasting.proofs.Words.{nodes_of, word_of, held_in, if_file, taken_of, taking, owed, leaving, retired, owner, file_in, removed_in, Work, Retiring}
-use Rattle.fx_lasting.proofs.Words.{Retires, RetiresKeep, retirement_amount, step, inr, dite, ℕ_discrete, eq-eqb, sum_by}
+use Rattle.fx_lasting.proofs.Words.{Retires, RetiresKeep, retirement_amount, step, inr, dite, ℕ_discrete, sum_by}
 use Rattle.fx_lasting.proofs.Frames.{busy}
 use Rattle.fx_lasting.proofs.Keeping.{none_added, Turn, turn_of, word_at, slot_word, Made, by_turn, its_log, its_work, w}
 use Rattle.fx_lasting.proofs.hold_lemmas.LettingGo.{IsLetGo, open_after, stays_open, goes_open, out_after, IsGone, comes_out, takes_out, sub_wraps, taken_now}

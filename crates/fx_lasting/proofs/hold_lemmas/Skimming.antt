@@ -1,9 +1,9 @@
 -- A pass that removed a hot file loads a word of the list: the passes without their bits hold
 -- nothing of the node that isn't charged.
-use Rattle.fx_lasting.proofs.Words.{Nearing, Relieving, StillNames, false, ◌≡◌, ◌≢◌, ℕ, ◌+◌, ◌*◌, ◌<◌, ◌≤◌, List, [], sym, refl, ap, ◌∙◌, subst, arith, Option}
-use Rattle.fx_lasting.proofs.Words.{none, keeps, Closed, File, HoldAgrees, GuardAgrees, MayBeUncharged, hold_word_of, leaving, Work, Announced, Guarded}
-use Rattle.fx_lasting.proofs.Words.{Retiring, step, dite, dec_le, ⊎_elim, set-get_or, Round, round_from, IsToVisit, IsPassed, IsListedIn, list_place, Skims}
-use Rattle.fx_lasting.proofs.Words.{SkimsKeep, Goes, changed_at, true, Bool, IsAllowed, find_pass}
+use Rattle.fx_lasting.proofs.Words.{Relieving, StillNames, false, ◌≡◌, ◌≢◌, ℕ, ◌+◌, ◌*◌, ◌<◌, ◌≤◌, List, [], sym, refl, ap, ◌∙◌, subst, arith, Option, none}
+use Rattle.fx_lasting.proofs.Words.{keeps, Closed, File, HoldAgrees, GuardAgrees, MayBeUncharged, hold_word_of, leaving, Work, Guarded, Retiring, step, dite}
+use Rattle.fx_lasting.proofs.Words.{dec_le, ⊎_elim, set-get_or, Round, round_from, IsToVisit, IsPassed, IsListedIn, list_place, Skims, SkimsKeep, Goes}
+use Rattle.fx_lasting.proofs.Words.{changed_at, true, Bool, IsAllowed, find_pass}
 use Rattle.fx_lasting.proofs.Histories.{each_changed}
 use Rattle.fx_lasting.proofs.Keeping.{Turn, turn_of, its_log, word_at, slot_word, Made, by_turn, w}
 use Rattle.fx_lasting.proofs.hold_lemmas.RoundSteps.{its, node, retiring_same, round_after, RoundStep, round_kept, goes, reads}

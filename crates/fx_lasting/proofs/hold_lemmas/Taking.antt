@@ -5,8 +5,8 @@ use Rattle.fx_lasting.proofs.Words.{ap, ◌∙◌, arith, Option, Some, None, no
 use Rattle.fx_lasting.proofs.Words.{state_after_all, slots_of, nodes_of, held_in, if_file, taken_of, taking, pass_event, seated, file_in, Work, Glance, Idle}
 use Rattle.fx_lasting.proofs.Words.{Counted, Cold, Heating, Deed, untouched, over, heated, has_acted, has_heated, Nothing, Takes, HeatsSlot, TakesOnceKeep}
 use Rattle.fx_lasting.proofs.Words.{HeatsKeep, IsHot, heat_in, name_in, full_name_in, same_full_name, entry_in, count_in, cold_takes, glance_after, heat_unit}
-use Rattle.fx_lasting.proofs.Words.{slot_place, step, inl, inr, ⊎_elim, dite, ℕ_discrete, dec_le, one_more_at, Bool, true, false, cond, lt-ltb, le-ltb, tally}
-use Rattle.fx_lasting.proofs.Words.{sum_set, changed_at, changed_here, changed_else, one_if, bit_here, bit_else, IsInside, Placing}
+use Rattle.fx_lasting.proofs.Words.{slot_place, step, inl, inr, ⊎_elim, dite, ℕ_discrete, dec_le, one_more_at, Bool, true, false, cond, le-ltb, tally, sum_set}
+use Rattle.fx_lasting.proofs.Words.{changed_at, changed_here, changed_else, one_if, bit_here, bit_else, IsInside, Placing}
 use Rattle.fx_lasting.proofs.range_lemmas.GroupSteps.{its_inside}
 use Rattle.fx_lasting.proofs.Counts.{tally_few, tally_one, tally_room, bit_few, few_cold}
 use Rattle.fx_lasting.proofs.Histories.{grows_none, grows_one, legal_more, part_mine, held_mine}

@@ -2,7 +2,7 @@
 use Rattle.fx_lasting.proofs.Words.{Renewing, Relieving, Contains, contains_head, ◌≡◌, ◌≢◌, ℕ, ◌+◌, ◌<◌, ◌≤◌, List, [], ◌∷◌, sym, refl, ap, ◌∙◌, subst, arith}
 use Rattle.fx_lasting.proofs.Words.{Some, File, some, get_elem?, ⊎_elim, dite, ℕ_discrete, eq-eqb, ne_eqb, sum_by, sum_two, sum_only, WorkAgrees, HoldAgrees}
 use Rattle.fx_lasting.proofs.Words.{GuardAgrees, MayBeUncharged, HoldsAt, nodes_of, hold_word_of, state_after_all, held_in, held_of, taken_of, taking, if_file}
-use Rattle.fx_lasting.proofs.Words.{owed, Phase, seated, leaving, retired, file_in, Log, View, Work, Counted, Guarded, Yielding, not_there, its_range}
+use Rattle.fx_lasting.proofs.Words.{owed, Phase, seated, leaving, file_in, Log, View, Work, Counted, Guarded, Yielding, not_there, its_range}
 use Rattle.fx_lasting.proofs.Counts.{owed_at}
 use Rattle.fx_lasting.proofs.Keeping.{NodeIn, node_in, Turn, word_at, slot_word}
 

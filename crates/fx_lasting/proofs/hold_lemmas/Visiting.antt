@@ -1,10 +1,10 @@
 -- A pass that removed a hot file visits the hold words of the others: where one names the node, the
 -- pass charges it.
-use Rattle.fx_lasting.proofs.Words.{Nearing, Relieving, StillNames, Bool, true, false, Round, round_at, IsToVisit, IsPassed, ◌≡◌, ◌≢◌, ℕ, ◌+◌, ◌<◌, ◌≤◌, List}
-use Rattle.fx_lasting.proofs.Words.{[], set, sym, refl, ap, ◌∙◌, subst, arith, Option, none, keeps, Closed, File, HoldAgrees, GuardAgrees, MayBeUncharged}
-use Rattle.fx_lasting.proofs.Words.{slots_of, hold_word_of, owed, Phase, leaving, changed_at, changed_here, changed_else, Work, Announced, Guarded, Retiring}
-use Rattle.fx_lasting.proofs.Words.{Visits, Charges, VisitsKeep, ChargesKeep, step, inr, ⊎_elim, dite, ℕ_discrete, eqb, one_if, announced, charge, set-get_or}
-use Rattle.fx_lasting.proofs.Words.{exchanged, bit_here, bit_else, NamesNode, Goes, Start, dec_le, Agrees, either, find_pass}
+use Rattle.fx_lasting.proofs.Words.{Relieving, StillNames, Bool, false, Round, round_at, IsToVisit, IsPassed, ◌≡◌, ◌≢◌, ℕ, ◌+◌, ◌<◌, ◌≤◌, List, [], set, sym}
+use Rattle.fx_lasting.proofs.Words.{refl, ap, ◌∙◌, subst, arith, Option, none, keeps, Closed, File, HoldAgrees, GuardAgrees, MayBeUncharged, slots_of}
+use Rattle.fx_lasting.proofs.Words.{hold_word_of, owed, Phase, leaving, changed_at, changed_here, changed_else, Work, Guarded, Retiring, Visits, Charges}
+use Rattle.fx_lasting.proofs.Words.{VisitsKeep, ChargesKeep, step, inr, dite, ℕ_discrete, eqb, one_if, announced, charge, set-get_or, exchanged, bit_here}
+use Rattle.fx_lasting.proofs.Words.{bit_else, NamesNode, Goes, Start, Agrees, either, find_pass}
 use Rattle.fx_lasting.proofs.Counts.{owed_changed}
 use Rattle.fx_lasting.proofs.Histories.{each_changed}
 use Rattle.fx_lasting.proofs.Frames.{covers_same}

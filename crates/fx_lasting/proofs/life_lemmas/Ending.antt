@@ -1,9 +1,9 @@
 -- The end, when one seat has all passes again, and does nothing: everything is settled, and each
 -- file is at its slot.
-use Rattle.fx_lasting.proofs.Words.{contents_of, ◌≡◌, ℕ, suc, ◌<◌, ◌≤◌, map, sym, ap, ◌∙◌, subst, arith, Option, Some, None, sum_by, dite, some, dec_le}
-use Rattle.fx_lasting.proofs.Words.{get_elem?, Closed, State, IsSettled, File, sum_zero_at, ℕ_discrete, Does, OwnerAgrees, Agrees, Shared, slots_of, nodes_of}
-use Rattle.fx_lasting.proofs.Words.{state_after_all, state_at_start, held_of, if_file, taken_of, owed, Phase, free, placed, seated, leaving, retired, emptied}
-use Rattle.fx_lasting.proofs.Words.{kept, removed_in, Start, View, Work, HasNoFile, IsSeated, action_of, refl, inside_behind, opens_inside, find_pass}
+use Rattle.fx_lasting.proofs.Words.{◌≡◌, ℕ, ◌<◌, ◌≤◌, sym, ap, ◌∙◌, subst, arith, Option, Some, None, sum_by, dite, some, get_elem?, Closed, State, IsSettled}
+use Rattle.fx_lasting.proofs.Words.{File, sum_zero_at, ℕ_discrete, Does, OwnerAgrees, Agrees, Shared, slots_of, nodes_of, state_after_all, held_of, if_file}
+use Rattle.fx_lasting.proofs.Words.{taken_of, owed, Phase, free, placed, seated, leaving, retired, emptied, kept, removed_in, Start, View, Work, HasNoFile}
+use Rattle.fx_lasting.proofs.Words.{IsSeated, refl, inside_behind, opens_inside, find_pass}
 use Rattle.fx_lasting.proofs.node_lemmas.Choosing.{no_file, no_take, not_busy, holds_none}
 use Rattle.fx_lasting.proofs.Frames.{busy, busy_alone}
 use Rattle.fx_lasting.proofs.Counts.{owed_found}

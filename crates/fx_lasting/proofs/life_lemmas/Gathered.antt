@@ -5,7 +5,7 @@ use Rattle.fx_lasting.proofs.Words.{IsPassOf, IsSeatOf, IsNewPass, get_elem?, Co
 use Rattle.fx_lasting.proofs.Words.{sym, refl, ap, ◌∙◌, All, map, Sat, Log, View, some, inl, true, false, Seat, fits, seats, List, numbers_of_pass}
 use Rattle.fx_lasting.proofs.Words.{contains_head, contains_map, state_after_all, first_passes, contains_tail, contains_none, subst, TableId, reverse, new_log}
 use Rattle.fx_lasting.proofs.Words.{pass_of, Contents, state_of, IsAtWork, as_first, PassView, new_pass, sum_zero, arith, Option, length, Closed, view_of}
-use Rattle.fx_lasting.proofs.Words.{Knows, Start, dealt, sum_by, Agrees, logs_in, Shared, IsReady, sum_map}
+use Rattle.fx_lasting.proofs.Words.{Start, dealt, sum_by, Agrees, logs_in, Shared, IsReady, sum_map}
 use Rattle.table_seats.proofs.Gathered.{each_rests, whole as gathered_whole}
 use Rattle.table_seats.proofs.Moving.{alone_is_dealt}
 use Rattle.fx_table.proofs.Histories.{IsWhole, closes_table}

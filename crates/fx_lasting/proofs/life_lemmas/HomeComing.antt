@@ -1,9 +1,9 @@
 -- The files at the settled end of a table whose passes are all idle: they are in the places of
 -- their nodes.
-use Rattle.fx_lasting.proofs.Words.{◌≡◌, ◌≤◌, ℕ, ◌-◌, sym, refl, ap, ◌∙◌, arith, Option, Some, None, List, subst, Closed, State, slice_index, some, get_elem?}
-use Rattle.fx_lasting.proofs.Words.{file_node_in, slot_place, stands_at, some-injective, File, Names, full_name_in, Agrees, slots_of, state_after_all}
-use Rattle.fx_lasting.proofs.Words.{LastingTable, Start, View, HasNoFile, eq-eqb, ne_eqb, option_map, Final, Seen, number_of, identity_of, files_at_slots}
-use Rattle.fx_lasting.proofs.Words.{AreAtHome, AreStored, at_home, file_at, files_are, AllAreIdle, Leaves}
+use Rattle.fx_lasting.proofs.Words.{◌≡◌, ◌≤◌, ℕ, sym, ap, ◌∙◌, arith, Option, Some, None, List, subst, Closed, State, slice_index, some, get_elem?}
+use Rattle.fx_lasting.proofs.Words.{file_node_in, slot_place, stands_at, some-injective, File, Names, Agrees, slots_of, state_after_all, LastingTable, Start}
+use Rattle.fx_lasting.proofs.Words.{View, HasNoFile, option_map, Final, Seen, number_of, identity_of, files_at_slots, AreAtHome, AreStored, at_home, file_at}
+use Rattle.fx_lasting.proofs.Words.{files_are, AllAreIdle, Leaves}
 use Rattle.fx_lasting.proofs.life_lemmas.Listed.{with_files, has_files, at_rest, same_list}
 use Rattle.fx_lasting.proofs.life_lemmas.Ending.{home_file, file_home, one_slot, none_outside_end}
 use Rattle.fx_lasting.proofs.Histories.{same_shape}

@@ -1,9 +1,9 @@
 -- The files of a closed table, listed with their slots, and a table of one thread that has them.
-use Rattle.fx_lasting.proofs.Words.{◌≡◌, ℕ, suc, ◌+◌, ◌<◌, ◌≤◌, List, [], ◌∷◌, ◌++◌, sym, refl, ap, ◌∙◌, arith, inl, Option, Some, None, Closed, State}
-use Rattle.fx_lasting.proofs.Words.{Contents, state_of, IsSettled, changed_at, numbered, some, get_elem?, set, range_with_len, map, length-map-range_with_len}
-use Rattle.fx_lasting.proofs.Words.{dite, dec_le, add-one, append-nil, get_or-eq_default, get_or-map-range_with_len, slot_at, node_at, moved_node, removed_at}
-use Rattle.fx_lasting.proofs.Words.{placed_at, vacant, identity_of, HasSameFiles, IsShell, AreAtHome, AreComing, file_at, none_came, none_named, some_came}
-use Rattle.fx_lasting.proofs.Words.{none_there, file_put, Becomes, with_slot, files_at_slots}
+use Rattle.fx_lasting.proofs.Words.{◌≡◌, ℕ, ◌+◌, ◌<◌, ◌≤◌, List, [], ◌∷◌, ◌++◌, sym, refl, ap, ◌∙◌, arith, inl, Option, Some, None, Closed, State, Contents}
+use Rattle.fx_lasting.proofs.Words.{state_of, IsSettled, changed_at, numbered, some, get_elem?, set, range_with_len, map, length-map-range_with_len, add-one}
+use Rattle.fx_lasting.proofs.Words.{append-nil, get_or-eq_default, get_or-map-range_with_len, slot_at, node_at, moved_node, removed_at, vacant, identity_of}
+use Rattle.fx_lasting.proofs.Words.{HasSameFiles, IsShell, AreAtHome, AreComing, file_at, none_came, none_named, some_came, none_there, file_put, Becomes}
+use Rattle.fx_lasting.proofs.Words.{with_slot, files_at_slots}
 use Rattle.fx_plain.specs.Contents.{file_at as file_in}
 use Rattle.fx_plain.specs.declared.node.Node.{Node}
 use Rattle.fx_plain.specs.declared.node.Node.TheVariants.{Gone}

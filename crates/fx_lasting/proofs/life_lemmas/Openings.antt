@@ -1,13 +1,13 @@
 -- A table that is opened keeps the rule.
 use Rattle.fx_lasting.proofs.Words.{◌≡◌, ℕ, zero, suc, ◌+◌, ◌<◌, ◌≤◌, Bool, nat_lt, cond, List, [], ◌∷◌, map, sym, refl, ap, ◌∙◌, subst, arith, lt-ltb, le-ltb}
 use Rattle.fx_lasting.proofs.Words.{Option, None, slice_index, dite, some, some-injective, some-ne-none, dec_le, get_elem?, Closed, File, State, SlotAgrees}
-use Rattle.fx_lasting.proofs.Words.{NodeAgrees, LogAgrees, ViewAgrees, Agrees, new_logs, word_of, hold_word_of, slot_place, count_in, slots_of, nodes_of}
-use Rattle.fx_lasting.proofs.Words.{state_after_all, new_log, Phase, free, Log, Start, View, Idle, Nothing, length-map, at_map, first_view, contains_map}
-use Rattle.fx_lasting.proofs.Words.{once_is, counted_once, range_with_len, one_if, owed, ne_eqb, false, Contains, eqb, sum_of, OpensWith, bit_here}
-use Rattle.fx_lasting.proofs.Words.{node_of_number, bit_of, IsListedIn, bit_at-zero, not, opening, untouched, list_place, ◌-◌, ◌*◌, ◌/◌, ◌%◌, Whereabouts}
-use Rattle.fx_lasting.proofs.Words.{at_slot, in_stock, NamesItsNode, IsStockOf, StockAgrees, name_in, empty_name_made, empty_file_made, empty_takes_made}
-use Rattle.fx_lasting.proofs.Words.{stock_start, stock_for, first_stock, mul-le-mul_right, length-range_with_len, div-mul-add, mod-mul-add, suc-mul, HasLaws}
-use Rattle.fx_lasting.proofs.Words.{seats, full_in, if_full, file_numbered, read_default, range_at_start, group_place, group_start, group_len, question_place}
+use Rattle.fx_lasting.proofs.Words.{NodeAgrees, LogAgrees, ViewAgrees, Agrees, new_logs, word_of, slot_place, count_in, slots_of, nodes_of, state_after_all}
+use Rattle.fx_lasting.proofs.Words.{new_log, Phase, free, Log, Start, View, Idle, Nothing, length-map, at_map, first_view, contains_map, once_is, counted_once}
+use Rattle.fx_lasting.proofs.Words.{range_with_len, one_if, owed, ne_eqb, false, Contains, eqb, sum_of, OpensWith, bit_here, node_of_number, bit_of, IsListedIn}
+use Rattle.fx_lasting.proofs.Words.{bit_at-zero, not, opening, untouched, list_place, ◌-◌, ◌*◌, ◌/◌, ◌%◌, Whereabouts, at_slot, in_stock, NamesItsNode}
+use Rattle.fx_lasting.proofs.Words.{IsStockOf, StockAgrees, name_in, empty_name_made, empty_file_made, empty_takes_made, stock_start, stock_for, first_stock}
+use Rattle.fx_lasting.proofs.Words.{mul-le-mul_right, length-range_with_len, div-mul-add, mod-mul-add, suc-mul, HasLaws, seats, full_in, if_full, file_numbered}
+use Rattle.fx_lasting.proofs.Words.{read_default, range_at_start, group_place, group_start, group_len, question_place}
 use Rattle.fx_plain.specs.Contents.{file_at}
 use Rattle.fx_lasting.proofs.Counts.{tally_none, tally_same}
 use Rattle.table_range.proofs.Counting.{counts_alone}

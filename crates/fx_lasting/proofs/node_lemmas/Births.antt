@@ -1,11 +1,11 @@
 -- A pass finds a free node of its stock, takes its place, and lays a node to rest.
 use Rattle.fx_lasting.proofs.Words.{◌⊎◌, HoldsAt, Renewing, File, IsIn, changed_else, ◌≡◌, ◌≢◌, ℕ, ◌+◌, ◌<◌, ◌≤◌, List, [], ◌∷◌, set, sym, refl, ap, ◌∙◌, subst}
 use Rattle.fx_lasting.proofs.Words.{arith, Option, Some, None, none, some, keeps, takes, gives, rest, set_here, set_else, Closed, WorkAgrees, MayBeUncharged}
-use Rattle.fx_lasting.proofs.Words.{nodes_of, word_of, hold_word_of, held_in, if_file, taken_of, taking, owed, Phase, free, placed, leaving, emptied, owner}
-use Rattle.fx_lasting.proofs.Words.{file_in, changed_here, Log, Work, Idle, Searching, Placing, Emptying, Seeks, Births, Rests, SeeksKeep, BirthsKeep}
-use Rattle.fx_lasting.proofs.Words.{RestsKeep, birth_word, step, inl, inr, ⊎_elim, dite, ℕ_discrete, sum_by, sum_set, length-set, Start, Agrees, first_log}
-use Rattle.fx_lasting.proofs.Words.{HasNoFile, HoldAgrees, IsAllowed, GuardAgrees, rested, IsInside, changed_at, IsInStock, Bool, Counted, Guarded, Announced}
-use Rattle.fx_lasting.proofs.Words.{Nearing, Relieving, HoldsBesides, cond, le-ltb, get_or, HasItsPlace, Placement, as_written, Unlabelled}
+use Rattle.fx_lasting.proofs.Words.{nodes_of, word_of, hold_word_of, held_in, if_file, taken_of, taking, owed, free, placed, leaving, emptied, owner, file_in}
+use Rattle.fx_lasting.proofs.Words.{changed_here, Log, Work, Idle, Searching, Placing, Emptying, Seeks, Births, Rests, SeeksKeep, BirthsKeep, RestsKeep}
+use Rattle.fx_lasting.proofs.Words.{birth_word, step, inl, inr, ⊎_elim, dite, ℕ_discrete, sum_by, sum_set, length-set, Start, Agrees, first_log, HasNoFile}
+use Rattle.fx_lasting.proofs.Words.{HoldAgrees, IsAllowed, GuardAgrees, rested, IsInside, changed_at, IsInStock, Bool, Counted, Guarded, Announced, Nearing}
+use Rattle.fx_lasting.proofs.Words.{Relieving, HoldsBesides, cond, le-ltb, get_or, HasItsPlace, Placement, as_written, Unlabelled}
 use Rattle.fx_lasting.proofs.Histories.{grows_none}
 use Rattle.fx_lasting.proofs.Frames.{HasBesides, alone_cases, busy, covers_same, does_now}
 use Rattle.fx_lasting.proofs.Keeping.{passed, Turn, turn_of, After, Homes, word_at, slot_word, Made, by_turn, its_log, its_work, its_stock, in_its_stock, tells}
@@ -14,7 +14,7 @@ use Rattle.fx_lasting.proofs.Places.{node_words, node_here, node_hold, node_slot
 use Rattle.fx_lasting.proofs.Calm.{read_before, read_before_kept, Reads}
 use Rattle.fx_lasting.proofs.node_lemmas.Choosing.{no_file, no_take, not_busy, holds_none}
 use Rattle.fx_lasting.proofs.node_lemmas.FreeNodes.{some_free, entry_is, named_by}
-use Rattle.fx_lasting.proofs.hold_lemmas.Unheld.{NodeNow, in_phase}
+use Rattle.fx_lasting.proofs.hold_lemmas.Unheld.{in_phase}
 use Rattle.fx_lasting.proofs.node_lemmas.NodeSteps.{own_after, own_node_kept}
 
 -- a pass that looks for a node works with none

@@ -1,8 +1,8 @@
 -- The first stocks of passes, one after another.
-use Rattle.fx_lasting.proofs.Words.{◌≡◌, ℕ, zero, suc, ◌+◌, ◌-◌, ◌<◌, ◌≤◌, List, [], ◌∷◌, ◌++◌, map, length, set, refl, sym, ap, ◌∙◌, subst, arith, dite}
-use Rattle.fx_lasting.proofs.Words.{ℕ_discrete, length-append, range_with_len, stock_of, stocks_back, slot_place, empty_word_of, slice_index, length-set}
-use Rattle.fx_lasting.proofs.Words.{get_or-set_other, get_or-set_same, LastingTable, first_stock, AreNamed, map-append, ◌*◌, stock_start, mul-le-mul_right}
-use Rattle.fx_lasting.proofs.Words.{suc-mul, MOST_SLOTS, MOST_NODES, MOST_PASSES, MOST_INSTALLING}
+use Rattle.fx_lasting.proofs.Words.{◌≡◌, ℕ, zero, suc, ◌+◌, ◌<◌, ◌≤◌, List, [], ◌∷◌, ◌++◌, map, length, set, refl, sym, ap, ◌∙◌, subst, arith, dite, ℕ_discrete}
+use Rattle.fx_lasting.proofs.Words.{length-append, range_with_len, stock_of, stocks_back, slot_place, empty_word_of, slice_index, length-set, get_or-set_other}
+use Rattle.fx_lasting.proofs.Words.{get_or-set_same, LastingTable, first_stock, AreNamed, map-append, stock_start, MOST_SLOTS, MOST_NODES, MOST_PASSES}
+use Rattle.fx_lasting.proofs.Words.{MOST_INSTALLING}
 
 -- one number more in a row
 pub row_more : (a n : ℕ) → range_with_len a (suc n) ≡ range_with_len a n ++ (a + n) ∷ []

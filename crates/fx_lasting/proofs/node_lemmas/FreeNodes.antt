@@ -1,12 +1,11 @@
 -- A stock has more nodes than the other passes can use, so one of them is free whenever its pass
 -- does nothing: no slot names a node of a stock.
-use Rattle.fx_lasting.proofs.Words.{Renewing, Nearing, Relieving, Placement, File, some-injective, HoldsBesides, IsAllowed, IsInStock, StillNames, Bool, true}
-use Rattle.fx_lasting.proofs.Words.{false, ◌≡◌, ℕ, zero, suc, ◌+◌, ◌<◌, ◌≤◌, List, [], ◌∷◌, length, sym, refl, ap, ◌∙◌, subst, arith, some, get_elem?, ⊎_elim}
-use Rattle.fx_lasting.proofs.Words.{◌⊎◌, inl, inr, dite, ℕ_discrete, eqb, one_if, sum_by, sum_by-cons, sum_at, sum_le_at, bit_here, bit_else, OwnerAgrees}
-use Rattle.fx_lasting.proofs.Words.{HoldAgrees, Names, nodes_of, hold_word_of, taken_of, taking, lengths, Phase, free, placed, seated, leaving, retired}
-use Rattle.fx_lasting.proofs.Words.{emptied, kept, Log, View, Work, Announced, Counted, Guarded, Owing, Yielding, Placing, Retiring, Emptying, Keeping, Does}
-use Rattle.fx_lasting.proofs.Words.{Agrees, Shared, Start, ◌≢◌, get_or, set, at_set, sum_set, Contains, contains_head, at_slot, in_stock, StockAgrees}
-use Rattle.fx_lasting.proofs.Words.{name_of_file, find_pass, not_there}
+use Rattle.fx_lasting.proofs.Words.{Renewing, Nearing, Relieving, Placement, some-injective, IsAllowed, IsInStock, Bool, ◌≡◌, ℕ, zero, suc, ◌+◌, ◌<◌, ◌≤◌, List}
+use Rattle.fx_lasting.proofs.Words.{[], ◌∷◌, length, sym, refl, ap, ◌∙◌, subst, arith, some, get_elem?, ⊎_elim, ◌⊎◌, inl, inr, dite, ℕ_discrete, eqb, one_if}
+use Rattle.fx_lasting.proofs.Words.{sum_by, sum_by-cons, sum_at, sum_le_at, bit_here, bit_else, OwnerAgrees, HoldAgrees, Names, nodes_of, hold_word_of}
+use Rattle.fx_lasting.proofs.Words.{taken_of, taking, lengths, Phase, free, placed, seated, leaving, retired, emptied, kept, Log, View, Work, Announced}
+use Rattle.fx_lasting.proofs.Words.{Counted, Guarded, Owing, Yielding, Placing, Retiring, Emptying, Keeping, Does, Agrees, Shared, Start, ◌≢◌, get_or, set}
+use Rattle.fx_lasting.proofs.Words.{at_set, sum_set, Contains, contains_head, at_slot, in_stock, StockAgrees, name_of_file, find_pass, not_there}
 use Rattle.fx_lasting.proofs.Counts.{owed_found}
 use Rattle.fx_lasting.proofs.Keeping.{NodeIn, word_at, slot_word}
 use Rattle.fx_lasting.proofs.Frames.{HasBesides, alone_cases}

@@ -1,9 +1,8 @@
 -- A pass keeps the node of a closed file, takes its place again, or frees it.
-use Rattle.fx_lasting.proofs.Words.{◌≡◌, ℕ, ◌<◌, List, [], ◌∷◌, set, sym, refl, ap, ◌∙◌, subst, arith, Option, None, none, some, keeps, takes, gives, rest}
-use Rattle.fx_lasting.proofs.Words.{set_here, set_else, Closed, WorkAgrees, nodes_of, word_of, taken_of, taking, held_in, placed, free, kept, emptied, owner}
-use Rattle.fx_lasting.proofs.Words.{file_in, changed_here, Idle, Placing, Emptying, Keeping, Parks, Resumes, SettlesNode, ParksKeep, ResumesKeep, SettlesKeep}
-use Rattle.fx_lasting.proofs.Words.{birth_word, step, inl, inr, ⊎_elim, ◌⊎◌, dec_le, dite, sum_set, length-set, Agrees, Unlabelled, IsInStock, Placement}
-use Rattle.fx_lasting.proofs.Words.{as_written, MayCarry, most_carried, ◌-◌, ◌+◌}
+use Rattle.fx_lasting.proofs.Words.{◌≡◌, ℕ, ◌<◌, [], ◌∷◌, set, sym, refl, ap, ◌∙◌, None, none, some, rest, free, kept, Idle, Parks, step, inl, ◌⊎◌, ◌-◌}
+use Rattle.fx_lasting.proofs.Words.{List, arith, Option, keeps, takes, gives, Closed, taking, placed, owner, Placing, Keeping, Resumes, ⊎_elim, sum_set, Agrees}
+use Rattle.fx_lasting.proofs.Words.{subst, set_here, set_else, nodes_of, word_of, taken_of, held_in, emptied, file_in, Emptying, IsInStock, Placement, MayCarry}
+use Rattle.fx_lasting.proofs.Words.{WorkAgrees, changed_here, SettlesNode, ParksKeep, ResumesKeep, SettlesKeep, birth_word, length-set, Unlabelled, as_written}
 use Rattle.fx_lasting.proofs.Histories.{grows_none}
 use Rattle.fx_lasting.proofs.Frames.{busy, does_now}
 use Rattle.fx_lasting.proofs.Keeping.{passed, Turn, turn_of, After, Homes, word_at, Made, by_turn, its_log, its_work, tells, tells_less, w, end}

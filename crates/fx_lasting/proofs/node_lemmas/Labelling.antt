@@ -1,10 +1,10 @@
 -- A pass stores the label of the file that it places, and loads that of the file that it holds.
-use Rattle.fx_lasting.proofs.Words.{IsIn, ◌≡◌, ◌≢◌, ℕ, ◌+◌, ◌<◌, ◌≤◌, List, [], set, sym, refl, ap, ◌∙◌, subst, arith, Option, Some, ⊎_elim, none, keeps, step}
+use Rattle.fx_lasting.proofs.Words.{◌≡◌, ◌≢◌, ℕ, ◌+◌, ◌<◌, ◌≤◌, List, [], set, sym, refl, ap, ◌∙◌, subst, arith, Option, Some, ⊎_elim, none, keeps, step}
 use Rattle.fx_lasting.proofs.Words.{length-set, get_or-set_other, get_or-set_same, Closed, File, Agrees, WorkAgrees, HoldsAt, Labels, slots_of, nodes_of}
-use Rattle.fx_lasting.proofs.Words.{slot_place, group_place, list_place, question_place, word_of, hold_word_of, HoldsBesides, Renewing, Relieving, tag_word_of}
-use Rattle.fx_lasting.proofs.Words.{number_word_of, held_in, taken_of, taking, HoldsOn, Phase, placed, owner, file_in, written_in, changed_here, sum_set, Work}
-use Rattle.fx_lasting.proofs.Words.{Placing, Placement, Written, as_written, Unlabelled, Tag, Label, label_of, number_of_mark, Goes, Log, first_log, Tags}
-use Rattle.fx_lasting.proofs.Words.{Numbers, ReadsTag, ReadsNumber, TagsKeep, RecallsTag, RecallsTagKeep, NumbersKeep, ReadsTagKeep, ReadsNumberKeep, inl}
+use Rattle.fx_lasting.proofs.Words.{slot_place, group_place, list_place, question_place, word_of, hold_word_of, HoldsBesides, tag_word_of, number_word_of}
+use Rattle.fx_lasting.proofs.Words.{held_in, taken_of, taking, HoldsOn, Phase, placed, owner, file_in, written_in, changed_here, sum_set, Work, Placing}
+use Rattle.fx_lasting.proofs.Words.{Placement, Written, as_written, Unlabelled, Tag, Label, label_of, number_of_mark, Goes, Log, first_log, Tags, Numbers}
+use Rattle.fx_lasting.proofs.Words.{ReadsTag, ReadsNumber, TagsKeep, RecallsTag, RecallsTagKeep, NumbersKeep, ReadsTagKeep, ReadsNumberKeep, inl}
 use Rattle.fx_lasting.proofs.Histories.{grows_none}
 use Rattle.fx_lasting.proofs.Frames.{busy, does_now, written_of}
 use Rattle.fx_lasting.proofs.hold_lemmas.Holds.{on_node}

@@ -4,7 +4,7 @@ use Rattle.fx_lasting.proofs.Words.{◌≡◌, ◌≢◌, ℕ, ◌+◌, ◌<◌,
 use Rattle.fx_lasting.proofs.Words.{held_by, changed_at, File, Event, NodeAgrees, OwnerAgrees, WorkAgrees, IsAllowed, Agrees, slots_of, nodes_of, IsHistory}
 use Rattle.fx_lasting.proofs.Words.{state_after_all, held_in, held_of, taken_of, taking, owed, Phase, free, seated, owner, file_in, removed_in, View, Work}
 use Rattle.fx_lasting.proofs.Words.{⊎_elim, ◌⊎◌, inr, word_of, hold_word_of, count_in, name_in, full_name_in, IsInStock, in_stock, sum_by, sum_set, HoldAgrees}
-use Rattle.fx_lasting.proofs.Words.{GuardAgrees, MayBeUncharged, Glance, inl, IsSeenBy, part_of_pass, Labels, written_in, None, if_file, retired}
+use Rattle.fx_lasting.proofs.Words.{GuardAgrees, MayBeUncharged, Glance, inl, IsSeenBy, part_of_pass, Labels, written_in, None, if_file}
 use Rattle.fx_lasting.proofs.Histories.{Grows, grows_none, each_changed}
 use Rattle.fx_lasting.proofs.Frames.{busy, owner_stays, slot_same, node_same, Leaves, keeps_other, sees_same, covers_same, guards_same}
 use Rattle.fx_lasting.proofs.Keeping.{Turn, After, as_it_was, Keeps, Homes, word_at, slot_word, step_kept, w, end, its_log, in_range, in_its_stock, node_in}

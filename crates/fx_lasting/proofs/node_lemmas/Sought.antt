@@ -1,7 +1,7 @@
 -- The search of a pass's stock.
-use Rattle.fx_lasting.proofs.Words.{◌≡◌, ◌≢◌, ℕ, ◌+◌, ◌<◌, ◌≤◌, ◌⊎◌, inl, inr, ⊎_elim, sym, refl, ap, ◌∙◌, subst, arith, [], dite, ℕ_discrete, dec_le, eq-eqb}
-use Rattle.fx_lasting.proofs.Words.{ne_eqb, next_of, Start, Sat, List, HasNoFile, Searching, Runs, Seeks, word_of, IsAtWork, step, none, IsInStock, some}
-use Rattle.fx_lasting.proofs.Words.{get_elem?, some-injective, stands_at, length, pass_in}
+use Rattle.fx_lasting.proofs.Words.{◌≡◌, ◌≢◌, ℕ, ◌+◌, ◌<◌, ◌≤◌, ◌⊎◌, inl, inr, sym, refl, ap, ◌∙◌, subst, arith, [], dite, ℕ_discrete, dec_le, eq-eqb, ne_eqb}
+use Rattle.fx_lasting.proofs.Words.{next_of, Start, Sat, List, HasNoFile, Searching, Runs, Seeks, word_of, IsAtWork, step, none, IsInStock, some, get_elem?}
+use Rattle.fx_lasting.proofs.Words.{some-injective, stands_at, length, pass_in}
 use Rattle.fx_lasting.proofs.Running.{does_then, runs_goes, runs_within, still_at_work}
 
 -- The search began at the entry `start`, has read `count` entries, and is at this one; another one

@@ -1,11 +1,11 @@
 -- Steps on the words that count full slots keep the rule.
-use Rattle.fx_lasting.proofs.Words.{Renewing, Nearing, Relieving, ◌≡◌, ◌≢◌, ℕ, ◌+◌, ◌<◌, ◌≤◌, List, [], ◌∷◌, set, length, sym, refl, ap, ◌∙◌, subst, arith}
-use Rattle.fx_lasting.proofs.Words.{Option, IsSome, dite, get_or-set_other, get_or-set_same, some, none, ℕ_discrete, get_elem?, keeps, step, sum_by, Closed}
-use Rattle.fx_lasting.proofs.Words.{File, Full, Event, pass_event, range_at_start, Agrees, RangeCounts, WorkAgrees, lengths, owing, question_place, group_place}
-use Rattle.fx_lasting.proofs.Words.{group_len, groups_in, slot_place, word_of, hold_word_of, slots_of, list_place, state_after_all, Change, Outside, Lowered}
-use Rattle.fx_lasting.proofs.Words.{Inside, Log, Start, View, Work, Shared, IsInside, Goes, Stepped, Lowers, Raises, Counts, as_asked, LowersKeep, RaisesKeep}
-use Rattle.fx_lasting.proofs.Words.{CountsKeep, IsGroup, length-set, inl, held_by, Idle, Announced, Owing, Survey, Covered, Phase, Sat, HasVisitedFull}
-use Rattle.fx_lasting.proofs.Words.{part_of_pass, Watch, WatchAgrees, HasGap, seats, spent, inr, ◌⊎◌, first_log, lowered, raised, RANGE_END}
+use Rattle.fx_lasting.proofs.Words.{◌≡◌, ◌≢◌, ℕ, ◌+◌, ◌<◌, ◌≤◌, List, [], ◌∷◌, set, length, sym, refl, ap, ◌∙◌, subst, arith, Option, IsSome, dite}
+use Rattle.fx_lasting.proofs.Words.{get_or-set_other, get_or-set_same, some, none, ℕ_discrete, get_elem?, keeps, step, sum_by, Closed, File, Full, Event}
+use Rattle.fx_lasting.proofs.Words.{pass_event, range_at_start, Agrees, RangeCounts, WorkAgrees, lengths, owing, question_place, group_place, group_len}
+use Rattle.fx_lasting.proofs.Words.{groups_in, slot_place, word_of, hold_word_of, slots_of, list_place, state_after_all, Change, Outside, Lowered, Inside, Log}
+use Rattle.fx_lasting.proofs.Words.{Start, View, Work, Shared, IsInside, Goes, Stepped, Lowers, Raises, Counts, as_asked, LowersKeep, RaisesKeep, CountsKeep}
+use Rattle.fx_lasting.proofs.Words.{IsGroup, length-set, inl, held_by, Survey, Covered, Phase, Sat, HasVisitedFull, part_of_pass, Watch, WatchAgrees, HasGap}
+use Rattle.fx_lasting.proofs.Words.{seats, spent, inr, ◌⊎◌, first_log, lowered, raised, RANGE_END}
 use Rattle.fx_lasting.proofs.Histories.{grows_one, legal_more, held_mine, same_shape}
 use Rattle.fx_lasting.proofs.Frames.{sees_same, guards_same, covers_same}
 use Rattle.table_range.proofs.GroupSlots.{few_groups, group_back}

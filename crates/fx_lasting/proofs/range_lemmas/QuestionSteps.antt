@@ -1,6 +1,6 @@
 -- Steps on the question word keep the rule.
-use Rattle.fx_lasting.proofs.Words.{◌≡◌, ◌+◌, ◌^◌, ◌<◌, ◌≤◌, List, sym, refl, ap, ◌∙◌, dite, none, true, step, Full, ◌▷◌, Log, Asks, inl, inr, ◌⊎◌, Bool}
-use Rattle.fx_lasting.proofs.Words.{ℕ, subst, arith, Closed, Event, ⊎_elim, Change, Inside, Turns, Checks, Breaks, Begins, Survey, bit_of, bit_at, Watch, false}
+use Rattle.fx_lasting.proofs.Words.{◌≡◌, ◌+◌, ◌^◌, ◌<◌, ◌≤◌, List, sym, refl, ap, ◌∙◌, dite, none, true, step, Full, ◌▷◌, Log, Asks, inl, inr, ◌⊎◌, Bool, ℕ}
+use Rattle.fx_lasting.proofs.Words.{subst, arith, Closed, Event, ⊎_elim, Change, Inside, Turns, Checks, Breaks, Begins, Survey, bit_of, bit_at, Watch, false}
 use Rattle.fx_lasting.proofs.Words.{[], Option, groups_in, Lowered, Decides, BeginsKeep, AsksKeep, NotAsked, Covered, first_log, IsSeenBy, its_range, not_there}
 use Rattle.fx_lasting.proofs.Words.{ℕ_discrete, range_at_start, HasQuestionOf, question_place, ChecksKeep, BreaksKeep, DecidesKeep, WatchAgrees, with_question}
 use Rattle.fx_lasting.proofs.Histories.{part_mine}

@@ -1,8 +1,8 @@
 -- A pass that asks whether the range is full: what its steps leave, one after another.
 use Rattle.fx_lasting.proofs.Words.{◌≡◌, ℕ, ◌+◌, [], ◌▷◌, Full, subst, Bool, true, false, Sat, Work, Glance, Change, Runs, Survey, Covered, as_asked, refl, sym}
 use Rattle.fx_lasting.proofs.Words.{◌∙◌, ap, IsAtWork, Start, LastingTable, LastingPass, IsPassOfTable, groups_in, range_at_start, opening_of, view_of, Option}
-use Rattle.fx_lasting.proofs.Words.{Closed, View, List, Action, arith, HasQuestionOf, pass_in, Seat, adds_nothing, Adds, cond, no_use, IsIdle, Doing}
-use Rattle.fx_lasting.proofs.Words.{DoesNothing, AsksSo, DecidesIf, HasAsked}
+use Rattle.fx_lasting.proofs.Words.{Closed, View, List, Action, arith, HasQuestionOf, pass_in, Seat, adds_nothing, Adds, cond, no_use, IsIdle, DoesNothing}
+use Rattle.fx_lasting.proofs.Words.{AsksSo, DecidesIf, HasAsked}
 use Rattle.fx_lasting.proofs.Passing.{adds_run, goes_on, rests_on}
 use Rattle.fx_lasting.proofs.Running.{runs_then, runs_none, runs_asked, at_asked, still_at_work, number_is}
 

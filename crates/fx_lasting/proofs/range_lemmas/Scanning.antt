@@ -1,7 +1,7 @@
 -- A scan that finds no empty slot: each was full at a moment of it, or another pass was there.
-use Rattle.fx_lasting.proofs.Words.{◌≡◌, ℕ, ◌+◌, ◌*◌, ◌%◌, ◌<◌, ◌≤◌, List, [], sym, refl, ap, ◌∙◌, subst, arith, Some, None, ⊎_elim, inl, inr, dite, ℕ_discrete}
-use Rattle.fx_lasting.proofs.Words.{dec_le, Action, IsSeenBy, seen_further, Start, pass_in, Sat, Runs, Work, Glance, Change, view_of, LastingPass, MeetsMore}
-use Rattle.fx_lasting.proofs.Words.{changes_in, IsInRange, LastingTable, IsAtWork, Peeks, step, none, group_at, group_place, group_size, FailsToFill, FitsSight}
+use Rattle.fx_lasting.proofs.Words.{◌≡◌, ℕ, ◌+◌, ◌*◌, ◌%◌, ◌<◌, ◌≤◌, List, [], sym, refl, ap, ◌∙◌, subst, arith, ⊎_elim, inl, inr, dite, ℕ_discrete, dec_le}
+use Rattle.fx_lasting.proofs.Words.{Action, IsSeenBy, seen_further, Start, pass_in, Sat, Runs, Work, Glance, Change, view_of, LastingPass, MeetsMore}
+use Rattle.fx_lasting.proofs.Words.{changes_in, IsInRange, LastingTable, IsAtWork, Peeks, step, none, group_place, group_size, FailsToFill, FitsSight}
 use Rattle.fx_lasting.proofs.Words.{FellShort, HadGap, range_at_start, group_of, group_start, group_len, groups_in, true, IsSome, Option, File}
 use Rattle.table_range.specs.Counts.{CountsAll}
 use Rattle.fx_lasting.specs.Effects.{IsGroupFull}

@@ -2,8 +2,8 @@
 use Rattle.fx_lasting.proofs.Words.{◌≡◌, ℕ, ◌+◌, ◌*◌, ◌<◌, ◌≤◌, [], ◌∷◌, sym, ap, ◌∙◌, subst, arith, Some, none, step, rest, Closed, ◌▷◌, numbered, Allocate}
 use Rattle.fx_lasting.proofs.Words.{Sat, Work, Glance, Change, Placing, Idle, Outside, Inside, Runs, Goes, Exchanges, slot_of, Stepped, LastingTable, IsInRange}
 use Rattle.fx_lasting.proofs.Words.{List, Action, Start, group_of, range_at_start, node_of_number, ◌▷▷◌, ◌-◌, IsAtWork, NamesANode, as_swapped, pass_in}
-use Rattle.fx_lasting.proofs.Words.{name_in, nodes_of, get_elem?, some, label_of, as_written, Option, None, IfSome, IsInStock, IsPlacing, HasAllocated}
-use Rattle.fx_lasting.proofs.Words.{StillPlaces, group_steps, most_carried}
+use Rattle.fx_lasting.proofs.Words.{name_in, nodes_of, get_elem?, some, label_of, as_written, Option, None, IfSome, IsPlacing, HasAllocated, StillPlaces}
+use Rattle.fx_lasting.proofs.Words.{group_steps, most_carried}
 use Rattle.table_range.proofs.GroupSlots.{by_size}
 use Rattle.fx_lasting.proofs.Running.{runs_one, runs_goes, runs_within, turns_then, does_then, swapped_then, at_swapped, still_at_work}
 

@@ -1,6 +1,6 @@
 -- The calls of a caller that looks for an empty slot by itself: what their steps leave.
-use Rattle.fx_lasting.proofs.Words.{◌≡◌, ℕ, [], refl, subst, arith, Option, Some, None, true, File, Start, Sat, At, Sees, Names, slot_of, pass_in}
-use Rattle.fx_lasting.proofs.Words.{state_after_all, node_of_number, file_node_in, is_some, FitsSight, SeesFile, ◌≢◌, full_name_in, WasSo}
+use Rattle.fx_lasting.proofs.Words.{◌≡◌, ℕ, [], refl, arith, Option, true, File, Start, Sat, At, Sees, Names, slot_of, pass_in, state_after_all, node_of_number}
+use Rattle.fx_lasting.proofs.Words.{file_node_in, is_some, FitsSight, SeesFile, ◌≢◌, full_name_in, WasSo}
 use Rattle.fx_lasting.proofs.Running.{no_name, its_name, runs_goes}
 
 -- a slot's word names a node if the slot has a file

@@ -1,8 +1,7 @@
 -- Keys and their bits, and the marks that they are made of.
-use Rattle.fx_lasting.proofs.Words.{◌≡◌, ◌≢◌, ℕ, ◌+◌, ◌*◌, ◌/◌, ◌%◌, ◌^◌, ◌<◌, ◌≤◌, suc, sym, refl, ◌∙◌, arith, Some, None, lt-ltb, le-ltb, dite, dec_le}
-use Rattle.fx_lasting.proofs.Words.{eq-eqb, ne_eqb, number_of_mark, KeysAreOfOneFile, KeysComeBack, HasShortNumber, key_of_bits}
+use Rattle.fx_lasting.proofs.Words.{◌≡◌, ◌≢◌, ℕ, ◌+◌, ◌*◌, ◌^◌, ◌<◌, sym, ◌∙◌, arith, number_of_mark, KeysAreOfOneFile, KeysComeBack, HasShortNumber}
+use Rattle.fx_lasting.proofs.Words.{key_of_bits}
 use Rattle.fx_base.specs.declared.mark.Mark.{Mark}
-use Rattle.fx_base.specs.declared.mark.Mark.TheVariants.{Registered, Submitted}
 
 -- a number that isn't 0 is that of one mark
 same_mark : (a b : Mark) → HasShortNumber a → HasShortNumber b → number_of_mark a ≢ 0 → number_of_mark a ≡ number_of_mark b → a ≡ b

@@ -1,9 +1,9 @@
 -- The reason of a call that failed: another pass was at the slot.
 use Rattle.fx_lasting.proofs.Words.{◌≡◌, ◌≢◌, ℕ, ◌+◌, ◌<◌, ◌≤◌, ◌⊎◌, List, [], ◌∷◌, ◌++◌, length, sym, refl, ap, ◌∙◌, subst, arith, Some, None, ⊎_elim, inl}
-use Rattle.fx_lasting.proofs.Words.{inr, dite, ℕ_discrete, eq-eqb, ne_eqb, Event, Action, Look, Put, Clear, Take, Allocate, IsSeenBy, seen_further}
-use Rattle.fx_lasting.proofs.Words.{part_of_pass, State, state_after_all, changed_else, Start, ReplacesAt, HasActed, HasReplaced, ◌▷◌, pass_in, Sat, Sees, At}
-use Rattle.fx_lasting.proofs.Words.{slot_of, IsWatching, WasOvertakenIn, MeetsOne, Runs, view_of, LastingPass, WasOvertaken, WasLost, FindsChange, changes_in}
-use Rattle.fx_lasting.proofs.Words.{changes_at, meetings, FailsToFill, Work, Glance, Change, WasSo, FitsSight, true, false, FallsShort, FellShort, after}
+use Rattle.fx_lasting.proofs.Words.{inr, dite, ℕ_discrete, eq-eqb, ne_eqb, Event, Action, IsSeenBy, seen_further, part_of_pass, State, state_after_all}
+use Rattle.fx_lasting.proofs.Words.{changed_else, Start, ReplacesAt, HasActed, HasReplaced, ◌▷◌, pass_in, Sat, Sees, At, slot_of, IsWatching, WasOvertakenIn}
+use Rattle.fx_lasting.proofs.Words.{Runs, view_of, LastingPass, WasOvertaken, WasLost, changes_in, changes_at, meetings, FailsToFill, Work, Glance, Change}
+use Rattle.fx_lasting.proofs.Words.{WasSo, FitsSight, true, false, FallsShort, FellShort, after}
 use Rattle.fx_lasting.specs.Ends.{Does}
 use Rattle.fx_lasting.proofs.slot_lemmas.Watching.{acted_before, acted_further}
 

@@ -15,11 +15,9 @@ use Rattle.fx_lasting.specs.slots.RemoveByKey.{LeftAlone}
 use Rattle.fx_lasting.specs.slots.ByKey.{HoldsAtKey, IsKeyOf}
 use Rattle.fx_lasting.specs.slots.ReplaceByKey.{FreesFirst, TakesOn, TriedRenewal, RenewsAlone, PutsAlone}
 use Rattle.fx_lasting.specs.declared.answers.Miss.TheVariants as reason
-use Rattle.fx_table.specs.declared.values.LookFault.TheVariants.{Empty as EmptySlot}
 use Rattle.fx_lasting.specs.declared.key.Key.{Key}
 use Rattle.fx_lasting.specs.declared.key_answers.KeyFault.TheVariants as fault
 use Rattle.fx_lasting.specs.declared.key_answers.PutOverKey.{PutOverKey}
-use Rattle.fx_lasting.specs.declared.key_answers.PutOverKey.TheVariants.{Replaced, Missed}
 
 -- a release after some steps, by the seat alone
 releases_so : {k : Start} (m : Sat) → m.0.start ≡ k → (m' : Sat) (f : File) (n : ℕ) (r : Option Closed) → LetsFileGo m f n r m'

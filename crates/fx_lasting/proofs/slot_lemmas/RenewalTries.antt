@@ -1,6 +1,6 @@
 -- A replacement by a pass that holds the file: what its steps leave.
-use Rattle.fx_lasting.proofs.Words.{◌≡◌, ◌≢◌, ◌+◌, ◌-◌, ◌<◌, ◌≤◌, [], sym, ap, ◌∙◌, Ok, Err, some, rest, File, Put, ◌▷◌, Sat, Runs, Miss, Bool, Work}
-use Rattle.fx_lasting.proofs.Words.{ℕ, List, refl, subst, arith, Some, Start, Glance, Stepped, Names, name_in, pass_in, account, Closed, held_in, WasIn, Result}
+use Rattle.fx_lasting.proofs.Words.{◌≡◌, ◌≢◌, ◌+◌, ◌-◌, ◌<◌, ◌≤◌, [], sym, ap, ◌∙◌, Ok, Err, some, rest, File, Put, ◌▷◌, Sat, Runs, Miss, Bool, Work, ℕ, List}
+use Rattle.fx_lasting.proofs.Words.{refl, subst, arith, Some, Start, Glance, Stepped, Names, name_in, pass_in, account, Closed, held_in, WasIn, Result}
 use Rattle.fx_lasting.proofs.Words.{get_elem?, NamesANode, full_name_in, node_of_number, retiring_work, range_at_start, HoldsBesides, is_guarding, leaving_work}
 use Rattle.fx_lasting.proofs.Words.{Release, numbered, Outside, IsInStock, as_swapped, nodes_of, FailedIf, IsAtWork, as_written, label_of, HasItsHold, entry_in}
 use Rattle.fx_lasting.proofs.slot_lemmas.ByNode.{at_once, begun_at, its_own, swapped_acts, stands_then, missed_so, was_before}

@@ -1,8 +1,7 @@
 -- A load of a slot's word: the pass sees what is at the slot, and watches the slot.
-use Rattle.fx_lasting.proofs.Words.{◌≡◌, ◌≢◌, ℕ, ◌+◌, ◌<◌, ◌≤◌, ◌⊎◌, List, [], sym, refl, ap, ◌∙◌, subst, arith, Option, Some, None, none, step, ⊎_elim, inl}
-use Rattle.fx_lasting.proofs.Words.{inr, dite, ℕ_discrete, Closed, File, Names, slots_of, slot_place, state_after_all, node_of_number, Sees, Agrees, Watch}
-use Rattle.fx_lasting.proofs.Words.{HasActed, IsOvertaken, changes_in, first_log, Log, keeps, Start, Sat, Shared, HasPass, Allows, get_elem?, some, either, eqb}
-use Rattle.fx_lasting.proofs.Words.{exchanged}
+use Rattle.fx_lasting.proofs.Words.{◌≡◌, ◌≢◌, ℕ, ◌+◌, ◌<◌, ◌≤◌, ◌⊎◌, [], sym, refl, ap, ◌∙◌, none, step, inl, inr, dite, File, Sees, Log, Sat, some, eqb}
+use Rattle.fx_lasting.proofs.Words.{List, subst, arith, Option, ⊎_elim, Closed, Names, Agrees, Watch, HasActed, keeps, Start, Shared, HasPass, Allows, either}
+use Rattle.fx_lasting.proofs.Words.{ℕ_discrete, slots_of, slot_place, state_after_all, node_of_number, IsOvertaken, changes_in, first_log, get_elem?, exchanged}
 use Rattle.fx_lasting.specs.Laws.{Kind}
 use Rattle.fx_lasting.proofs.Histories.{grows_none}
 use Rattle.fx_lasting.proofs.Keeping.{end_read, Turn, turn_of, Made, by_turn, word_at, slot_word, w, After, its_log, tells, found_same}

@@ -2,10 +2,10 @@
 use Rattle.fx_lasting.proofs.Words.{IsIn, List, refl, subst, arith, Some, None, none, some, keeps, gives, rest, false, File, Event, Take, State, placed, ActsAt}
 use Rattle.fx_lasting.proofs.Words.{Round, first_visit, changed_at, pass_event, WorkAgrees, full_name_in, file_word_of, TakesOutKeep, InstallsKeep, mod-mul-add}
 use Rattle.fx_lasting.proofs.Words.{new_round, get_elem?, IsHistory, slot_place, Exchanges, IsOffCount, IsInRange, uncounted, HasNoFile, as_swapped, as_written}
-use Rattle.fx_lasting.proofs.Words.{◌≡◌, ℕ, ◌+◌, ◌^◌, ◌<◌, ◌∷◌, set, sym, ap, ◌∙◌, Put, ◌▷◌, Idle, Bool, true, step, ◌*◌, ◌-◌, ◌≤◌}
-use Rattle.fx_lasting.proofs.Words.{[], Option, Closed, Action, Agrees, taking, held_in, if_file, Placing, Removes, Stepped, account, Outside, name_in, bit_and}
-use Rattle.fx_lasting.proofs.Words.{numbered, Allocate, slots_of, nodes_of, Installs, group_of, IsInStock, first_log, name_mask, Placement, label_of, put_back}
-use Rattle.fx_lasting.proofs.Words.{with_removed, held_by, state_after_all, ExchangesKeep, range_at_start, retiring_work, mask_leaves_name, le-mul_of_pos_right}
+use Rattle.fx_lasting.proofs.Words.{◌≡◌, ℕ, ◌+◌, ◌^◌, ◌<◌, ◌∷◌, set, sym, ap, ◌∙◌, Put, ◌▷◌, Idle, Bool, true, step, ◌*◌, ◌-◌, ◌≤◌, [], Option, Closed, Action}
+use Rattle.fx_lasting.proofs.Words.{Agrees, taking, held_in, if_file, Placing, Removes, Stepped, account, Outside, name_in, bit_and, numbered, Allocate}
+use Rattle.fx_lasting.proofs.Words.{slots_of, nodes_of, Installs, group_of, IsInStock, first_log, name_mask, Placement, label_of, put_back, with_removed}
+use Rattle.fx_lasting.proofs.Words.{held_by, state_after_all, ExchangesKeep, range_at_start, retiring_work, mask_leaves_name, le-mul_of_pos_right}
 use Rattle.fx_lasting.proofs.slot_lemmas.Emptying.{left, left_agrees, left_tells}
 use Rattle.fx_lasting.proofs.slot_lemmas.Installing.{put_after, put_agrees, put_tells}
 use Rattle.fx_lasting.proofs.node_lemmas.StockMoves.{names_a_node}

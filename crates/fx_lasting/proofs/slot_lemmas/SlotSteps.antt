@@ -1,8 +1,8 @@
 -- A step on the word of a slot, whose file stays there.
 use Rattle.fx_lasting.proofs.Words.{alone_in, inl, true, Deed, untouched, has_acted, has_heated, heat_in, ◌≡◌, ◌≢◌, ℕ, ◌+◌, ◌<◌, ◌≤◌, List, [], set, sym, refl}
-use Rattle.fx_lasting.proofs.Words.{ap, ◌∙◌, arith, Option, Some, None, held_by, File, Event, NodeAgrees, IsAllowed, SlotAgrees, Names, Agrees, slots_of}
-use Rattle.fx_lasting.proofs.Words.{nodes_of, state_after_all, held_in, held_of, taken_of, taking, Phase, free, placed, seated, leaving, retired, emptied, kept}
-use Rattle.fx_lasting.proofs.Words.{Work, Glance, ⊎_elim, ◌⊎◌, inr, dite, ℕ_discrete, slot_place, word_of, count_in, name_in, full_name_in, entry_in, IsHot}
+use Rattle.fx_lasting.proofs.Words.{ap, ◌∙◌, arith, Option, held_by, File, Event, NodeAgrees, IsAllowed, SlotAgrees, Agrees, slots_of, nodes_of}
+use Rattle.fx_lasting.proofs.Words.{state_after_all, held_in, held_of, taken_of, taking, Phase, free, placed, seated, leaving, retired, emptied, kept, Work}
+use Rattle.fx_lasting.proofs.Words.{Glance, ⊎_elim, ◌⊎◌, inr, dite, ℕ_discrete, slot_place, word_of, count_in, name_in, full_name_in, entry_in, IsHot}
 use Rattle.fx_lasting.proofs.Words.{cold_takes, tally, birth_word, owed, sum_set, sum_by, get_elem?, length-set, MayBeUncharged, MOST_SLOTS, without_slot}
 use Rattle.fx_lasting.proofs.Frames.{busy, nodes_untouched, slot_same, node_same, Leaves, keeps_other, guards_same, covers_hot}
 use Rattle.fx_lasting.proofs.Keeping.{Turn, After, as_it_was, Keeps, word_at, slot_word, sees_all, stocks_untouched, step_kept, w, end, its_log, node_in}

@@ -1,9 +1,7 @@
 -- The words of slots, full and empty: what is read of a word that was made.
-use Rattle.std.proofs.Common.{◌≡◌, ◌≢◌, ℕ, ◌+◌, ◌-◌, ◌/◌, ◌%◌, ◌^◌, ◌<◌, ◌≤◌, ap, ◌∙◌, arith, cond, eqb, eq-eqb, ne_eqb, Bool, true, false}
+use Rattle.std.proofs.Common.{◌≡◌, ◌≢◌, ℕ, ◌+◌, ◌-◌, ◌/◌, ◌%◌, ◌^◌, ◌<◌, ◌≤◌, ap, ◌∙◌, arith, cond, eqb, eq-eqb, ne_eqb}
 use Rattle.std.specs.Prelude.{bit_and}
 use Rattle.std.proofs.lemmas.Nat.Bits.{and_high_mask}
-use mathlib.Core.Logic.{dite}
-use native.Mathlib.Decide.{ℕ_discrete}
 use Rattle.fx_words.specs.Words.{name_in, entry_in}
 use Rattle.fx_lasting.specs.Fields.{full_name_in, file_word_of, empty_word_of, without_file, name_mask, count_in, heat_in, cold_takes, most_carried}
 

@@ -1,4 +1,4 @@
-use Rattle.fx_lasting.proofs.Words.{◌≡◌, ◌<◌, ◌≤◌, ℕ, List, ap, sym, ◌∙◌, arith, length, get_elem?, some, nodes_of, last_node, get_or_default, Take}
+use Rattle.fx_lasting.proofs.Words.{◌≡◌, ◌<◌, ◌≤◌, ℕ, List, ap, sym, ◌∙◌, arith, length, get_elem?, some, nodes_of, last_node, get_or_default}
 use Rattle.fx_lasting.proofs.Calling.{slot_inside, slot_low, few_nodes, stock_inside}
 use Rattle.fx_lasting.proofs.slot_lemmas.Removals.{by_removal, by_swap}
 use Rattle.fx_lasting.proofs.slot_lemmas.SlotLaws.{takes_out_keep}
