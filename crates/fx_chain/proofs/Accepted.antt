@@ -1,7 +1,7 @@
 -- Submissions without a fault, and the first fault of the others.
 use Rattle.fx_chain.proofs.Words.{◌≡◌, ℕ, ◌+◌, ◌*◌, ◌≤◌, List, [], ◌∷◌, ◌++◌, length, take, drop, refl, sym, ap, ◌∙◌, All, subst, arith, Option, Some}
-use Rattle.fx_chain.proofs.Words.{None, false, ltb-false, sum_by-cons, append-nil, append_assoc, All-head, All-tail, IsAccepted, slice_index_or, suc}
-use Rattle.fx_chain.proofs.Words.{IsWithinLimits, Operation, Updates, Asked, runs_of, weight_of, take-append-drop, all_weights, fault_of_next}
+use Rattle.fx_chain.proofs.Words.{None, false, sum_by-cons, append-nil, append_assoc, All-head, All-tail, IsAccepted, slice_index_or, suc}
+use Rattle.fx_chain.proofs.Words.{IsWithinLimits, Operation, Asked, runs_of, weight_of, take-append-drop, all_weights, fault_of_next}
 use Rattle.fx_chain.proofs.Words.{first_fault, or_later, is_long_update, CutFault, MOST_MEMBERS, MAX_CHAINS, inl, map, flat_map, take_at, drop_at}
 use Rattle.fx_chain.proofs.Words.{All-nil, All-cons, All-take, All-drop, IsShortRun, IsChain, members_of, chains_from, chains_of, but_last}
 use Rattle.fx_chain.proofs.Words.{all_installs, CHAIN_NUMBERS, ◌<◌, ◌==◌, ◌||◌, nat_lt, ℤ, list_any, ◌⊎◌, inr, HasNoFault, IsFirstFault, fault_of}
@@ -15,8 +15,7 @@ use Rattle.fx_chain.specs.Refusal.{is_bad_entry}
 use Rattle.std.specs.Option.{MatchOption}
 
 or_later-none : (at : ℕ) (k : Option CutKind) (later : Option CutFault) → or_later at k later ≡ None → (k ≡ None) × (later ≡ None)
-or_later-none at None later none = (refl, none)
-or_later-none at (Some kind) later none = cc
+or_later-none at k later none = grind arith
 
 -- some requests without a fault, with their numbers
 pub record Counts (front : List Asked) : Type 0 where
@@ -77,8 +76,7 @@ accepted-each requests accepted k d inside =
 
 -- a request within its limits closes no more files than an update may have entries
 weight-small : (o : Operation) → is_long_update o ≡ false → weight_of o ≤ LONGEST_UPDATE
-weight-small (Updates off list) short = ltb-false LONGEST_UPDATE (length list) short
-weight-small _ short = omega arith
+weight-small o short = grind arith
 
 pub all_weights-small : (requests : List Asked) → All IsWithinLimits requests → all_weights requests ≤ LONGEST_UPDATE * length requests
 all_weights-small [] within = omega arith

@@ -1,5 +1,5 @@
 -- The actions of a player, one after another.
-use Rattle.fx_chain.proofs.Words.{◌≡◌, ℕ, ◌+◌, ◌≤◌, List, [], ◌++◌, length, refl, ap, append_assoc, append-nil, arith, ◌∙◌, length-append, inl, inr}
+use Rattle.fx_chain.proofs.Words.{◌≡◌, ℕ, ◌+◌, ◌≤◌, List, [], length, refl, ap, append_assoc, append-nil, arith, ◌∙◌, length-append}
 use Rattle.fx_chain.proofs.Words.{Option, Some, None, is_some, Action, Look, Release, ◌▷◌, ◌▷▷◌, closes_in, closed_by, Opening, PlayerView, ActsSo}
 use Rattle.fx_chain.proofs.Words.{PassView, IsFront, IsIdle, Use, Adds, one_look, both_uses, Retired, MayClose, player, Acts, IsRetirement}
 use Rattle.fx_chain.proofs.Words.{IsRelease, File, Doing, Hold, adds_nothing, adds_then}
@@ -58,9 +58,7 @@ calls_then {step} adds none so does =
 -- earlier actions may come before
 may_close_behind : (xs steps : List Action) (removed : Option File) (ys : List Action) → MayClose steps removed ys
     → MayClose (xs ▷▷ steps) removed (xs ▷▷ ys)
-may_close_behind xs steps None ys is = ap (λ (l : List Action). l ++ xs) is
-may_close_behind xs steps (Some f) ys (inl is) = inl (ap (λ (l : List Action). l ++ xs) is)
-may_close_behind xs steps (Some f) ys (inr is) = inr (ap (λ (l : List Action). l ++ xs) is)
+may_close_behind xs steps removed ys h5 = grind arith
 
 -- a look-up that found a file, and its release
 pub looks_and_releases : {o : Opening} {p q : PlayerView} {u : PassView} {slot : ℕ} {f : File} {hold : Hold} {Says : List Action → Type 0}

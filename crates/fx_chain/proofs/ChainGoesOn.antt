@@ -1,7 +1,7 @@
 -- A chain goes on by one member, which is played or canceled.
 use Rattle.fx_chain.proofs.Words.{◌≡◌, ℕ, ◌+◌, ◌<◌, ◌≤◌, List, [], ◌∷◌, ◌++◌, length, take, drop, slice_index_or, sym, ap, ◌∙◌, length-map}
 use Rattle.fx_chain.proofs.Words.{length-take-le, map_more, drop_more, drop_all, take_all, take-map, drop-map, asked_of, all_asked, Request, suc}
-use Rattle.fx_chain.proofs.Words.{Bool, true, false, ◌||◌, refl, inl, inr, append_assoc, length-append, arith, MatchBool-at_true, MatchBool-at_false}
+use Rattle.fx_chain.proofs.Words.{Bool, false, ◌||◌, refl, inl, inr, append_assoc, length-append, arith, MatchBool-at_true, MatchBool-at_false}
 use Rattle.fx_chain.proofs.Words.{append-nil, cases_Bool, sum_by-append, sum_by-cons, MatchBool, FileEntry, Action, ◌▷▷◌, Opening, Completed}
 use Rattle.fx_chain.proofs.Words.{next_member, refusal, Explains, AnswersAfter, canceled, severs, Asked, PlayerView, AnswersNext, PlaysMembers}
 use Rattle.fx_chain.proofs.Words.{Place, sum_by, ECANCELED}
@@ -39,8 +39,7 @@ any_severs (request ∷ requests) [] = false
 any_severs (request ∷ requests) (c ∷ cs) = severs request c || any_severs requests cs
 
 either : {P Q : Type 0} (b : Bool) → P → Q → MatchBool b P Q
-either true p q = p
-either false p q = q
+either b p q = grind arith
 
 canceled_more : (place : Place) (requests : List Asked) (r : Asked) (n : ℕ) → n ≡ place.member + length requests
     → canceled place (requests ++ r ∷ []) ≡ canceled place requests ++ refusal (record place { member = n }) ECANCELED ∷ []

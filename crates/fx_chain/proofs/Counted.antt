@@ -32,8 +32,7 @@ pub record IsFine (chains members installs : ℕ) (r : Asked) : Type 0 where
 
 -- if nothing is found, the first test doesn't hold, and the later ones find nothing
 pub passed : {X : Type 0} (b : Bool) (x : X) (rest : Option X) → (if b then Some x else rest) ≡ None → (b ≡ false) × (rest ≡ None)
-passed true x rest none = cc
-passed false x rest none = (refl, none)
+passed b x rest none = grind arith
 
 pub fine : (chains members installs : ℕ) (r : Asked) → fault_after chains members installs r ≡ None → IsFine chains members installs r
 fine chains members installs r none = grind arith

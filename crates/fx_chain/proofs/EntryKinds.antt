@@ -1,15 +1,13 @@
 -- The entries of an update, by their sign, and how a list of them goes on.
-use Rattle.fx_chain.proofs.Words.{◌≡◌, ℕ, zero, suc, ◌+◌, ◌<◌, true, false, ℤ, pos, negsuc, int_le, int_lt, List, [], ◌∷◌, ◌++◌, length, take, drop}
-use Rattle.fx_chain.proofs.Words.{refl, sym, ◌∙◌, slice_index_or, arith, le-leb, append-nil, length-take-le, take_more, filter-append, Action, ◌▷▷◌}
-use Rattle.fx_chain.proofs.Words.{AppliesEntry, AppliesList, is_bad_entry, Opening, PlayerView, ActsSo, entry_installs, list_installs, Place}
-use Rattle.fx_chain.proofs.Words.{drop-cons}
+use Rattle.fx_chain.proofs.Words.{◌≡◌, ℕ, ◌+◌, ◌<◌, false, ℤ, pos, negsuc, int_le, int_lt, List, [], ◌∷◌, ◌++◌, length, take, drop, refl}
+use Rattle.fx_chain.proofs.Words.{slice_index_or, arith, append-nil, length-take-le, take_more, filter-append, Action, ◌▷▷◌, AppliesEntry}
+use Rattle.fx_chain.proofs.Words.{AppliesList, is_bad_entry, Opening, PlayerView, ActsSo, entry_installs, list_installs, Place, drop-cons}
 use Rattle.std.proofs.lemmas.List.{append_assoc, length-append}
 use Rattle.fx_chain.proofs.ActsInTurn.{so_then}
 
 -- a list with an entry before it, and one with an entry after it
 pub list_installs-cons : (z : ℤ) (list : List ℤ) → list_installs (z ∷ list) ≡ entry_installs z + list_installs list
-list_installs-cons (pos n) list = grind arith
-list_installs-cons (negsuc n) list = omega arith
+list_installs-cons z list = grind arith
 
 pub list_installs-push : (list : List ℤ) (z : ℤ) → list_installs (list ++ z ∷ []) ≡ list_installs list + entry_installs z
 list_installs-push list z = grind (arith, filter-append, length-append)
@@ -17,9 +15,7 @@ list_installs-push list z = grind (arith, filter-append, length-append)
 -- an entry that is neither installed nor emptied leaves its slot
 pub leaves_slot : (place : Place) (in_list slot entries : ℕ) (z : ℤ) → is_bad_entry entries z ≡ false → int_le (pos 0) z ≡ false
     → int_lt (negsuc 1) z ≡ false → AppliesEntry place in_list slot z []
-leaves_slot place in_list slot entries (pos n) good low high = let e : true ≡ false = sym (le-leb 0 n (omega arith)) ∙ low in cc
-leaves_slot place in_list slot entries (negsuc zero) good low high = cc
-leaves_slot place in_list slot entries (negsuc (suc n)) good low high = refl
+leaves_slot place in_list slot entries z good low high = grind arith
 
 -- the entries of a list, and then one more
 applies_more : (place : Place) (in_list slot : ℕ) (list : List ℤ) (z : ℤ) (at to : ℕ) (events own : List Action) → at ≡ in_list + length list
@@ -47,5 +43,4 @@ applies_next place off list i inside done own =
     let count : length (take i list) ≡ i = length-take-le i list (omega arith) in
     let front : take (i + 1) list ≡ take i list ++ entry ∷ [] = take_more list i (pos 0) inside in
     let installs = list_installs-push (take i list) entry in
-    rw front (so_then done own (λ xs ys. applies_more place 0 off (take i list) entry i (off + i) xs ys (omega arith) (omega arith))
-    (omega arith) (omega arith) (omega arith))
+    grind (arith, so_then, applies_more)

@@ -1,9 +1,8 @@
 -- The names of a catalogue; and the entries of an update that aren't skips: their positions, and
 -- their number.
-use Rattle.fx_chain.proofs.Words.{◌≡◌, ℕ, suc, ◌+◌, ◌<◌, ℤ, negsuc, int_le, Bool, if◌then◌else◌, List, [], ◌∷◌, ◌++◌}
-use Rattle.fx_chain.proofs.Words.{length, filter, refl, Option, Some, arith, take, take_more, length-take-le, append-nil, append_assoc}
-use Rattle.fx_chain.proofs.Words.{slice_index_or, cases_Bool}
-use Rattle.fx_chain.proofs.Words.{FileEntry, true, zero}
+use Rattle.fx_chain.proofs.Words.{◌≡◌, ℕ, suc, ◌+◌, ◌<◌, ℤ, negsuc, int_le, Bool, if◌then◌else◌, List, [], ◌∷◌, ◌++◌, length, filter, refl, Option}
+use Rattle.fx_chain.proofs.Words.{Some, arith, take, take_more, length-take-le, append-nil, append_assoc, slice_index_or, cases_Bool, FileEntry, true}
+use Rattle.fx_chain.proofs.Words.{zero}
 use Rattle.fx_base.specs.AddFault.{has_name}
 use Rattle.fx_base.specs.Catalogue.{name_at}
 use Rattle.std.proofs.Common.{add-zero}

@@ -1,5 +1,5 @@
 -- The steps of a chain with other numbers, and the count of numbers that they use.
-use Rattle.fx_chain.proofs.Words.{◌≡◌, ℕ, zero, suc, ◌+◌, ◌≤◌, ℤ, pos, negsuc, List, [], ◌∷◌, ◌++◌, length, map, ap, ◌∙◌, Option, Some, None, inl}
+use Rattle.fx_chain.proofs.Words.{◌≡◌, ℕ, ◌+◌, ◌≤◌, ℤ, List, [], ◌∷◌, ◌++◌, length, map, ap, ◌∙◌, Option, Some, inl}
 use Rattle.fx_chain.proofs.Words.{inr, arith, map-append, sum_by-cons, FileEntry, Action, ◌▷▷◌, MayClose, AppliesEntry, AppliesList, Answers}
 use Rattle.fx_chain.proofs.Words.{Completed, next_member, Explains, severs, canceled, Operation, Opens, Reads, Closes, Updates, Asked, entry_installs}
 use Rattle.fx_chain.proofs.Words.{list_installs, installs_of, all_installs, Place, File, Target}
@@ -8,7 +8,6 @@ use Rattle.fx_plain.specs.Reopening.{Renaming, renamed, renamed_file, renamed_fo
 use Rattle.fx_chain.specs.Answers.{AnswersAtTable, OpensAt, ReadsAt, TakesAt}
 use Rattle.fx_chain.proofs.Cases.{either_case, same_cases}
 use Rattle.fx_chain.proofs.EntryKinds.{list_installs-cons}
-use Rattle.fx_chain.specs.declared.request.Target.TheVariants.{Slot, Any}
 
 module _ (r : Renaming) where
   abbrev other : List Action → List Action
@@ -19,15 +18,11 @@ module _ (r : Renaming) where
 
   may_close : (steps : List Action) (removed : Option File) (events : List Action) → MayClose steps removed events
       → MayClose (other steps) (renamed_found r removed) (other events)
-  may_close steps None events is = ap other is
-  may_close steps (Some f) events (inl later) = inl (ap other later)
-  may_close steps (Some f) events (inr now) = inr (ap other now)
+  may_close steps removed events h4 = grind arith
 
   opens : (place : Place) (entry : ℕ) (target : Target) (events : List Action) (c : Completed) → OpensAt place entry target events c
       → OpensAt place entry target (other events) c
-  opens place entry (Slot slot) events c is = (renamed_file r is.0, renamed_found r is.1, is.2, may_close _ is.1 events is.3, is.4)
-  opens place entry Any events c (inl there) = inl (there.0, renamed_file r there.1, there.2, ap other there.3, there.4)
-  opens place entry Any events c (inr full) = inr (ap other full.0, full.1)
+  opens place entry target events c h6 = grind (arith, may_close)
 
   reads : (catalogue : List FileEntry) (place : Place) (slot off len : ℕ) (events : List Action) (c : Completed)
       → ReadsAt catalogue place slot off len events c → ReadsAt catalogue place slot off len (other events) c
@@ -41,9 +36,7 @@ module _ (r : Renaming) where
 
   entry : (place : Place) (in_list slot : ℕ) (number : ℤ) (events : List Action) → AppliesEntry place in_list slot number events
       → AppliesEntry place in_list slot number (other events)
-  entry place in_list slot (pos n) events is = (renamed_file r is.0, renamed_found r is.1, is.2, may_close _ is.1 events is.3)
-  entry place in_list slot (negsuc zero) events is = (renamed_found r is.0, may_close _ is.0 events is.1)
-  entry place in_list slot (negsuc (suc n)) events is = ap other is
+  entry place in_list slot number events is = grind (arith, may_close)
 
   both : {events : List Action} (own others : List Action) → events ≡ own ▷▷ others → other events ≡ other own ▷▷ other others
   both own others is = ap other is ∙ map-append (renamed r) others own
@@ -92,34 +85,25 @@ given_both [] earlier = omega arith
 given_both (a ∷ later) earlier = grind (arith, given_one, given_both later earlier)
 
 given_so_far : (steps : List Action) (removed : Option File) (events : List Action) → MayClose steps removed events → given events ≡ given steps
-given_so_far steps None events is = ap given is
-given_so_far steps (Some f) events (inl later) = ap given later
-given_so_far steps (Some f) events (inr now) = ap given now
+given_so_far steps removed events h4 = grind arith
 
 few_refused : {events : List Action} {few : ℕ} {Q : Type 0} → (events ≡ []) × Q → given events ≤ few
 few_refused is = rw is.0 (omega arith)
 
 few_by_open : (place : Place) (entry : ℕ) (target : Target) (events : List Action) (c : Completed)
     → OpensAt place entry target events c → given events ≤ 1
-few_by_open place entry (Slot slot) events c is = rw (given_so_far _ is.1 events is.3) (omega arith)
-few_by_open place entry Any events c (inl there) = rw there.3 (omega arith)
-few_by_open place entry Any events c (inr full) = rw full.0 (omega arith)
+few_by_open place entry target events c h6 = grind (arith, given_so_far)
 
 few_by_read : (catalogue : List FileEntry) (place : Place) (slot off len : ℕ) (events : List Action) (c : Completed)
     → ReadsAt catalogue place slot off len events c → given events ≤ 0
-few_by_read catalogue place slot off len events c (inl refused) = few_refused refused.1
-few_by_read catalogue place slot off len events c (inr (inl empty)) = rw empty.0 (omega arith)
-few_by_read catalogue place slot off len events c (inr (inr there)) = rw (given_so_far _ (Some there.0) events there.1) (omega arith)
+few_by_read catalogue place slot off len events c h8 = grind (arith, few_refused, given_so_far)
 
 few_by_close : (place : Place) (slot : ℕ) (events : List Action) (c : Completed) → TakesAt place slot events c → given events ≤ 0
-few_by_close place slot events c (inl empty) = rw empty.0 (omega arith)
-few_by_close place slot events c (inr there) = rw (given_so_far _ (Some there.0) events there.1) (omega arith)
+few_by_close place slot events c h5 = grind (arith, given_so_far)
 
 few_by_entry : (place : Place) (in_list slot : ℕ) (number : ℤ) (events : List Action) → AppliesEntry place in_list slot number events
     → given events ≤ entry_installs number
-few_by_entry place in_list slot (pos n) events is = rw (given_so_far _ is.1 events is.3) (omega arith)
-few_by_entry place in_list slot (negsuc zero) events is = rw (given_so_far _ is.0 events is.1) (omega arith)
-few_by_entry place in_list slot (negsuc (suc n)) events is = rw is (omega arith)
+few_by_entry place in_list slot number events is = grind (arith, given_so_far)
 
 few_by_list : (list : List ℤ) (place : Place) (in_list slot : ℕ) (events : List Action) → AppliesList place in_list slot list events
     → given events ≤ list_installs list
@@ -129,10 +113,7 @@ few_by_list (number ∷ list) place in_list slot events (own, others, is, first,
 
 few_at_table : (catalogue : List FileEntry) (place : Place) (operation : Operation) (events : List Action) (c : Completed)
     → AnswersAtTable catalogue place operation events c → given events ≤ installs_of operation
-few_at_table catalogue place (Opens name target) events c is = few_by_open place is.0 target events c is.2
-few_at_table catalogue place (Reads slot off len) events c is = few_by_read catalogue place slot off len events c is
-few_at_table catalogue place (Closes slot) events c is = few_by_close place slot events c is
-few_at_table catalogue place (Updates off list) events c is = few_by_list list place 0 off events is.0
+few_at_table catalogue place operation events c is = grind (arith, few_by_open, few_by_read, few_by_close, few_by_list)
 
 few_by_request : (catalogue : List FileEntry) (size : ℕ) (place : Place) (operation : Operation) (events : List Action) (c : Completed)
     → Answers catalogue size place operation events c → given events ≤ installs_of operation

@@ -1,3 +1,4 @@
+use Rattle.std.proofs.Common.{rules}
 -- The runs of a list: how they part it, and how a submission is cut.
 use Rattle.fx_chain.proofs.Words.{◌≡◌, ◌<◌, true, false, not, if◌then◌else◌, List, [], ◌∷◌, ◌++◌, length, refl, sym, ap, ◌∙◌, All, arith, inl, inr}
 use Rattle.fx_chain.proofs.Words.{cases_Bool, not-true, flat_map, append-nil, list_all-from_AllPass, All-nil, All-cons, All-head, All-tail, Asked}
@@ -43,8 +44,7 @@ linked_step r rs ((x ∷ xs) ∷ run ∷ runs) links are = record {
   linked = All-cons IsLinked (r ∷ x ∷ xs) (run ∷ runs)
       (All-cons Links r (but_last (x ∷ xs)) links (All-head IsLinked (x ∷ xs) (run ∷ runs) are.linked))
       (All-tail IsLinked (x ∷ xs) (run ∷ runs) are.linked);
-  over = All-cons IsOver (r ∷ x ∷ xs) (but_last (run ∷ runs)) (All-head IsOver (x ∷ xs) (but_last (run ∷ runs)) are.over)
-      (All-tail IsOver (x ∷ xs) (but_last (run ∷ runs)) are.over);
+  over = search (rules, All-cons, All-head, All-tail);
 }
 
 -- a run of one request before runs
@@ -78,9 +78,7 @@ parted : (runs : List (List Asked)) → All HasMembers runs → All IsLinked run
 parted [] some linked over = refl
 parted (run ∷ []) some linked over = ap runs_of (append-nil run) ∙ one_run run (All-head HasMembers run [] some) (All-head IsLinked run [] linked)
 parted (run ∷ next ∷ runs) some linked over =
-    first_run run (flat_map (λ y. y) (next ∷ runs)) (All-head IsLinked run (next ∷ runs) linked) (All-head IsOver run (but_last (next ∷ runs)) over)
-    ∙ ap (λ ys. run ∷ ys) (parted (next ∷ runs) (All-tail HasMembers run (next ∷ runs) some) (All-tail IsLinked run (next ∷ runs) linked)
-    (All-tail IsOver run (but_last (next ∷ runs)) over))
+    search (rules, parted (next ∷ runs) (All-tail HasMembers run (next ∷ runs) some) (All-tail IsLinked run (next ∷ runs) linked) (All-tail IsOver run (but_last (next ∷ runs)) over), first_run, All-head, All-tail)
 
 -- there are no other runs
 pub only_runs : (requests : List Asked) (runs : List (List Asked)) → AreRuns requests runs → runs ≡ runs_of requests
@@ -140,13 +138,11 @@ pub IsClosed-append : (front run : List Asked) → IsOver run → IsClosed (fron
 IsClosed-append front run over = inr (is_over-append front run over)
 
 pub open_run-closed : (front run : List Asked) → IsClosed front → AllLink run → open_run (front ++ run) ≡ run
-open_run-closed front run (inl none) link = rw none (open_run-all run link)
-open_run-closed front run (inr over) link = open_run-skip front run over ∙ open_run-all run link
+open_run-closed front run h3 link = grind (arith, open_run-all, open_run-skip)
 
 -- the runs of a list whose last request doesn't link are the first runs of a longer list
 in_front-append : (x : Asked) (runs more : List (List Asked)) → 0 < length runs → in_front x (runs ++ more) ≡ in_front x runs ++ more
-in_front-append x [] more some = absurd (omega arith)
-in_front-append x (run ∷ runs) more some = refl
+in_front-append x runs more some = grind arith
 
 pub runs_of-append : (front rest : List Asked) → is_over front ≡ true → runs_of (front ++ rest) ≡ runs_of front ++ runs_of rest
 runs_of-append [] rest over = cc
@@ -162,8 +158,7 @@ record Ends (front : List Asked) : Type 0 where
 
 one_more : (x : Asked) (xs closed : List Asked) → list_all (λ r. is_link r.flags) (x ∷ xs) ≡ false → xs ≡ closed ++ open_run xs → IsClosed closed
     → AllLink (open_run xs) → IsClosed (x ∷ closed)
-one_more x xs closed differs parts (inl none) linked = grind (arith, list_all-from_AllPass)
-one_more x xs closed differs parts (inr over) linked = inr (is_over-append (x ∷ []) closed over)
+one_more x xs closed differs parts h6 linked = grind (arith, list_all-from_AllPass, is_over-append)
 
 ends_of : (front : List Asked) → Ends front
 ends_of [] = record { closed = []; parts = refl; is_closed = inl refl; linked = All-nil Links }
@@ -199,8 +194,7 @@ begins_at [] r behind linked = elim (cases_Bool (is_link r.flags)) [
 begins_at (x ∷ run) r behind linked = grind (arith, All-tail, All-head, begins_at run r behind (All-tail Links x run linked))
 
 runs_of-closed : (front rest : List Asked) → IsClosed front → runs_of (front ++ rest) ≡ runs_of front ++ runs_of rest
-runs_of-closed front rest (inl none) = rw none
-runs_of-closed front rest (inr over) = runs_of-append front rest over
+runs_of-closed front rest h3 = grind (arith, runs_of-append)
 
 pub is_in_run : (front : List Asked) (r : Asked) (behind : List Asked) → IsInRun front r (runs_of (front ++ r ∷ behind))
 is_in_run front r behind =
@@ -251,8 +245,7 @@ runs-push front r =
     let longer : runs_of (front ++ r ∷ []) ≡ runs_of e.closed ++ last ∷ [] =
     ap (λ xs. runs_of (xs ++ r ∷ [])) e.parts ∙ ap runs_of (append_assoc e.closed (open_run front) (r ∷ []))
     ∙ runs_of-closed e.closed last e.is_closed ∙ ap (λ runs. runs_of e.closed ++ runs) (one_run last some linked) in
-    let same : runs_of front ≡ runs_of e.closed ++ runs_of (open_run front) = ap runs_of e.parts
-    ∙ runs_of-closed e.closed (open_run front) e.is_closed in
+    let same : runs_of front ≡ runs_of e.closed ++ runs_of (open_run front) = grind (arith, runs_of-closed) in
     ap length longer ∙ length-append (runs_of e.closed) (last ∷ []) ∙ one_run_more (runs_of e.closed) (open_run front) e.linked
     ∙ ap (λ runs. if length (open_run front) == 0 then length runs + 1 else length runs) (sym same)
 

@@ -1,6 +1,5 @@
 -- The names that most proofs of this crate use.
 pub use Rattle.fx_base.specs.Catalogue.{FileEntry, bytes_at}
-pub use Rattle.fx_base.specs.declared.open_file.Closed.{Closed}
 pub use Rattle.fx_chain.specs.Accepted.{IsAccepted, IsChain, IsShortRun, IsWithinLimits, members_of}
 pub use Rattle.fx_chain.specs.Answers.{Answers, AppliesEntry, AppliesList, MayClose, is_bad_entry}
 pub use Rattle.fx_chain.specs.Chains.{chains_from, chains_of}
@@ -29,11 +28,10 @@ pub use Rattle.fx_table.specs.Pass.{IsFront, IsIdle, PassView}
 pub use Rattle.fx_table.specs.declared.limits.TheConstants.{CHAIN_NUMBERS, MAX_CHAINS}
 pub use Rattle.fx_table.specs.declared.values.Retired.{Retired}
 pub use Rattle.std.proofs.Common.{All, Bool, Err, List, None, Ok, Option, Result, Some, [], ap, append_assoc, arith, drop, false, filter}
-pub use Rattle.std.proofs.Common.{if◌then◌else◌, inl, inr, int_le, int_lt, is_some, length, length-append, map, nat_abs, nat_lt, negsuc, not, of_z}
+pub use Rattle.std.proofs.Common.{if◌then◌else◌, inl, inr, int_le, int_lt, is_some, length, length-append, map, nat_lt, negsuc, not, of_z}
 pub use Rattle.std.proofs.Common.{pos, refl, rules, slice_index_or, subst, suc, sym, take, to_z, true, vec_capacity, vec_len, w32, zero, ℕ, ℤ, ◌&&◌}
 pub use Rattle.std.proofs.Common.{◌*◌, ◌++◌, ◌+◌, ◌-◌, ◌<◌, ◌==◌, ◌||◌, ◌∙◌, ◌∷◌, ◌≡◌, ◌≢◌, ◌≤◌, ◌⊎◌, MatchOption}
-pub use Rattle.std.proofs.lemmas.Bool.{MatchBool-at_false, MatchBool-at_true, and_right, cases_Bool, le-leb, ltb-false, ltb-true, ne_eqb, not-true}
-pub use Rattle.std.proofs.lemmas.Bool.{leb-false}
+pub use Rattle.std.proofs.lemmas.Bool.{MatchBool-at_false, MatchBool-at_true, and_right, cases_Bool, ne_eqb, not-true}
 pub use Rattle.std.proofs.lemmas.Int.{to_z-of_z, to_z_pos}
 pub use Rattle.std.proofs.lemmas.List.{append-nil, drop-map, drop_all, drop_at, drop_more, length-map, length-take-le, map-append, map_more}
 pub use Rattle.std.proofs.lemmas.List.{take-append-drop, take-map, take_all, take_at, take_more}
@@ -42,8 +40,8 @@ pub use Rattle.std.proofs.lemmas.List.Sums.{AllPass-from_list_all, list_all-from
 pub use Rattle.std.specs.Bool.{MatchBool}
 pub use Rattle.std.specs.List.{flat_map, list_all, list_any, sum_by}
 pub use Rattle.std.proofs.Math.Seq.{drop-cons}
-pub use Rattle.fx_base.specs.declared.errno.Errno.TheVariants.{ENOENT, EBADF, ECANCELED}
-pub use Rattle.fx_chain.specs.Refusal.{refusal_of, slot_refusal, target_refusal, list_refusal}
+pub use Rattle.fx_base.specs.declared.errno.Errno.TheVariants.{ECANCELED}
+pub use Rattle.fx_chain.specs.Refusal.{refusal_of, slot_refusal, list_refusal}
 pub use Rattle.fx_chain.specs.declared.request.Target.{Target}
 pub use Rattle.fx_plain.specs.declared.event.File.{File}
 pub use Rattle.fx_table.specs.declared.values.Doing.{Doing}
