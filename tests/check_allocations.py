@@ -30,7 +30,7 @@ CALLS = (
 # end them
 ONCE = {"add - 0": 8, "prepare - 5": 3, "open words 1": 8, "open baton 1": 9, "tags - 0": 16}
 # the allocations of such a call that end it if they fail
-ENDING = "tags - 0", range(2, 17)
+ENDING = "tags - 0", range(1, 16)
 # the kind of work, the number of slots, and how many calls find, read, install or take a file:
 # each of 200,000 or 150,000, or three or two of 15,000
 WORKS = ("look", 16, 200_000), ("mix", 16, 150_000), ("outside", 256, 45_000), ("inside", 256, 45_000), ("allocate", 256, 30_000)
