@@ -1,6 +1,6 @@
 -- The accesses among the steps of a history, and the files that they remove.
 use Rattle.fx_order.proofs.Words.{◌≡◌, ℕ, ◌==◌, List, [], ◌∷◌, ◌++◌, map, filter, refl, sym, ap, subst, ◌∙◌, append_assoc, Option, Some, None}
-use Rattle.fx_order.proofs.Words.{same_identity, if◌then◌else◌, IsSome, cond, append-nil, map-append, filter-append, Closed, File, Event, Action}
+use Rattle.fx_order.proofs.Words.{same_identity, if◌then◌else◌, cond, append-nil, map-append, filter-append, Closed, File, Event, Action}
 use Rattle.fx_order.proofs.Words.{Look, Put, Clear, Take, Allocate, Full, State, opening, Allows, after, changed_at, ◌▷▷◌, state_after, AllowsAll}
 use Rattle.fx_order.proofs.Words.{action_of, part_of_chain, identity_of, by_equality, Table, Looks, Puts, Clears, Takes, Allocates, FindsFull}
 use Rattle.fx_order.proofs.Words.{PermitsAll, table_with, table_after, Access, access_of, accesses_of, accesses_of_chain, ChainAccess, ◌⊎◌, inl, inr}
@@ -102,10 +102,6 @@ PermitsAll-append table (x ∷ xs) ys first second = (first.0, PermitsAll-append
 
 -- a step is its access
 
-pub identities-changed_at : (at : ℕ → Option File) (slot : ℕ) (x : Option File)
-    → (λ k. identity_of (changed_at at slot x k)) ≡ changed_at (λ k. identity_of (at k)) slot (identity_of x)
-identities-changed_at at slot x = grind arith
-
 -- the choice at the place itself
 pub at_itself : {X : Type 0} (k : ℕ) (x y : X) → (if k == k then x else y) ≡ x
 at_itself k x y = by_equality k k (λ b. (if b then x else y) ≡ x) (λ _. refl) (λ other. absurd (other refl))
@@ -113,21 +109,12 @@ at_itself k x y = by_equality k k (λ b. (if b then x else y) ≡ x) (λ _. refl
 abbrev table_of_files : State → (ℕ → Option Closed) → Table
 table_of_files st at = record { size = st.size; range = st.range; at = at }
 
-pub shown-after : (st : State) (a : Action) → shown (after st a) ≡ table_after (shown st) (accesses_by a)
-shown-after st a = grind (arith, identities-changed_at)
-
-some_identity : (x : Option File) → IsSome x → IsSome (identity_of x)
-some_identity x is = grind arith
-
-pub permitted_by : (st : State) (a : Action) → Allows st a → PermitsAll (shown st) (accesses_by a)
-permitted_by st a may = grind (arith, some_identity)
-
 -- the accesses of a history are permitted, and lead to the same files
 pub permitted_along : (start : State) (h : List Action) → AllowsAll start h
     → PermitsAll (shown start) (accesses_in h) × (shown (state_after start h) ≡ table_after (shown start) (accesses_in h))
 permitted_along start [] may = (tt, refl)
 permitted_along start (a ∷ h) may =
-    grind (arith, permitted_along start h may.0, PermitsAll-append, permitted_by, state_after, shown-after, table_after-append)
+    grind (arith, permitted_along start h may.0, PermitsAll-append, state_after, table_after-append)
 
 -- passes begin with the files of the table
 pub shown-opening : (st : State) (numbers : ℕ) → shown (opening st numbers) ≡ shown st

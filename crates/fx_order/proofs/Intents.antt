@@ -6,14 +6,8 @@ use Rattle.fx_order.proofs.Words.{arith, length, positions_from, positions_of, s
 use Rattle.fx_order.proofs.Words.{refusal_of, slice_index_or, take, IsRequestDone, Allocates, Closed, FindsFull, Looks, Puts, Takes, installed}
 use Rattle.fx_order.proofs.Words.{name_at, IsOpened, allocated, answer_at_table, intents_of, list_intents, Intent, AllZip, IsOf, last_finding, Option}
 use Rattle.fx_chain.specs.declared.intent.Finding.TheVariants.{At, Free}
-use Rattle.fx_chain.specs.declared.intent.Intent.TheVariants.{Allocate}
 use Rattle.fx_order.specs.Requests.{AreIntended, IsOwnEntry, LacksMemory}
 use Rattle.fx_order.proofs.ChainsFront.{first_and_rest}
-
-pub zip_append : (xs ys : List Intent) (us vs : List Access) → AllZip IsOf xs us → AllZip IsOf ys vs → AllZip IsOf (xs ++ ys) (us ++ vs)
-zip_append [] ys [] vs first second = second
-zip_append (x ∷ xs) ys (u ∷ us) vs first second = (first.0, zip_append xs ys us vs first.1 second)
-zip_append xs ys us vs first second = absurd first
 
 -- the accesses of a request that intends one
 pub single : (x : Intent) (Q : List Access → Type 0) (own : List Access) → AllZip IsOf (x ∷ []) own
@@ -83,12 +77,8 @@ module _ (catalogue : List FileEntry) (place : Place) (P : Operation → List Ac
     (looks : (slot off len : ℕ) (found : Option Closed) → P (Reads slot off len) (Looks slot found ∷ []))
     (takes : (slot : ℕ) (found : Option Closed) → P (Closes slot) (Takes slot found ∷ []))
     (updates : (off : ℕ) (list : List ℤ) (own : List Access) → AllZip IsOf (list_intents place 0 off list) own → P (Updates off list) own) where
-  found_free : (name : List ℕ) (entry : ℕ) → name_at catalogue entry ≡ Some name → (a : Access) → IsOf (Allocate (installed place 0 entry)) a
-      → P (Opens name Any) (a ∷ [])
-  found_free name entry named a h5 = grind arith
-
   pub by_intents : (operation : Operation) (own : List Access) → AreIntended catalogue place operation own → P operation own
-  by_intents operation own x = grind (arith, single, found_free)
+  by_intents operation own x = grind (arith, single)
 
 module _ (catalogue : List FileEntry) (place : Place) where
   -- the accesses are intended by the entry that was chosen

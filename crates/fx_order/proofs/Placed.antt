@@ -1,5 +1,5 @@
 -- The files that accesses place at slots, the files at the slots then, and the removed ones.
-use Rattle.fx_order.proofs.Words.{◌≡◌, ◌≢◌, ◌⊎◌, inl, inr, ⊎_elim, ℕ, ◌<◌, List, [], ◌∷◌, ◌++◌, Contains, refl, sym, ap, ◌∙◌, arith, IsAt, with_file}
+use Rattle.fx_order.proofs.Words.{◌≡◌, ◌≢◌, ◌⊎◌, inl, inr, ⊎_elim, ℕ, ◌<◌, List, [], ◌∷◌, ◌++◌, Contains, refl, sym, ap, ◌∙◌, arith, with_file}
 use Rattle.fx_order.proofs.Words.{Option, Some, None, option_to_list, Contains-append_right, Closed, contains_none, contains_head, contains_cases}
 use Rattle.fx_order.proofs.Words.{Table, Puts, Allocates, Permits, PermitsAll, table_with, table_after, file_removed_by, files_removed_in, Access}
 use Rattle.fx_order.proofs.Accesses.{at_itself}
@@ -49,12 +49,9 @@ written : (t : Table) {slot : ℕ} {new : Option Closed} {s : ℕ} {f : Closed} 
     → ((s ≢ slot) × (t.at s ≡ Some f)) ⊎ ((s ≡ slot) × (new ≡ Some f))
 written t {slot} {new} {s} {f} = grind arith
 
-is_placed : {slot : ℕ} {file : Closed} {s : ℕ} {f : Closed} → (s ≡ slot) × (Some file ≡ Some f) → Has ((slot, file) ∷ []) s f
-is_placed {file} {f} here = let e : file ≡ f = cc (here.1) in inl (λ i. (sym here.0 i, e i))
-
 -- a file that is at a slot after an access was there, or the access placed it
 pub step_from : (t : Table) (x : Access) {s : ℕ} {f : Closed} → (table_with t x).at s ≡ Some f → (t.at s ≡ Some f) ⊎ Has (placed_by x) s f
-step_from t x is = grind (arith, is_placed, written)
+step_from t x is = grind (arith, written)
 
 -- a file that is at a slot after all of them was there, or was placed there
 pub left_from : (t : Table) (xs : List Access) (s : ℕ) (f : Closed) → (table_after t xs).at s ≡ Some f → (t.at s ≡ Some f) ⊎ Has (placed xs) s f
@@ -93,13 +90,8 @@ pub record IsEmptied (t : Table) (x : Access) (g : Closed) : Type 0 where
   pub was : t.at slot ≡ Some g
   pub after : (s : ℕ) (f : Closed) → (table_with t x).at s ≡ Some f → ((s ≢ slot) × (t.at s ≡ Some f)) ⊎ Has (placed_by x) s f
 
-emptied_at : {t : Table} {x : Access} {slot : ℕ} {removed new : Option Closed} {g : Closed} → IsAt t slot removed → removed ≡ Some g
-    → ((s : ℕ) (f : Closed) → (table_with t x).at s ≡ Some f → (with_file t slot new).at s ≡ Some f)
-    → ((s : ℕ) (f : Closed) → (s ≡ slot) × (new ≡ Some f) → Has (placed_by x) s f) → IsEmptied t x g
-emptied_at {t} {slot} {new} may is left puts = grind arith
-
 pub emptied : (t : Table) (x : Access) (g : Closed) → Permits t x → file_removed_by x ≡ Some g → IsEmptied t x g
-emptied t x g may is = grind (arith, emptied_at, is_placed)
+emptied t x g may is = grind arith
 
 pub same_size : (t : Table) (x : Access) → (table_with t x).size ≡ t.size
 same_size t x = grind arith

@@ -94,16 +94,11 @@ module _ (catalogue : List FileEntry) (place : Place) (Q : Completed → Type 0)
   close_so : (found : Option Finding) → Q (refusal place EBADF) → Q (completed place (pos 0) []) → Q (close_answer place found)
   close_so found missed taken = grind arith
 
--- no answer is that of a request without memory
-pub has_memory : (catalogue : List FileEntry) (place : Place) (operation : Operation) (found : Option Finding)
-    → int_eq (answer_at_table catalogue place operation found).res (negsuc 11) ≡ false
-has_memory catalogue place operation found = grind arith
-
 module _ (catalogue : List FileEntry) (place : Place) where
   -- the accesses of a request are all of its operation's, but none if it lacks memory
   are_made : (operation : Operation) (own : List Access) (c : Completed) → IsDoneAtTable catalogue place operation own c
       → length own ≡ (if int_eq c.res (negsuc 11) then 0 else length (positions_of operation))
-  are_made operation own c h4 = grind (arith, has_memory, as_many)
+  are_made operation own c h4 = grind (arith, as_many)
 
   -- as many as are counted, unless it lacks memory
   pub counted : (size : ℕ) (operation : Operation) (own : List Access) (c : Completed) → IsRequestDone catalogue size place operation own c

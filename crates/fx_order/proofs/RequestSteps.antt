@@ -1,4 +1,3 @@
-use Rattle.std.proofs.Common.{rules}
 -- A request's accesses, and the steps that they are: each explains the answers that the other does.
 -- A new kind of request adds its cases here.
 use Rattle.fx_order.proofs.Words.{◌≡◌, ℕ, ◌+◌, ◌<◌, ◌≤◌, ◌==◌, true, false, List, [], ◌∷◌, ◌++◌, length, map, refl, sym, ◌∙◌, arith, Option, subst}
@@ -7,12 +6,12 @@ use Rattle.fx_order.proofs.Words.{Take, Allocate, Full, State, IsSettled, ◌▷
 use Rattle.fx_order.proofs.Words.{closes_in, identity_of, by_equality, Looks, Puts, Clears, Takes, Allocates, FindsFull, Permits, table_with}
 use Rattle.fx_order.proofs.Words.{file_removed_by, Access, table_after, closed_by, Allows, after, with_removed, ap, inl, inr, zero, suc, ℤ, pos}
 use Rattle.fx_order.proofs.Words.{negsuc, same_options, refusal_of, IsDoneAtTable, AnswersAtTable, TakesAt, file_told, append_assoc, append-nil}
-use Rattle.fx_order.proofs.Words.{FileEntry, Errno, ENOMEM, Refuses, MayClose, ReadsAt, AppliesEntry, AppliesList, Answers, Completed, Operation}
+use Rattle.fx_order.proofs.Words.{FileEntry, Errno, ENOMEM, Refuses, MayClose, ReadsAt, AppliesList, Answers, Completed, Operation}
 use Rattle.fx_order.proofs.Words.{Reads, Place, IsRefused, IsRequestDone, installed, same_cases, action_of, part_of_chain, next_member, Explains}
-use Rattle.fx_order.proofs.Words.{severs, Asked, ExplainsParts, accesses_of_chain, ChainAccess, IsChainDone, AreChainsDone, IsOpened, answer_at_table}
-use Rattle.fx_order.proofs.Words.{close_answer, entry_intents, intents_of, list_intents, read_answer, IsOf, finding_of, last_finding, AllZip}
+use Rattle.fx_order.proofs.Words.{severs, Asked, ExplainsParts, accesses_of_chain, ChainAccess, IsChainDone, AreChainsDone, answer_at_table}
+use Rattle.fx_order.proofs.Words.{close_answer, list_intents, read_answer, IsOf, last_finding, AllZip}
 use Rattle.fx_chain.specs.declared.intent.Finding.TheVariants.{At}
-use Rattle.fx_order.proofs.Intents.{by_intents, zip_append}
+use Rattle.fx_order.proofs.Intents.{by_intents}
 use Rattle.fx_order.proofs.Accesses.{accesses_by, at_itself, shown, accesses_in, accesses_in-then, order_in, accesses_of_chain-order_in}
 use Rattle.fx_order.proofs.Placed.{placed_by}
 
@@ -132,14 +131,11 @@ none_done is all = rw is at all
 one_done : (a : Access) (events : List Action) → AllDo (a ∷ []) events → Does a events
 one_done a events all = subst (Does a) (sym (all.2 ∙ ap (λ (l : List Action). l ++ all.0) all.4)) all.3
 
-closes_at_once : (steps : List Action) (x : Option File) {events : List Action} → events ≡ steps ▷▷ close_of x → MayClose steps x events
-closes_at_once steps x is = grind arith
-
 -- The steps of the accesses that a request intends are those that its answer needs.
 
 put_steps : {slot : ℕ} {file : Closed} {a : Access} (events : List Action) → (removed : Option Closed) × (a ≡ Puts slot file removed) → Does a events
     → (f : File) × (replaced : Option File) × (f.identity ≡ file) × MayClose ([] ▷ Put slot f replaced) replaced events
-put_steps events is does = grind (arith, closes_at_once)
+put_steps events is does = grind arith
 
 list_applied : (place : Place) (in_list slot : ℕ) (list : List ℤ) (own : List Access) (events : List Action) → AllDo own events
     → AllZip IsOf (list_intents place in_list slot list) own → AppliesList place in_list slot list events
@@ -150,7 +146,7 @@ list_applied place in_list slot (pos n ∷ list) (a ∷ own) events all x =
     (all.0, all.1, all.2, put_steps all.0 x.0 all.3, list_applied place (in_list + 1) (slot + 1) list own all.1 all.4 x.1)
 list_applied place in_list slot (negsuc zero ∷ list) [] events all x = absurd x
 list_applied place in_list slot (negsuc zero ∷ list) (a ∷ own) events all x =
-    grind (arith, list_applied place (in_list + 1) (slot + 1) list own all.1 all.4 x.1, closes_at_once)
+    grind (arith, list_applied place (in_list + 1) (slot + 1) list own all.1 all.4 x.1)
 list_applied place in_list slot (negsuc (suc n) ∷ list) own events all x =
     ([], events, sym (append-nil events), refl, list_applied place (in_list + 1) (slot + 1) list own events all x)
 
@@ -189,33 +185,19 @@ module _ (catalogue : List FileEntry) (size : ℕ) (place : Place) (accesses : L
 
 -- The accesses of steps that an answer needs are those that the request intends.
 
-accesses_may_close : (steps : List Action) (removed : Option File) (events : List Action) → MayClose steps removed events
-    → accesses_in events ≡ accesses_in steps
-accesses_may_close steps removed events h4 = search rules
-
-entry_intended : (place : Place) (in_list slot : ℕ) (entry : ℤ) (events : List Action) → AppliesEntry place in_list slot entry events
-    → AllZip IsOf (entry_intents place in_list slot entry) (accesses_in events)
-entry_intended place in_list slot entry events x = grind (arith, accesses_may_close)
-
 list_intended : (place : Place) (in_list slot : ℕ) (list : List ℤ) (events : List Action) → AppliesList place in_list slot list events
     → AllZip IsOf (list_intents place in_list slot list) (accesses_in events)
 list_intended place in_list slot [] events x = rw x tt
 list_intended place in_list slot (entry ∷ list) events x =
-    grind (arith, list_intended place (in_list + 1) (slot + 1) list x.1 x.4, accesses_in-then, zip_append, entry_intended)
+    grind (arith, list_intended place (in_list + 1) (slot + 1) list x.1 x.4, accesses_in-then)
 
 module _ (catalogue : List FileEntry) (size : ℕ) (place : Place) (events : List Action) (c : Completed) where
   refusal_done : (errno : Errno) → Refuses place errno events c → IsRefused place errno (accesses_in events) c
   refusal_done errno refuses = (ap accesses_in refuses.0, refuses.1)
 
-  -- one access, which the request intends, and its answer
-  one_done_so : (operation : Operation) (entry : ℕ) {a : Access} → accesses_in events ≡ a ∷ [] → IsOpened catalogue operation entry
-      → AllZip IsOf (intents_of place entry operation) (a ∷ []) → c ≡ answer_at_table catalogue place operation (Some (finding_of a))
-      → IsDoneAtTable catalogue place operation (accesses_in events) c
-  one_done_so operation entry is opened fits answer = rw is (inr ((entry, opened, fits), answer))
-
   at_table_done : (operation : Operation) → AnswersAtTable catalogue place operation events c
       → IsDoneAtTable catalogue place operation (accesses_in events) c
-  at_table_done operation h2 = grind (arith, entry_intended, one_done_so, refusal_done, accesses_may_close, list_intended)
+  at_table_done operation h2 = grind (arith, refusal_done, list_intended)
 
   -- the accesses of steps that explain an answer explain it
   pub request_done : (operation : Operation) → Answers catalogue size place operation events c

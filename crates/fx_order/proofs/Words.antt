@@ -11,13 +11,13 @@ pub use Rattle.fx_chain.proofs.Cases.{both_ways, either_case, either_option, eit
 pub use Rattle.fx_chain.proofs.Accepted.{accepted-chains, members-are-runs, applied}
 pub use Rattle.fx_chain.proofs.EntryKinds.{list_installs-cons}
 pub use Rattle.fx_chain.specs.Accepted.{IsAccepted, IsChain, IsWithinLimits, members_of}
-pub use Rattle.fx_chain.specs.Answers.{Answers, AnswersAtTable, AppliesEntry, AppliesList, MayClose, ReadsAt, Refuses, TakesAt, installed}
+pub use Rattle.fx_chain.specs.Answers.{Answers, AnswersAtTable, AppliesList, MayClose, ReadsAt, Refuses, TakesAt, installed}
 pub use Rattle.fx_chain.specs.Refusal.{is_bad_entry, refusal_of}
 pub use Rattle.fx_chain.specs.Chains.{chains_of}
 pub use Rattle.fx_chain.specs.Completed.{Completed, all_completed, completed, completed_of, next_member, refusal}
 pub use Rattle.fx_chain.specs.Explains.{Explains, canceled, first_member, severs}
 pub use Rattle.fx_chain.specs.Faults.{is_long_update}
-pub use Rattle.fx_chain.specs.Intents.{InstallsAt, IsOpened, allocated, answer_at_table, close_answer, completion_of_read, count_of, entry_intents}
+pub use Rattle.fx_chain.specs.Intents.{InstallsAt, IsOpened, allocated, answer_at_table, close_answer, completion_of_read, count_of}
 pub use Rattle.fx_chain.specs.Intents.{intents_of, list_intents, positions_from, positions_of, read_answer}
 pub use Rattle.fx_chain.specs.Operation.{Asked, Closes, Opens, Operation, Reads, Updates, all_asked, asked_of, operation_of}
 pub use Rattle.fx_chain.specs.Runs.{runs_of}
@@ -32,8 +32,7 @@ pub use Rattle.fx_chain.specs.declared.request.Target.{Target}
 pub use Rattle.fx_chain.specs.declared.request.Target.TheVariants.{Any, Slot}
 pub use Rattle.fx_chain.specs.declared.request.TheConstants.{LONGEST_UPDATE}
 pub use Rattle.fx_order.specs.Access.{Allocates, Clears, FindsFull, Looks, Permits, PermitsAll, Puts, Table, Takes, access_of, accesses_of}
-pub use Rattle.fx_order.specs.Access.{accesses_of_chain, file_removed_by, files_removed_in, table_after, table_with, IsAt, with_file}
-pub use Rattle.fx_order.specs.Access.{IsOf, finding_of, last_finding}
+pub use Rattle.fx_order.specs.Access.{accesses_of_chain, file_removed_by, files_removed_in, table_after, table_with, with_file, IsOf, last_finding}
 pub use Rattle.fx_order.specs.Laws.{AreKnown, EachClosedFileIsKnown, EachHistoryIsAnOrder, EachOrderIsAHistory, EachReportLeadsToOneRing, IsOfNext}
 pub use Rattle.fx_order.specs.Laws.{NoFileThatStaysIsClosed}
 pub use Rattle.fx_order.specs.Order.{IsOneOrder, IsOrderOf, ring_left, table_of}
