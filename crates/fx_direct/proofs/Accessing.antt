@@ -1,8 +1,8 @@
 -- Each access, and the end of a call's accesses, keeps what is sound.
 use Rattle.fx_direct.proofs.Words.{arith, ◌≡◌, ◌≢◌, ℕ, ◌+◌, ◌<◌, ◌≤◌, ◌==◌, Bool, true, false, List, [], ◌∷◌, ◌++◌, length, refl, sym, ap, inl, inr, ◌⊎◌, if◌then◌else◌}
 use Rattle.fx_direct.proofs.Words.{AllByRecursion, ◌∙◌, subst, Option, Some, None, cases_eq, append-nil, ne_eqb, eq-eqb, File, LifeKey, Phase, Slot, State, Member, Open, Request, CloseMember, bit, requests_in, is_chained}
-use Rattle.fx_direct.proofs.Words.{slot_numbered, phase_at, life_at, is_closing, is_opening, DirectCall, OpenAt, UseOf, CloseOf, key_of_call, Stage, Waits, Made, Quit, Pending, pending, DirectMoment, Accesses, Quits, Others}
-use Rattle.fx_direct.proofs.Words.{Action, Look, Put, Release, Take, Allows, changed_at, table_after, Makes, Stops, IsElsewhere, IsInTurn, waits_for, files_under, has_chain, same_key}
+use Rattle.fx_direct.proofs.Words.{slot_numbered, phase_at, life_at, is_closing, is_opening, DirectCall, OpenAt, UseOf, CloseOf, key_of_call, CallStage, Waits, Made, Quit, Pending, pending, DirectMoment, Accesses, Quits, Others}
+use Rattle.fx_direct.proofs.Words.{Action, Look, Put, Release, Take, Allows, changed_at, table_after, Makes, Stops, IsElsewhere, HasItsTurn, waits_for, files_under, has_chain, same_key}
 use Rattle.fx_direct.proofs.Calls.{place_of, is_member, at_slot, tally, at_same, at_other, tally-mid, count_in, each-out, each-in, each-map, each-both, none_at, same_keys}
 use Rattle.fx_direct.proofs.Calls.{Fate, Expected, Missing, There, Gone, not_gone, Has, fits, suits, fits_same, has_same, opened_fits, closed_fits, no_open, expected_opens, unchained_due, is_bound}
 use Rattle.fx_direct.proofs.Moves.{Sound, Fitting}
@@ -133,7 +133,7 @@ module _ {fate : ℕ → Fate} {slots : List Slot} {table : State} {calls : List
         }
 
   -- the open of a key is done: it has put its file, or makes no access any more
-  opened : (k : LifeKey) (linked : Bool) (stage : Stage) (f : Fate) (front rest : List Pending) (table' : State) (m : DirectMoment)
+  opened : (k : LifeKey) (linked : Bool) (stage : CallStage) (f : Fate) (front rest : List Pending) (table' : State) (m : DirectMoment)
       → calls ≡ front ++ pending (OpenAt k) linked Waits ∷ rest → not_gone f ≡ true → fits (OpenAt k) stage f ≡ true → table'.size ≡ table.size
       → ((s : ℕ) → s ≢ k.slot → table'.at s ≡ table.at s)
       → ((j : LifeKey) → (j.slot ≡ k.slot → j.number ≡ (slot_numbered slots j.slot).number → ⊥) → files_under j (m ∷ h) ≡ files_under j h)
@@ -166,15 +166,15 @@ module _ {fate : ℕ → Fate} {slots : List Slot} {table : State} {calls : List
       (λ empty new. (f, at_written table.at k.slot (Some f), rw (new, same_keys k k refl refl) refl))
 
   -- a request or a close makes its access only after the open
-  pub after_open : (k : LifeKey) (call : DirectCall) (linked : Bool) → ((other : DirectCall) (stage : Stage) → waits_for call other stage ≡ false
+  pub after_open : (k : LifeKey) (call : DirectCall) (linked : Bool) → ((other : DirectCall) (stage : CallStage) → waits_for call other stage ≡ false
       → (waits_for (UseOf k) other stage ≡ false) ⊎ (waits_for (CloseOf k) other stage ≡ false))
       → (slot_numbered slots k.slot).number ≡ k.number → (is_chained (phase_at slots k.slot) ≡ true → linked ≡ true)
       → 0 < requests_in (phase_at slots k.slot) + bit (is_closing (phase_at slots k.slot))
-      → IsInTurn call linked calls → fate k.slot ≢ Expected
+      → HasItsTurn call linked calls → fate k.slot ≢ Expected
   after_open k call linked either num bound busy turn due =
       let suit : suits Expected (phase_at slots k.slot) ≡ true = ap (λ (g : Fate). suits g (phase_at slots k.slot)) (sym due) ∙ sound.suit k.slot in
       let one = expected_opens (phase_at slots k.slot) suit in let count = sound.counted Open k.slot in
-      let turns : IsInTurn call true calls = subst (λ (b : Bool). IsInTurn call b calls) (bound (unchained_due (phase_at slots k.slot) suit busy)) turn in
+      let turns : HasItsTurn call true calls = subst (λ (b : Bool). HasItsTurn call b calls) (bound (unchained_due (phase_at slots k.slot) suit busy)) turn in
       let none = none_open k.slot calls (each-both (Fitting slots fate) (λ z. waits_for call z.call z.stage ≡ false) (λ z. at_slot Open k.slot z ≡ 0) calls
       (λ z fz free. elim (cases_eq (place_of z) k.slot) [
         | inl e ↦ at_same Open k.slot z e ∙ no_open z.call z.stage k (ap (fits z.call z.stage) (sym due ∙ ap fate (sym e)) ∙ fz.2)
@@ -185,7 +185,7 @@ module _ {fate : ℕ → Fate} {slots : List Slot} {table : State} {calls : List
 
   -- the requests of a slot whose close has its turn make no access any more, or there is none
   requests_done : (k : LifeKey) (linked : Bool) → (is_chained (phase_at slots k.slot) ≡ true → linked ≡ true) → is_closing (phase_at slots k.slot) ≡ true
-      → IsInTurn (CloseOf k) linked calls → AllByRecursion (λ z. (waits_for (CloseOf k) z.call z.stage ≡ false) ⊎ (at_slot Request k.slot z ≡ 0)) calls
+      → HasItsTurn (CloseOf k) linked calls → AllByRecursion (λ z. (waits_for (CloseOf k) z.call z.stage ≡ false) ⊎ (at_slot Request k.slot z ≡ 0)) calls
   requests_done k true bound closing turn =
       each-map (λ z. waits_for (CloseOf k) z.call z.stage ≡ false) (λ z. (waits_for (CloseOf k) z.call z.stage ≡ false) ⊎ (at_slot Request k.slot z ≡ 0)) calls (λ z e. inl e) turn
   requests_done k false bound closing turn =
@@ -194,7 +194,7 @@ module _ {fate : ℕ → Fate} {slots : List Slot} {table : State} {calls : List
 
   -- a close takes the file of its key
   takes : (k : LifeKey) (linked : Bool) (f : File) (front rest : List Pending) → calls ≡ front ++ pending (CloseOf k) linked Waits ∷ rest
-      → Some f ≡ table.at k.slot → IsInTurn (CloseOf k) linked calls
+      → Some f ≡ table.at k.slot → HasItsTurn (CloseOf k) linked calls
       → Sound (changed_at fate k.slot Gone) slots (table_after table (Take k.slot (Some f))) (front ++ pending (CloseOf k) linked Made ∷ rest)
       (Accesses (CloseOf k) (Take k.slot (Some f)) ∷ h)
   takes k linked f front rest was found turn =

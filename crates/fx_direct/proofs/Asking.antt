@@ -1,7 +1,7 @@
 -- A transition that leaves an ending slot, and the close that is asked for then.
 use Rattle.fx_direct.proofs.Words.{◌≡◌, List, sym, ap, ◌∙◌, Option, Some, None, Slot, Transition, Phase, Closing, ℕ}
 use Rattle.fx_direct.proofs.Words.{AdvancesAndAsks, with_phase, Asks, key_concerned, IsEnabled, phase_at, phase_after, slots_with}
-use Rattle.fx_direct.proofs.Words.{Bool, true, false, LifeKey, Member, Open, Request, CloseMember, NamesLastLife, IsPossible, Opens, Finishes, Closes, FailsToClose}
+use Rattle.fx_direct.proofs.Words.{Bool, true, false, LifeKey, Member, Open, Request, CloseMember, NamesLastLife, FitsPhase, Opens, Finishes, Closes, FailsToClose}
 use Rattle.std.proofs.lemmas.List.{set-set}
 use Rattle.fx_direct.specs.Transitions.{completion}
 use Rattle.fx_direct.specs.Machine.{WritesPhase}
@@ -30,7 +30,7 @@ asks old d phase (Some slot) new can leaves writes =
 
 -- the same of the completion of a chain's member
 pub completes : (old : List Slot) (k : LifeKey) (m : Member) (succeeded : Bool) (phase : Phase) (ask : Option ℕ) (new : List Slot) → NamesLastLife old k
-    → IsPossible (completion k m succeeded) (phase_at old k.slot) → phase_after (completion k m succeeded) (phase_at old k.slot) ≡ phase
+    → FitsPhase (completion k m succeeded) (phase_at old k.slot) → phase_after (completion k m succeeded) (phase_at old k.slot) ≡ phase
     → WritesPhase old k phase ask new → AdvancesAndAsks old (completion k m succeeded) ask new
 completes old k Open succeeded phase ask new names may leaves writes = asks old (Opens k succeeded) phase ask new (names, may) leaves writes
 completes old k Request succeeded phase ask new names may leaves writes = asks old (Finishes k) phase ask new (names, may) leaves writes

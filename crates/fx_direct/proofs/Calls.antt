@@ -2,7 +2,7 @@
 use Rattle.fx_direct.proofs.Words.{arith, ◌≡◌, ◌≢◌, ℕ, zero, suc, ◌+◌, ◌<◌, ◌==◌, ◌&&◌, ◌⊎◌, Bool, true, false, if◌then◌else◌, List, [], ◌∷◌, ◌++◌, refl, sym}
 use Rattle.fx_direct.proofs.Words.{AllByRecursion, Option, Some, None, eq-eqb, ne_eqb, File, Phase, Member, Open, Request, CloseMember, bit, requests_in, is_opening, is_closing}
 use Rattle.fx_direct.proofs.Words.{Free, Opening, Live, Ending, Closing, Chained, Unseen, Installed, Failed, Awaited, Took, ChainOpen, ChainEnd}
-use Rattle.fx_direct.proofs.Words.{DirectCall, OpenAt, UseOf, CloseOf, key_of_call, Stage, Waits, Made, Quit, Pending, pending, LifeKey, with_uses, with_close, waits_for, same_key}
+use Rattle.fx_direct.proofs.Words.{DirectCall, OpenAt, UseOf, CloseOf, key_of_call, CallStage, Waits, Made, Quit, Pending, pending, LifeKey, with_uses, with_close, waits_for, same_key}
 use Rattle.fx_direct.proofs.Words.{chain, chain_phase, is_chained, Slot}
 
 abbrev pub place_of : Pending → ℕ
@@ -142,7 +142,7 @@ Has There at files = HasOne at files
 Has Gone at files = at ≡ None
 
 -- a call in flight at the slot
-abbrev pub fits : DirectCall → Stage → Fate → Bool
+abbrev pub fits : DirectCall → CallStage → Fate → Bool
 fits (OpenAt k) Waits Expected = true
 fits (OpenAt k) Made There = true
 fits (OpenAt k) Made Gone = true
@@ -234,16 +234,16 @@ pub same_keys : (j k : LifeKey) → j.slot ≡ k.slot → j.number ≡ k.number 
 same_keys j k e n = rw (eq-eqb j.slot k.slot e, eq-eqb j.number k.number n) refl
 
 -- the open is done
-pub opened_fits : (call : DirectCall) (stage : Stage) (fate : Fate) → fits call stage Expected ≡ true → is_member Open call ≡ 0 → not_gone fate ≡ true
+pub opened_fits : (call : DirectCall) (stage : CallStage) (fate : Fate) → fits call stage Expected ≡ true → is_member Open call ≡ 0 → not_gone fate ≡ true
     → fits call stage fate ≡ true
 opened_fits call stage fate fit other left = grind arith
 
 -- the close is done
-pub closed_fits : (call : DirectCall) (stage : Stage) (k : LifeKey) → fits call stage There ≡ true → is_member CloseMember call ≡ 0
+pub closed_fits : (call : DirectCall) (stage : CallStage) (k : LifeKey) → fits call stage There ≡ true → is_member CloseMember call ≡ 0
     → (waits_for (CloseOf k) call stage ≡ false) ⊎ (is_member Request call ≡ 0) → same_key (key_of_call call) k ≡ true → fits call stage Gone ≡ true
 closed_fits call stage k fit other turn same = grind arith
 
 -- an open that waits has its turn before the others of its chain
-pub no_open : (call : DirectCall) (stage : Stage) (k : LifeKey) → fits call stage Expected ≡ true → same_key (key_of_call call) k ≡ true
+pub no_open : (call : DirectCall) (stage : CallStage) (k : LifeKey) → fits call stage Expected ≡ true → same_key (key_of_call call) k ≡ true
     → (waits_for (UseOf k) call stage ≡ false) ⊎ (waits_for (CloseOf k) call stage ≡ false) → is_member Open call ≡ 0
 no_open call stage k fit same turn = grind arith

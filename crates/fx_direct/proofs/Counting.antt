@@ -2,7 +2,7 @@
 use Rattle.fx_direct.proofs.Words.{arith, ◌≡◌, ◌≢◌, ℕ, ◌+◌, ◌<◌, ◌≤◌, ◌==◌, ◌⊎◌, inl, inr, Bool, true, false, List, [], ◌∷◌, refl, sym, ap, ◌∙◌, subst}
 use Rattle.fx_direct.proofs.Words.{if◌then◌else◌, cases_eq, eq-eqb, ne_eqb, Transition, LifeKey, Phase, Slot, ChainOpen, ChainEnd, Reserves, Opening, Chained, Installed, Failed, Took, Free}
 use Rattle.fx_direct.proofs.Words.{AllFree, AreEnabled, slots_left_by, slot_numbered, phase_at, requests_in, users_in, is_live, is_installed, is_opening, is_closing, is_chained, chain_phase, bit}
-use Rattle.fx_direct.proofs.Words.{key_concerned, IsPossible, IsEnabled, phase_after, slots_with, same_key}
+use Rattle.fx_direct.proofs.Words.{key_concerned, FitsPhase, IsEnabled, phase_after, slots_with, same_key}
 use Rattle.fx_direct.specs.Counts.{times, of_key, reserves, chains, opens, starts, finishes, holds, releases, ends, asks, closes, fails, is_early, phase_of}
 use Rattle.fx_direct.specs.Counts.{EachKeyIsBalanced, IsBalanced, KeysAreGivenOnce, NothingIsLeftOfALife}
 use Rattle.fx_direct.specs.Phases.{ends_anyway}
@@ -49,7 +49,7 @@ pub record Kept (h : List Transition) (k : LifeKey) (number : ℕ) (p : Phase) :
 proper_chain : (n : ℕ) (opened : ChainOpen) (end : ChainEnd) → contradict opened end ≡ false → IsProper (chain_phase n opened end)
 proper_chain n opened end fit = grind arith
 
-proper_after : (d : Transition) (p : Phase) → IsPossible d p → IsProper p → IsProper (phase_after d p)
+proper_after : (d : Transition) (p : Phase) → FitsPhase d p → IsProper p → IsProper (phase_after d p)
 proper_after d p may proper = grind (arith, proper_chain)
 
 of_same : (j k : LifeKey) (n : ℕ) → same_key j k ≡ true → of_key j k n ≡ n
@@ -80,7 +80,7 @@ asked_fails p may = grind arith
 asked_phases : (p q : Phase) → p ≡ q → (bit (is_early p) ≡ bit (is_early q)) × (bit (is_installed p) ≡ bit (is_installed q))
 asked_phases p q e = (ap (λ (r : Phase). bit (is_early r)) e, ap (λ (r : Phase). bit (is_installed r)) e)
 
-for_asked : (k : LifeKey) (d : Transition) (p : Phase) → IsPossible d p → IsProper p → same_key (key_concerned d) k ≡ true
+for_asked : (k : LifeKey) (d : Transition) (p : Phase) → FitsPhase d p → IsProper p → same_key (key_concerned d) k ≡ true
     → opens k d + fails k d + bit (is_early (phase_after d p)) + bit (is_installed p) ≡ asks k d + bit (is_installed (phase_after d p)) + bit (is_early p)
 for_asked k (Reserves j) p may proper same = let e = asked_phases p Free may in omega (arith, e.0, e.1)
 for_asked k (Chains j n true) p may proper same = let e = asked_phases p Opening may in omega (arith, e.0, e.1, of_same j k 1 same)
@@ -97,7 +97,7 @@ for_asked k (Closes j) p may proper same = omega (arith, asked_closes p may)
 for_asked k (FailsToClose j) p may proper same = omega (arith, asked_fails p may, of_same j k 1 same)
 
 -- what the transition adds to the counts, and what it changes in the phase
-module _ (k : LifeKey) (d : Transition) (p : Phase) (may : IsPossible d p) (proper : IsProper p) (same : same_key (key_concerned d) k ≡ true) where
+module _ (k : LifeKey) (d : Transition) (p : Phase) (may : FitsPhase d p) (proper : IsProper p) (same : same_key (key_concerned d) k ≡ true) where
   abbrev p' : Phase
   p' = phase_after d p
 
@@ -222,7 +222,7 @@ module _ (k : LifeKey) (d : Transition) (none : same_key (key_concerned d) k ≡
     live = λ is. omega (arith, begun.live is, no_opens);
   }
 
-pub possible : (slots : List Slot) (d : Transition) → IsEnabled slots d → IsPossible d (phase_at slots (key_concerned d).slot)
+pub possible : (slots : List Slot) (d : Transition) → IsEnabled slots d → FitsPhase d (phase_at slots (key_concerned d).slot)
 possible slots d can = grind arith
 
 -- the phase of a key whose number the slot has, and of one whose number it hasn't

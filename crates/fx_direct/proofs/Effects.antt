@@ -1,4 +1,4 @@
--- What each transition does to the calls that its slot's phase counts, and to the file of the slot.
+-- The effects of each transition on the calls that its slot's phase counts, and on the slot's file.
 use Rattle.fx_direct.proofs.Words.{arith, ◌≡◌, ℕ, ◌+◌, ◌-◌, ◌<◌, Bool, true, false, if◌then◌else◌, LifeKey, Phase, Member}
 use Rattle.fx_direct.proofs.Words.{Free, Opening, Ending, Closing, Chained, Unseen, chain, chain_of, ChainOpen, ChainEnd}
 use Rattle.fx_direct.proofs.Words.{requests_in, users_in, is_live, is_closing, is_chained, with_counts, when_opened, OpenAt, UseOf, CloseOf, Made, Quit}

@@ -1,6 +1,6 @@
 -- Flights from one empty slot, moment by moment: each world is the one that the moment leaves.
-use Rattle.fx_direct.proofs.Words.{arith, ◌<◌, ◌≤◌, ◌≡◌, List, [], ◌∷◌, ◌++◌, refl, Bool, false, Slot, World, Pending, pending, Stage, Waits, Quit, UseOf, Transition, DirectCall}
-use Rattle.fx_direct.proofs.Words.{Accesses, Does, Quits, Others, DirectMoment, Loses, TurnsCalls, MayMake, IsInTurn, stage_after, IsElsewhere, Allows, Action, slots_with, table_after, length}
+use Rattle.fx_direct.proofs.Words.{arith, ◌<◌, ◌≤◌, ◌≡◌, List, [], ◌∷◌, ◌++◌, refl, Bool, false, Slot, World, Pending, pending, CallStage, Waits, Quit, UseOf, Transition, DirectCall}
+use Rattle.fx_direct.proofs.Words.{Accesses, Does, Quits, Others, DirectMoment, Loses, TurnsCalls, MayMake, HasItsTurn, stage_after, IsElsewhere, Allows, Action, slots_with, table_after, length}
 use Rattle.fx_direct.specs.Flight.{IsDirectFlightBy}
 use Rattle.fx_direct.specs.Round.{one_slot, first_key}
 use Rattle.fx_direct.specs.declared.key.TheConstants.{MOST_LIVES}
@@ -25,7 +25,7 @@ waits call = pending call false Waits
 abbrev pub use1 : Pending
 use1 = waits (UseOf first_key)
 
-pub only : (c : DirectCall) (linked : Bool) (stage : Stage) (rest : List Pending) → Loses c stage (pending c linked stage ∷ rest) rest
+pub only : (c : DirectCall) (linked : Bool) (stage : CallStage) (rest : List Pending) → Loses c stage (pending c linked stage ∷ rest) rest
 only c linked stage rest = record { front = []; rest = rest; linked = linked; was = refl; is = refl }
 
 -- a flight with these moments, under a condition of the machine's transitions
@@ -46,7 +46,7 @@ module _ {enabled : List Slot → Transition → Type 0} {h : List DirectMoment}
 
   -- an access by the call between `front` and `rest`
   abbrev pub makes : (call : DirectCall) (linked : Bool) (a : Action) (front rest : List Pending) → Allows f.end.table a
-      → f.end.calls ≡ front ++ pending call linked Waits ∷ rest → MayMake call a → IsInTurn call linked f.end.calls → Flown enabled (Accesses call a ∷ h)
+      → f.end.calls ≡ front ++ pending call linked Waits ∷ rest → MayMake call a → HasItsTurn call linked f.end.calls → Flown enabled (Accesses call a ∷ h)
   makes call linked a front rest allowed was may turn = record {
     end = record { slots = f.end.slots; table = table_after f.end.table a; calls = front ++ pending call linked (stage_after call a) ∷ rest };
     flight = (f.end, f.flight, (allowed, record { front = front; rest = rest; linked = linked; was = was; is = refl; may = may; turn = turn }, refl));

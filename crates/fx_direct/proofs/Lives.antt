@@ -2,7 +2,7 @@
 use Rattle.fx_direct.proofs.Words.{arith, ◌≡◌, ◌≢◌, ℕ, ◌+◌, ◌<◌, ◌≤◌, ◌⊎◌, inl, inr, Bool, true, false, List, [], ◌∷◌, length, refl, sym, ap, ◌∙◌, subst}
 use Rattle.fx_direct.proofs.Words.{Option, Some, None, cases_eq, cases_lt, ◌▷▷◌, Transition, LifeKey, Phase, Slot}
 use Rattle.fx_direct.proofs.Words.{Asks, Free, Ending, Closing, slot_numbered, phase_at, requests_in, users_in, is_live, is_installed, is_chained, bit}
-use Rattle.fx_direct.proofs.Words.{key_concerned, HasLife, IsPossible, IsEnabled, phase_after, slots_with, AreEnabled, slots_left_by, Advances, AdvancesAndAsks}
+use Rattle.fx_direct.proofs.Words.{key_concerned, HasLife, FitsPhase, IsEnabled, phase_after, slots_with, AreEnabled, slots_left_by, Advances, AdvancesAndAsks}
 use Rattle.fx_direct.specs.Counts.{times, chains, opens, starts, finishes, holds, releases, ends, asks, closes, fails, is_early, phase_of, IsBalanced}
 use Rattle.fx_direct.specs.Lives.{NoCloseIsDue, NeverAsks, NoCloseIsLate, EachCloseIsAskedForOnce, StaleKeysStayStale}
 use Rattle.fx_direct.proofs.Counting.{Kept, IsProper, is_unopened, kept_always, possible, phase_else, phase_here}
@@ -75,7 +75,7 @@ each_close_is_asked_for_once start h k free can =
 
 -- No close is late.
 
-never : (t : Transition) (p : Phase) → NeverAsks t → IsPossible t p → phase_after t p ≡ Ending 0 0 → ⊥
+never : (t : Transition) (p : Phase) → NeverAsks t → FitsPhase t p → phase_after t p ≡ Ending 0 0 → ⊥
 never t p calm may e = grind arith
 
 -- after a transition no close is due, if none is due at its slot

@@ -1,7 +1,7 @@
 -- Each transition of the machine keeps what is sound.
 use Rattle.fx_direct.proofs.Words.{arith, ◌≡◌, ◌≢◌, ℕ, ◌+◌, ◌-◌, ◌<◌, Bool, true, false, List, [], ◌∷◌, ◌++◌, length, refl, sym, ap}
 use Rattle.fx_direct.proofs.Words.{AllByRecursion, ◌∙◌, subst, LifeKey, Phase, State, Member, Request, CloseMember}
-use Rattle.fx_direct.proofs.Words.{FailsToClose, is_chained, requests_in, users_in, DirectCall, OpenAt, UseOf, CloseOf, key_of_call, Stage, Waits, Made, Quit}
+use Rattle.fx_direct.proofs.Words.{FailsToClose, is_chained, requests_in, users_in, DirectCall, OpenAt, UseOf, CloseOf, key_of_call, CallStage, Waits, Made, Quit}
 use Rattle.fx_direct.proofs.Words.{Pending, pending, DirectMoment, Does, Loses, Transition, Reserves, Chains, Opens, Starts, Finishes, Holds, Releases, Ends, Asks, Closes}
 use Rattle.fx_direct.proofs.Words.{slot_numbered, phase_at, key_concerned, phase_after, NamesLastLife, IsEnabled, slots_with, TurnsCalls, files_under, has_chain, life_at, changed_at}
 use Rattle.fx_direct.proofs.Words.{with_uses, with_close, Free, Opening, Ending, Closing, is_live, ne_eqb, eq-eqb, Slot, Option, None, File}
@@ -68,7 +68,7 @@ module _ {fate : ℕ → Fate} {slots : List Slot} {table : State} {calls : List
       (λ e c. absurd (cc (sym unchained ∙ was c)), each-map (Fitting slots fate) (Binds sound d names.0) calls (bound was) sound.fits)
 
   -- a call is over
-  lost : (call : DirectCall) (stage : Stage) (calls' : List Pending) → key_of_call call ≡ k → Loses call stage calls calls'
+  lost : (call : DirectCall) (stage : CallStage) (calls' : List Pending) → key_of_call call ≡ k → Loses call stage calls calls'
       → ((m : Member) → count_in m p ≡ is_member m call + count_in m (phase_after d p))
       → (fits call stage (fate k.slot) ≡ true → suits (fate k.slot) (phase_after d p) ≡ true)
       → (is_chained (phase_after d p) ≡ true → is_chained p ≡ true)

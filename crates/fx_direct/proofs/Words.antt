@@ -15,7 +15,7 @@ pub use Rattle.fx_direct.specs.declared.key.LifeKey.{LifeKey}
 pub use Rattle.fx_direct.specs.declared.phase.Phase.{Phase}
 pub use Rattle.fx_direct.specs.declared.phase.Slot.{Slot}
 pub use Rattle.fx_direct.specs.declared.transition.Transition.{Transition}
-pub use Rattle.fx_direct.specs.declared.chain.Chain.{Chain}
+pub use Rattle.fx_direct.specs.declared.chain.LifeChain.{LifeChain}
 pub use Rattle.fx_direct.specs.declared.chain.ChainEnd.{ChainEnd}
 pub use Rattle.fx_direct.specs.declared.chain.ChainOpen.{ChainOpen}
 pub use Rattle.fx_direct.specs.declared.chain.Member.{Member}
@@ -25,8 +25,8 @@ pub use Rattle.fx_direct.specs.Phases.{Free, Opening, Live, Ending, Closing, Cha
 pub use Rattle.fx_direct.specs.Phases.{unused, slot_numbered, phase_at, requests_in, users_in, is_free, is_live, is_installed, is_opening, is_closing, is_chained, calls_in}
 pub use Rattle.fx_direct.specs.Phases.{lives_in, AllFree}
 pub use Rattle.fx_direct.specs.Transitions.{Reserves, Chains, Opens, Starts, Finishes, Holds, Releases, Ends, Asks, Closes, FailsToClose, with_counts, when_opened, key_concerned}
-pub use Rattle.fx_direct.specs.Transitions.{NamesLastLife, HasLife, IsPossible, IsEnabled, phase_after, with_phase, slots_with, AreEnabled, slots_left_by, Advances, AdvancesAndAsks}
+pub use Rattle.fx_direct.specs.Transitions.{NamesLastLife, HasLife, FitsPhase, IsEnabled, phase_after, with_phase, slots_with, AreEnabled, slots_left_by, Advances, AdvancesAndAsks}
 pub use Rattle.fx_direct.specs.Living.{same_key, life_at}
-pub use Rattle.fx_direct.specs.Flight.{DirectCall, OpenAt, UseOf, CloseOf, key_of_call, Stage, Waits, Made, Quit, Pending, pending, World, DirectMoment, Does, Accesses, Quits, Others, Loses}
-pub use Rattle.fx_direct.specs.Flight.{TurnsCalls, with_uses, with_close, waits_for, IsInTurn, stage_after, MayMake, Makes, Stops, IsElsewhere, Comes, IsDirectFlight, files_put_by, files_under, has_chain}
+pub use Rattle.fx_direct.specs.Flight.{DirectCall, OpenAt, UseOf, CloseOf, key_of_call, CallStage, Waits, Made, Quit, Pending, pending, World, DirectMoment, Does, Accesses, Quits, Others, Loses}
+pub use Rattle.fx_direct.specs.Flight.{TurnsCalls, with_uses, with_close, waits_for, HasItsTurn, stage_after, MayMake, Makes, Stops, IsElsewhere, Comes, IsDirectFlight, files_put_by, files_under, has_chain}
 pub use Rattle.fx_direct.specs.Laws.{IsEmptyStart, IsFileOf, IsMissed, FindsItsOwn, NothingIsAt}

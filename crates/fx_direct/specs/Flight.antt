@@ -31,18 +31,18 @@ key_of_call (CloseOf k) = k
 
 -- what a call in flight has done: it waits for its turn, or is at work; it has installed its file,
 -- or taken the file from its slot; or it makes no access any more, and has done neither
-pub data Stage : Type 0 where
-  Waits : Stage
-  Made : Stage
-  Quit : Stage
+pub data CallStage : Type 0 where
+  Waits : CallStage
+  Made : CallStage
+  Quit : CallStage
 
 -- a call in flight, and whether it is linked to the calls before it in a chain
 pub record Pending : Type 0 where
   pub call : DirectCall
   pub linked : Bool
-  pub stage : Stage
+  pub stage : CallStage
 
-abbrev pub pending : DirectCall → Bool → Stage → Pending
+abbrev pub pending : DirectCall → Bool → CallStage → Pending
 pending call linked stage = record { call = call; linked = linked; stage = stage }
 
 -- the machine, the kernel's table, and the calls in flight
@@ -61,7 +61,7 @@ pub data DirectMoment : Type 0 where
   Others : Action → DirectMoment
 
 -- one call in flight is over
-pub record Loses (call : DirectCall) (stage : Stage) (old new : List Pending) : Type 0 where
+pub record Loses (call : DirectCall) (stage : CallStage) (old new : List Pending) : Type 0 where
   pub front : List Pending
   pub rest : List Pending
   pub linked : Bool
@@ -77,9 +77,9 @@ abbrev pub with_close : LifeKey → Bool → List Pending → List Pending
 with_close k true calls = pending (CloseOf k) true Waits ∷ calls
 with_close k false calls = calls
 
-abbrev pub stage_of : Bool → Stage
-stage_of true = Made
-stage_of false = Quit
+abbrev pub stage_by : Bool → CallStage
+stage_by true = Made
+stage_by false = Quit
 
 -- the calls in flight after a transition. A completion is that of a call that makes no access any
 -- more. An open is answered by a success if and only if it has installed its file, and a close if
@@ -88,7 +88,7 @@ abbrev pub TurnsCalls : Transition → List Pending → List Pending → Type 0
 TurnsCalls (Reserves k) old new = new ≡ pending (OpenAt k) false Waits ∷ old
 TurnsCalls (Chains k requests closes) old new =
     new ≡ with_close k closes (with_uses k requests old)
-TurnsCalls (Opens k installed) old new = Loses (OpenAt k) (stage_of installed) old new
+TurnsCalls (Opens k installed) old new = Loses (OpenAt k) (stage_by installed) old new
 TurnsCalls (Starts k) old new = new ≡ pending (UseOf k) false Waits ∷ old
 TurnsCalls (Finishes k) old new = Loses (UseOf k) Quit old new
 TurnsCalls (Asks k) old new = new ≡ pending (CloseOf k) false Waits ∷ old
@@ -106,23 +106,23 @@ MayMake (CloseOf k) (Take slot found) = slot ≡ k.slot
 MayMake call action = ⊥
 
 -- the call after an access of its own. A close that found no file has done nothing
-abbrev pub stage_after : DirectCall → Action → Stage
+abbrev pub stage_after : DirectCall → Action → CallStage
 stage_after (UseOf k) action = Waits
 stage_after (CloseOf k) (Take slot None) = Quit
 stage_after call action = Made
 
 -- the order of a chain: a request makes its accesses after the open of its key, and a close after
 -- the open and the requests. The call has to wait for the other one, which is in this stage
-abbrev pub waits_for : DirectCall → DirectCall → Stage → Bool
+abbrev pub waits_for : DirectCall → DirectCall → CallStage → Bool
 waits_for (UseOf k) (OpenAt j) Waits = same_key j k
 waits_for (CloseOf k) (OpenAt j) Waits = same_key j k
 waits_for (CloseOf k) (UseOf j) Waits = same_key j k
 waits_for call other stage = false
 
 -- if the call is linked, it has to wait for none of these
-abbrev pub IsInTurn : DirectCall → Bool → List Pending → Type 0
-IsInTurn call true calls = AllByRecursion (λ p. waits_for call p.call p.stage ≡ false) calls
-IsInTurn call false calls = Unit {0}
+abbrev pub HasItsTurn : DirectCall → Bool → List Pending → Type 0
+HasItsTurn call true calls = AllByRecursion (λ p. waits_for call p.call p.stage ≡ false) calls
+HasItsTurn call false calls = Unit {0}
 
 -- a call in flight makes an access, in its turn
 pub record Makes (call : DirectCall) (action : Action) (old new : List Pending) : Type 0 where
@@ -132,7 +132,7 @@ pub record Makes (call : DirectCall) (action : Action) (old new : List Pending) 
   pub was : old ≡ front ++ pending call linked Waits ∷ rest
   pub is : new ≡ front ++ pending call linked (stage_after call action) ∷ rest
   pub may : MayMake call action
-  pub turn : IsInTurn call linked old
+  pub turn : HasItsTurn call linked old
 
 -- a call in flight makes no access any more: its accesses are done, or the kernel skips it
 pub record Stops (call : DirectCall) (old new : List Pending) : Type 0 where

@@ -2,7 +2,7 @@
 use Rattle.std.specs.Prelude.{◌≡◌, ℕ, ◌+◌, ◌==◌, Bool, true, false, List, slice_index_or}
 use Rattle.std.specs.Prelude.{if◌then◌else◌}
 use Rattle.std.specs.List.{sum_by}
-use Rattle.fx_direct.specs.declared.chain.Chain.{Chain}
+use Rattle.fx_direct.specs.declared.chain.LifeChain.{LifeChain}
 use Rattle.fx_direct.specs.declared.chain.ChainEnd.{ChainEnd}
 pub use Rattle.fx_direct.specs.declared.chain.ChainEnd.TheVariants.{Later, Due, Awaited, Took}
 pub use Rattle.fx_direct.specs.declared.chain.ChainEnd.TheVariants.{Left}
@@ -27,11 +27,11 @@ slot_numbered slots slot = slice_index_or slots slot unused
 abbrev pub phase_at : List Slot → ℕ → Phase
 phase_at slots slot = (slot_numbered slots slot).phase
 
-abbrev pub chain : ℕ → ChainOpen → ChainEnd → Chain
+abbrev pub chain : ℕ → ChainOpen → ChainEnd → LifeChain
 chain requests opened end = record { requests = requests; opened = opened; end = end }
 
 -- a chain of which no completion was seen
-abbrev pub chain_of : ℕ → Bool → Chain
+abbrev pub chain_of : ℕ → Bool → LifeChain
 chain_of requests true = chain requests Unseen Awaited
 chain_of requests false = chain requests Unseen Later
 
@@ -47,7 +47,7 @@ chain_phase requests Installed Left =
 chain_phase requests opened end =
     if requests == 0 then Free else Chained (chain requests opened end)
 
-abbrev pub phase_of_chain : Chain → Phase
+abbrev pub phase_of_chain : LifeChain → Phase
 phase_of_chain c = chain_phase c.requests c.opened c.end
 
 -- the completion of a chain's open wasn't seen
@@ -117,7 +117,7 @@ abbrev pub ends_anyway : Phase → Bool
 ends_anyway (Chained c) = ends_chain c.end
 ends_anyway phase = false
 
-abbrev pub calls_of_chain : Chain → ℕ
+abbrev pub calls_of_chain : LifeChain → ℕ
 calls_of_chain c = c.requests + bit (is_unseen c.opened) + bit (is_awaited c.end)
 
 -- the calls in flight at a slot: its open, its requests or its close

@@ -74,18 +74,18 @@ may_close (Chained c) = can_close c.opened c.end
 may_close p = false
 
 -- the condition of a transition on its slot's phase
-abbrev pub IsPossible : Transition → Phase → Type 0
-IsPossible (Reserves k) p = p ≡ Free
-IsPossible (Chains k requests closes) p = p ≡ Opening
-IsPossible (Opens k installed) p = may_open installed p ≡ true
-IsPossible (Starts k) p = is_live p ≡ true
-IsPossible (Finishes k) p = 0 < requests_in p
-IsPossible (Holds k) p = is_live p ≡ true
-IsPossible (Releases k) p = 0 < users_in p
-IsPossible (Ends k) p = may_end p ≡ true
-IsPossible (Asks k) p = p ≡ Ending 0 0
-IsPossible (Closes k) p = may_close p ≡ true
-IsPossible (FailsToClose k) p = is_closing p ≡ true
+abbrev pub FitsPhase : Transition → Phase → Type 0
+FitsPhase (Reserves k) p = p ≡ Free
+FitsPhase (Chains k requests closes) p = p ≡ Opening
+FitsPhase (Opens k installed) p = may_open installed p ≡ true
+FitsPhase (Starts k) p = is_live p ≡ true
+FitsPhase (Finishes k) p = 0 < requests_in p
+FitsPhase (Holds k) p = is_live p ≡ true
+FitsPhase (Releases k) p = 0 < users_in p
+FitsPhase (Ends k) p = may_end p ≡ true
+FitsPhase (Asks k) p = p ≡ Ending 0 0
+FitsPhase (Closes k) p = may_close p ≡ true
+FitsPhase (FailsToClose k) p = is_closing p ≡ true
 
 -- the condition of a transition, in the slots before it
 abbrev pub IsEnabled : List Slot → Transition → Type 0
@@ -93,7 +93,7 @@ IsEnabled slots (Reserves k) =
     (k.slot < length slots) × (k.number ≡ (slot_numbered slots k.slot).number + 1)
     × (phase_at slots k.slot ≡ Free) × (k.number ≤ MOST_LIVES)
 IsEnabled slots t =
-    NamesLastLife slots (key_concerned t) × IsPossible t (phase_at slots (key_concerned t).slot)
+    NamesLastLife slots (key_concerned t) × FitsPhase t (phase_at slots (key_concerned t).slot)
 
 -- the completion of a member of a chain
 abbrev pub completion : LifeKey → Member → Bool → Transition

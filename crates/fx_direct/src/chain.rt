@@ -4,7 +4,7 @@
 //! is taken: a hard link's close runs although the open failed.
 ghost use Rattle.std.specs.Prelude.{◌≡◌, ◌≤◌, ◌+◌, ◌^◌, MatchOption, true, false};
 ghost use Rattle.fx_direct.specs.Phases.{Chained, calls_of_chain, chain_of, phase_of_chain};
-ghost use Rattle.fx_direct.specs.Transitions.{IsPossible, completion, phase_after};
+ghost use Rattle.fx_direct.specs.Transitions.{FitsPhase, completion, phase_after};
 ghost use Rattle.fx_direct.specs.Transitions.{when_closed, when_left, when_opened};
 ghost use Rattle.fx_direct.specs.declared.key.LifeKey.{LifeKey};
 
@@ -49,7 +49,7 @@ pub enum ChainEnd {
 
 /// A chain in flight.
 #[derive(Clone, Copy, Debug, PartialEq, Eq)]
-pub struct Chain {
+pub struct LifeChain {
     /// The number of requests whose completions weren't reported.
     pub requests: u32,
     /// The completion of the chain's open.
@@ -58,13 +58,13 @@ pub struct Chain {
     pub end: ChainEnd,
 }
 
-impl Chain {
+impl LifeChain {
     // Creates a chain of which no completion was reported.
     #[inline(always)]
-    pub(crate) fn of(requests: u32, closes: bool) -> Chain
+    pub(crate) fn of(requests: u32, closes: bool) -> LifeChain
         ensures { result ≡ chain_of requests closes }
     {
-        Chain {
+        LifeChain {
             requests,
             opened: ChainOpen::Unseen,
             end: if closes {
@@ -111,15 +111,15 @@ impl Chain {
     #[inline(always)]
     pub(crate) fn after(self, member: Member, succeeded: bool) -> Option<Phase>
         ensures { (key : LifeKey) → MatchOption result
-            (IsPossible (completion key member succeeded) (Chained self) → ⊥)
-            (λ phase. IsPossible (completion key member succeeded) (Chained self)
+            (FitsPhase (completion key member succeeded) (Chained self) → ⊥)
+            (λ phase. FitsPhase (completion key member succeeded) (Chained self)
             × (phase ≡ phase_after (completion key member succeeded) (Chained self))) }
     {
         match (member, succeeded, self.opened, self.end) {
             (Member::Open, false, ChainOpen::Unseen, ChainEnd::Took) => None,
             (Member::Open, _, ChainOpen::Unseen, _) => Some(self.after_open(succeeded)),
             (Member::Request, _, _, _) if self.requests > 0 => {
-                let next = Chain {
+                let next = LifeChain {
                     requests: self.requests - 1,
                     ..self
                 };
@@ -141,7 +141,7 @@ impl Chain {
         } else {
             ChainOpen::Failed
         };
-        Chain { opened, ..self }.phase()
+        LifeChain { opened, ..self }.phase()
     }
 
     // Returns the phase after the close, by whether it took the file.
@@ -151,6 +151,6 @@ impl Chain {
         ensures left { took ≡ false → result ≡ when_left (Chained self) }
     {
         let end = if took { ChainEnd::Took } else { ChainEnd::Left };
-        Chain { end, ..self }.phase()
+        LifeChain { end, ..self }.phase()
     }
 }

@@ -1,4 +1,4 @@
-//! What a call leaves of a life: its slot is free, its close is asked for, or its phase is written.
+//! The last step of a call: its slot becomes free, its close is asked for, or its phase is written.
 ghost use Rattle.std.specs.Prelude.{◌≡◌, ℕ, ◌&&◌, ◌<◌, ◌==◌, false, nat_lt, length};
 ghost use Rattle.std.specs.Prelude.{if◌then◌else◌};
 ghost use Rattle.fx_direct.specs.Machine.{WritesPhase};

@@ -22,7 +22,7 @@ mod slot_order;
 mod slots;
 mod transition;
 
-pub use chain::{Chain, ChainEnd, ChainOpen, Member};
+pub use chain::{ChainEnd, ChainOpen, LifeChain, Member};
 pub use crossing::machine_crosses;
 pub use key::{KINDS, LifeKey, MOST_LIVES, MOST_SLOTS};
 pub use keys::Keys;

@@ -2,7 +2,7 @@
 ghost use Rattle.std.specs.Prelude.{◌≡◌, ◌≤◌, ◌+◌, ◌^◌};
 ghost use Rattle.fx_direct.specs.Phases.{calls_in, lives_in, requests_in, users_in};
 
-use crate::chain::Chain;
+use crate::chain::LifeChain;
 use std::fmt;
 
 /// The phase of a slot. The counts are those of the requests in flight, and of the other users.
@@ -19,7 +19,7 @@ pub enum Phase {
     /// A close of the slot is in flight.
     Closing,
     /// A chain that opens the slot's file is in flight.
-    Chained(Chain),
+    Chained(LifeChain),
 }
 
 impl Phase {

@@ -15,7 +15,7 @@ ghost use Rattle.fx_direct.specs.declared.transition.Transition.TheVariants.{Sta
 ghost use Rattle.fx_direct.specs.declared.transition.Transition.TheVariants.{Holds, Releases};
 ghost use Rattle.fx_direct.specs.declared.transition.Transition.TheVariants.{Closes, FailsToClose};
 
-use crate::chain::{Chain, ChainEnd, Member};
+use crate::chain::{ChainEnd, LifeChain, Member};
 use crate::ending::{ask_again, free, set_ending, write};
 use crate::key::LifeKey;
 use crate::keys::Keys;
@@ -130,7 +130,7 @@ impl DirectSlots {
     {
         match self.list.get(key)? {
             Phase::Opening => {
-                let chain = Chain::of(requests, closes);
+                let chain = LifeChain::of(requests, closes);
                 self.list.set(key, Phase::Chained(chain));
                 Ok(key.slot)
             }
@@ -277,7 +277,7 @@ impl DirectSlots {
             Phase::Live(requests, users) => { Ok(set_ending(&mut self.list, key, requests, users)) }
             Phase::Chained(chain) => {
                 if chain.end == ChainEnd::Later {
-                    let ended = Chain {
+                    let ended = LifeChain {
                         end: ChainEnd::Due,
                         ..chain
                     };
