@@ -1,7 +1,7 @@
 """measure-logs [CALLS [COUNT]]: measures how long the verified judge takes for logs of calls in flight, and what it finds.
 
 For each number of open calls it prints the CPU seconds of a legal log of CALLS calls, those of a log that was spoiled near its end, their
-ratio, and the steps of the reason with their CPU seconds; then those of a spoiled log of 480,000 calls; then those of two legal logs, of
+ratio, and the number of steps of the reason; then those of a spoiled log of 480,000 calls; then those of two legal logs, of
 60,000 calls and of eight times as many; then, of COUNT spoiled logs of 500 calls for each way, the numbers of logs that are legal, not legal
 and undecided, and of those not legal that have a reason.
 
@@ -27,15 +27,13 @@ RATIO, SECONDS, SHARE = 2, 10, 95
 
 
 class Judged:
-    """The verdict on a log, the reason of one that is not legal, and the CPU seconds that each took."""
+    """The verdict on a log with its reason, and the CPU seconds that it took."""
 
     def __init__(self, lines):
         self.log = yachtlog.Log("\n".join(lines) + "\n")
         self.verdict, self.seconds = self.timed(yachtjudge.judge_events, self.log)
         self.word = self.verdict.word
-        self.steps, self.reason_seconds = (), 0.0
-        if self.word == "not legal":
-            self.steps, self.reason_seconds = self.timed(yachtjudge.explain_events, self.log, self.verdict.line)
+        self.steps = self.verdict.reason
 
     def timed(self, function, *given):
         began = time.process_time()
@@ -43,7 +41,7 @@ class Judged:
         return found, time.process_time() - began
 
     def reason(self):
-        return f"{len(self.steps)} steps {self.reason_seconds:.2f}"
+        return f"{len(self.steps)} steps"
 
 
 def rows(calls, missed):

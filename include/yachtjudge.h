@@ -38,14 +38,13 @@ const char *yacht_judge_version(void);
 #define yacht_outcomes yacht_outcomes_6
 #define yacht_judge_events yacht_judge_events_6
 #define yacht_judge_whole_updates yacht_judge_whole_updates_6
-#define yacht_explain_events yacht_explain_events_6
 
 /* What the functions return. */
 enum {
     YACHT_LEGAL = 0,       /* a judge: the script may print the text, or the log has a flight */
     YACHT_NOT_LEGAL = 1,   /* a judge: the script doesn't print the text, or the log has no flight
                             * in which each request finds memory */
-    YACHT_UNDECIDED = 2,   /* a judge: neither was shown within the limits; or no reason is found */
+    YACHT_UNDECIDED = 2,   /* a judge: neither was shown within the limits */
     YACHT_BAD_SCRIPT = 3,  /* all: the bytes are not a script */
     YACHT_JUDGE_NO_MEMORY = 4, /* all: an allocation failed */
     YACHT_FAULTY = 5,      /* a judge: an event can't follow those before it in a log */
@@ -178,39 +177,6 @@ enum {
 /* The largest number of slots of a log's table. */
 enum { YACHT_MOST_LOG_SLOTS = 1048576 };
 
-/* The details of a verdict on a log. A field is 0 unless its number is returned. */
-typedef struct yacht_judgement {
-    /* YACHT_NOT_LEGAL: the position of the event, from 0, up to and with which the log has no
-     * flight in which each request finds memory, or none by whole updates; YACHT_FAULTY,
-     * YACHT_MALFORMED: of the first event with a fault or a flaw */
-    uint64_t at;
-    uint32_t fault; /* YACHT_FAULTY, YACHT_MALFORMED: the number of the fault or of the flaw */
-    uint32_t line;  /* YACHT_BAD_SCRIPT: as in a verdict */
-} yacht_judgement;
-
-/* Judges a log of calls in flight. The files of `script` are the catalogue, numbered from 0 in the
- * order of their lines; its commands are not looked at. The table has `slots` slots, all of them
- * empty at first and in the allocation range. The events name ranges of the other arrays: the
- * requests of chains, the entries of updates (-1 empties a slot, -2 leaves it as it is, any other
- * number is a file), and the bytes that reads returned. Each search of states keeps at most
- * `states` states and `memory` MiB of them. A log with an answer -12 is undecided.
- * Returns YACHT_LEGAL, YACHT_NOT_LEGAL, YACHT_UNDECIDED, YACHT_BAD_SCRIPT, YACHT_JUDGE_NO_MEMORY,
- * YACHT_FAULTY, YACHT_MALFORMED or YACHT_TOO_MANY_SLOTS, and writes *judgement. */
-uint32_t yacht_judge_events(const uint8_t *script, size_t script_length, uint32_t slots,
-                            const yacht_request *requests, size_t requests_length,
-                            const int32_t *entries, size_t entries_length, const uint8_t *bytes,
-                            size_t bytes_length, const yacht_event *events, size_t events_length,
-                            uint32_t states, uint32_t memory, yacht_judgement *judgement);
-
-/* Judges a log as yacht_judge_events does, by whole updates: each update is one step, as on Linux,
- * not one for each entry. A log that is legal by whole updates is legal. */
-uint32_t yacht_judge_whole_updates(const uint8_t *script, size_t script_length, uint32_t slots,
-                                   const yacht_request *requests, size_t requests_length,
-                                   const int32_t *entries, size_t entries_length,
-                                   const uint8_t *bytes, size_t bytes_length,
-                                   const yacht_event *events, size_t events_length, uint32_t states,
-                                   uint32_t memory, yacht_judgement *judgement);
-
 /* The kinds of the points in time of a flight, and the fields that each uses beside `kind`. */
 enum {
     YACHT_POINT_EVENT = 1,  /* the event at a position: at */
@@ -294,27 +260,45 @@ typedef struct yacht_step {
     yacht_point to;     /* the later point */
 } yacht_step;
 
-/* The details of a reason. A field is 0 unless its number is returned. */
-typedef struct yacht_reason {
-    uint64_t steps; /* YACHT_NOT_LEGAL: the number of steps of the whole reason */
-    uint64_t at;    /* YACHT_MALFORMED: the position of the first event with a flaw, from 0 */
-    uint32_t fault; /* YACHT_MALFORMED: the number of the flaw */
+/* The details of a verdict on a log. A field is 0 unless its number is returned. */
+typedef struct yacht_judgement {
+    /* YACHT_NOT_LEGAL: the position of the event, from 0, up to and with which the log has no
+     * flight in which each request finds memory, or none by whole updates; YACHT_FAULTY,
+     * YACHT_MALFORMED: of the first event with a fault or a flaw */
+    uint64_t at;
+    uint64_t steps; /* YACHT_NOT_LEGAL: the number of steps of the reason; 0 if none is found */
+    uint32_t fault; /* YACHT_FAULTY, YACHT_MALFORMED: the number of the fault or of the flaw */
     uint32_t line;  /* YACHT_BAD_SCRIPT: as in a verdict */
-} yacht_reason;
+} yacht_judgement;
 
-/* Looks for the reason why a log of calls in flight has no flight up to and with the event at a
- * position, such as the one that yacht_judge_events writes. The first steps of the reason are
- * written to `steps`, at most steps_length. Each follows from the log and from steps before it.
- * Returns YACHT_NOT_LEGAL if it finds a reason: then there is no such flight in which each request
- * finds memory. Returns YACHT_UNDECIDED if it finds none or no event has this position,
- * YACHT_BAD_SCRIPT, YACHT_JUDGE_NO_MEMORY, YACHT_MALFORMED or YACHT_TOO_MANY_SLOTS,
- * and writes *reason. */
-uint32_t yacht_explain_events(const uint8_t *script, size_t script_length, uint32_t slots,
-                              const yacht_request *requests, size_t requests_length,
-                              const int32_t *entries, size_t entries_length, const uint8_t *bytes,
-                              size_t bytes_length, const yacht_event *events, size_t events_length,
-                              uint64_t at, yacht_step *steps, size_t steps_length,
-                              yacht_reason *reason);
+/* Judges a log of calls in flight. The files of `script` are the catalogue, numbered from 0 in the
+ * order of their lines; its commands are not looked at. The table has `slots` slots, all of them
+ * empty at first and in the allocation range. The events name ranges of the other arrays: the
+ * requests of chains, the entries of updates (-1 empties a slot, -2 leaves it as it is, any other
+ * number is a file), and the bytes that reads returned. Each search of states keeps at most
+ * `states` states and `memory` MiB of them. A log with an answer -12 is undecided.
+ * For a log that isn't legal, it looks for the reason why the log has no flight up to and with the
+ * event judgement->at. The first steps of the reason are written to `steps`, at most steps_length.
+ * Each follows from the log and from steps before it.
+ * Returns YACHT_LEGAL, YACHT_NOT_LEGAL, YACHT_UNDECIDED, YACHT_BAD_SCRIPT, YACHT_JUDGE_NO_MEMORY,
+ * YACHT_FAULTY, YACHT_MALFORMED or YACHT_TOO_MANY_SLOTS, and writes *judgement. */
+uint32_t yacht_judge_events(const uint8_t *script, size_t script_length, uint32_t slots,
+                            const yacht_request *requests, size_t requests_length,
+                            const int32_t *entries, size_t entries_length, const uint8_t *bytes,
+                            size_t bytes_length, const yacht_event *events, size_t events_length,
+                            uint32_t states, uint32_t memory, yacht_step *steps,
+                            size_t steps_length, yacht_judgement *judgement);
+
+/* Judges a log as yacht_judge_events does, by whole updates: each update is one step, as on Linux,
+ * not one for each entry. A log that is legal by whole updates is legal. A reason is found only if
+ * the log is not legal by the entries of updates, either. */
+uint32_t yacht_judge_whole_updates(const uint8_t *script, size_t script_length, uint32_t slots,
+                                   const yacht_request *requests, size_t requests_length,
+                                   const int32_t *entries, size_t entries_length,
+                                   const uint8_t *bytes, size_t bytes_length,
+                                   const yacht_event *events, size_t events_length, uint32_t states,
+                                   uint32_t memory, yacht_step *steps, size_t steps_length,
+                                   yacht_judgement *judgement);
 
 #ifdef __cplusplus
 }

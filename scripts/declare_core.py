@@ -221,7 +221,7 @@ def with_version(path, count):
 # what the version follows, and each part of it; the library's name of a function has the major one
 VERSION = re.compile(
     r'(^(?:(?:__version__ =|version =|const VERSION: &str =|#define YACHT\w*VERSION) "|#define YACHT\w*VERSION_(MAJOR|MINOR|PATCH) )|'
-    r'\byacht_(?:open|direct_open|judge|outcomes|judge_events|judge_whole_updates|explain_events)_)(?=\d)[\d.]*\d', re.M)
+    r'\byacht_(?:open|direct_open|judge|outcomes|judge_events|judge_whole_updates)_)(?=\d)[\d.]*\d', re.M)
 # the files with the version, and how often each has it or a part of it
 VERSIONED = {
     "bindings/python/yachtjudge.py": 11, "bindings/recorder/src/c.rs": 1, "bindings/rust/Cargo.toml": 1, "bindings/rust_judge/Cargo.toml": 1,

@@ -113,11 +113,9 @@ def is_right(word, line, lines, legal, wants_line=True, is_whole=False):
     return not legal and is_legal(lines[: line - 1], is_whole) and not is_legal(lines[:line], is_whole)
 
 
-def facts_of(lines, line):
-    """Returns the reason why a log is not legal up to and with a line, as tests/reasons.py reads it, or nothing."""
-    import yachtjudge
-
-    return reasons.facts_of(yachtjudge.explain_events(yachtlog.Log(text_of(lines, len(lines))), line + HEAD.count("\n")))
+def facts_of(lines):
+    """Returns the reason of the verdict on a log, as tests/reasons.py reads it, or nothing."""
+    return reasons.facts_of(yachtlog.Log(text_of(lines, len(lines))).judge().reason)
 
 
 def text_of(lines, last):
@@ -233,7 +231,7 @@ class Checks(Counted):
         for last, why in reason_rows.wrong_rows():
             self.want(False, f"reasons.py says of {last}: {why or 'nothing'}")
         self.seen += reason_rows.count()
-        those = [(lines, line, facts_of(lines, line)) for lines, (word, line), _ in found if word == NOT_LEGAL]
+        those = [(lines, line, facts_of(lines)) for lines, (word, line), _ in found if word == NOT_LEGAL]
         for lines, line, facts in those:
             why = complaint_of_reason(lines, line, facts) if facts else ""
             self.want(not why, f"the reason of a log: {why}\n" + "\n".join(lines[:line]))

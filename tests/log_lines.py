@@ -214,8 +214,7 @@ ARGUMENTS = [
 # calls of the judge that find no memory, with arguments; the status is 5 then
 LACKING = [
     ("judge_events", ["right"]),
-    ("explain_events", ["stale"]),
-    ("explain_events", ["--shorten", "stale"]),
+    ("judge_events", ["--shorten", "stale"]),
 ]
 # wrong changes of the modules, of each kind of row
 WRONG = [
@@ -230,13 +229,13 @@ WRONG = [
     ("yachtlines", 'if result == 1 else ""', 'or "p"'),
     ("yachtlines", "if result == ENOMEM and not self.lacking", "if False"),
     ("yachtlog", "if it.line < self.lacking", "if True"),
-    ("yachtlog", 'return Verdict("undecided", self.lacking)', 'return Verdict("legal")'),
+    ("yachtlog", 'return yachtjudge.LogVerdict("undecided", self.lacking)', 'return yachtjudge.LogVerdict("legal")'),
     ("yachtlog", "yachtjudge.judge_events(self, before, states, memory, ", "yachtjudge.judge_events(self, before, "),
     ("yachtlog", "memory, whole_updates=whole_updates)\n        except", "memory)\n        except"),
     ("yachtlog", "Log(text).judge(states, memory, whole_updates=whole_updates)", "Log(text).judge(states, memory)"),
     ("yachtlog", "log.shortened(verdict, options.states, options.memory, whole_updates=options.whole_updates)",
      "log.shortened(verdict, options.states, options.memory)"),
-    ("yachtlog", "        verdict = Verdict(verdict.word, log.source.count", "        return log, verdict, []\n        verdict = Verdict(verdict.word, log.source.count"),
+    ("yachtlog", "whole_updates=options.whole_updates))\n        verdict = log", "whole_updates=options.whole_updates))\n        _ = log"),
     ("yachtlog", "    except MemoryError:", "    except ZeroDivisionError:"),
     ("yachtshorten", "yield call, [answer.found[0]]", "return"),
     ("yachtshorten", ", *self._needs_of_last(last)]", "]"),
@@ -250,7 +249,7 @@ WRONG = [
      "return max(status_of(it, options) for it in options.logs)"),
     ("yachtlog", "NO_MEMORY, MISSING, NOT_A_LOG = 5, 4, 3", "NO_MEMORY, MISSING, NOT_A_LOG = 5, 1, 3"),
     ("yachtlog", "except OSError as fault", "except ZeroDivisionError as fault"),
-    ("yachtlog", "print(shown(reason, options.full_reason)", "print(shown([], options.full_reason)"),
+    ("yachtlog", "print(shown(log.reason(verdict), options.full_reason)", "print(shown([], options.full_reason)"),
     ("yachtlog", 'nargs="+"', 'nargs="*"'),
     ("yachtlog", "except BadLog as fault:\n        print", "except BadLog as fault:\n        return 0\n        print"),
 ]

@@ -390,7 +390,7 @@ class Reason:
 
 
 def facts_of(steps):
-    """Returns steps that yachtjudge.explain_events returns as this program reads them."""
+    """Returns the steps of a verdict of yachtjudge.judge_events as this program reads them."""
     def point(it):
         return it.kind, *{EVENT: (it.line,), ACCESS: (it.line, it.access), PUT: (it.file,), GONE: (it.file, it.slot)}[it.kind]
 
@@ -421,9 +421,8 @@ def command():
 
     with open(sys.argv[1], "rb") as file:
         log = yachtlog.Log(file.read())
-    line = log.judge().line
     for nth, events in enumerate(log.readings()):
-        steps = yachtjudge.explain_events(log, line, events) if any(it.line == line for it in events) else ()
+        steps = yachtjudge.judge_events(log, events).reason
         if steps:
             wrong = complaint(log.source, facts_of(steps), bool(nth))
             print(wrong, end="\n" if wrong else "")

@@ -1,4 +1,4 @@
-"""The verified judge of io_uring's registered file table: judge(script, text), outcomes(script), judge_events(log) and explain_events(log, line).
+"""The verified judge of io_uring's registered file table: judge(script, text), outcomes(script) and judge_events(log).
 
 A script is what fixfiles plays. A text is what fixfiles, or a kernel, prints for it. Both are str or bytes. A log is one of calls in flight,
 as the module yachtlog reads it. The library libyachtjudge.so.6 is looked for in the folder YACHTBANYAN_LIB_DIR if that is set, else beside
@@ -20,18 +20,17 @@ import operator
 import os
 from collections.abc import Iterator, Sequence
 from ctypes import POINTER, byref, c_int32, c_size_t, c_uint8, c_uint32, c_uint64
-from dataclasses import dataclass
+from dataclasses import dataclass, field
 from pathlib import Path
 from typing import TYPE_CHECKING, Any, Literal, Union
 
 from yachtevents import BadEvent, Events, Faulty
-from yachtsteps import Point, Step, Steps, _Reason, _Step, fields
+from yachtsteps import Point, Step, Steps, _Step, fields
 
 if TYPE_CHECKING:
     import yachtlog
 
-__all__ = ["BadEvent", "BadScript", "LogVerdict", "NoMemory", "Outcomes", "Point", "Step", "Verdict", "explain_events", "judge", "judge_events",
-           "outcomes"]
+__all__ = ["BadEvent", "BadScript", "LogVerdict", "NoMemory", "Outcomes", "Point", "Step", "Verdict", "judge", "judge_events", "outcomes"]
 __version__ = "6.0.0"
 
 # what a script or a text may be
@@ -47,6 +46,8 @@ FLAWS = ["unknown-event", "unknown-request", "unknown-flags", "unknown-file", "p
 STATES = 1_000_000
 MEMORY = 1_024
 MOST = 2**32 - 1
+# the largest number of steps of a reason that the judge has room for at first
+ROOM = 4_096
 
 
 class BadScript(Faulty):
@@ -95,10 +96,12 @@ class LogVerdict:
     """A verdict on a log: `word` is 'legal', 'not legal' or 'undecided'. It is true if it is 'legal'.
 
     Up to and with the line `line`, from 1, a log that is not legal has no flight in which each request finds memory, or none by whole updates
-    if they were required."""
+    if they were required. `reason` has the steps of the reason, or none if no reason is found: each follows from the log and from steps before
+    it, and the last one has a point in time before itself. Verdicts are equal whatever their reasons are."""
 
     word: Literal["legal", "not legal", "undecided"]
     line: int = 0
+    reason: tuple[Step, ...] = field(default=(), compare=False, repr=False)
 
     def __bool__(self) -> bool:
         return self.word == "legal"
@@ -121,7 +124,7 @@ class _Request(ctypes.Structure):
 
 
 class _Judgement(ctypes.Structure):
-    _fields_ = fields(uint64="at", uint32="fault line")
+    _fields_ = fields(uint64="at steps", uint32="fault line")
 
 
 def _paths() -> Iterator[Path]:
@@ -164,16 +167,16 @@ def _load() -> ctypes.CDLL:
 
 
 _library = _load()
-# bytes, the limits, and a log
+# bytes, the limits, a log, and the steps of a reason
 _BYTES = POINTER(c_uint8), c_size_t
 _LIMITS = c_uint32, c_uint32
+_REASON = POINTER(_Step), c_size_t
 _LOG = *_BYTES, c_uint32, POINTER(_Request), c_size_t, POINTER(c_int32), c_size_t, *_BYTES, POINTER(_Event), c_size_t
 for _function, _given in (
     (_library.yacht_judge_6, (*_BYTES, *_BYTES, *_LIMITS, *_BYTES, POINTER(_Verdict))),
     (_library.yacht_outcomes_6, (*_BYTES, *_LIMITS, *_BYTES, POINTER(c_uint64), c_size_t, POINTER(_Texts))),
-    (_library.yacht_judge_events_6, (*_LOG, *_LIMITS, POINTER(_Judgement))),
-    (_library.yacht_judge_whole_updates_6, (*_LOG, *_LIMITS, POINTER(_Judgement))),
-    (_library.yacht_explain_events_6, (*_LOG, c_uint64, POINTER(_Step), c_size_t, POINTER(_Reason))),
+    (_library.yacht_judge_events_6, (*_LOG, *_LIMITS, *_REASON, POINTER(_Judgement))),
+    (_library.yacht_judge_whole_updates_6, (*_LOG, *_LIMITS, *_REASON, POINTER(_Judgement))),
 ):
     _function.restype, _function.argtypes = c_uint32, _given
 
@@ -282,17 +285,19 @@ class _Passed:
         if code in (FAULTY, MALFORMED):
             raise BadEvent(self.events[at].line, (FAULTS if code == FAULTY else FLAWS)[fault - 1])
 
-    def reason(self, at: int) -> list[_Step]:
-        """Returns the structs of the reason up to and with the event at a position."""
-        reason, room = _Reason(), 256
+    def judged(self, limits: tuple[int, int], whole_updates: bool) -> tuple[int, int, list[_Step]]:
+        """Returns the number of the verdict, the position of its event, and the structs of its reason."""
+        judge_log = _library.yacht_judge_whole_updates_6 if whole_updates else _library.yacht_judge_events_6
+        # a short log has a short reason
+        judgement, room = _Judgement(), min(64 + len(self.events), ROOM)
         while True:
             steps = (_Step * room)()
-            code = _library.yacht_explain_events_6(*self.arguments, at, steps, room, byref(reason))
-            if reason.steps <= room:
+            code = judge_log(*self.arguments, *limits, steps, room, byref(judgement))
+            if judgement.steps <= room:
                 break
-            room = reason.steps
-        self.check(code, reason.at, reason.fault)
-        return steps[: reason.steps]
+            room = judgement.steps
+        self.check(code, judgement.at, judgement.fault)
+        return code, judgement.at, steps[: judgement.steps]
 
 
 def judge_events(log: yachtlog.Log, events: Sequence[yachtlog.Event] | None = None, states: int = STATES, memory: int = MEMORY, *,
@@ -303,22 +308,8 @@ def judge_events(log: yachtlog.Log, events: Sequence[yachtlog.Event] | None = No
 
     Raises BadEvent if an event has a fault, or says what no call can; BadScript if its files aren't a catalogue; NoMemory if an allocation
     fails; TypeError or ValueError if a limit is none; and ValueError if two files have one name, or the table has too many slots."""
-    limits, passed, judgement = _limits(states, memory), _Passed(log, events), _Judgement()
-    judge_log = _library.yacht_judge_whole_updates_6 if whole_updates else _library.yacht_judge_events_6
-    code = judge_log(*passed.arguments, *limits, byref(judgement))
-    passed.check(code, judgement.at, judgement.fault)
+    limits, passed = _limits(states, memory), _Passed(log, events)
+    code, at, steps = passed.judged(limits, whole_updates)
     if code == NOT_LEGAL:
-        return LogVerdict("not legal", passed.events[judgement.at].line)
+        return LogVerdict("not legal", passed.events[at].line, Steps(log, passed.events, steps).all if steps else ())
     return LogVerdict("legal" if code == LEGAL else "undecided")
-
-
-def explain_events(log: yachtlog.Log, line: int, events: Sequence[yachtlog.Event] | None = None) -> tuple[Step, ...]:
-    """Returns the steps of the reason why a log has no flight up to and with the event of a line, such as that of its verdict, or no steps if
-    none is found. Each step follows from the log and from steps before it; the last one has a point in time before itself.
-
-    Raises what `judge_events` raises but for limits, and ValueError if the line has no event."""
-    passed = _Passed(log, events)
-    those = [Steps(log, passed.events, passed.reason(at)).all for at, it in enumerate(passed.events) if it.line == line]
-    if not those:
-        raise ValueError(f"line {line} has no event")
-    return next(filter(None, those), ())

@@ -29,43 +29,41 @@ if sys.version_info < (3, 10):
 
 import argparse
 import os
-from typing import Literal, NamedTuple
+from typing import TYPE_CHECKING
 
 from yachtlines import Answer, BadLog, Event, Lines, Request
+
+if TYPE_CHECKING:
+    from yachtjudge import LogVerdict
 
 # the largest number of sentences of a reason that are printed
 SENTENCES = 12
 
-__all__ = ["Answer", "BadLog", "Event", "Log", "Request", "Verdict"]
+__all__ = ["Answer", "BadLog", "Event", "Log", "Request"]
 
 # the defaults of fixcheck, and the largest number of each
 STATES, MEMORY, MOST = 1_000_000, 1_024, 2**32 - 1
 
 
-class Verdict(NamedTuple):
-    """A verdict: `word` is 'legal', 'not legal' or 'undecided'. `line` is the first line with which the log has no flight, or that a judge
-    leaves undecided whatever its limits are, from 1, or 0."""
-
-    word: Literal["legal", "not legal", "undecided"]
-    line: int = 0
-
-
 class Log(Lines):
     """A log: its catalogue, its slots, its calls and its events. Raises BadLog for a text that is not a log."""
 
-    def judge(self, states: int = STATES, memory: int = MEMORY, *, whole_updates: bool = False) -> Verdict:
+    def judge(self, states: int = STATES, memory: int = MEMORY, *, whole_updates: bool = False) -> LogVerdict:
         """Judges the log by the verified judge, with at most `states` states and `memory` MiB in a search; with `whole_updates` each update
-        must be one step. If it is legal and has tags, it is judged again with the tag of each file in place of its close.
+        must be one step. If it is legal and has tags, it is judged again with the tag of each file in place of its close. The line of an
+        undecided log is one that the judge leaves undecided whatever its limits are, or 0.
 
         Raises ImportError if the library yachtjudge is missing, and what yachtjudge.judge_events raises."""
-        verdict = Verdict("legal")
+        from yachtjudge import LogVerdict
+
+        verdict = LogVerdict("legal")
         for events in self.readings():
             verdict = self._verdict(events, states, memory, whole_updates)
             if verdict.word != "legal":
                 break
         return verdict
 
-    def _verdict(self, events: list[Event], states: int, memory: int, whole_updates: bool) -> Verdict:
+    def _verdict(self, events: list[Event], states: int, memory: int, whole_updates: bool) -> LogVerdict:
         """Judges events. The judge doesn't decide a log with an answer -12, but it may refuse the beginning before that."""
         import yachtjudge
 
@@ -75,35 +73,24 @@ class Log(Lines):
         except yachtjudge.BadEvent as bad:
             raise BadLog(bad.line, bad.fault) from bad
         if verdict.word == "not legal" or len(before) == len(events):
-            return Verdict(verdict.word, verdict.line)
-        return Verdict("undecided", self.lacking)
+            return verdict
+        return yachtjudge.LogVerdict("undecided", self.lacking)
 
-    def reason(self, line: int) -> list[str]:
-        """Returns the reason why the log is not legal up to and with the event of a line, in sentences, or none if no reason is found. The last
-        one is a contradiction, and each of the others follows from the log and from sentences before it.
-
-        Raises what `judge` raises."""
-        import yachtjudge
+    def reason(self, verdict: LogVerdict) -> list[str]:
+        """Returns the reason of a verdict on the log in sentences, or none if it has no reason. The last one is a contradiction, and each of the
+        others follows from the log and from sentences before it."""
         from yachtreason import Words
 
-        for events in self.readings():
-            if all(it.line != line for it in events):
-                continue
-            try:
-                steps = yachtjudge.explain_events(self, line, events)
-            except yachtjudge.BadEvent as bad:
-                raise BadLog(bad.line, bad.fault) from bad
-            if steps:
-                return Words(self, events, steps).sentences()
-        return []
+        return Words(self, self.events, verdict.reason).sentences() if verdict.reason else []
 
-    def shortened(self, verdict: Verdict, states: int = STATES, memory: int = MEMORY, *, whole_updates: bool = False) -> str:
+    def shortened(self, verdict: LogVerdict, states: int = STATES, memory: int = MEMORY, *, whole_updates: bool = False) -> str:
         """Returns the log up to the line of its verdict, 'not legal', with fewer calls: a log of which this is the first wrong line, too. After
         50 seconds no further log is tried."""
         from yachtshorten import Shortening
 
         def is_wrong(text: str) -> bool:
-            return Log(text).judge(states, memory, whole_updates=whole_updates) == ("not legal", text.count("\n"))
+            found = Log(text).judge(states, memory, whole_updates=whole_updates)
+            return (found.word, found.line) == ("not legal", text.count("\n"))
 
         shortening = Shortening(self, self.source, verdict.line)
         return shortening.text(shortening.shortest(is_wrong))
@@ -144,22 +131,20 @@ def content_of(path: str) -> bytes:
         return file.read()
 
 
-def judged(path: str, options: argparse.Namespace) -> tuple[Log, Verdict, list[str]]:
-    """Returns a log, or with --shorten one with fewer calls if it isn't legal; the verdict on it; and its reason."""
+def judged(path: str, options: argparse.Namespace) -> tuple[Log, LogVerdict]:
+    """Returns a log, or with --shorten one with fewer calls if it isn't legal; and the verdict on it."""
     log = Log(content_of(path))
     verdict = log.judge(options.states, options.memory, whole_updates=options.whole_updates)
-    if verdict.word != "not legal":
-        return log, verdict, []
-    if options.shorten:
+    if options.shorten and verdict.word == "not legal":
         log = Log(log.shortened(verdict, options.states, options.memory, whole_updates=options.whole_updates))
-        verdict = Verdict(verdict.word, log.source.count("\n"))
-    return log, verdict, log.reason(verdict.line)
+        verdict = log.judge(options.states, options.memory, whole_updates=options.whole_updates)
+    return log, verdict
 
 
 def status_of(path: str, options: argparse.Namespace) -> int:
     """Prints the verdict on a log. Returns the status that it has by itself."""
     try:
-        log, verdict, reason = judged(path, options)
+        log, verdict = judged(path, options)
     except OSError as fault:
         print(f"yachtlog: {path} can't be read: {fault.strerror}", file=sys.stderr)
         return MISSING
@@ -177,7 +162,7 @@ def status_of(path: str, options: argparse.Namespace) -> int:
         print(log.source, end="")
     line, to = f": line {verdict.line}: {log.line(verdict.line)}" if verdict.line else "", sys.stderr if options.shorten else sys.stdout
     print(f"{path}: {verdict.word}{line}", file=to)
-    print(shown(reason, options.full_reason), end="", file=to)
+    print(shown(log.reason(verdict), options.full_reason), end="", file=to)
     return STATUSES[verdict.word]
 
 

@@ -68,10 +68,6 @@ class _Step(ctypes.Structure):
     _fields_ = [*fields(uint32="rule is_strict", uint64="first second access premise other slot"), ("from", _Point), ("to", _Point)]
 
 
-class _Reason(ctypes.Structure):
-    _fields_ = fields(uint64="steps at", uint32="fault line")
-
-
 class Steps:
     """Steps, by the events of a log, and by the numbers of its calls: `all` has what the structs say."""
 

@@ -4,13 +4,14 @@
 #include "judge_rows.h"
 #include "refusing.h"
 
-enum { ROOM = 4 << 20, MOST_TEXTS = 8192 };
+enum { ROOM = 4 << 20, MOST_TEXTS = 8192, MOST_STEPS = 64 };
 static uint8_t words[ROOM];
 static uint64_t lengths[MOST_TEXTS];
 static const judge_row *row;
 static yacht_verdict verdict;
 static yacht_texts found;
 static yacht_judgement judgement;
+static yacht_step steps[MOST_STEPS];
 
 /* Calls the library with the arguments of a row, and room for as many bytes and texts. */
 static uint32_t call(size_t room, size_t count) {
@@ -22,7 +23,7 @@ static uint32_t call(size_t room, size_t count) {
     case LIST: return yacht_outcomes(it->script, it->script_length, states, memory, words, room, lengths, count, &found);
     default:
         return yacht_judge_events(it->script, it->script_length, (uint32_t)it->slots, it->requests, it->requests_length, it->entries, it->entries_length,
-                                  it->bytes, it->bytes_length, it->events, it->events_length, states, memory, &judgement);
+                                  it->bytes, it->bytes_length, it->events, it->events_length, states, memory, steps, MOST_STEPS, &judgement);
     }
 }
 
@@ -68,6 +69,7 @@ static void judges_log(void) {
     memset(&judgement, '?', sizeof judgement);
     WANT(call(0, 0) == row->number);
     WANT(judgement.at == row->at && judgement.fault == row->fault && judgement.line == row->line);
+    WANT(row->number == YACHT_NOT_LEGAL || !judgement.steps);
 }
 
 /* Each allocation of the library fails in turn. */

@@ -4,11 +4,10 @@
 #include "judge_rows.h"
 #include <pthread.h>
 
-static pthread_once_t once = PTHREAD_ONCE_INIT;
-
 static int is_same(const void *its, size_t its_length, const void *bytes, size_t length) { return its_length == length && !memcmp(its, bytes, length); }
 
 static _Thread_local judge_row given;
+static pthread_once_t once = PTHREAD_ONCE_INIT; /* tests in Rust have threads */
 
 /* Returns the row with these arguments, and those of `given`. */
 static const judge_row *row_of(uint64_t kind, const uint8_t *script, size_t script_length, uint32_t states, uint32_t memory, int (*holds)(const judge_row *)) {
@@ -69,32 +68,29 @@ uint32_t yacht_outcomes(const uint8_t *script, size_t script_length, uint32_t st
     const uint8_t *script, size_t script_length, uint32_t slots, const yacht_request *requests, size_t requests_length, const int32_t *entries, \
         size_t entries_length, const uint8_t *bytes, size_t bytes_length, const yacht_event *events, size_t events_length
 
-uint32_t yacht_judge_events(LOG_PASSED, uint32_t states, uint32_t memory, yacht_judgement *judgement) {
+uint32_t yacht_judge_events(LOG_PASSED, uint32_t states, uint32_t memory, yacht_step *steps, size_t steps_length, yacht_judgement *judgement) {
+    (void)steps, (void)steps_length;
     given = (judge_row){.slots = slots, .requests = requests, .requests_length = requests_length, .entries = entries, .entries_length = entries_length,
                         .bytes = bytes, .bytes_length = bytes_length, .events = events, .events_length = events_length};
     const judge_row *it = row_of(LOG, script, script_length, states, memory, has_log);
-    *judgement = (yacht_judgement){it->at, (uint32_t)it->fault, (uint32_t)it->line};
+    *judgement = (yacht_judgement){it->at, 0, (uint32_t)it->fault, (uint32_t)it->line};
     return (uint32_t)it->number;
-}
-
-/* no row has the two further questions: nothing is decided by whole updates. Only a log without
- * events has a reason: of as many steps as the position that is asked for, each with other
- * numbers. */
-uint32_t yacht_judge_whole_updates(LOG_PASSED, uint32_t states, uint32_t memory, yacht_judgement *judgement) {
-    (void)yacht_judge_events(script, script_length, slots, requests, requests_length, entries, entries_length, bytes, bytes_length, events,
-                             events_length, states, memory, judgement);
-    return YACHT_UNDECIDED;
 }
 
 static yacht_point point_of(uint32_t nth) {
     return (yacht_point){nth % 4 + 1, nth + 1, nth + 2, nth + 3, nth + 4, nth + 5, nth + 6, (nth + 7) % 251};
 }
 
-uint32_t yacht_explain_events(LOG_PASSED, uint64_t at, yacht_step *steps, size_t steps_length, yacht_reason *reason) {
-    (void)script, (void)script_length, (void)slots, (void)requests, (void)requests_length, (void)entries, (void)entries_length, (void)bytes;
-    (void)bytes_length, (void)events;
-    *reason = (yacht_reason){.steps = events_length ? 0 : at};
-    for (uint32_t nth = 0; nth < reason->steps && nth < steps_length; nth++)
+/* no row is by whole updates: nothing is decided of a log with events. A log without events has a
+ * reason of as many steps as it has slots, each with other numbers. */
+uint32_t yacht_judge_whole_updates(LOG_PASSED, uint32_t states, uint32_t memory, yacht_step *steps, size_t steps_length, yacht_judgement *judgement) {
+    if (events_length) {
+        (void)yacht_judge_events(script, script_length, slots, requests, requests_length, entries, entries_length, bytes, bytes_length, events,
+                                 events_length, states, memory, steps, steps_length, judgement);
+        return YACHT_UNDECIDED;
+    }
+    *judgement = (yacht_judgement){.at = 7, .steps = slots};
+    for (uint32_t nth = 0; nth < slots && nth < steps_length; nth++)
         steps[nth] = (yacht_step){nth % 27 + 1, nth % 2, nth, nth + 1, nth + 2, nth + 3, nth + 4, nth + 5, point_of(nth + 6), point_of(nth + 60)};
-    return events_length ? YACHT_UNDECIDED : YACHT_NOT_LEGAL;
+    return YACHT_NOT_LEGAL;
 }

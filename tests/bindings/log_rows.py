@@ -1,12 +1,14 @@
-"""Rows for yachtjudge.judge_events, explain_events and yachtevents that only Python has (judge_rows.py has the others), each derived by hand:
+"""Rows for yachtjudge.judge_events and yachtevents that only Python has (judge_rows.py has the others), each derived by hand:
 numbers of calls, tags, the caller's own events, the reason of a log, what is raised, and the structs that an event and a request become."""
+from unittest import mock
+
 import yachtevents
 import yachtjudge
 import yachtlog
 import yachtreason
 from rows import end, raises, want
 from tests import reasons
-from yachtjudge import LogVerdict, Point, Step, explain_events, judge_events
+from yachtjudge import LogVerdict, Point, Step, judge_events
 
 HEAD = "file a 61\nfile b 6262\ncall 1 sparse 2\ndone 1.1 0\n"
 
@@ -28,7 +30,7 @@ def verdict(word, line, *lines):
     it = log(*lines)
     found = outcome(lambda: judge_events(it))
     want(found == LogVerdict(word, line) and bool(found) == (word == "legal"), f"{found} in place of {word} {line}: {lines}")
-    want(outcome(it.judge) == (word, line), f"{outcome(it.judge)} with its tags in place of {word} {line}: {lines}")
+    want(outcome(it.judge) == found, f"{outcome(it.judge)} with its tags in place of {word} {line}: {lines}")
 
 
 opened = "call 2 open a at 0", "done 2.1 0"
@@ -42,45 +44,58 @@ verdict("not legal", 8, "call 2 regupdate 1 1", "call 3 open missing at 0 hardli
 # the tag of a file in place of its close, and events of the caller's choice
 tagged = log(*read, "done 3.1 1 61", "closed 2.1.0 a", "settled", "tag 2.1.0")
 want(outcome(lambda: judge_events(tagged)) == LogVerdict("legal"), "a log without its tags isn't legal")
-want(outcome(tagged.judge) == ("not legal", 12), "a tag that comes too late is legal")
+want(outcome(tagged.judge) == LogVerdict("not legal", 12), "a tag that comes too late is legal")
 want(outcome(lambda: judge_events(tagged, tagged.events[:3])) == LogVerdict("legal"), "the beginning of a log isn't legal")
 
 # an update as one step: a read of its first slot finds its file, and a later one of its second
 # slot finds none
 between = log("call 2 update 0 0,0", "call 3 read 0 0 1", "done 3.1 1 61", "call 4 read 1 0 1", "done 4.1 -9", "done 2.1 2")
 at_once = log("call 2 update 0 0,-2,0", "done 2.1 -22", "call 3 update 0 0,-1", "done 3.1 2")
-want(outcome(between.judge) == ("legal", 0), "no request comes between two entries of an update")
-want(outcome(lambda: between.judge(whole_updates=True)) == ("not legal", 9), "a request comes between two entries of an update of one step")
+want(outcome(between.judge) == LogVerdict("legal"), "no request comes between two entries of an update")
+split = outcome(lambda: between.judge(whole_updates=True))
+want(split == LogVerdict("not legal", 9), "a request comes between two entries of an update of one step")
 want(at_once.judge(whole_updates=True).word == "legal", "an update isn't one step")
-want(judge_events(between, whole_updates=True) == LogVerdict("not legal", 9) and between.reason(9) == [],
+want(judge_events(between, whole_updates=True) == split and split.reason == () and between.reason(split) == [],
      "a log that is legal but by whole updates has a reason")
 
 # the reason of a log, by its lines and the numbers of its calls: the look finds a file that left
 # before the look was called
 stale = log("call 7 open a at 0", "done 7.1 0", "call 5 close 0", "done 5.1 0", "call 9 look 0", "done 9.1 0 7.1.0")
-steps = outcome(lambda: explain_events(stale, 10))
-want(steps and steps[-1].is_strict and steps[-1].before == steps[-1].after, f"a reason has no contradiction: {steps}")
+found = outcome(lambda: judge_events(stale))
+steps = found.reason
+want(found == LogVerdict("not legal", 10) and steps and steps[-1].is_strict and steps[-1].before == steps[-1].after, f"a reason has no contradiction: {steps}")
 want(reasons.complaint(stale.source, reasons.facts_of(steps)) == "", f"a reason doesn't follow: {steps}")
 want(Step("finds", (9, 10), 0, (), Point("access", 10), Point("gone", file=(7, 1, 0)), True) in steps, f"a reason lacks the look: {steps}")
-want(stale.reason(10) == ["7.1.0 was gone from slot 0 after close 5, which answered 0, since open 7 had installed 7.1.0 at line 6 and close 5 was called"
+want(stale.reason(found) == ["7.1.0 was gone from slot 0 after close 5, which answered 0, since open 7 had installed 7.1.0 at line 6 and close 5 was called"
                           " at line 7",
                           "look 9 found 7.1.0 at slot 0; but 7.1.0 was gone from slot 0 after close 5, close 5 was answered at line 8 and look 9 was called"
-                          " at line 9"], f"the reason has other words: {stale.reason(10)}")
-want(explain_events(stale, 8) == () and stale.reason(8) == [], "a beginning that is legal has a reason")
-raises(ValueError, "line 3 has no event", lambda: explain_events(stale, 3))
+                          " at line 9"], f"the reason has other words: {stale.reason(found)}")
+found = judge_events(stale, stale.events[:4])
+want(found == LogVerdict("legal") and found.reason == () and stale.reason(found) == [], "a beginning that is legal has a reason")
+with mock.patch.object(yachtjudge, "ROOM", 1):
+    want(judge_events(stale).reason == steps, "a reason that has no room at first is another one")
+want(judge_events(stale, whole_updates=True).reason == steps, "the reason by whole updates is another one")
+
+
+def reason_of(it):
+    """Returns the reason of the verdict on a log, in sentences."""
+    return it.reason(it.judge())
+
+
 early = log(*opened, "call 3 look 0", "call 4 close 0", "done 4.1 0", "done 3.1 0 2.1.0", "closed 2.1.0 a", "free 3")
-want(early.reason(11) == ["look 3 held 2.1.0 from line 10 on, and it was closed by line 11"], f"the reason of an early close is {early.reason(11)}")
+want(reason_of(early) == ["look 3 held 2.1.0 from line 10 on, and it was closed by line 11"], f"the reason of an early close is {reason_of(early)}")
 # a file whose call isn't in the log keeps its mark, and isn't told to be installed
 foreign = log("call 2 look 0", "done 2.1 0 7.1.0")
-want(foreign.reason(6) == ["look 2 found 7.1.0 at slot 0; but no call of the log installed 7.1.0"], f"the reason of a foreign file is {foreign.reason(6)}")
-want(reasons.complaint(foreign.source, reasons.facts_of(explain_events(foreign, 6))) == "", "the reason of a foreign file doesn't follow")
+want(reason_of(foreign) == ["look 2 found 7.1.0 at slot 0; but no call of the log installed 7.1.0"],
+     f"the reason of a foreign file is {reason_of(foreign)}")
+want(reasons.complaint(foreign.source, reasons.facts_of(foreign.judge().reason)) == "", "the reason of a foreign file doesn't follow")
 both = log("call 2 look 0", "call 3 look 0", "done 2.1 0 7.1.0", "done 3.1 0 8.1.0")
 structs = yachtevents.Events(both, both.events).events
 marks = [yachtevents.EVENT.unpack_from(structs, at * yachtevents.EVENT.size)[7:10] for at in (2, 3)]
 want(marks == [(3, 1, 0), (4, 1, 0)], f"two foreign files have the marks {marks}")
 twice = log(*opened, "call 3 close 0", "done 3.1 0", "closed 2.1.0 a", "tag 2.1.0", "tag 2.1.0")
-want(twice.reason(11) == ["2.1.0 was closed by line 10, and again by line 11"], f"the reason of a second tag is {twice.reason(11)}")
-want(reasons.complaint(twice.source, reasons.facts_of(explain_events(twice, 11, list(twice.readings())[1])), True) == "", "the reason of a tag is wrong")
+want(reason_of(twice) == ["2.1.0 was closed by line 10, and again by line 11"], f"the reason of a second tag is {reason_of(twice)}")
+want(reasons.complaint(twice.source, reasons.facts_of(twice.judge().reason), True) == "", "the reason of a tag is wrong")
 sentences = [str(it) for it in range(14)]
 last = "".join(f"    {it}\n" for it in sentences[2:])
 want(yachtlog.shown(sentences, False) == "    2 sentences before these: --full-reason prints them\n" + last, "a long reason is printed otherwise")

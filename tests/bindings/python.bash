@@ -112,19 +112,20 @@ END
 # wrong changes of how a log is passed to the verified judge, and of how its verdict is read
 wrong_logs() {
     wrong_modules << 'END'
-yachtjudge s/LogVerdict("not legal", passed.events\[judgement.at\].line)/LogVerdict("not legal", passed.events[judgement.at - 1].line)/
+yachtjudge s/LogVerdict("not legal", passed.events\[at\].line/LogVerdict("not legal", passed.events[at - 1].line/
 yachtjudge s/LogVerdict("legal" if code == LEGAL else "undecided")/LogVerdict("legal")/
 yachtjudge s/(FAULTS if code == FAULTY else FLAWS)/FAULTS/
 yachtjudge s/\[it for it in log.events if it.word != "tag"\] if events is None else list(events)/[it for it in log.events if it.word != "tag"]/
 yachtjudge s/min(log.slots, MOST)/log.slots/
-yachtjudge s/if it.line == line\]/if it.line >= line]/
+yachtjudge s/if judgement.steps <= room/if room/
+yachtjudge s/steps\[: judgement.steps\]/steps[: judgement.steps - 1]/
 yachtsteps s/self._calls\[it.by_call\]/it.by_call/
 yachtsteps s/self._events\[at\].line for at/at for at/
 yachtsteps s/"finds": (2, False, 0)/"finds": (2, False, 1)/
 yachtsteps s/bool(it.is_strict)/not it.is_strict/
 yachtreason s/todo += reversed(step.premises)/todo += step.premises/
 yachtreason s/if it.premises and it.rule/if it.rule/
-yachtlog s/        return \[\]$/        return ["none"]/
+yachtlog s/if verdict.reason else \[\]$/if verdict.reason else ["none"]/
 yachtlog s/len(sentences) - SENTENCES, 0/len(sentences) - SENTENCES, 1/
 yachtlog s/left = 0 if is_full/left = 1 if is_full/
 yachtevents s/calls = \[it.call for it in events if it.word == "call"\]/calls = sorted(it.call for it in events if it.word == "call")/

@@ -33,12 +33,11 @@ structs! {
     Event { kind: u32, call: u32, member: u32, res: i32, slot: u32, first: u32, count: u32,
             by_call: u32, by_member: u32, by_entry: u32, file: u8 }
     Request { kind: u32, slot: u32, first: u32, count: u32, flags: u8, file: u8 }
-    Judgement { at: u64, fault: u32, line: u32 }
+    Judgement { at: u64, steps: u64, fault: u32, line: u32 }
     Point { kind: u32, slot: u32, at: u64, access: u64,
             by_call: u32, by_member: u32, by_entry: u32, file: u8 }
     Step { rule: u32, is_strict: u32, first: u64, second: u64, access: u64, premise: u64,
            other: u64, slot: u64, from: Point, to: Point }
-    Reason { steps: u64, at: u64, fault: u32, line: u32 }
 }
 
 /// Declares functions of the header: `script` stands for bytes and their number, and `log` for what
@@ -64,8 +63,8 @@ functions! {
                      lengths: *mut u64, lengths_length: usize, found: *mut Texts);
 }
 functions! {
-    yacht_judge_events_6(log, states: u32, memory: u32, judgement: *mut Judgement);
-    yacht_judge_whole_updates_6(log, states: u32, memory: u32, judgement: *mut Judgement);
-    yacht_explain_events_6(log, at: u64, steps: *mut Step, steps_length: usize,
-                           reason: *mut Reason);
+    yacht_judge_events_6(log, states: u32, memory: u32, steps: *mut Step, steps_length: usize,
+                         judgement: *mut Judgement);
+    yacht_judge_whole_updates_6(log, states: u32, memory: u32, steps: *mut Step,
+                                steps_length: usize, judgement: *mut Judgement);
 }

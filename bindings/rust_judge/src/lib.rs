@@ -1,6 +1,6 @@
 //! The verified judge of io_uring's registered file table: decides whether a script may print a
 //! text ([`judge`]), lists the texts that a script may print ([`outcomes`]), and judges logs of
-//! calls in flight ([`Log::judge`]), with the reason ([`Log::explain`]).
+//! calls in flight ([`Log::judge`]). The verdict on a log that isn't legal has the reason.
 //!
 //! A script is what `fixfiles` plays. A text is what `fixfiles`, or a kernel, prints for it. The
 //! library `libyachtjudge.a` is proved; this crate passes arguments to it.

@@ -2,7 +2,7 @@
 use crate::core;
 use crate::errors::{JudgeError, LogFault};
 use crate::part::part_of;
-use crate::Limits;
+use crate::{Limits, Step};
 
 /// The link of a request to the next one of its chain (io_uring_enter(2), "flags").
 #[derive(Clone, Copy, Debug, PartialEq, Eq)]
@@ -79,7 +79,7 @@ pub struct File {
 }
 
 /// A verdict on a log.
-#[derive(Clone, Copy, Debug, PartialEq, Eq)]
+#[derive(Clone, Debug, PartialEq, Eq)]
 pub enum LogVerdict {
     /// The log has a flight: the rules allow what it shows.
     Legal,
@@ -88,6 +88,10 @@ pub enum LogVerdict {
     NotLegal {
         /// The position of the event, from 0.
         at: usize,
+        /// The steps of the reason why the log has no flight up to and with that event. Each
+        /// follows from the log and from steps before it, and the last one has a point before
+        /// itself. There are none if no reason is found.
+        reason: Vec<Step>,
     },
     /// Neither was shown within the limits, or the log has an answer -12.
     Undecided,
@@ -116,7 +120,8 @@ pub enum LogVerdict {
 ///
 /// let late = log.call(&one(Op::Read { slot: 0, first: 0, count: 5 }));
 /// log.done(late, 1, 5, b"hello");
-/// assert_eq!(log.judge(Limits::default()), Ok(LogVerdict::NotLegal { at: 9 }));
+/// let verdict = log.judge(Limits::default());
+/// assert!(matches!(verdict, Ok(LogVerdict::NotLegal { at: 9, .. })));
 /// ```
 ///
 /// A look of the slot that the close emptied before can't find the file. The reason ends with a
@@ -133,8 +138,9 @@ pub enum LogVerdict {
 /// log.done(close, 1, 0, b"");
 /// let look = log.look(0);
 /// log.found(look, Some(File { call: page, member: 1, entry: 0, file: 0 }));
-/// assert_eq!(log.judge(Limits::default()), Ok(LogVerdict::NotLegal { at: 5 }));
-/// let reason = log.explain(5).unwrap();
+/// let Ok(LogVerdict::NotLegal { at: 5, reason }) = log.judge(Limits::default()) else {
+///     unreachable!("the look found a file that was closed");
+/// };
 /// let last = reason.last().unwrap();
 /// assert!(last.is_strict && last.before == last.after);
 /// ```
@@ -159,6 +165,9 @@ fn event(kind: u32, call: u32) -> core::Event {
         ..core::Event::default()
     }
 }
+
+// The number of steps of a reason that the judge has room for at first.
+const ROOM: usize = 4096;
 
 /// Calls a function of the judge with a log and further arguments.
 macro_rules! ask {
@@ -323,7 +332,8 @@ impl Log {
     }
 
     /// Judges the log by whole updates, by searches within the limits: each update is one step, as
-    /// on Linux, not one for each entry. A log that is legal by whole updates is legal.
+    /// on Linux, not one for each entry. A log that is legal by whole updates is legal. A reason is
+    /// found only if the log is not legal by the entries of updates, either.
     ///
     /// ```
     /// use yachtjudge::{Limits, Link, Log, LogVerdict, Op, Request};
@@ -338,7 +348,7 @@ impl Log {
     /// log.done(both, 1, 2, b"");
     /// assert_eq!(log.judge(Limits::default()), Ok(LogVerdict::Legal));
     /// let verdict = log.judge_whole_updates(Limits::default());
-    /// assert_eq!(verdict, Ok(LogVerdict::NotLegal { at: 4 }));
+    /// assert_eq!(verdict, Ok(LogVerdict::NotLegal { at: 4, reason: vec![] }));
     /// ```
     ///
     /// # Errors
@@ -349,21 +359,42 @@ impl Log {
 
     fn judge_by(&self, whole: bool, limits: Limits) -> Result<LogVerdict, JudgeError> {
         self.check_length()?;
+        let (mut number, mut judgement, mut steps) = self.judged(whole, limits, ROOM);
+        if judgement.steps as usize > ROOM {
+            (number, judgement, steps) = self.judged(whole, limits, judgement.steps as usize);
+        }
+        let at = judgement.at as usize;
+        match number {
+            core::LEGAL => Ok(LogVerdict::Legal),
+            core::NOT_LEGAL => {
+                steps.truncate(judgement.steps as usize);
+                let reason = steps.iter().map(Step::of).collect();
+                Ok(LogVerdict::NotLegal { at, reason })
+            }
+            core::UNDECIDED => Ok(LogVerdict::Undecided),
+            _ => Err(self.error(number, at, judgement.fault)),
+        }
+    }
+
+    // Judges the log with room for this number of steps. Returns the number, the details, and the
+    // steps.
+    fn judged(
+        &self,
+        whole: bool,
+        limits: Limits,
+        room: usize,
+    ) -> (u32, core::Judgement, Vec<core::Step>) {
         let judge = if whole {
             core::yacht_judge_whole_updates_6
         } else {
             core::yacht_judge_events_6
         };
         let mut judgement = core::Judgement::default();
+        let mut steps = vec![core::Step::default(); room];
         let Limits { states, memory } = limits;
-        let number = ask!(judge, self, states, memory, &mut judgement);
-        let at = judgement.at as usize;
-        match number {
-            core::LEGAL => Ok(LogVerdict::Legal),
-            core::NOT_LEGAL => Ok(LogVerdict::NotLegal { at }),
-            core::UNDECIDED => Ok(LogVerdict::Undecided),
-            _ => Err(self.error(number, at, judgement.fault)),
-        }
+        let first = steps.as_mut_ptr();
+        let number = ask!(judge, self, states, memory, first, room, &mut judgement);
+        (number, judgement, steps)
     }
 
     /// Returns an error if a position or a length is 2^32 or more.
@@ -374,8 +405,8 @@ impl Log {
         Ok(())
     }
 
-    /// Returns the error that a number other than a verdict's says.
-    pub(crate) fn error(&self, number: u32, at: usize, fault: u32) -> JudgeError {
+    // Returns the error that a number other than a verdict's says.
+    fn error(&self, number: u32, at: usize, fault: u32) -> JudgeError {
         match number {
             core::BAD_SCRIPT => {
                 match crate::judge(self.catalogue.as_bytes(), b"", Limits::default()) {
@@ -395,16 +426,5 @@ impl Log {
             },
             _ => JudgeError::TooManySlots,
         }
-    }
-
-    /// Looks for a reason with room for this number of steps. Returns its number, the details, and
-    /// the first steps.
-    pub(crate) fn explained(&self, at: usize, room: usize) -> (u32, core::Reason, Vec<core::Step>) {
-        let mut reason = core::Reason::default();
-        let mut steps = vec![core::Step::default(); room];
-        let ask = core::yacht_explain_events_6;
-        let (first, length) = (steps.as_mut_ptr(), steps.len());
-        let number = ask!(ask, self, at as u64, first, length, &mut reason);
-        (number, reason, steps)
     }
 }

@@ -27,6 +27,5 @@ mod tests {
         let limits = Limits::default();
         assert_eq!(log.judge(limits), Err(JudgeError::TooLong));
         assert_eq!(log.judge_whole_updates(limits), Err(JudgeError::TooLong));
-        assert_eq!(log.explain(0), Err(JudgeError::TooLong));
     }
 }

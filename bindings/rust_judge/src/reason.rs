@@ -1,7 +1,6 @@
 //! The reason why a log of calls in flight is not legal.
 use crate::core;
-use crate::errors::JudgeError;
-use crate::log::{File, Log};
+use crate::log::File;
 
 /// A point in time of a flight. Positions of events and numbers of accesses are from 0.
 #[derive(Clone, Copy, Debug, PartialEq, Eq)]
@@ -160,31 +159,6 @@ impl Step {
             before: point_of(it.from),
             after: point_of(it.to),
             is_strict: it.is_strict == 1,
-        }
-    }
-}
-
-impl Log {
-    /// Returns the steps of the reason why the log has no flight up to and with the event at a
-    /// position, such as that of its verdict. Each follows from the log and from steps before it,
-    /// and the last one has a point before itself. There are none if no reason is found, or no
-    /// event has the position.
-    ///
-    /// # Errors
-    /// [`JudgeError::BadScript`], [`JudgeError::BadEvent`] if the catalogue lacks a file,
-    /// [`JudgeError::TooManySlots`], [`JudgeError::TooLong`] or [`JudgeError::NoMemory`].
-    pub fn explain(&self, at: usize) -> Result<Vec<Step>, JudgeError> {
-        self.check_length()?;
-        let (mut number, mut reason, mut steps) = self.explained(at, 256);
-        if reason.steps as usize > steps.len() {
-            (number, reason, steps) = self.explained(at, reason.steps as usize);
-        }
-        match number {
-            core::NOT_LEGAL | core::UNDECIDED => {
-                steps.truncate(reason.steps as usize);
-                Ok(steps.iter().map(Step::of).collect())
-            }
-            _ => Err(self.error(number, reason.at as usize, reason.fault)),
         }
     }
 }

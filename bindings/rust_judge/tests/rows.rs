@@ -290,6 +290,10 @@ fn read(row: &Row) -> Log {
     reader.log
 }
 
+fn not_legal(at: usize) -> LogVerdict {
+    LogVerdict::NotLegal { at, reason: vec![] }
+}
+
 fn judged_log(rows: &[Row], row: &Row) {
     let [at, fault, _] = numbers(row.fields[3])[..] else {
         panic!()
@@ -301,20 +305,19 @@ fn judged_log(rows: &[Row], row: &Row) {
     };
     let wanted = match row.number() {
         0 => Ok(LogVerdict::Legal),
-        1 => Ok(LogVerdict::NotLegal { at }),
+        1 => Ok(not_legal(at)),
         2 => Ok(LogVerdict::Undecided),
         3 => Err(bad_script(rows, row)),
         4 => Err(JudgeError::NoMemory),
         5 | 6 => Err(JudgeError::BadEvent { at, fault }),
         _ => Err(JudgeError::TooManySlots),
     };
-    assert_eq!(
-        read(row).judge(row.limits()),
-        wanted,
-        "{:?} {}",
-        row.fields,
-        row.lines
-    );
+    // the rows have no reasons
+    let found = read(row).judge(row.limits()).map(|it| match it {
+        LogVerdict::NotLegal { at, .. } => not_legal(at),
+        other => other,
+    });
+    assert_eq!(found, wanted, "{:?} {}", row.fields, row.lines);
 }
 
 #[test]
@@ -369,15 +372,18 @@ fn point(nth: u32) -> Point {
     }
 }
 
-/// The stand-in's reason has as many steps as the event's position, each with other numbers.
+/// The stand-in's reason has as many steps as the table has slots, each with other numbers.
 #[test]
 fn each_step_has_the_numbers_of_the_library() {
     if std::env::var_os("JUDGE_ROWS").is_none() {
         return;
     }
-    let (log, mut rules) = (Log::new("", 1), HashMap::new());
-    for count in [0, 27, 300] {
-        let steps = log.explain(count).unwrap();
+    let mut rules = HashMap::new();
+    for count in [0, 27, 4_096, 5_000] {
+        let found = Log::new("", count as u32).judge_whole_updates(Limits::default());
+        let Ok(LogVerdict::NotLegal { at: 7, reason: steps }) = found else {
+            panic!("{found:?} of a log without events");
+        };
         assert_eq!(steps.len(), count);
         for (nth, it) in steps.iter().enumerate() {
             let numbers = [it.first, it.second, it.access, it.premise, it.other];
@@ -390,7 +396,7 @@ fn each_step_has_the_numbers_of_the_library() {
         }
     }
     assert_eq!((&rules[&0][..], &rules[&26][..]), ("Events", "Existed"));
-    let verdict = rows().iter().find(|it| it.fields[0] == "log").map(|it| {
+    let verdict = rows().iter().find(|it| !it.lines.is_empty()).map(|it| {
         let log = read(it);
         log.judge_whole_updates(it.limits())
     });

@@ -1,7 +1,7 @@
 -- The states of the judge, as contracts see them, the effect of an event on a state, and a step
 -- from one front to the next.
-use Rattle.std.specs.Prelude.{◌≡◌, ℕ, ◌-◌, ◌≤◌, nat_le, List, length, map, take, slice_index_or}
-use Rattle.std.specs.Prelude.{if◌then◌else◌, ◌⊎◌, [], drop, Bool, Contains, Option}
+use Rattle.std.specs.Prelude.{◌≡◌, ℕ, ◌+◌, ◌-◌, ◌≤◌, nat_le, List, length, map, take, IfSome}
+use Rattle.std.specs.Prelude.{if◌then◌else◌, ◌⊎◌, [], drop, Bool, Contains, Option, slice_index_or}
 use Rattle.fx_base.specs.Catalogue.{FileEntry}
 use Rattle.fx_base.specs.Identity.{Identity}
 use Rattle.fx_chain.specs.Operation.{Asked, all_asked}
@@ -25,8 +25,10 @@ use Rattle.check_flight.specs.declared.judged.JudgedLog.{JudgedLog}
 use Rattle.check_flight.specs.declared.state.FlightState.{FlightState}
 use Rattle.check_flight.specs.declared.state.WaitingLook.{WaitingLook}
 use Rattle.fx_order.specs.declared.slots.Slots.{Slots}
-use Rattle.check_flight.specs.declared.verdict.Decision.{Decision}
-use Rattle.check_flight.specs.declared.verdict.Decision.TheVariants.{Flight, Neither, Wrong}
+use Rattle.check_flight.specs.declared.verdict.FlightVerdict.{FlightVerdict}
+use Rattle.check_flight.specs.declared.verdict.FlightVerdict.TheVariants.{Faulty, Legal, NotLegal}
+use Rattle.check_flight.specs.declared.verdict.FlightVerdict.TheVariants.{Undecided}
+use Rattle.check_flight.specs.Reasons.{IsReasonOf}
 use Rattle.check_flight.specs.declared.passage.Passage.{Passage}
 use Rattle.check_flight.specs.declared.passage.Passage.TheVariants.{Stops, Leads, IsUnfit}
 
@@ -183,11 +185,13 @@ HaveFlight log slots = (submissions registrations : ℕ)
     → IsLegalBy log.whole
     (ring_of_slots (catalogue_in log) slots submissions registrations) (log_in log)
 
--- the decision is right
-abbrev pub IsRight : JudgedLog → Slots → Decision → Type 0
-IsRight log slots Flight = HaveFlight log slots
-IsRight log slots (Wrong count) = HaveNoFlight log slots count
-IsRight log slots Neither = Unit {0}
+-- the verdict on events that are a log is right
+abbrev pub IsRight : JudgedLog → Slots → FlightVerdict → Type 0
+IsRight log slots (Faulty fault) = ⊥
+IsRight log slots (NotLegal at reason) = HaveNoFlight log slots (at + 1)
+    × IfSome reason (IsReasonOf (catalogue_in log) slots log.events.now (at + 1))
+IsRight log slots Legal = HaveFlight log slots
+IsRight log slots Undecided = Unit {0}
 
 -- the table has as many slots as the log says
 abbrev pub IsTableOf : JudgedLog → Slots → Type 0

@@ -1,3 +1,4 @@
+pub mod Reasons
 pub mod Refutations
 pub mod States
 pub mod Judged

@@ -1,14 +1,16 @@
 //! The judge of a log of calls in flight.
 ghost use Rattle.std.specs.Prelude.{◌≡◌, ◌↔◌, ◌+◌, ◌<◌, ◌≤◌, ◌^◌, [], ℕ, IfOk, IfSome};
-ghost use Rattle.std.specs.Prelude.{IsTrue, Some, length, take};
+ghost use Rattle.std.specs.Prelude.{IsTrue, Option, Some, length, take};
 ghost use Rattle.fx_base.specs.Catalogue.{IsCatalogue};
 ghost use Rattle.fx_order.specs.Slots.{ring_of_slots};
 ghost use Rattle.fx_flight.specs.Events.{all_happenings};
 ghost use Rattle.fx_flight.specs.Faults.{fault_of_log};
 ghost use Rattle.fx_flight.specs.Whole.{IsLegalBy};
 ghost use Rattle.check_flight.specs.Judged.{log_in, HaveFlight, HaveNoFlight, IsReachedFrom, IsRight, IsTableOf};
+ghost use Rattle.check_flight.specs.Reasons.{IsReasonOf};
 ghost use Rattle.check_flight.specs.States.{HasNoFlightBy};
 ghost use Rattle.check_flight.specs.declared.verdict.FlightVerdict.TheVariants.{Faulty, Legal, NotLegal};
+ghost use Rattle.check_reason.specs.declared.reason.LogReason.{LogReason};
 
 use crate::judged::JudgedLog;
 use crate::player::is_flight;
@@ -17,7 +19,8 @@ use crate::propose::propose;
 use crate::reached::ReachedStates;
 use crate::refute::{beginning_of, refute};
 use crate::search::Search;
-use crate::wrong::{explained_beginning, is_refuted_alone, wrong_beginning};
+use crate::wrong::{is_refuted_alone, wrong_beginning};
+use check_reason::{LogReason, explain};
 use check_search::Limits;
 use fx_base::{Catalogue, Errno, NoMemory};
 use fx_flight::{LogEvent, LogFault, fault_of_log};
@@ -25,7 +28,7 @@ use fx_order::{OrderSetting, Slots};
 use std::alloc::Global;
 
 /// The verdict on a list of events.
-#[derive(Clone, Copy)]
+#[derive(Drop)]
 pub enum FlightVerdict {
     /// The events aren't a log.
     Faulty(LogFault),
@@ -34,22 +37,13 @@ pub enum FlightVerdict {
     NotLegal {
         /// The position of the event.
         at: usize,
+        /// The reason, if one is found. It refutes flights in which requests lack memory, too.
+        reason: Option<LogReason>,
     },
     /// The log has a flight, by whole updates if that is required.
     Legal,
     /// Nothing was shown: the log may be legal or not.
     Undecided,
-}
-
-// A decision on a log.
-#[derive(Clone, Copy)]
-enum Decision {
-    // It has a flight.
-    Flight,
-    // Its beginning with this number of events has none.
-    Wrong(usize),
-    // Nothing was shown.
-    Neither,
 }
 
 // Returns the largest number of states at an event, and of those that a search goes back over: a
@@ -202,6 +196,28 @@ fn has_flight(
     is_flight(log, slots, &search.plan)
 }
 
+// Returns the verdict on a log whose first `count` events are refuted, or are if a reason is found.
+fn explained(
+    log: &JudgedLog<'_>,
+    slots: &Slots,
+    count: usize,
+    is_refuted: bool,
+) -> Result<FlightVerdict, NoMemory>
+    requires { IsTrue is_refuted → HaveNoFlight log.now slots.now count }
+    ensures { IfOk result (IsRight log.now slots.now) }
+{
+    if count == 0 {
+        return Ok(FlightVerdict::Undecided);
+    }
+    let setting = &log.setting;
+    let reason = explain(setting.alloc, setting.catalogue, slots, log.events, count)?;
+    if !is_refuted && reason.is_none() {
+        return Ok(FlightVerdict::Undecided);
+    }
+    let at = count - 1;
+    Ok(FlightVerdict::NotLegal { at, reason })
+}
+
 // Decides whether the log has a flight, by searches with at most `most` states, if quicker ones
 // didn't: they found none, and that the beginning of `hint` events has none.
 fn decide_wholly(
@@ -209,19 +225,19 @@ fn decide_wholly(
     slots: &Slots,
     hint: usize,
     most: usize,
-) -> Result<Decision, NoMemory>
+) -> Result<FlightVerdict, NoMemory>
     requires { IsTableOf log.now slots.now }
     ensures { IfOk result (IsRight log.now slots.now) }
 {
     let mut search = Search::new(log.setting.alloc);
     let yes = has_flight(log, slots, most, &mut search)?;
     if yes {
-        return Ok(Decision::Flight);
+        return Ok(FlightVerdict::Legal);
     }
     let shortest = refuted_beginning(log, slots, hint, most)?;
     match shortest {
-        Some(count) => Ok(Decision::Wrong(count)),
-        None => Ok(Decision::Neither),
+        Some(count) => explained(log, slots, count, true),
+        None => Ok(FlightVerdict::Undecided),
     }
 }
 
@@ -232,39 +248,34 @@ fn decide_quickly(
     slots: &Slots,
     quick: usize,
     hint: &mut usize,
-) -> Result<Decision, NoMemory>
+) -> Result<FlightVerdict, NoMemory>
     requires { IsTableOf log.now slots.now }
     ensures { IfOk result (IsRight log.now slots.now) }
 {
     let mut search = Search::new(log.setting.alloc);
     let yes = has_flight(log, slots, quick, &mut search)?;
     if yes {
-        return Ok(Decision::Flight);
+        return Ok(FlightVerdict::Legal);
     }
     *hint = wrong_beginning(log, slots, &search, quick)?;
-    let early = explained_beginning(log, slots, *hint)?;
-    match early {
-        Some(count) => Ok(Decision::Wrong(count)),
-        None => Ok(Decision::Neither),
-    }
+    explained(log, slots, *hint, false)
 }
 
 // Decides whether the log has a flight, by quick searches first.
-fn decide(log: &JudgedLog<'_>, slots: &Slots, most: usize) -> Result<Decision, NoMemory>
+fn decide(log: &JudgedLog<'_>, slots: &Slots, most: usize) -> Result<FlightVerdict, NoMemory>
     requires { IsTableOf log.now slots.now }
     ensures { IfOk result (IsRight log.now slots.now) }
 {
     let mut hint = 0;
     let first = decide_quickly(log, slots, most.min(FIRST_STATES), &mut hint)?;
-    if !matches!(first, Decision::Neither) {
+    if !matches!(first, FlightVerdict::Undecided) {
         return Ok(first);
     }
     let second = decide_quickly(log, slots, most.min(SECOND_STATES), &mut hint)?;
-    if !matches!(second, Decision::Neither) {
+    if !matches!(second, FlightVerdict::Undecided) {
         return Ok(second);
     }
-    let found = decide_wholly(log, slots, hint, most)?;
-    Ok(found)
+    decide_wholly(log, slots, hint, most)
 }
 
 // Checks whether a request of the log lacked memory (-12).
@@ -300,10 +311,13 @@ pub fn judge_events(
     ensures legal { IfOk result (λ verdict. verdict ≡ Legal → (submissions registrations : ℕ)
         → IsLegalBy whole (ring_of_slots catalogue.now slots.now submissions registrations)
         (all_happenings events.now)) }
-    ensures not_legal { IfOk result (λ verdict. (at : ℕ) → verdict ≡ NotLegal at
-        → (submissions registrations : ℕ)
+    ensures not_legal { IfOk result (λ verdict. (at : ℕ) (reason : Option LogReason)
+        → verdict ≡ NotLegal at reason → (submissions registrations : ℕ)
         → HasNoFlightBy whole (ring_of_slots catalogue.now slots.now submissions registrations)
         (all_happenings (take (at + 1) events.now))) }
+    ensures reason { IfOk result (λ verdict. (at : ℕ) (reason : LogReason)
+        → verdict ≡ NotLegal at (Some reason)
+        → IsReasonOf catalogue.now slots.now events.now (at + 1) reason) }
 {
     if let Some(fault) = fault_of_log(alloc, events)? {
         return Ok(FlightVerdict::Faulty(fault));
@@ -323,10 +337,5 @@ pub fn judge_events(
         positions: &positions,
     };
     let most = room_for(slots, limits);
-    let found = decide(&log, slots, most)?;
-    match found {
-        Decision::Flight => Ok(FlightVerdict::Legal),
-        Decision::Wrong(count) if count > 0 => Ok(FlightVerdict::NotLegal { at: count - 1 }),
-        _ => Ok(FlightVerdict::Undecided),
-    }
+    decide(&log, slots, most)
 }

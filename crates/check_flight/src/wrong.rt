@@ -1,6 +1,6 @@
 //! The first event with which no flight is left, as a search finds it, and whether the beginning up
 //! to it is refuted.
-ghost use Rattle.std.specs.Prelude.{IfOk, IfSome, IsTrue};
+ghost use Rattle.std.specs.Prelude.{IfOk, IsTrue};
 ghost use Rattle.check_flight.specs.Judged.{HaveNoFlight, IsTableOf};
 
 use crate::call::push_call;
@@ -9,7 +9,6 @@ use crate::reached::ReachedStates;
 use crate::refute::{beginning_of, refute};
 use crate::search::{SAVED_EVERY, Search};
 use crate::state::{FlightState, first_state};
-use check_reason::explain;
 use fx_base::NoMemory;
 use fx_order::Slots;
 
@@ -100,33 +99,6 @@ pub(crate) fn wrong_beginning(
     }
     let start = start_of(log, slots, search)?;
     shortest_wrong(log, &calls, &start, search.furthest, most)
-}
-
-// Checks whether a certificate refutes the first `count` events.
-fn is_explained(log: &JudgedLog<'_>, slots: &Slots, count: usize) -> Result<bool, NoMemory>
-    ensures { IfOk result (λ yes. IsTrue yes → HaveNoFlight log.now slots.now count) }
-{
-    let setting = &log.setting;
-    let reason = explain(setting.alloc, setting.catalogue, slots, log.events, count)?;
-    let Some(_found) = reason else {
-        return Ok(false);
-    };
-    Ok(true)
-}
-
-/// Returns the number of events of a beginning of the log, if a certificate refutes it.
-pub(crate) fn explained_beginning(
-    log: &JudgedLog<'_>,
-    slots: &Slots,
-    count: usize,
-) -> Result<Option<usize>, NoMemory>
-    ensures { IfOk result (λ early. IfSome early (HaveNoFlight log.now slots.now)) }
-{
-    let yes = is_explained(log, slots, count)?;
-    if yes {
-        return Ok(Some(count));
-    }
-    Ok(None)
 }
 
 /// Checks whether the states that flights of the first `count` events reach refute them, with at

@@ -94,7 +94,7 @@ fn verdict_on(
 fn print_verdict<R: Print>(rt: &R, verdict: FlightVerdict) {
     let _ = match verdict {
         FlightVerdict::Faulty(fault) => println!(rt; "event {} isn't one of a log", fault.at),
-        FlightVerdict::NotLegal { at } => println!(rt; "not legal at event {at}"),
+        FlightVerdict::NotLegal { at, .. } => println!(rt; "not legal at event {at}"),
         FlightVerdict::Legal => println!(rt; "legal"),
         FlightVerdict::Undecided => println!(rt; "undecided"),
     };

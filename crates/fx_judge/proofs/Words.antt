@@ -7,8 +7,8 @@ pub use Rattle.check_judge.proofs.Words.{All, All-map, IsTrue, Meaning, new_ring
 pub use Rattle.fx_judge.specs.Arrays.{Arrays, arrays_in, asked_passed, happening_passed}
 pub use Rattle.fx_judge.specs.Flaws.{event_flaw, flaw_of_log, request_flaw, requests_flaw}
 pub use Rattle.fx_judge.specs.Outcomes.{joined, lengths_in}
-pub use Rattle.fx_judge.specs.Logs.{AreLogEvents, HasLogFault, HasNotHappened, IsFlightVerdict, IsNumberOf, IsReadable, PassedLog, arrays_of}
-pub use Rattle.fx_judge.specs.Logs.{HasNotHappenedBy, MayHaveHappened, MayHaveHappenedBy, events_passed, passed, ring_passed}
+pub use Rattle.fx_judge.specs.Logs.{AreLogEvents, HasNotHappened, IsFlightVerdict, IsNumberOf, IsReadable, PassedLog}
+pub use Rattle.fx_judge.specs.Logs.{HasNotHappenedBy, MayHaveHappened, MayHaveHappenedBy, events_passed, ring_passed}
 pub use Rattle.fx_judge.specs.declared.codes.TheConstants.{FAULTY, LEGAL, NOT_LEGAL, UNDECIDED}
 pub use Rattle.fx_language.specs.Script.{IsScript}
 pub use Rattle.std.proofs.Common.{Global, String, string_eq}

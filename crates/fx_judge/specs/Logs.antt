@@ -1,5 +1,6 @@
 -- The meaning of a verdict's number, for a log that C passes.
-use Rattle.std.specs.Prelude.{◌≡◌, ◌≢◌, ◌↔◌, ◌≤◌, ◌<◌, ℕ, ◌+◌, Bool, List, [], ℤ, take, Some, None}
+use Rattle.std.specs.Prelude.{◌≡◌, ◌↔◌, ◌≤◌, ◌<◌, ℕ, ◌+◌, Bool, List, [], ℤ, length, take}
+use Rattle.std.specs.Prelude.{Option, Some, None}
 use Rattle.fx_base.specs.Catalogue.{FileEntry}
 use Rattle.fx_language.specs.Script.{IsScript, Meaning}
 use Rattle.fx_order.specs.Slots.{table_of_slots}
@@ -18,6 +19,7 @@ use Rattle.check_flight.specs.States.{HasNoFlight, HasNoFlightBy}
 use Rattle.check_flight.specs.declared.verdict.FlightVerdict.{FlightVerdict}
 use Rattle.check_flight.specs.declared.verdict.FlightVerdict.TheVariants.{Faulty, NotLegal, Legal}
 use Rattle.check_flight.specs.declared.verdict.FlightVerdict.TheVariants.{Undecided}
+use Rattle.check_reason.specs.declared.reason.LogReason.{LogReason}
 use Rattle.fx_judge.specs.Arrays.{Arrays, log_passed}
 use Rattle.fx_judge.specs.Flaws.{flaw_of_log}
 use Rattle.fx_judge.specs.Verdicts.{HasFaultOnLine}
@@ -32,7 +34,6 @@ use Rattle.fx_judge.specs.declared.events.YachtRequest.{YachtRequest}
 use Rattle.fx_judge.specs.declared.flights.YachtJudgement.{YachtJudgement}
 use Rattle.fx_judge.specs.declared.logs.CallLog.{CallLog}
 use Rattle.fx_judge.specs.declared.logs.ReadLog.{ReadLog}
-use Rattle.fx_judge.specs.declared.reasons.YachtReason.{YachtReason}
 
 -- a log as C passes it: a script, whose files are the catalogue, the number of slots of the table,
 -- and the arrays
@@ -154,15 +155,22 @@ pub record IsFlightVerdict (whole : Bool) (ring : RingState) (log : List Happeni
   pub fault : (fault : LogFault)
       → (verdict ≡ Faulty fault) ↔ (fault_of_log 0 [] log ≡ Some fault)
   pub legal : verdict ≡ Legal → IsLegalBy whole ring log
-  pub not_legal : (at : ℕ) → verdict ≡ NotLegal at
+  pub not_legal : (at : ℕ) (reason : Option LogReason) → verdict ≡ NotLegal at reason
       → HasNoFlightBy whole ring (take (at + 1) log)
+  pub refuted : (at : ℕ) (reason : LogReason) → verdict ≡ NotLegal at (Some reason)
+      → IsLegalLog ring (take (at + 1) log) → ⊥
+
+abbrev pub steps_in : Option LogReason → ℕ
+steps_in None = 0
+steps_in (Some reason) = length reason.steps.items
 
 -- the number and the details of a verdict
 abbrev pub IsNumberOf : FlightVerdict → ℕ → YachtJudgement → Type 0
 IsNumberOf (Faulty fault) code judgement =
     (code ≡ FAULTY) × (judgement.at ≡ fault.at)
     × (judgement.fault ≡ number_of_fault fault.fault)
-IsNumberOf (NotLegal at) code judgement = (code ≡ NOT_LEGAL) × (judgement.at ≡ at)
+IsNumberOf (NotLegal at reason) code judgement =
+    (code ≡ NOT_LEGAL) × (judgement.at ≡ at) × (judgement.steps ≡ steps_in reason)
 IsNumberOf Legal code judgement = code ≡ LEGAL
 IsNumberOf Undecided code judgement = code ≡ UNDECIDED
 
@@ -180,13 +188,7 @@ pub record IsLogVerdict (happens : PassedLog → Type 0) (fails : PassedLog → 
   pub refused : IsLogRefusal p number details.at details.fault details.line
   pub legal : number ≡ LEGAL → happens p
   pub not_legal : number ≡ NOT_LEGAL → fails p details.at
+  -- with a reason none by the entries of updates, either
+  pub reason : number ≡ NOT_LEGAL → 0 < details.steps → HasNotHappened p details.at
   pub judged : number ≤ UNDECIDED → AreLogEvents p
   pub faulty : number ≡ FAULTY → HasLogFault p details.at details.fault
-
--- a number and the details of a reason why the log up to and with the event at this position has
--- not happened
-pub record IsLogReason (p : PassedLog) (at number : ℕ) (details : YachtReason) : Type 0 where
-  pub refused : IsLogRefusal p number details.at details.fault details.line
-  pub no_verdict : number ≢ LEGAL
-  pub no_fault : number ≢ FAULTY
-  pub not_legal : number ≡ NOT_LEGAL → HasNotHappened p at

@@ -8,6 +8,7 @@ use crate::codes::{
     FAULT_STILL_OPEN, FAULT_WRONG_NUMBER, FAULTY, LEGAL, NO_MEMORY, NOT_LEGAL, UNDECIDED,
 };
 use crate::logs::CallLog;
+use crate::steps::{YachtStep, write_steps};
 use check_flight::{FlightVerdict, judge_events};
 use check_search::Limits;
 use fx_flight::EventFault;
@@ -20,6 +21,9 @@ pub struct YachtJudgement {
     /// The position of the event of a verdict, from 0: the first one with which the log is known
     /// not to be legal, or the first one with a fault or a flaw.
     pub at: u64,
+    /// Of a log that isn't legal: the number of steps of the whole reason, of which as many are
+    /// written as have room, or 0 if no reason is found.
+    pub steps: u64,
     /// The number of the fault, or of the flaw.
     pub fault: u32,
     /// Of bytes that aren't a script: the line of the first fault, from 1, or 0 if there are too
@@ -42,8 +46,8 @@ fn number_of(fault: EventFault) -> u32
     }
 }
 
-// Writes the details of a verdict. Returns its number.
-fn number(verdict: FlightVerdict, judgement: &mut YachtJudgement) -> u32
+// Writes the details of a verdict, and its reason. Returns its number.
+fn number(verdict: FlightVerdict, steps: &mut [YachtStep], judgement: &mut YachtJudgement) -> u32
     ensures { IsNumberOf verdict result judgement.new }
 {
     match verdict {
@@ -52,8 +56,12 @@ fn number(verdict: FlightVerdict, judgement: &mut YachtJudgement) -> u32
             judgement.fault = number_of(fault.fault);
             FAULTY
         }
-        FlightVerdict::NotLegal { at } => {
+        FlightVerdict::NotLegal { at, reason } => {
             judgement.at = at as u64;
+            judgement.steps = match reason {
+                Some(why) => write_steps(&why.steps, steps),
+                None => 0,
+            };
             NOT_LEGAL
         }
         FlightVerdict::Legal => LEGAL,
@@ -67,6 +75,7 @@ fn judge_log_by(
     log: &CallLog<'_>,
     whole: bool,
     limits: Limits,
+    steps: &mut [YachtStep],
     judgement: &mut YachtJudgement,
 ) -> u32
     ensures { IsLogVerdict (MayHaveHappenedBy whole) (HasNotHappenedBy whole) (passed_log log.now)
@@ -81,20 +90,22 @@ fn judge_log_by(
     let Ok(verdict) = judge_events(alloc, catalogue, slots, &read.events, whole, limits) else {
         return NO_MEMORY;
     };
-    number(verdict, judgement)
+    number(verdict, steps, judgement)
 }
 
-/// Judges a log of calls in flight, by searches within these limits. It returns `LEGAL`,
-/// `NOT_LEGAL`, `UNDECIDED`, `BAD_SCRIPT`, `NO_MEMORY`, `FAULTY`, `MALFORMED` or `TOO_MANY_SLOTS`.
+/// Judges a log of calls in flight, by searches within these limits, and writes the first steps of
+/// the reason. It returns `LEGAL`, `NOT_LEGAL`, `UNDECIDED`, `BAD_SCRIPT`, `NO_MEMORY`, `FAULTY`,
+/// `MALFORMED` or `TOO_MANY_SLOTS`.
 pub fn judge_log(
     alloc: Global,
     log: &CallLog<'_>,
     limits: Limits,
+    steps: &mut [YachtStep],
     judgement: &mut YachtJudgement,
 ) -> u32
     ensures { IsLogVerdict MayHaveHappened HasNotHappened (passed_log log.now) result judgement.new }
 {
-    judge_log_by(alloc, log, false, limits, judgement)
+    judge_log_by(alloc, log, false, limits, steps, judgement)
 }
 
 /// Judges a log as `judge_log` does, by whole updates: each update is one step, not one for each
@@ -103,10 +114,11 @@ pub fn judge_whole_updates(
     alloc: Global,
     log: &CallLog<'_>,
     limits: Limits,
+    steps: &mut [YachtStep],
     judgement: &mut YachtJudgement,
 ) -> u32
     ensures { IsLogVerdict (MayHaveHappenedBy true) (HasNotHappenedBy true) (passed_log log.now)
         result judgement.new }
 {
-    judge_log_by(alloc, log, true, limits, judgement)
+    judge_log_by(alloc, log, true, limits, steps, judgement)
 }

@@ -13,7 +13,6 @@ mod limits;
 mod logs;
 mod note;
 mod outcomes;
-mod reasons;
 mod steps;
 
 pub use events::{YachtEvent, YachtRequest};
@@ -22,5 +21,4 @@ pub use judge::{YachtVerdict, judge_text};
 pub use limits::limits_of;
 pub use logs::CallLog;
 pub use outcomes::{YachtTexts, list_texts};
-pub use reasons::{YachtReason, explain_log};
 pub use steps::{YachtPoint, YachtStep};

@@ -86,6 +86,7 @@ impl<'a> CallLog<'a> {
     {
         *details = YachtJudgement {
             at: 0,
+            steps: 0,
             fault: 0,
             line: 0,
         };

@@ -1,4 +1,5 @@
 //! The steps of a reason as C reads them: of fixed size, with positions of events.
+ghost use Rattle.std.specs.Prelude.{◌≡◌, length};
 
 use crate::codes::{
     POINT_ACCESS, POINT_EVENT, POINT_GONE, POINT_PUT, RULE_BEGINS, RULE_CALLS, RULE_CANT_ANSWER,
@@ -256,7 +257,9 @@ fn passed_step(step: &ReasonStep) -> YachtStep {
 }
 
 /// Writes the first steps of a reason, as many as have room. Returns the number of all of them.
-pub fn write_steps(reason: &[ReasonStep], into: &mut [YachtStep]) -> u64 {
+pub fn write_steps(reason: &[ReasonStep], into: &mut [YachtStep]) -> u64
+    ensures { result ≡ length reason.now }
+{
     for i in 0..reason.len().min(into.len()) {
         into[i] = passed_step(&reason[i]);
     }

@@ -1,14 +1,14 @@
 //! The functions that C calls. Each has the contract of the call of `fx_judge` that it makes, and
 //! the major version in its name, since C passes structs.
 ghost use Rattle.std.specs.Prelude.{true};
-ghost use Rattle.fx_judge.specs.Logs.{HasNotHappened, HasNotHappenedBy, IsLogReason, IsLogVerdict};
+ghost use Rattle.fx_judge.specs.Logs.{HasNotHappened, HasNotHappenedBy, IsLogVerdict};
 ghost use Rattle.fx_judge.specs.Logs.{MayHaveHappened, MayHaveHappenedBy, passed};
 ghost use Rattle.fx_judge.specs.Outcomes.{IsTextList};
 ghost use Rattle.fx_judge.specs.Verdicts.{IsTextVerdict};
 
 use fx_judge::{
-    CallLog, YachtEvent, YachtJudgement, YachtReason, YachtRequest, YachtStep, YachtTexts,
-    YachtVerdict, explain_log, judge_log, judge_text, judge_whole_updates, limits_of, list_texts,
+    CallLog, YachtEvent, YachtJudgement, YachtRequest, YachtStep, YachtTexts, YachtVerdict,
+    judge_log, judge_text, judge_whole_updates, limits_of, list_texts,
 };
 use std::alloc::Global;
 
@@ -48,8 +48,8 @@ pub extern "C" fn yacht_outcomes_6(
     list_texts(alloc, script, limits, texts, lengths, found)
 }
 
-/// Judges a log of calls in flight, by searches of at most `states` states and `memory` MiB:
-/// `fx_judge::judge_log`.
+/// Judges a log of calls in flight, by searches of at most `states` states and `memory` MiB, and
+/// writes the first steps of the reason: `fx_judge::judge_log`.
 #[unsafe(no_mangle)]
 pub extern "C" fn yacht_judge_events_6(
     alloc: Global,
@@ -61,6 +61,7 @@ pub extern "C" fn yacht_judge_events_6(
     events: &[YachtEvent],
     states: u32,
     memory: u32,
+    steps: &mut [YachtStep],
     judgement: &mut YachtJudgement,
 ) -> u32
     ensures { IsLogVerdict MayHaveHappened HasNotHappened
@@ -68,7 +69,7 @@ pub extern "C" fn yacht_judge_events_6(
         judgement.new }
 {
     let log = CallLog::of(script, slots, requests, entries, bytes, events);
-    judge_log(alloc, &log, limits_of(states, memory), judgement)
+    judge_log(alloc, &log, limits_of(states, memory), steps, judgement)
 }
 
 /// Judges a log of calls in flight by whole updates, as `yacht_judge_events` does:
@@ -84,6 +85,7 @@ pub extern "C" fn yacht_judge_whole_updates_6(
     events: &[YachtEvent],
     states: u32,
     memory: u32,
+    steps: &mut [YachtStep],
     judgement: &mut YachtJudgement,
 ) -> u32
     ensures { IsLogVerdict (MayHaveHappenedBy true) (HasNotHappenedBy true)
@@ -91,27 +93,5 @@ pub extern "C" fn yacht_judge_whole_updates_6(
         judgement.new }
 {
     let log = CallLog::of(script, slots, requests, entries, bytes, events);
-    judge_whole_updates(alloc, &log, limits_of(states, memory), judgement)
-}
-
-/// Looks for the reason why a log of calls in flight is not legal: `fx_judge::explain_log`.
-#[unsafe(no_mangle)]
-pub extern "C" fn yacht_explain_events_6(
-    alloc: Global,
-    script: &[u8],
-    slots: u32,
-    requests: &[YachtRequest],
-    entries: &[i32],
-    bytes: &[u8],
-    events: &[YachtEvent],
-    at: u64,
-    steps: &mut [YachtStep],
-    reason: &mut YachtReason,
-) -> u32
-    ensures { IsLogReason
-        (passed script.now slots requests.now entries.now bytes.now events.now) at result
-        reason.new }
-{
-    let log = CallLog::of(script, slots, requests, entries, bytes, events);
-    explain_log(alloc, &log, at, steps, reason)
+    judge_whole_updates(alloc, &log, limits_of(states, memory), steps, judgement)
 }

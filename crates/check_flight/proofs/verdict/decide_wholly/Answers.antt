@@ -1,4 +1,4 @@
 use Rattle.check_flight.proofs.verdict.decide_wholly.Goals as goal
 
-pub returns-in-Some : goal.returns-in-Some
-returns-in-Some c = rw c.in-Some.is at c.in_ok-shortest.ensures
+pub explained-requires : goal.explained-requires
+explained-requires c = λ _. rw c.in-Some.is at c.in_ok-shortest.ensures
