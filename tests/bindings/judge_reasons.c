@@ -13,7 +13,7 @@ static const yacht_event stale_events[] = {
     {.kind = YACHT_EVENT_CALL, .call = 2, .first = 1, .count = 1}, {.kind = YACHT_EVENT_DONE, .call = 2, .member = 1},
     {.kind = YACHT_EVENT_LOOK, .call = 3}, {.kind = YACHT_EVENT_FOUND, .call = 3, .by_call = 1, .by_member = 1},
 };
-/* during an update of slots 0 and 1 a read finds its file at slot 0, and a later one none at slot 1 */
+/* during an update of slots 0 and 1 a read finds its file at slot 0, a later one none at slot 1 */
 static const int32_t entries[] = {0, 0};
 static const uint8_t bytes[] = {0x61};
 static const yacht_request between_requests[] = {
