@@ -258,15 +258,16 @@ impl Spent {
         self.rings == 0 || (self.rings < limits.states && self.bytes() < limits.bytes)
     }
 
-    /// Returns what the next search of a submission may use: if texts are kept, what is left of the
-    /// limits, and at the first ring after a command at least a little; else the limits.
+    /// Returns what the next search of a submission may use: if texts are kept, the states that are
+    /// left and half of the bytes, since the rings that it finds and the commands after them need
+    /// room too, and at the first ring after a command at least a little; else the limits.
     pub(crate) fn left_of(&self, setting: &WalkSetting<'_>) -> Limits {
         let limits = setting.limits;
         if !setting.keeps {
             return limits;
         }
         let states = limits.states.saturating_sub(self.states);
-        let bytes = limits.bytes.saturating_sub(self.bytes());
+        let bytes = limits.bytes.saturating_sub(self.bytes()) / 2;
         if self.rings != 0 {
             return Limits { states, bytes };
         }
