@@ -37,6 +37,9 @@ TWICE, OFTEN, LIST_MIB = 8, 60, 64
 # submissions, each of so many long reads: 8 MB of text. A program that makes a text for each of the
 # 120 rings has no room for them in so many MiB
 ANY, AFTER, LONG, ANY_MIB = 5, 100, 10, 128
+# so many opens at one slot have more states than so many MiB hold, and a program that holds no more
+# than that, beside itself, lists some texts of theirs
+HELD, HELD_MIB, BESIDE_MIB = 100, 192, 32
 # the states of the searches before the last one, on a terminal: quarters of the limit
 TRIED = {15_625, 62_500, 250_000}
 # how much memory a program may have that reads a file without an end
@@ -323,6 +326,10 @@ class Verdicts(Counted):
         path = self.path("rings", lines(f"file a {'6a' * BYTES}", f"sparse {ANY}", *opens, "submit", "unregister", *after).encode())
         head = f"{math.factorial(ANY)} texts, if no allocation fails; the first 1:"
         self.want_list("the first text of many rings", ["--memory=32", "--all=1", path], 0, 0, head, **limited(ANY_MIB * 1024))
+        path = self.path("held", lines("file a 61", "sparse 1", *["open a at 0"] * HELD, "submit").encode())
+        head = f"at least \\d+ texts, if no allocation fails: not shown to be all within 1000000 states and {HELD_MIB} MiB; the first 1:"
+        how = limited((HELD_MIB + BESIDE_MIB) * 1024)
+        self.want_list("texts within their memory", [f"--memory={HELD_MIB}", "--all=1", path], 6, 0, head, **how)
 
     def want_list(self, what, words, status, nth, line, **how):
         """A list ends with this status, and its nth line is this."""
