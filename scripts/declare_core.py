@@ -224,10 +224,10 @@ VERSION = re.compile(
     r'\byacht_(?:open|direct_open|judge|outcomes|judge_events|judge_whole_updates)_)(?=\d)[\d.]*\d', re.M)
 # the files with the version, and how often each has it or a part of it
 VERSIONED = {
-    "bindings/python/yachtjudge.py": 11, "bindings/recorder/src/c.rs": 1, "bindings/rust/Cargo.toml": 1, "bindings/rust_judge/Cargo.toml": 1,
-    **{f"bindings/rust_judge/src/{it}.rs": count for it, count in (("core", 5), ("log", 3), ("script", 2))},
-    "crates/fx_arguments/src/fixcheck.rt": 1, "crates/fx_judge_c/src/exports.rt": 5,
-    "include/yachtbanyan.h": 5, "include/yachtdirect.h": 5, "include/yachtjudge.h": 9,
+    "bindings/python/yachtjudge.py": 9, "bindings/recorder/src/c.rs": 1, "bindings/rust/Cargo.toml": 1, "bindings/rust_judge/Cargo.toml": 1,
+    **{f"bindings/rust_judge/src/{it}.rs": count for it, count in (("core", 4), ("log", 2), ("script", 2))},
+    "crates/fx_arguments/src/fixcheck.rt": 1, "crates/fx_judge_c/src/exports.rt": 4,
+    "include/yachtbanyan.h": 5, "include/yachtdirect.h": 5, "include/yachtjudge.h": 8,
     "crates/fx_direct_c/src/exports.rt": 1, "bench/life.rs": 2, **{f"bindings/rust/src/direct/{it}.rs": 1 for it in ("core", "machine", "stand_in")},
 }
 DATED = sorted(glob.glob("man/*.1", root_dir=ROOT))

@@ -11,7 +11,7 @@ from scripts.repository import read
 
 # by library: the files with its exports in Rattle, and its declarations elsewhere
 RATTLE = {
-    "judge": ["fx_judge_c/exports", *(f"fx_judge/{it}" for it in ("judge", "outcomes", "flights", "events", "reasons", "steps", "codes"))],
+    "judge": ["fx_judge_c/exports", *(f"fx_judge/{it}" for it in ("judge", "outcomes", "flights", "events", "steps", "codes"))],
     "direct": ["fx_direct_c/exports", "fx_direct_c/codes"],
     "server": ["fx_server_c/exports", "fx_server/codes", "fx_server/answers"],
 }
