@@ -28,9 +28,14 @@ use Rattle.fx_flight.specs.Events.{all_happenings, happening_of}
 use Rattle.fx_flight.specs.declared.event.LogEvent.{LogEvent}
 use Rattle.fx_order.proofs.Accesses.{at_itself}
 use Rattle.fx_order.proofs.ChainsFront.{front_is}
+use Rattle.fx_order.proofs.Words.{nat_tests}
 use Rattle.std.proofs.lemmas.List.{length-map}
-use Rattle.std.proofs.lemmas.Option.{slice_get-get_or, slice_get-map, slice_get_read}
-use Rattle.std.specs.Prelude.{All, IfSome, option_map, slice_index_or}
+use Rattle.std.proofs.lemmas.List.Folds.{list_any_at}
+use Rattle.std.proofs.lemmas.Option.{slice_get-get_or, slice_get-map, slice_get_past, slice_get_read}
+use Rattle.std.specs.Borrow.{Bor}
+use Rattle.std.specs.List.{list_any}
+use Rattle.std.specs.Prelude.{All, IfSome, map, option_map, slice_index_or, Bool}
+use Rattle.std.specs.Slice.{IsItemAt}
 
 abbrev pub strict_from : Point → Point → PointOrder
 strict_from from to = record { from = from; to = to; strict = true }
@@ -364,13 +369,19 @@ pub positions_forced : (b : LogBeginning) (i j : ℕ) (o : PointOrder) → o ≡
 positions_forced b i j o is low inside f =
     let e = event_at b i (omega arith) in let d = event_at b j inside in rw is (strict_order f.at (Event i) (Event j) (event_order f e.1 d.1 low))
 
--- no event of the list is this one
-pub not_logged : (events : List LogEvent) (event : Happening)
-    → ((k : ℕ) (d : LogEvent) → k < length events → happening_of (slice_index_or events k d) ≡ event → ⊥)
-    → Contains (all_happenings events) event → ⊥
-not_logged events event none inside =
+-- an event of the log is one that a test finds
+pub logged_any : (test : LogEvent → Bool) (events : List LogEvent) (event : Happening) → ((e : LogEvent) → happening_of e ≡ event → test e ≡ true)
+    → Contains (all_happenings events) event → list_any test events ≡ true
+logged_any test events event finds inside =
     let (x, (k, low, is), same) = contains_map happening_of events event inside in
-    none k x low (ap happening_of is ∙ sym same)
+    list_any_at test events k x low (finds (slice_index_or events k x) (ap happening_of is ∙ sym same))
+
+-- a read of a list, seen through a function
+pub got_mapped : {A B : Type 0} (f : A → B) (xs : List A) (k : ℕ) (found : Option (Bor A)) → IsItemAt xs k found
+    → option_map (λ (x : Bor A). f x.now) found ≡ slice_get (map f xs) k
+got_mapped f xs k None is =
+    let past : length xs ≤ k = grind (arith, nat_tests, is.0) in sym (slice_get-map f xs k ∙ ap (option_map f) (slice_get_past xs k past))
+got_mapped f xs k (Some x) is = sym (slice_get-map f xs k ∙ ap (option_map f) (slice_get_read xs (length xs) k x.now refl is.3.0 is.1))
 
 pub request_is : (chain : List Request) (k m : ℕ) (r : Request) (request : Asked) → k ≡ m → k < length chain → r ≡ slice_index_or chain k r
     → slice_get (all_asked chain) m ≡ Some request → asked_of r ≡ request

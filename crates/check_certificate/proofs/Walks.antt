@@ -1,9 +1,13 @@
 -- The walk over all accesses that calls intend: its steps.
 use Rattle.check_certificate.proofs.Words.{◌≡◌, ℕ, ◌+◌, ◌<◌, ◌≤◌, List, length, sym, ap, ◌∙◌, arith, Some, Option, ⊎_elim, cases_lt, subst}
 use Rattle.check_certificate.proofs.Words.{slice_get, slice_index_or, Asked, Place, Called, Happening, FileEntry, either_option}
+use Rattle.check_certificate.proofs.Words.{Bool, true, false, suc, zero, refl, None, ◌-◌, if◌then◌else◌}
+use Rattle.check_certificate.specs.Holds.{first_answer, is_answered_at}
+use Rattle.check_certificate.specs.Said.{Given}
 use Rattle.check_certificate.proofs.Forcing.{event_is, request_is}
 use Rattle.check_certificate.proofs.Intended.{intent_once}
 use Rattle.check_certificate.specs.Walked.{AreAllRuledOut, AreRuledOut, AreRuledOutTo, IsCallRuledOut, IsRuledOut, end_of, member_of}
+use Rattle.check_certificate.specs.Walks.{all_below}
 use Rattle.check_certificate.specs.Evidence.{IsEventAt, slot_count}
 use Rattle.check_certificate.specs.Forced.{log_of_beginning}
 use Rattle.check_certificate.specs.declared.beginning.LogBeginning.{LogBeginning}
@@ -19,6 +23,54 @@ use Rattle.fx_flight.specs.declared.event.LogEvent.{LogEvent}
 use Rattle.fx_order.proofs.Intents.{as_many_intents}
 use Rattle.fx_order.proofs.Words.{slice_get_within}
 use Rattle.std.proofs.lemmas.List.{length-map}
+use Rattle.std.proofs.lemmas.Option.{slice_get-map, slice_get_read}
+use Rattle.std.specs.Prelude.{◌&&◌, ◌||◌, not, option_map}
+
+-- a test of each number below a number, one more, and one that fails
+pub all_more : (test : ℕ → Bool) (n : ℕ) → test n ≡ true → all_below n test ≡ true → all_below (n + 1) test ≡ true
+all_more test n here before =
+    let next : n + 1 ≡ suc n = omega arith in
+    let both : all_below (suc n) test ≡ true = ap (λ (b : Bool). b && all_below n test) here ∙ before in rw next both
+
+pub not_all : (test : ℕ → Bool) (n k : ℕ) → k < n → test k ≡ false → all_below n test ≡ false
+not_all test zero k low here = absurd (omega arith)
+not_all test (suc n) k low here = ⊎_elim
+    (λ early. ap (λ (b : Bool). test n && b) (not_all test n k early here) ∙ and_false (test n))
+    (λ late. let same : k ≡ n = omega arith in
+    ap (λ (b : Bool). b && all_below n test) (subst (λ (i : ℕ). test i ≡ false) same here)) (cases_lt k n)
+  where
+    and_false : (b : Bool) → (b && false) ≡ false
+    and_false true = refl
+    and_false false = refl
+
+pub or_true : (a b : Bool) → b ≡ true → (a || b) ≡ true
+or_true true b is = refl
+or_true false b is = is
+
+pub or_false : (a b : Bool) → a ≡ true → b ≡ false → (not a || b) ≡ false
+or_false true b early is = is
+or_false false b early is = absurd (cc early)
+
+-- a request of a chain by its number
+pub asked_at : (chain : List Request) (n : ℕ) (r : Request) → n < length chain → r ≡ slice_index_or chain n r
+    → slice_get (all_asked chain) n ≡ Some (asked_of r)
+asked_at chain n r low is = slice_get-map asked_of chain n ∙ ap (option_map asked_of) (slice_get_read chain (length chain) n r refl low is)
+
+-- the search for the answer of a member: at an event, past it, and at the end
+module _ (g : Given) (place : Place) (at : ℕ) where
+  pub answer_here : at < length g.events → is_answered_at g at place ≡ true → first_answer g place (length g.events - at) at ≡ Some at
+  answer_here low here =
+      let left : length g.events - at ≡ suc (length g.events - (at + 1)) = omega arith in
+      rw left (ap (λ (b : Bool). if b then Some at else first_answer g place (length g.events - (at + 1)) (at + 1)) here)
+
+  pub answer_later : at < length g.events → is_answered_at g at place ≡ false
+      → first_answer g place (length g.events - at) at ≡ first_answer g place (length g.events - (at + 1)) (at + 1)
+  answer_later low here =
+      let left : length g.events - at ≡ suc (length g.events - (at + 1)) = omega arith in
+      rw left (ap (λ (b : Bool). if b then Some at else first_answer g place (length g.events - (at + 1)) (at + 1)) here)
+
+  pub answer_none : length g.events ≤ at → first_answer g place (length g.events - at) at ≡ None
+  answer_none past = let left : length g.events - at ≡ 0 = omega arith in rw left refl
 
 -- a request intends no access past its last one
 below : (catalogue : List FileEntry) (size : ℕ) (place : Place) (operation : Operation) (k : ℕ) (intent : Intent)

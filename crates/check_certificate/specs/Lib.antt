@@ -2,6 +2,13 @@ pub mod Times
 pub mod Forced
 pub mod Evidence
 pub mod Answers
+pub mod Said
+pub mod Made
+pub mod Rules
+pub mod Holds
+pub mod Leaves
+pub mod Walks
+pub mod Right
 pub mod Absent
 pub mod Taken
 pub mod Landed

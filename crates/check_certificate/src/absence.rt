@@ -3,32 +3,36 @@ ghost use Rattle.std.specs.Prelude.{◌≡◌, ℕ, IfSome, IsTrue, true};
 ghost use Rattle.fx_base.specs.declared.mark.Mark.TheVariants.{Submitted};
 ghost use Rattle.check_certificate.specs.Absent.{is_negative};
 ghost use Rattle.check_certificate.specs.Forced.{IsForced};
+ghost use Rattle.check_certificate.specs.Holds as hold;
+ghost use Rattle.check_certificate.specs.Said as said;
 ghost use Rattle.check_certificate.specs.declared.certificate.Point.TheVariants.{Access, Gone, Put};
 
-use crate::beginning::{LogBeginning, call_of};
+use crate::beginning::LogBeginning;
 use crate::certificate::{Holding, Point, PointOrder};
+use crate::events::call_of;
 use crate::evidence::Evidence;
 use crate::rules::{not_after, ordered};
 use crate::walk::MemberAccess;
 use fx_base::{Closed as File, Mark};
 use fx_chain::{Completion, Place};
-use fx_flight::LogEvent;
 
 /// Checks whether an order says that a file is installed after the access.
 pub(crate) fn is_later(order: &PointOrder, h: &Holding, file: File) -> bool
-    ensures { IsTrue result → (order.now.from ≡ Access h.now.answer h.now.access)
+    ensures sound { IsTrue result → (order.now.from ≡ Access h.now.answer h.now.access)
         × (order.now.to ≡ Put file) }
+    ensures exact { result ≡ hold.is_later order.now h.now file }
 {
     order.from == Point::Access(h.answer, h.access) && order.to == Point::Put(file)
 }
 
 /// Checks whether an order says that a file is gone from the slot before the access.
 pub(crate) fn is_gone(order: &PointOrder, h: &Holding, file: File) -> bool
-    ensures { IsTrue result → order.now ≡ record {
+    ensures sound { IsTrue result → order.now ≡ record {
       from = Gone file h.now.slot;
       to = Access h.now.answer h.now.access;
       strict = true;
     } }
+    ensures exact { result ≡ hold.is_gone order.now h.now file }
 {
     order.strict
         && order.from == Point::Gone(file, h.slot)
@@ -37,8 +41,9 @@ pub(crate) fn is_gone(order: &PointOrder, h: &Holding, file: File) -> bool
 
 // Checks whether a file has the mark of a member of a call.
 fn is_of_member(file: File, place: Place) -> bool
-    ensures { IsTrue result → (entry : ℕ) × (file.mark
+    ensures sound { IsTrue result → (entry : ℕ) × (file.mark
         ≡ Submitted place.submission 1 place.member entry) }
+    ensures exact { result ≡ hold.is_mark_of place file.mark }
 {
     match file.mark {
         Mark::Submitted {
@@ -61,13 +66,12 @@ pub(crate) fn is_failure(c: &Completion) -> bool
 impl LogBeginning<'_> {
     // Returns the order of an event and the installation of a file that no access installs: the
     // event at `own` is the failure of the file's member.
+    #[tactic(auto, unfolding(crate::specs::Holds::fails))]
     fn fails(&self, event: usize, own: usize, file: File) -> Option<PointOrder>
-        ensures { IfSome result (IsForced self.now) }
+        ensures sound { IfSome result (IsForced self.now) }
+        ensures exact { result ≡ hold.fails (said.given_of self.now) event own file }
     {
-        let answer = self.events.get(own)?;
-        let LogEvent::Done(c) = answer else {
-            return None;
-        };
+        let c = self.done_at(own)?;
         if !is_failure(c) || event >= self.events.len() || !is_of_member(file, c.place) {
             return None;
         }
@@ -76,6 +80,7 @@ impl LogBeginning<'_> {
 
     // Returns the order of a file's removal from a slot and an event, where the file was
     // installed at another slot.
+    #[tactic(auto, unfolding(crate::specs::Holds::elsewhere))]
     fn elsewhere(
         &self,
         call: usize,
@@ -84,7 +89,9 @@ impl LogBeginning<'_> {
         slot: u32,
         event: usize,
     ) -> Option<PointOrder>
-        ensures { IfSome result (IsForced self.now) }
+        ensures sound { IfSome result (IsForced self.now) }
+        ensures exact { result
+            ≡ hold.elsewhere (said.given_of self.now) call answer access slot event }
     {
         let evidence = self.made(call, answer, access)?;
         let Evidence::Installs(own, file) = evidence else {
@@ -99,8 +106,10 @@ impl LogBeginning<'_> {
 
     // Returns the order of a file's removal and the access that `since` names, before which
     // the file was installed, and which leaves the slot without it.
+    #[tactic(auto, unfolding(crate::specs::Holds::replaced))]
     fn replaced(&self, h: &Holding, call: usize, answer: usize, access: usize) -> Option<PointOrder>
-        ensures { IfSome result (IsForced self.now) }
+        ensures sound { IfSome result (IsForced self.now) }
+        ensures exact { result ≡ hold.replaced (said.given_of self.now) h.now call answer access }
     {
         let (later, later_answer, number) = h.since;
         let installs = self.installs(call, answer, access)?;
@@ -116,11 +125,12 @@ impl LogBeginning<'_> {
     }
 
     /// Returns the position of the answer of a member, from that of its call on.
-    pub(crate) fn answer_of(&self, call: usize, place: Place) -> Option<usize> {
+    #[tactic(auto, unfolding(crate::specs::Holds::answer_of))]
+    pub(crate) fn answer_of(&self, call: usize, place: Place) -> Option<usize>
+        ensures { result ≡ hold.answer_of (said.given_of self.now) call place }
+    {
         for at in call..self.events.len() {
-            if let LogEvent::Done(c) = &self.events[at]
-                && c.place == place
-            {
+            if self.is_answered_at(at, place) {
                 return Some(at);
             }
         }
@@ -129,8 +139,10 @@ impl LogBeginning<'_> {
 
     /// Returns an order by which the file of an access that a member of a call intends isn't at
     /// the slot just before the access of `h`: by the answer of that member.
+    #[tactic(auto, unfolding(crate::specs::Holds::absence))]
     pub(crate) fn absence(&self, h: &Holding, by: MemberAccess, file: File) -> Option<PointOrder>
-        ensures { IfSome result (IsForced self.now) }
+        ensures sound { IfSome result (IsForced self.now) }
+        ensures exact { result ≡ hold.absence (said.given_of self.now) h.now by file }
     {
         let answer = self.answer_of(by.call, by.place)?;
         let ends = self.ends(h.call, h.answer, h.access)?;

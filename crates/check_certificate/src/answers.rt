@@ -1,50 +1,73 @@
 //! Answers that a request can't have, whatever its accesses find.
-ghost use Rattle.std.specs.Prelude.{IsTrue};
+ghost use Rattle.std.specs.Prelude.{◌≡◌, IsTrue};
 ghost use Rattle.fx_base.specs.Catalogue.{IsCatalogue};
 ghost use Rattle.fx_chain.specs.Completed.{completed_of};
-ghost use Rattle.fx_chain.specs.Operation.{asked_of};
-ghost use Rattle.check_certificate.specs.Answers.{IsImpossible, MayHaveAnswer};
+ghost use Rattle.fx_chain.specs.Operation.{asked_of, operation_of};
+ghost use Rattle.check_certificate.specs.Answers.{IsImpossible, fits_refusal, is_error};
+ghost use Rattle.check_certificate.specs.Answers.{is_impossible, is_possible, is_severed};
+ghost use Rattle.check_certificate.specs.Answers.{may_answer};
 
 use fx_base::{Catalogue, Errno};
-use fx_chain::{Completion, Intent, Request, intent_of, refusal_of};
+use fx_chain::{Completion, Op, Request, Target, refusal_of};
 
-// Checks whether a request whose first access is this one may have an answer, by its result.
-fn may_answer(intent: Intent, c: &Completion) -> bool
-    ensures { MayHaveAnswer intent (completed_of c.now) → IsTrue result }
+/// Checks whether an answer is that of a request that fails with this error.
+pub(crate) fn is_error(c: &Completion, errno: Errno) -> bool
+    ensures { result ≡ is_error (completed_of c.now) errno }
 {
-    match intent {
-        Intent::Look(_slot) => c.res >= 0 || c.is_refusal(c.place, Errno::EBADF),
-        Intent::Take(_slot) => c.res == 0 || c.is_refusal(c.place, Errno::EBADF),
-        Intent::Allocate(_file) => c.res >= 0 || c.is_refusal(c.place, Errno::ENFILE),
-        Intent::Put(_slot, _file) => true,
-        Intent::Clear(_slot) => true,
+    c.is_refusal(c.place, errno)
+}
+
+// Checks whether a request that isn't refused may have an answer, by its result.
+fn may_answer(op: &Op, c: &Completion) -> bool
+    ensures { result ≡ may_answer (operation_of op.now) (completed_of c.now) }
+{
+    match op {
+        Op::Open {
+            name: _,
+            target: Target::Slot(_),
+        } => c.res == 0,
+        Op::Open {
+            name: _,
+            target: Target::Any,
+        } => c.res >= 0 || is_error(c, Errno::ENFILE),
+        Op::Read { .. } => c.res >= 0 || is_error(c, Errno::EBADF),
+        Op::Close { slot: _ } => c.res == 0 || is_error(c, Errno::EBADF),
+        Op::Update { off: _, list } => c.res >= 0 && c.res as usize == list.len(),
     }
+}
+
+// Checks whether a request fits an answer: one that is refused has the answer of its error.
+fn fits_refusal(refused: Option<Errno>, request: &Request, c: &Completion) -> bool
+    ensures { result ≡ fits_refusal refused (operation_of request.now.op) (completed_of c.now) }
+{
+    match refused {
+        Some(errno) => is_error(c, errno),
+        None => (request.is_read() || c.got.is_empty()) && may_answer(&request.op, c),
+    }
+}
+
+// Checks whether an answer says that the request found no memory or was canceled.
+fn is_severed(c: &Completion) -> bool
+    ensures { result ≡ is_severed (completed_of c.now) }
+{
+    is_error(c, Errno::ENOMEM) || (c.place.member > 1 && is_error(c, Errno::ECANCELED))
+}
+
+// Checks whether a request of a chain may have an answer, by what it says of itself.
+fn is_possible(catalogue: &Catalogue, size: u32, request: &Request, c: &Completion) -> bool
+    ensures { result ≡ is_possible catalogue.now size (completed_of c.now) (asked_of request.now) }
+{
+    is_severed(c) || fits_refusal(refusal_of(catalogue, size, request), request, c)
 }
 
 /// Checks whether a request of a chain at a table of `size` slots can't have an answer, whatever
 /// its accesses find. False says nothing: it is returned for ENOMEM, and for ECANCELED unless the
 /// request is its chain's first one.
 pub fn is_impossible(catalogue: &Catalogue, size: u32, request: &Request, c: &Completion) -> bool
-    ensures { IsTrue result → IsCatalogue catalogue.now
+    ensures sound { IsTrue result → IsCatalogue catalogue.now
         → IsImpossible catalogue.now size (completed_of c.now) (asked_of request.now) }
+    ensures exact { result ≡ is_impossible catalogue.now size (completed_of c.now)
+        (asked_of request.now) }
 {
-    if c.is_refusal(c.place, Errno::ENOMEM) {
-        return false;
-    }
-    if c.place.member > 1 && c.is_refusal(c.place, Errno::ECANCELED) {
-        return false;
-    }
-    if let Some(errno) = refusal_of(catalogue, size, request) {
-        return !c.is_refusal(c.place, errno);
-    }
-    if !request.is_read() && !c.got.is_empty() {
-        return true;
-    }
-    if let Some(res) = request.fixed_result() {
-        return c.res != res;
-    }
-    match intent_of(catalogue, size, c.place, request, 0) {
-        Some(intent) => !may_answer(intent, c),
-        None => false,
-    }
+    !is_possible(catalogue, size, request, c)
 }

@@ -1,18 +1,20 @@
 //! Evidence in the answers of a log: accesses that were made, and the files that they install or
 //! find.
-ghost use Rattle.std.specs.Prelude.{◌≡◌, IfSome, Some};
-ghost use Rattle.fx_base.specs.Catalogue.{IsCatalogue};
+ghost use Rattle.std.specs.Prelude.{◌≡◌, ◌-◌, IfSome, nat_lt, option_map, slice_get};
 ghost use Rattle.fx_chain.specs.Completed.{completed_of};
-ghost use Rattle.fx_chain.specs.Operation.{all_asked, asked_of};
+ghost use Rattle.fx_chain.specs.Intents.{IsIntent};
+ghost use Rattle.fx_chain.specs.Operation.{all_asked, asked_of, operation_of};
 ghost use Rattle.fx_flight.specs.Events.{Called, LookCalled, happening_of};
 ghost use Rattle.check_certificate.specs.Evidence.{IsAccessMade, IsEvidentByMember};
 ghost use Rattle.check_certificate.specs.Evidence.{IsEvidentByLook, IsShownBy, left_at, slot_count};
 ghost use Rattle.check_certificate.specs.Evidence.{evidence_of};
+ghost use Rattle.check_certificate.specs.Made as rule;
+ghost use Rattle.check_certificate.specs.Said as said;
 
-use crate::answers::is_impossible;
+use crate::answers::{is_error, is_impossible};
 use crate::beginning::LogBeginning;
 use fx_base::{Closed as File, Errno};
-use fx_chain::{Completion, Intent, Request, intent_of};
+use fx_chain::{Completion, Intent, Place, Request, intent_of};
 use fx_flight::LogEvent;
 
 /// The evidence in an answer for one access of its member.
@@ -68,39 +70,53 @@ pub fn evidence_of(intent: Intent, c: &Completion) -> Evidence
     }
 }
 
+// Returns the member of a chain with this number, from 1.
+fn member_of(chain: &[Request], member: u32) -> Option<&Request>
+    ensures { option_map (λ request. asked_of request.now) result
+        ≡ slice_get (all_asked chain.now) (member - 1) }
+{
+    chain.get((member as usize).saturating_sub(1))
+}
+
 impl LogBeginning<'_> {
-    /// Returns the number of slots.
-    pub(crate) fn size(&self) -> Option<u32>
-        ensures { IfSome result (λ size. size ≡ slot_count self.now) }
+    /// Returns the access that a request at a place intends after `made` others.
+    pub(crate) fn intended(&self, place: Place, request: &Request, made: usize) -> Option<Intent>
+        ensures sound { IsIntent self.now.catalogue.now (slot_count self.now) place
+            (operation_of request.now.op) made result }
+        ensures exact { result ≡ rule.intended self.now.catalogue.now (slot_count self.now) place
+            (operation_of request.now.op) made }
     {
-        u32::try_from(self.slots.at.len()).ok()
+        intent_of(self.catalogue, self.size, place, request, made)
     }
 
     // Returns the evidence in the answer of a request for one of its accesses.
+    #[tactic(auto, unfolding(crate::specs::Made::evidence_by_member))]
     fn evidence_by_member(
         &self,
         request: &Request,
         c: &Completion,
         access: usize,
     ) -> Option<Evidence>
-        ensures { IfSome result (λ evidence. IsCatalogue self.now.catalogue.now
-            → IsEvidentByMember self.now.catalogue.now (slot_count self.now) (completed_of c.now)
-            (asked_of request.now) access evidence) }
+        ensures sound { IfSome result (λ evidence. IsEvidentByMember self.now.catalogue.now
+            (slot_count self.now) (completed_of c.now) (asked_of request.now) access evidence) }
+        ensures exact { result ≡ rule.evidence_by_member (said.given_of self.now)
+            (completed_of c.now) (asked_of request.now) access }
     {
-        let size = self.size()?;
-        if is_impossible(self.catalogue, size, request, c) {
+        if is_impossible(self.catalogue, self.size, request, c) {
             return Some(Evidence::Never);
         }
-        if c.is_refusal(c.place, Errno::ECANCELED) || c.is_refusal(c.place, Errno::ENOMEM) {
+        if is_error(c, Errno::ECANCELED) || is_error(c, Errno::ENOMEM) {
             return None;
         }
-        let intent = intent_of(self.catalogue, size, c.place, request, access)?;
+        let intent = self.intended(c.place, request, access)?;
         Some(evidence_of(intent, c))
     }
 
     // Returns the evidence in the answer of a look for its access.
     fn evidence_by_look(&self, slot: u32, found: Option<File>) -> Option<Evidence>
-        ensures { IfSome result (IsEvidentByLook (slot_count self.now) slot found 0) }
+        ensures sound { IfSome result (IsEvidentByLook (slot_count self.now) slot found 0) }
+        ensures exact { result ≡ said.only_if (nat_lt slot (slot_count self.now))
+            (rule.evidence_found slot found) }
     {
         if slot as usize >= self.slots.at.len() {
             return None;
@@ -119,9 +135,10 @@ impl LogBeginning<'_> {
         answer: &LogEvent,
         access: usize,
     ) -> Option<Evidence>
-        ensures { IfSome result (λ evidence. IsCatalogue self.now.catalogue.now
-            → IsShownBy self.now (Called id (all_asked chain.now)) (happening_of answer.now) access
-            evidence) }
+        ensures sound { IfSome result (IsShownBy self.now (Called id (all_asked chain.now))
+            (happening_of answer.now) access) }
+        ensures exact { result ≡ rule.shown (said.given_of self.now)
+            (Called id (all_asked chain.now)) (happening_of answer.now) access }
     {
         let LogEvent::Done(c) = answer else {
             return None;
@@ -129,7 +146,7 @@ impl LogBeginning<'_> {
         if c.place.submission != id {
             return None;
         }
-        let request = chain.get((c.place.member as usize).saturating_sub(1))?;
+        let request = member_of(chain, c.place.member)?;
         let evidence = self.evidence_by_member(request, c, access)?;
         Some(evidence)
     }
@@ -142,8 +159,10 @@ impl LogBeginning<'_> {
         answer: &LogEvent,
         access: usize,
     ) -> Option<Evidence>
-        ensures { IfSome result (IsShownBy self.now (LookCalled id slot) (happening_of answer.now)
-            access) }
+        ensures sound { IfSome result (IsShownBy self.now (LookCalled id slot)
+            (happening_of answer.now) access) }
+        ensures exact { result ≡ rule.shown (said.given_of self.now) (LookCalled id slot)
+            (happening_of answer.now) access }
     {
         let LogEvent::Found { id: other, file } = answer else {
             return None;
@@ -157,11 +176,13 @@ impl LogBeginning<'_> {
 
     /// Returns the evidence in the event at `answer` for the access with this number of its member.
     /// Returns `None` unless the event at `call` is its call.
+    #[tactic(auto, unfolding(crate::specs::Made::made))]
     pub(crate) fn made(&self, call: usize, answer: usize, access: usize) -> Option<Evidence>
-        ensures { IfSome result (IsAccessMade self.now call answer access) }
+        ensures sound { IfSome result (IsAccessMade self.now call answer access) }
+        ensures exact { result ≡ rule.made (said.given_of self.now) call answer access }
     {
-        let begins = self.events.get(call)?;
-        let ends = self.events.get(answer)?;
+        let begins = self.event_at(call)?;
+        let ends = self.event_at(answer)?;
         match begins {
             LogEvent::Call { id, chain } => {
                 let evidence = self.evidence_by_answer(*id, chain.as_slice(), ends, access)?;

@@ -1,17 +1,21 @@
 //! The rule of a file that was installed: at the only slot at which a call may install it.
-ghost use Rattle.std.specs.Prelude.{All, IfSome, IsTrue};
+ghost use Rattle.std.specs.Prelude.{◌≡◌, All, IfSome, IsTrue};
 ghost use Rattle.check_certificate.specs.Forced.{IsForced};
 ghost use Rattle.check_certificate.specs.Landed.{IsInstalledBefore, LandsThere, MissesThere};
+ghost use Rattle.check_certificate.specs.Said as said;
+ghost use Rattle.check_certificate.specs.Walks as walk;
 
-use crate::beginning::{LogBeginning, call_of};
+use crate::beginning::LogBeginning;
 use crate::certificate::{Point, PointOrder};
+use crate::events::call_of;
 use crate::rules::{not_after, ordered};
 use crate::walk::{Landing, WalkAim};
 use fx_chain::Intent;
 
 /// Checks whether an access that is intended installs the file at the slot, or doesn't install it.
 pub(crate) fn lands_there(l: &Landing, intent: Intent) -> bool
-    ensures { IsTrue result → LandsThere l.now intent }
+    ensures sound { IsTrue result → LandsThere l.now intent }
+    ensures exact { result ≡ walk.lands_there l.now intent }
 {
     match intent {
         Intent::Put(slot, file) => slot == l.slot || file != l.file,
@@ -23,7 +27,8 @@ pub(crate) fn lands_there(l: &Landing, intent: Intent) -> bool
 /// Checks whether an access that is intended installs the file at another slot, or doesn't install
 /// it.
 pub(crate) fn misses_there(l: &Landing, intent: Intent) -> bool
-    ensures { IsTrue result → MissesThere l.now intent }
+    ensures sound { IsTrue result → MissesThere l.now intent }
+    ensures exact { result ≡ walk.misses_there l.now intent }
 {
     match intent {
         Intent::Put(slot, file) => slot != l.slot || file != l.file,
@@ -35,8 +40,9 @@ pub(crate) fn misses_there(l: &Landing, intent: Intent) -> bool
 impl LogBeginning<'_> {
     /// Returns the file that is installed before an event, by the order of both.
     pub(crate) fn landing(&self, installed: &PointOrder, slot: u32) -> Option<Landing>
-        ensures { IfSome result (λ l. IsForced self.now installed.now
+        ensures sound { IfSome result (λ l. IsForced self.now installed.now
             → IsInstalledBefore self.now l) }
+        ensures exact { result ≡ walk.landing installed.now slot }
     {
         let Point::Put(file) = installed.from else {
             return None;
@@ -49,9 +55,12 @@ impl LogBeginning<'_> {
 
     /// Returns the order of the access that installs a file and the file's removal from the only
     /// slot at which it may be installed.
+    #[tactic(auto, unfolding(crate::specs::Walks::lands))]
     pub(crate) fn lands(&self, l: Landing, known: &[PointOrder]) -> Option<PointOrder>
         requires { All (IsForced self.now) known.now }
-        ensures { IfSome result (λ order. IsInstalledBefore self.now l → IsForced self.now order) }
+        ensures sound { IfSome result (λ order. IsInstalledBefore self.now l
+            → IsForced self.now order) }
+        ensures exact { result ≡ walk.lands (said.given_of self.now) known.now l }
     {
         if l.until >= self.events.len() || !self.is_walked(&WalkAim::Lands(l), known) {
             return None;
@@ -61,9 +70,12 @@ impl LogBeginning<'_> {
 
     /// Returns the order of a file's removal from a slot at which it wasn't installed, and of its
     /// installation.
+    #[tactic(auto, unfolding(crate::specs::Walks::misses))]
     pub(crate) fn misses(&self, l: Landing, known: &[PointOrder]) -> Option<PointOrder>
         requires { All (IsForced self.now) known.now }
-        ensures { IfSome result (λ order. IsInstalledBefore self.now l → IsForced self.now order) }
+        ensures sound { IfSome result (λ order. IsInstalledBefore self.now l
+            → IsForced self.now order) }
+        ensures exact { result ≡ walk.misses (said.given_of self.now) known.now l }
     {
         let _call = call_of(l.file)?;
         if l.until >= self.events.len() || !self.is_walked(&WalkAim::Misses(l), known) {

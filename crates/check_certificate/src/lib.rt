@@ -9,6 +9,7 @@ mod absence;
 mod answers;
 mod beginning;
 mod certificate;
+mod events;
 mod evidence;
 mod exclusion;
 mod holding;
@@ -21,7 +22,7 @@ mod taking;
 mod walk;
 
 pub use answers::is_impossible;
-pub use beginning::{was_closed, was_freed};
 pub use certificate::{Holding, OnlyFile, Point, PointOrder, Step};
+pub use events::{was_closed, was_freed};
 pub use evidence::{Evidence, evidence_of};
 pub use refuted::is_refuted;

@@ -3,9 +3,12 @@ ghost use Rattle.std.specs.Prelude.{◌≡◌, IfSome, true};
 ghost use Rattle.check_certificate.specs.Forced.{IsForced, IsForcedBy, IsForcedByBoth};
 ghost use Rattle.check_certificate.specs.declared.certificate.Point.TheVariants.{Event, Gone, Put};
 ghost use Rattle.check_certificate.specs.declared.certificate.Point.TheVariants.{Access};
+ghost use Rattle.check_certificate.specs.Rules as rule;
+ghost use Rattle.check_certificate.specs.Said as said;
 
-use crate::beginning::{LogBeginning, call_of, was_closed, was_freed};
+use crate::beginning::LogBeginning;
 use crate::certificate::{Point, PointOrder};
+use crate::events::{call_of, was_closed, was_freed};
 use crate::evidence::Evidence;
 use crate::rules::{not_after, ordered};
 use fx_base::Closed as File;
@@ -13,8 +16,9 @@ use fx_base::Closed as File;
 // Returns the files and the slot of the order of the access that installs a file and the removal of
 // a file, which may be another one.
 fn stay_of(order: &PointOrder) -> Option<(File, File, u32)>
-    ensures { IfSome result (λ stay. order.now
+    ensures sound { IfSome result (λ stay. order.now
         ≡ record { from = Put stay.0; to = Gone stay.1 stay.2; strict = true }) }
+    ensures exact { result ≡ rule.stay_of order.now }
 {
     let Point::Put(file) = order.from else {
         return None;
@@ -27,7 +31,8 @@ fn stay_of(order: &PointOrder) -> Option<(File, File, u32)>
 
 // Returns the file of an order that begins at the access that installs it.
 fn put_of(order: &PointOrder) -> Option<File>
-    ensures { IfSome result (λ file. order.now.from ≡ Put file) }
+    ensures sound { IfSome result (λ file. order.now.from ≡ Put file) }
+    ensures exact { result ≡ rule.put_of order.now.from }
 {
     match order.from {
         Point::Put(file) => Some(file),
@@ -37,8 +42,9 @@ fn put_of(order: &PointOrder) -> Option<File>
 
 // Returns the file and the slot of a strict order of an access and the file's removal.
 fn gone_after(order: &PointOrder, answer: usize, access: usize) -> Option<(File, u32)>
-    ensures { IfSome result (λ gone. order.now
+    ensures sound { IfSome result (λ gone. order.now
         ≡ record { from = Access answer access; to = Gone gone.0 gone.1; strict = true }) }
+    ensures exact { result ≡ rule.gone_after order.now answer access }
 {
     if !order.strict || order.from != Point::Access(answer, access) {
         return None;
@@ -51,7 +57,8 @@ fn gone_after(order: &PointOrder, answer: usize, access: usize) -> Option<(File,
 
 // Returns the answer and the number of an access.
 fn access_of(point: Point) -> Option<(usize, usize)>
-    ensures { IfSome result (λ access. point ≡ Access access.0 access.1) }
+    ensures sound { IfSome result (λ access. point ≡ Access access.0 access.1) }
+    ensures exact { result ≡ rule.access_of point }
 {
     match point {
         Point::Access(answer, access) => Some((answer, access)),
@@ -61,8 +68,9 @@ fn access_of(point: Point) -> Option<(usize, usize)>
 
 // Returns the file of a strict order of the access that installs it and an event.
 fn put_before(order: &PointOrder, at: usize) -> Option<File>
-    ensures { IfSome result (λ file. order.now
+    ensures sound { IfSome result (λ file. order.now
         ≡ record { from = Put file; to = Event at; strict = true }) }
+    ensures exact { result ≡ rule.put_before order.now at }
 {
     if !order.strict || order.to != Point::Event(at) {
         return None;
@@ -76,6 +84,7 @@ fn put_before(order: &PointOrder, at: usize) -> Option<File>
 impl LogBeginning<'_> {
     /// Returns the order of an access that leaves a slot without a file, and the file's removal:
     /// `installed` is the order of the file's installation and the access.
+    #[tactic(auto, unfolding(crate::specs::Rules::empties))]
     pub(crate) fn empties(
         &self,
         call: usize,
@@ -83,7 +92,9 @@ impl LogBeginning<'_> {
         access: usize,
         installed: &PointOrder,
     ) -> Option<PointOrder>
-        ensures { IfSome result (IsForcedBy self.now installed.now) }
+        ensures sound { IfSome result (IsForcedBy self.now installed.now) }
+        ensures exact { result
+            ≡ rule.empties (said.given_of self.now) call answer access installed.now }
     {
         let evidence = self.made(call, answer, access)?;
         let (slot, left) = evidence.left()?;
@@ -103,7 +114,9 @@ impl LogBeginning<'_> {
         access: usize,
         there: &PointOrder,
     ) -> Option<PointOrder>
-        ensures { IfSome result (IsForcedBy self.now there.now) }
+        ensures sound { IfSome result (IsForcedBy self.now there.now) }
+        ensures exact { result
+            ≡ rule.precedes (said.given_of self.now) call answer access there.now }
     {
         let evidence = self.made(call, answer, access)?;
         let (slot, left) = evidence.left()?;
@@ -122,7 +135,8 @@ impl LogBeginning<'_> {
         installed: &PointOrder,
         placed: &PointOrder,
     ) -> Option<PointOrder>
-        ensures { IfSome result (IsForcedByBoth self.now installed.now placed.now) }
+        ensures sound { IfSome result (IsForcedByBoth self.now installed.now placed.now) }
+        ensures exact { result ≡ rule.displaces installed.now placed.now }
     {
         let file = put_of(installed)?;
         let (other, own, slot) = stay_of(placed)?;
@@ -136,12 +150,16 @@ impl LogBeginning<'_> {
     /// Returns the order of the installations of two files at a slot: by `there` one is at the slot
     /// after the other one was installed, and `placed` says that the other one was at the slot.
     pub(crate) fn outlives(&self, there: &PointOrder, placed: &PointOrder) -> Option<PointOrder>
-        ensures { IfSome result (IsForcedByBoth self.now there.now placed.now) }
+        ensures sound { IfSome result (IsForcedByBoth self.now there.now placed.now) }
+        ensures exact { result ≡ rule.outlives there.now placed.now }
     {
         let (other, file, slot) = stay_of(there)?;
         let (same, own, at) = stay_of(placed)?;
         let _call = call_of(other)?;
-        if same != other || own != other || at != slot || other == file {
+        if same != other || own != other {
+            return None;
+        }
+        if at != slot || other == file {
             return None;
         }
         Some(ordered(Point::Put(other), Point::Put(file)))
@@ -155,7 +173,9 @@ impl LogBeginning<'_> {
         installed: &PointOrder,
         placed: &PointOrder,
     ) -> Option<PointOrder>
-        ensures { IfSome result (IsForcedByBoth self.now installed.now placed.now) }
+        ensures sound { IfSome result (IsForcedByBoth self.now installed.now placed.now) }
+        ensures exact { result
+            ≡ rule.settles (said.given_of self.now) settled installed.now placed.now }
     {
         let (file, own, slot) = stay_of(placed)?;
         let _call = call_of(file)?;
@@ -180,7 +200,8 @@ impl LogBeginning<'_> {
         other: usize,
         order: &PointOrder,
     ) -> Option<PointOrder>
-        ensures { IfSome result (IsForcedBy self.now order.now) }
+        ensures sound { IfSome result (IsForcedBy self.now order.now) }
+        ensures exact { result ≡ rule.differs (said.given_of self.now) call other order.now }
     {
         let id = self.call_at(call)?;
         let jd = self.call_at(other)?;
@@ -196,7 +217,8 @@ impl LogBeginning<'_> {
 
     /// Returns a contradiction if a look's answer is a file that was closed before.
     pub(crate) fn finds_closed(&self, close: usize, answer: usize) -> Option<PointOrder>
-        ensures { IfSome result (IsForced self.now) }
+        ensures sound { IfSome result (IsForced self.now) }
+        ensures exact { result ≡ rule.finds_closed (said.given_of self.now) close answer }
     {
         let file = self.close_at(close)?;
         let (_look, found) = self.found_at(answer)?;
@@ -208,7 +230,8 @@ impl LogBeginning<'_> {
 
     /// Returns a contradiction if a file was closed twice.
     pub(crate) fn closes_twice(&self, first: usize, second: usize) -> Option<PointOrder>
-        ensures { IfSome result (IsForced self.now) }
+        ensures sound { IfSome result (IsForced self.now) }
+        ensures exact { result ≡ rule.closes_twice (said.given_of self.now) first second }
     {
         let file = self.close_at(first)?;
         let again = self.close_at(second)?;
@@ -220,7 +243,8 @@ impl LogBeginning<'_> {
 
     /// Returns a contradiction if a file was closed while a look held it.
     pub(crate) fn closes_held(&self, answer: usize, close: usize) -> Option<PointOrder>
-        ensures { IfSome result (IsForced self.now) }
+        ensures sound { IfSome result (IsForced self.now) }
+        ensures exact { result ≡ rule.closes_held (said.given_of self.now) answer close }
     {
         let (look, found) = self.found_at(answer)?;
         let file = self.close_at(close)?;
@@ -235,7 +259,8 @@ impl LogBeginning<'_> {
 
     /// Returns a contradiction if a request can't have its answer.
     pub(crate) fn cant_answer(&self, call: usize, answer: usize) -> Option<PointOrder>
-        ensures { IfSome result (IsForced self.now) }
+        ensures sound { IfSome result (IsForced self.now) }
+        ensures exact { result ≡ rule.cant_answer (said.given_of self.now) call answer }
     {
         let evidence = self.made(call, answer, 0)?;
         match evidence {

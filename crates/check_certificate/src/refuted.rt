@@ -1,12 +1,17 @@
 //! The check of a certificate: its steps, one after another.
-ghost use Rattle.std.specs.Prelude.{◌≡◌, ℕ, All, IfOk, IfSome, IsTrue, take};
+ghost use Rattle.std.specs.Prelude.{◌≡◌, ◌↔◌, ℕ, [], All, IfOk, IfSome, IsTrue, option_map};
+ghost use Rattle.std.specs.Prelude.{slice_get, take};
 ghost use Rattle.std.specs.List.{list_all};
 ghost use Rattle.fx_base.specs.Catalogue.{IsCatalogue};
 ghost use Rattle.fx_order.specs.Slots.{ring_of_slots};
 ghost use Rattle.fx_flight.specs.Events.{all_happenings};
 ghost use Rattle.fx_flight.specs.Faults.{IsFaultless};
 ghost use Rattle.fx_flight.specs.Flight.{IsLegalLog};
-ghost use Rattle.check_certificate.specs.Forced.{IsForced, IsContradicted, is_of_no_call, is_registered};
+ghost use Rattle.check_certificate.specs.Forced.{IsForced, IsContradicted};
+ghost use Rattle.check_certificate.specs.Forced.{is_of_no_call, is_registered};
+ghost use Rattle.check_certificate.specs.Right.{IsRightCertificate, leads_on, order_added};
+ghost use Rattle.check_certificate.specs.Said.{given_of};
+ghost use Rattle.check_certificate.specs.declared.beginning.LogBeginning.{LogBeginning as In};
 
 use crate::beginning::LogBeginning;
 use crate::certificate::{PointOrder, Step};
@@ -39,9 +44,18 @@ fn are_of_no_call(files: &[Option<File>]) -> bool
     files.iter().all(|found| is_of_no_call(*found))
 }
 
+// Returns the known order with this number.
+fn order_at(known: &[PointOrder], number: usize) -> Option<&PointOrder>
+    ensures sound { IfSome result (λ order. (b : In) → All (IsForced b) known.now
+        → IsForced b order.now) }
+    ensures exact { option_map (λ order. order.now) result ≡ slice_get known.now number }
+{
+    known.get(number)
+}
+
 // Checks whether events are a log.
 fn is_log(alloc: Global, events: &[LogEvent]) -> Result<bool, NoMemory>
-    ensures { IfOk result (λ yes. IsTrue yes → IsFaultless (all_happenings events.now)) }
+    ensures { IfOk result (λ yes. IsTrue yes ↔ IsFaultless (all_happenings events.now)) }
 {
     let fault = fault_of_log(alloc, events)?;
     Ok(fault.is_none())
@@ -51,7 +65,8 @@ impl LogBeginning<'_> {
     // Returns the order that a step adds to the known orders. Returns `None` for a wrong step.
     fn order_of(&self, step: &Step, known: &[PointOrder]) -> Option<PointOrder>
         requires { All (IsForced self.now) known.now }
-        ensures { IfSome result (IsForced self.now) }
+        ensures sound { IfSome result (IsForced self.now) }
+        ensures exact { result ≡ order_added (given_of self.now) known.now step.now }
     {
         match *step {
             Step::Events { earlier, later } => self.events_in_order(earlier, later),
@@ -83,44 +98,65 @@ impl LogBeginning<'_> {
                 settled,
                 installed,
                 placed,
-            } => self.settles(settled, known.get(installed)?, known.get(placed)?),
+            } => self.settles(
+                settled,
+                order_at(known, installed)?,
+                order_at(known, placed)?,
+            ),
             Step::Empties {
                 call,
                 answer,
                 access,
                 installed,
-            } => self.empties(call, answer, access, known.get(installed)?),
+            } => self.empties(call, answer, access, order_at(known, installed)?),
             Step::Precedes {
                 call,
                 answer,
                 access,
                 there,
-            } => self.precedes(call, answer, access, known.get(there)?),
+            } => self.precedes(call, answer, access, order_at(known, there)?),
             Step::Displaces { installed, placed } => {
-                self.displaces(known.get(installed)?, known.get(placed)?)
+                self.displaces(order_at(known, installed)?, order_at(known, placed)?)
             }
             Step::Outlives { there, placed } => {
-                self.outlives(known.get(there)?, known.get(placed)?)
+                self.outlives(order_at(known, there)?, order_at(known, placed)?)
             }
-            Step::Then { first, second } => self.joined(known.get(first)?, known.get(second)?),
+            Step::Then { first, second } => self.joined(
+                order_at(known, first)?,
+                order_at(known, second)?,
+            ),
             Step::Holds(holding) => self.holds(&holding, known),
             Step::Lands { slot, installed } => {
-                self.lands(self.landing(known.get(installed)?, slot)?, known)
+                self.lands(self.landing(order_at(known, installed)?, slot)?, known)
             }
             Step::Misses { slot, installed } => {
-                self.misses(self.landing(known.get(installed)?, slot)?, known)
+                self.misses(self.landing(order_at(known, installed)?, slot)?, known)
             }
             Step::Existed { close } => self.existed(close),
-            Step::Stays { until, there } => self.stays(until, known.get(there)?, known),
+            Step::Stays { until, there } => self.stays(until, order_at(known, there)?, known),
             Step::Takes { taker, there, gone } => {
-                let orders = self.taken(taker, known.get(there)?, known.get(gone)?, known)?;
+                let orders = self.taken(
+                    taker,
+                    order_at(known, there)?,
+                    order_at(known, gone)?,
+                    known,
+                )?;
                 Some(orders.0)
             }
             Step::TakenBy { taker, there, gone } => {
-                let orders = self.taken(taker, known.get(there)?, known.get(gone)?, known)?;
+                let orders = self.taken(
+                    taker,
+                    order_at(known, there)?,
+                    order_at(known, gone)?,
+                    known,
+                )?;
                 Some(orders.1)
             }
-            Step::Differs { call, other, order } => self.differs(call, other, known.get(order)?),
+            Step::Differs { call, other, order } => self.differs(
+                call,
+                other,
+                order_at(known, order)?,
+            ),
             Step::FindsClosed { close, answer } => self.finds_closed(close, answer),
             Step::ClosesTwice { first, second } => self.closes_twice(first, second),
             Step::ClosesHeld { answer, close } => self.closes_held(answer, close),
@@ -130,7 +166,9 @@ impl LogBeginning<'_> {
 
     // Checks whether the steps lead to a point that comes before itself.
     fn refutes(&self, alloc: Global, certificate: &[Step]) -> Result<bool, NoMemory>
-        ensures { IfOk result (λ yes. IsTrue yes → IsContradicted self.now) }
+        ensures sound { IfOk result (λ yes. IsTrue yes → IsContradicted self.now) }
+        ensures exact { IfOk result (λ yes. yes
+            ≡ leads_on (given_of self.now) [] certificate.now) }
     {
         let mut known = Vec::new(alloc);
         for step in certificate {
@@ -161,10 +199,15 @@ pub fn is_refuted(
     certificate: &[Step],
 ) -> Result<bool, NoMemory>
     requires { IsCatalogue catalogue.now }
-    ensures { IfOk result (λ yes. IsTrue yes → (submissions registrations : ℕ)
+    ensures sound { IfOk result (λ yes. IsTrue yes → (submissions registrations : ℕ)
         → IsLegalLog (ring_of_slots catalogue.now slots.now submissions registrations)
         (all_happenings (take count events.now)) → ⊥) }
+    ensures exact { IfOk result (λ yes. IsTrue yes
+        ↔ IsRightCertificate catalogue.now slots.now events.now count certificate.now) }
 {
+    let Ok(size) = u32::try_from(slots.at.len()) else {
+        return Ok(false);
+    };
     if count > events.len() || !are_of_no_call(slots.at.as_slice()) {
         return Ok(false);
     }
@@ -175,6 +218,7 @@ pub fn is_refuted(
     let beginning = LogBeginning {
         catalogue,
         slots,
+        size,
         events: &events[..count],
     };
     let yes = beginning.refutes(alloc, certificate)?;

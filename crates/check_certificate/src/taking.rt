@@ -1,6 +1,9 @@
 //! The rules of a file that leaves its slot: some access takes it, and the others are excluded.
 ghost use Rattle.std.specs.Prelude.{◌≡◌, All, IfSome, true};
 ghost use Rattle.check_certificate.specs.Forced.{IsForced, IsForcedBy};
+ghost use Rattle.check_certificate.specs.Rules as rule;
+ghost use Rattle.check_certificate.specs.Said as said;
+ghost use Rattle.check_certificate.specs.Walks as walk;
 ghost use Rattle.check_certificate.specs.declared.certificate.Point.TheVariants.{Event, Gone};
 
 use crate::beginning::LogBeginning;
@@ -10,7 +13,8 @@ use crate::walk::{Leaving, WalkAim};
 
 // Returns the position of an event.
 fn event_of(point: Point) -> Option<usize>
-    ensures { IfSome result (λ at. point ≡ Event at) }
+    ensures sound { IfSome result (λ at. point ≡ Event at) }
+    ensures exact { result ≡ rule.event_of point }
 {
     match point {
         Point::Event(at) => Some(at),
@@ -20,9 +24,10 @@ fn event_of(point: Point) -> Option<usize>
 
 // Returns the file that leaves its slot after an event, and before the one at `until`.
 fn leaving(there: &PointOrder, until: usize, taker: Option<Point>) -> Option<Leaving>
-    ensures { IfSome result (λ l. (there.now
+    ensures sound { IfSome result (λ l. (there.now
         ≡ record { from = Event l.since; to = Gone l.file l.slot; strict = true })
         × (l.until ≡ until) × (l.taker ≡ taker)) }
+    ensures exact { result ≡ walk.leaving there.now until taker }
 {
     let Point::Event(since) = there.from else {
         return None;
@@ -42,6 +47,7 @@ fn leaving(there: &PointOrder, until: usize, taker: Option<Point>) -> Option<Lea
 impl LogBeginning<'_> {
     /// Returns the order of an event and the removal of a file that no access takes from its slot
     /// before it: `there` says that the file isn't gone at some earlier event.
+    #[tactic(auto, unfolding(crate::specs::Walks::stays))]
     pub(crate) fn stays(
         &self,
         until: usize,
@@ -49,7 +55,9 @@ impl LogBeginning<'_> {
         known: &[PointOrder],
     ) -> Option<PointOrder>
         requires { All (IsForced self.now) known.now }
-        ensures { IfSome result (IsForcedBy self.now there.now) }
+        ensures sound { IfSome result (IsForcedBy self.now there.now) }
+        ensures exact { result
+            ≡ walk.stays (said.given_of self.now) known.now until there.now }
     {
         let l = leaving(there, until, None)?;
         if l.until >= self.events.len() || !self.is_walked(&WalkAim::Leaves(l), known) {
@@ -60,6 +68,7 @@ impl LogBeginning<'_> {
 
     /// Returns the orders of the access that takes a file and the file's removal, which are at one
     /// time, either way round: no other access may take it, and by `gone` it is gone at some event.
+    #[tactic(auto, unfolding(crate::specs::Walks::taken))]
     pub(crate) fn taken(
         &self,
         taker: Point,
@@ -68,9 +77,11 @@ impl LogBeginning<'_> {
         known: &[PointOrder],
     ) -> Option<(PointOrder, PointOrder)>
         requires { All (IsForced self.now) known.now }
-        ensures { IfSome result (λ orders. IsForced self.now there.now
+        ensures sound { IfSome result (λ orders. IsForced self.now there.now
             → IsForced self.now gone.now
             → IsForced self.now orders.0 × IsForced self.now orders.1) }
+        ensures exact { result
+            ≡ walk.taken (said.given_of self.now) known.now taker there.now gone.now }
     {
         let until = event_of(gone.to)?;
         let l = leaving(there, until, Some(taker))?;

@@ -2,18 +2,20 @@
 //! anywhere excludes each of them, but for those that it names.
 ghost use Rattle.std.specs.Prelude.{◌≡◌, All, IsTrue, Some};
 ghost use Rattle.fx_base.specs.Catalogue.{IsCatalogue};
-ghost use Rattle.fx_chain.specs.Operation.{Operation, all_asked, operation_of};
+ghost use Rattle.fx_chain.specs.Operation.{Operation, all_asked, asked_of, operation_of};
 ghost use Rattle.fx_chain.specs.declared.intent.Intent.{Intent as Purpose};
 ghost use Rattle.fx_flight.specs.Events.{happening_of};
 ghost use Rattle.check_certificate.specs.Forced.{IsForced};
+ghost use Rattle.check_certificate.specs.Said as said;
 ghost use Rattle.check_certificate.specs.Walked.{AreAllRuledOut, AreRuledOut, IsCallRuledOut};
 ghost use Rattle.check_certificate.specs.Walked.{IsRuledOut, IsWalked, end_of, member_of};
+ghost use Rattle.check_certificate.specs.Walks as walk;
 
 use crate::beginning::LogBeginning;
 use crate::certificate::{Holding, Point, PointOrder};
 use crate::landing::{lands_there, misses_there};
 use fx_base::Closed as File;
-use fx_chain::{Intent, Place, Request, intent_of};
+use fx_chain::{Intent, Place, Request};
 use fx_flight::LogEvent;
 
 /// A file that leaves its slot.
@@ -88,8 +90,10 @@ impl LogBeginning<'_> {
         intent: Option<Intent>,
     ) -> bool
         requires { All (IsForced self.now) known.now }
-        ensures { IsTrue result → (operation : Operation) (own : Purpose)
+        ensures sound { IsTrue result → (operation : Operation) (own : Purpose)
             → intent ≡ Some own → IsRuledOut self.now aim.now by.place operation by.access own }
+        ensures exact { result
+            ≡ walk.is_ruled_out (said.given_of self.now) known.now aim.now by intent }
     {
         let Some(own) = intent else {
             return true;
@@ -103,6 +107,7 @@ impl LogBeginning<'_> {
     }
 
     // Checks the same of all accesses of a member.
+    #[tactic(auto, unfolding(crate::specs::Walks::are_ruled_out))]
     fn are_ruled_out(
         &self,
         aim: &WalkAim,
@@ -112,14 +117,13 @@ impl LogBeginning<'_> {
         request: &Request,
     ) -> bool
         requires { All (IsForced self.now) known.now }
-        ensures { IsTrue result → IsCatalogue self.now.catalogue.now
+        ensures sound { IsTrue result → IsCatalogue self.now.catalogue.now
             → AreRuledOut self.now aim.now place (operation_of request.now.op) }
+        ensures exact { result ≡ walk.are_ruled_out (said.given_of self.now) known.now aim.now call
+            place (operation_of request.now.op) }
     {
-        let Some(size) = self.size() else {
-            return false;
-        };
         for access in 0..request.accesses() {
-            let intent = intent_of(self.catalogue, size, place, request, access);
+            let intent = self.intended(place, request, access);
             let by = MemberAccess {
                 call,
                 place,
@@ -133,6 +137,7 @@ impl LogBeginning<'_> {
     }
 
     // Checks the same of the member of a call with a number, from 0.
+    #[tactic(auto, unfolding(crate::specs::Walks::is_member_ruled_out))]
     fn is_member_ruled_out(
         &self,
         aim: &WalkAim,
@@ -143,8 +148,10 @@ impl LogBeginning<'_> {
         request: &Request,
     ) -> bool
         requires { All (IsForced self.now) known.now }
-        ensures { IsTrue result → IsCatalogue self.now.catalogue.now
+        ensures sound { IsTrue result → IsCatalogue self.now.catalogue.now
             → AreRuledOut self.now aim.now (member_of id n) (operation_of request.now.op) }
+        ensures exact { result ≡ walk.is_member_ruled_out (said.given_of self.now) known.now aim.now
+            call id n (asked_of request.now) }
     {
         let Ok(before) = u32::try_from(n) else {
             return false;
@@ -161,6 +168,7 @@ impl LogBeginning<'_> {
     }
 
     // Checks the same of all members of a call.
+    #[tactic(auto, unfolding(crate::specs::Walks::are_all_ruled_out))]
     fn are_all_ruled_out(
         &self,
         aim: &WalkAim,
@@ -170,8 +178,10 @@ impl LogBeginning<'_> {
         chain: &[Request],
     ) -> bool
         requires { All (IsForced self.now) known.now }
-        ensures { IsTrue result → IsCatalogue self.now.catalogue.now
+        ensures sound { IsTrue result → IsCatalogue self.now.catalogue.now
             → AreAllRuledOut self.now aim.now id (all_asked chain.now) }
+        ensures exact { result ≡ walk.are_all_ruled_out (said.given_of self.now) known.now aim.now
+            call id (all_asked chain.now) }
     {
         for n in 0..chain.len() {
             if !self.is_member_ruled_out(aim, known, call, id, n, &chain[n]) {
@@ -190,8 +200,10 @@ impl LogBeginning<'_> {
         event: &LogEvent,
     ) -> bool
         requires { All (IsForced self.now) known.now }
-        ensures { IsTrue result → IsCatalogue self.now.catalogue.now
+        ensures sound { IsTrue result → IsCatalogue self.now.catalogue.now
             → IsCallRuledOut self.now aim.now (happening_of event.now) }
+        ensures exact { result ≡ walk.is_call_ruled_out (said.given_of self.now) known.now aim.now
+            at (Some (happening_of event.now)) }
     {
         match event {
             LogEvent::Call { id, chain } => {
@@ -202,9 +214,12 @@ impl LogBeginning<'_> {
     }
 
     /// Checks the same of all calls before the event.
+    #[tactic(auto, unfolding(crate::specs::Walks::is_walked))]
     pub(crate) fn is_walked(&self, aim: &WalkAim, known: &[PointOrder]) -> bool
         requires { All (IsForced self.now) known.now }
-        ensures { IsTrue result → IsCatalogue self.now.catalogue.now → IsWalked self.now aim.now }
+        ensures sound { IsTrue result → IsCatalogue self.now.catalogue.now
+            → IsWalked self.now aim.now }
+        ensures exact { result ≡ walk.is_walked (said.given_of self.now) known.now aim.now }
     {
         let end = end_of(aim);
         for at in 0..self.events.len() {

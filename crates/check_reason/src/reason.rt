@@ -1,10 +1,11 @@
 //! The reason why a beginning of a log has no flight: a search proposes a certificate, and the
 //! checker of certificates takes it or not.
-ghost use Rattle.std.specs.Prelude.{◌≡◌, ◌<◌, ℕ, IfOk, IfSome, length, take};
+ghost use Rattle.std.specs.Prelude.{◌≡◌, ◌<◌, ℕ, IfOk, IfSome, length, map, take};
 ghost use Rattle.fx_base.specs.Catalogue.{IsCatalogue};
 ghost use Rattle.fx_order.specs.Slots.{ring_of_slots};
 ghost use Rattle.fx_flight.specs.Events.{all_happenings};
 ghost use Rattle.fx_flight.specs.Flight.{IsLegalLog};
+ghost use Rattle.check_certificate.specs.Right.{IsRightCertificate};
 
 use crate::assembly::{ReasonStep, certificate_of};
 use crate::direct::{direct, missing};
@@ -68,6 +69,17 @@ fn search(log: &Reading<'_>, attempt: usize) -> Result<Vec<ReasonStep>, NoMemory
     }
 }
 
+// Returns the steps of a reason without what is beside them.
+fn steps_alone(alloc: Global, steps: &[ReasonStep]) -> Result<Vec<Step>, NoMemory>
+    ensures { IfOk result (λ certificate. certificate.items ≡ map (λ it. it.step) steps.now) }
+{
+    let mut certificate = Vec::new(alloc);
+    for it in steps {
+        certificate.push(it.step)?;
+    }
+    Ok(certificate)
+}
+
 /// Looks for the reason why the first `count` events of a log have no flight, from a table with
 /// these slots on. Returns `None` if it finds none.
 ///
@@ -84,6 +96,9 @@ pub fn explain(
     ensures count { IfOk result (λ reason. IfSome reason (λ reason. reason.count ≡ count)) }
     ensures steps { IfOk result (λ reason. IfSome reason (λ reason.
         0 < length reason.steps.items)) }
+    ensures right { IfOk result (λ reason. IfSome reason (λ reason.
+        IsRightCertificate catalogue.now slots.now events.now count
+        (map (λ it. it.step) reason.steps.items))) }
     ensures refuted { IfOk result (λ reason. IfSome reason (λ reason.
         (submissions registrations : ℕ)
         → IsLegalLog (ring_of_slots catalogue.now slots.now submissions registrations)
@@ -98,7 +113,7 @@ pub fn explain(
     let log = Reading::of(alloc, catalogue, size, &events[..count])?;
     for attempt in 0..WIDTHS.len() + 1 {
         let steps = search(&log, attempt)?;
-        let certificate: Vec<Step> = steps.iter().map(|it| it.step).collect(alloc)?;
+        let certificate = steps_alone(alloc, steps.as_slice())?;
         if !steps.is_empty() && is_refuted(alloc, catalogue, slots, events, count, &certificate)? {
             return Ok(Some(LogReason { count, steps }));
         }

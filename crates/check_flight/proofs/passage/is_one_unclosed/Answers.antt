@@ -11,5 +11,5 @@ returns-then-not-was_closed c = λ _.
     let i = c.loop-file.file-index in (
       slice_index_or files i no_file,
       Contains-get_or files i no_file c.loop-file-test.true,
-      λ inside. false≢true (sym c.if-not-was_closed.true ∙ c.was_closed.ensures (rw (take-map happening_of c.args.at c.args.log.now.events.now) at inside)),
+      λ inside. false≢true (sym c.if-not-was_closed.true ∙ c.was_closed.ensures.sound (rw (take-map happening_of c.args.at c.args.log.now.events.now) at inside)),
     )

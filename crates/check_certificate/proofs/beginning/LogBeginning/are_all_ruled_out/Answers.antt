@@ -1,16 +1,40 @@
-use Rattle.check_certificate.proofs.Words.{arith}
-use Rattle.check_certificate.proofs.Walks.{next_member}
+use Rattle.check_certificate.proofs.Words.{◌≡◌, ◌∙◌, ◌<◌, ℕ, length, arith, sym, ap, subst, true, slice_get}
+use Rattle.check_certificate.proofs.Walks.{all_more, asked_at, next_member, not_all}
+use Rattle.check_certificate.specs.Said.{given_of}
+use Rattle.check_certificate.specs.Walks.{all_below, are_all_ruled_out, is_asked_ruled_out}
 use Rattle.fx_chain.specs.Operation.{all_asked, asked_of}
 use Rattle.fx_order.proofs.Words.{slice_get_within}
 use Rattle.std.proofs.lemmas.List.{length-map}
 use Rattle.check_certificate.proofs.beginning.LogBeginning.are_all_ruled_out.Goals as goal
 
 pub loop-n-preserved : goal.loop-n-preserved
-loop-n-preserved c = λ is. next_member c.args.self.now c.args.aim.now c.args.id c.loop-n.n c.args.chain.now c.index-chain-n.result
-    (omega (arith, c.loop-n-test.true)) c.index-chain-n.is (c.is_member_ruled_out.ensures c.if-not-is_member_ruled_out.false is) (c.loop-n.invariant is)
+loop-n-preserved c = record {
+  sound = λ is. next_member c.args.self.now c.args.aim.now c.args.id c.loop-n.n c.args.chain.now c.index-chain-n.result
+      (omega (arith, c.loop-n-test.true)) c.index-chain-n.is (c.is_member_ruled_out.ensures.sound c.if-not-is_member_ruled_out.false is)
+      (c.loop-n.invariant.sound is);
+  exact = all_more (λ n. is_asked_ruled_out (given_of c.args.self.now) c.args.known.now c.args.aim.now c.args.call c.args.id n (slice_get (all_asked c.args.chain.now) n)) c.loop-n.n (ap (is_asked_ruled_out (given_of c.args.self.now) c.args.known.now c.args.aim.now c.args.call c.args.id c.loop-n.n)
+      (asked_at c.args.chain.now c.loop-n.n c.index-chain-n.result (omega (arith, c.loop-n-test.true)) c.index-chain-n.is)
+      ∙ (sym c.is_member_ruled_out.ensures.exact ∙ c.if-not-is_member_ruled_out.false)) c.loop-n.invariant.exact;
+}
 
-pub returns : goal.returns
-returns c = λ _ is n request asked.
+pub returns-then-not-is_member_ruled_out-clause-exact : goal.returns-then-not-is_member_ruled_out-clause-exact
+unfolding are_all_ruled_out
+returns-then-not-is_member_ruled_out-clause-exact c =
+    let long = length-map c.args.chain.now asked_of in
+    let low : c.loop-n.n < length (all_asked c.args.chain.now) = omega (arith, long, c.loop-n-test.true) in
+    sym (not_all (λ n. is_asked_ruled_out (given_of c.args.self.now) c.args.known.now c.args.aim.now c.args.call c.args.id n (slice_get (all_asked c.args.chain.now) n)) (length (all_asked c.args.chain.now)) c.loop-n.n low (ap (is_asked_ruled_out (given_of c.args.self.now) c.args.known.now c.args.aim.now c.args.call c.args.id c.loop-n.n)
+    (asked_at c.args.chain.now c.loop-n.n c.index-chain-n.result (omega (arith, c.loop-n-test.true)) c.index-chain-n.is)
+    ∙ (sym c.is_member_ruled_out.ensures.exact ∙ c.if-not-is_member_ruled_out.true)))
+
+pub returns-clause-sound : goal.returns-clause-sound
+returns-clause-sound c = λ _ is n request asked.
     let inside = slice_get_within (all_asked c.args.chain.now) n request asked in
     let long = length-map c.args.chain.now asked_of in
-    c.loop-n.invariant is n request (omega (arith, inside, long, c.loop-n-test.false)) asked
+    c.loop-n.invariant.sound is n request (omega (arith, inside, long, c.loop-n-test.false)) asked
+
+pub returns-clause-exact : goal.returns-clause-exact
+unfolding are_all_ruled_out
+returns-clause-exact c =
+    let long = length-map c.args.chain.now asked_of in
+    let all : c.loop-n.n ≡ length (all_asked c.args.chain.now) = omega (arith, long, c.loop-n-test.false) in
+    sym (subst (λ (n : ℕ). all_below n (λ n. is_asked_ruled_out (given_of c.args.self.now) c.args.known.now c.args.aim.now c.args.call c.args.id n (slice_get (all_asked c.args.chain.now) n)) ≡ true) all c.loop-n.invariant.exact)

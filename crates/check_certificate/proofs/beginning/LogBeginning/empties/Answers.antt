@@ -7,11 +7,11 @@ use Rattle.fx_order.proofs.Apart.{file_Decides, option_Decides}
 use Rattle.fx_order.proofs.Words.{false≢true}
 use Rattle.check_certificate.proofs.beginning.LogBeginning.empties.Goals as goal
 
-pub returns : goal.returns
-returns c = λ known.
+pub returns-clause-sound : goal.returns-clause-sound
+returns-clause-sound c = λ known.
     let to : c.args.installed.now.to ≡ Access c.args.answer c.args.access = first_of (search rules, grind (arith, common_steps)) in
     subst (IsForced c.args.self.now) (sym c.not_after.ensures)
     (empties_forced c.args.self.now c.args.call c.args.answer c.args.access c.in_ok-slot.slot c.in_ok-evidence.evidence c.in_ok-slot.left c.in_ok-file.file
-    c.in_ok-evidence.ensures (sym c.in_ok-slot.ensures)
+    c.in_ok-evidence.ensures.sound (sym c.in_ok-slot.ensures)
     (λ same. false≢true (sym c.if-eq.false ∙ (c.eq.ensures ∙ (option_Decides file_Decides c.in_ok-slot.left (Some c.in_ok-file.file)).1 same)))
-    c.args.installed.now c.in_ok-file.ensures to known)
+    c.args.installed.now c.in_ok-file.ensures.sound to known)

@@ -4,6 +4,6 @@ use Rattle.check_certificate.specs.Evidence.{slot_count}
 use Rattle.check_certificate.specs.declared.evidence.Evidence.TheVariants.{Empties}
 use Rattle.check_certificate.proofs.beginning.LogBeginning.evidence_by_look.Goals as goal
 
-pub returns-in-None : goal.returns-in-None
-returns-in-None c =
+pub returns-in-None-clause-sound : goal.returns-in-None-clause-sound
+returns-in-None-clause-sound c =
     rw c.in-None.is (evident_look (slot_count c.args.self.now) c.args.slot None (omega arith) (Empties c.args.slot) (λ t may. sym may.1))

@@ -1,23 +1,18 @@
-use Rattle.check_certificate.proofs.Words.{◌∙◌, ap, arith, subst, sym, Some, slice_index_or, AllSettled}
-use Rattle.check_certificate.proofs.Forcing.{event_is}
+use Rattle.check_certificate.proofs.Words.{◌∙◌, arith, subst, sym, slice_index_or, AllSettled}
 use Rattle.check_certificate.proofs.Holders.{fails_forced}
 use Rattle.check_certificate.specs.Forced.{IsForced, log_of_beginning}
 use Rattle.fx_chain.specs.Completed.{completed_of}
 use Rattle.fx_flight.specs.Events.{happening_of}
-use Rattle.fx_flight.specs.declared.event.LogEvent.{LogEvent}
 use Rattle.std.proofs.lemmas.List.{length-map}
 use Rattle.std.proofs.lemmas.Option.{slice_get-get_or}
 use Rattle.check_certificate.proofs.beginning.LogBeginning.fails.Goals as goal
 
-pub returns : goal.returns
-returns c =
-    let found = c.in_ok-answer.ensures.lookup in
+pub returns-clause-sound : goal.returns-clause-sound
+returns-clause-sound c =
     let failed = sym c.is_failure.ensures ∙ c.if-not-is_failure.false in
-    let of = c.is_of_member.ensures c.if-not-is_of_member.false in
+    let of = c.is_of_member.ensures.sound c.if-not-is_of_member.false in
     let log = log_of_beginning c.args.self.now in
     let long = length-map c.args.self.now.events.now happening_of in
     subst (IsForced c.args.self.now) (sym c.ordered.ensures)
-    (fails_forced c.args.self.now c.args.event c.args.own of.0 (slice_index_or log c.args.event AllSettled) (completed_of c.in-Done.c) c.args.file
-    (slice_get-get_or log c.args.event AllSettled (omega (arith, c.if-event-self.false, long)))
-    (event_is c.args.self.now.events.now c.args.own c.in_ok-answer.answer.now found.3.0 found.1 ∙ ap (λ (e : LogEvent). Some (happening_of e)) c.in-Done.is)
-    failed of.1)
+    (fails_forced c.args.self.now c.args.event c.args.own of.0 (slice_index_or log c.args.event AllSettled) (completed_of c.in_ok-c.c.now) c.args.file
+    (slice_get-get_or log c.args.event AllSettled (omega (arith, c.if-event-self.false, long))) c.in_ok-c.ensures.sound failed of.1)

@@ -6,5 +6,5 @@ returns c = λ unfreed.
     let first = take-map happening_of c.args.at c.args.self.now.events.now in (
       c.in-Some.look,
       rw first (c.is_found_at.ensures c.if-not-is_found_at.false),
-      λ inside. let freed = c.was_freed.ensures (rw first at inside) in false≢true (rw freed at unfreed),
+      λ inside. let freed = c.was_freed.ensures.sound (rw first at inside) in false≢true (rw freed at unfreed),
     )

@@ -1,7 +1,0 @@
-use Rattle.check_certificate.proofs.Words.{◌≡◌, ℕ, ◌<◌, slice_index_or, FileClosed}
-use Rattle.check_certificate.proofs.beginning.was_closed.Given as goal
-use Rattle.fx_flight.specs.Events.{happening_of}
-use Rattle.fx_flight.specs.declared.event.LogEvent.{LogEvent}
-
-abbrev pub invariant-loop-event : goal.invariant-loop-event
-invariant-loop-event l = (k : ℕ) (d : LogEvent) → k < l.event-index → happening_of (slice_index_or l.events k d) ≡ FileClosed l.file → ⊥

@@ -1,0 +1,66 @@
+-- The evidence for an access, by the call of its member and the member's answer.
+use Rattle.std.specs.Prelude.{ℕ, ◌+◌, ◌-◌, ◌==◌, nat_lt, ◌&&◌, ◌||◌, List, [], ◌∷◌, slice_get}
+use Rattle.std.specs.Prelude.{Option, Some, None, option_map, if◌then◌else◌}
+use Rattle.std.specs.Str.{bytes_eq}
+use Rattle.fx_base.specs.Catalogue.{FileEntry}
+use Rattle.fx_base.specs.Identity.{Identity}
+use Rattle.fx_base.specs.declared.errno.Errno.TheVariants.{ECANCELED, ENOMEM}
+use Rattle.fx_chain.specs.Completed.{Completed}
+use Rattle.fx_chain.specs.Intents.{intent_by}
+use Rattle.fx_chain.specs.Operation.{Asked, Operation, Opens}
+use Rattle.fx_chain.specs.declared.completion.Place.{Place}
+use Rattle.fx_chain.specs.declared.intent.Intent.{Intent}
+use Rattle.fx_flight.specs.Events.{Happening, Called, Answered, LookCalled, LookAnswered}
+use Rattle.check_certificate.specs.Answers.{is_error, is_impossible}
+use Rattle.check_certificate.specs.Evidence.{evidence_of}
+use Rattle.check_certificate.specs.Said.{◌>>=◌, Given, event_at, only_if, slots_of}
+use Rattle.check_certificate.specs.declared.evidence.Evidence.{Evidence}
+use Rattle.check_certificate.specs.declared.evidence.Evidence.TheVariants.{Empties, Finds, Never}
+
+-- the place, counted from `at` on, of the entry with this name
+abbrev pub entry_named : List ℕ → ℕ → List FileEntry → Option ℕ
+entry_named name at [] = None
+entry_named name at (file ∷ catalogue) =
+    if bytes_eq file.name name then Some at else entry_named name (at + 1) catalogue
+
+-- the catalogue entry that an open opens by its name, and 0 for another request
+abbrev pub opened_by : List FileEntry → Operation → Option ℕ
+opened_by catalogue (Opens name target) = entry_named name 0 catalogue
+opened_by catalogue operation = Some 0
+
+-- the access that a request at a place intends after `k` others, if there is one
+unfoldable pub intended : List FileEntry → ℕ → Place → Operation → ℕ → Option Intent
+intended catalogue size place operation k = do
+  entry ← opened_by catalogue operation
+  intent_by catalogue size place entry operation k
+
+-- the evidence in the answer of a request for one of its accesses: that there is no such answer, or
+-- that of the access that it intends, unless it was canceled or found no memory
+unfoldable pub evidence_by_member : Given → Completed → Asked → ℕ → Option Evidence
+evidence_by_member g c request k =
+    if is_impossible g.catalogue (slots_of g) c request then Some Never
+    else if is_error c ECANCELED || is_error c ENOMEM then None
+    else option_map (λ intent. evidence_of intent c.res)
+    (intended g.catalogue (slots_of g) c.place request.operation k)
+
+-- and in the answer of a look
+abbrev pub evidence_found : ℕ → Option Identity → Evidence
+evidence_found slot (Some file) = Finds slot file
+evidence_found slot None = Empties slot
+
+-- the evidence in an event for an access of the call that another one begins
+abbrev pub shown : Given → Happening → Happening → ℕ → Option Evidence
+shown g (Called id requests) (Answered other c) k =
+    if other == id
+    then slice_get requests (c.place.member - 1) >>= (λ request. evidence_by_member g c request k)
+    else None
+shown g (LookCalled id slot) (LookAnswered other found) k =
+    only_if ((other == id) && (k == 0) && nat_lt slot (slots_of g)) (evidence_found slot found)
+shown g begins ends k = None
+
+-- the evidence for an access, by the positions of its call and of its answer
+unfoldable pub made : Given → ℕ → ℕ → ℕ → Option Evidence
+made g call answer k = do
+  begins ← event_at g call
+  ends ← event_at g answer
+  shown g begins ends k

@@ -1,0 +1,96 @@
+-- Right certificates: each step adds an order by its rule, until a point comes before itself.
+use Rattle.std.specs.Prelude.{ℕ, ◌^◌, nat_le, nat_lt, Bool, false, ◌&&◌, ◌||◌, List, [], ◌∷◌, ◌++◌}
+use Rattle.std.specs.Prelude.{length, slice_get, take, Option, option_map, IsTrue}
+use Rattle.std.specs.List.{list_all}
+use Rattle.fx_base.specs.Catalogue.{FileEntry}
+use Rattle.fx_flight.specs.Events.{all_happenings}
+use Rattle.fx_flight.specs.Faults.{IsFaultless}
+use Rattle.fx_flight.specs.declared.event.LogEvent.{LogEvent}
+use Rattle.fx_order.specs.declared.slots.Slots.{Slots}
+use Rattle.check_certificate.specs.Forced.{is_of_no_call}
+use Rattle.check_certificate.specs.Holds.{is_some_so}
+use Rattle.check_certificate.specs.Rules as rule
+use Rattle.check_certificate.specs.Said.{◌>>=◌, Given}
+use Rattle.check_certificate.specs.Walks as walk
+use Rattle.check_certificate.specs.declared.certificate.PointOrder.{PointOrder}
+use Rattle.check_certificate.specs.declared.certificate.Step.{Step}
+use Rattle.check_certificate.specs.declared.certificate.Step.TheVariants as kind
+
+-- the order that a step adds to the known ones, if its premises hold
+abbrev pub order_added : Given → List PointOrder → Step → Option PointOrder
+order_added g known (kind.Events earlier later) = rule.events_in_order g earlier later
+order_added g known (kind.Begins call answer access) = rule.begins g call answer access
+order_added g known (kind.Ends call answer access) = rule.ends g call answer access
+order_added g known (kind.Calls call file) = rule.calls g call file
+order_added g known (kind.Installs call answer access) = rule.installs g call answer access
+order_added g known (kind.Places call answer access) = rule.places g call answer access
+order_added g known (kind.Follows call answer) = rule.follows g call answer
+order_added g known (kind.Finds call answer) = rule.finds g call answer
+order_added g known (kind.Closes close slot) = rule.closes g close slot
+order_added g known (kind.Settles settled installed placed) = do
+  first ← slice_get known installed
+  second ← slice_get known placed
+  rule.settles g settled first second
+order_added g known (kind.Empties call answer access installed) =
+    slice_get known installed >>= rule.empties g call answer access
+order_added g known (kind.Precedes call answer access there) =
+    slice_get known there >>= rule.precedes g call answer access
+order_added g known (kind.Displaces installed placed) = do
+  first ← slice_get known installed
+  second ← slice_get known placed
+  rule.displaces first second
+order_added g known (kind.Outlives there placed) = do
+  first ← slice_get known there
+  second ← slice_get known placed
+  rule.outlives first second
+order_added g known (kind.Then first second) = do
+  one ← slice_get known first
+  other ← slice_get known second
+  rule.joined one other
+order_added g known (kind.Holds holding) = walk.holds g known holding
+order_added g known (kind.Lands slot installed) = do
+  order ← slice_get known installed
+  landing ← walk.landing order slot
+  walk.lands g known landing
+order_added g known (kind.Misses slot installed) = do
+  order ← slice_get known installed
+  landing ← walk.landing order slot
+  walk.misses g known landing
+order_added g known (kind.Existed close) = rule.existed g close
+order_added g known (kind.Stays until there) = slice_get known there >>= walk.stays g known until
+order_added g known (kind.Takes taker there gone) = do
+  first ← slice_get known there
+  second ← slice_get known gone
+  option_map (λ orders. orders.0) (walk.taken g known taker first second)
+order_added g known (kind.TakenBy taker there gone) = do
+  first ← slice_get known there
+  second ← slice_get known gone
+  option_map (λ orders. orders.1) (walk.taken g known taker first second)
+order_added g known (kind.Differs call other order) =
+    slice_get known order >>= rule.differs g call other
+order_added g known (kind.FindsClosed close answer) = rule.finds_closed g close answer
+order_added g known (kind.ClosesTwice first second) = rule.closes_twice g first second
+order_added g known (kind.ClosesHeld answer close) = rule.closes_held g answer close
+order_added g known (kind.CantAnswer call answer) = rule.cant_answer g call answer
+
+-- the order says that a point comes before itself
+abbrev pub is_contradiction : PointOrder → Bool
+is_contradiction order = order.strict && rule.same_point order.from order.to
+
+-- the steps add orders to the known ones, one after another, up to a contradiction
+abbrev pub leads_on : Given → List PointOrder → List Step → Bool
+leads_on g known [] = false
+leads_on g known (step ∷ steps) =
+    is_some_so (order_added g known step)
+    (λ order. is_contradiction order || leads_on g (known ++ order ∷ []) steps)
+
+-- the first `count` events are a log, no file at a slot before it has the mark of a call, and the
+-- steps lead from no orders to a contradiction
+pub record IsRightCertificate (catalogue : List FileEntry) (slots : Slots) (events : List LogEvent)
+    (count : ℕ) (certificate : List Step) : Type 0 where
+  pub size : IsTrue (nat_lt (length slots.at.items) (2 ^ 32))
+  pub inside : IsTrue (nat_le count (length events))
+  pub marks : IsTrue (list_all is_of_no_call slots.at.items)
+  pub faultless : IsFaultless (all_happenings (take count events))
+  pub leads : IsTrue (leads_on
+      (record { catalogue = catalogue; slots = slots; events = take count events }) [] certificate)
