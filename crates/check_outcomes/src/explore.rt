@@ -70,8 +70,8 @@ const _: () = prove!(size_of::<ChainAccess>() == 88);
 
 const _: () = prove!(size_of::<Completion>() == 40);
 
-// What a search may still keep: how many states, and bytes. An end is a state of which a report is
-// made.
+// The room that is left to a search: its number of states, and bytes. An end is a state of which a
+// report is made.
 #[derive(Clone, Copy)]
 struct SearchRoom {
     states: usize,
@@ -93,7 +93,8 @@ fn room_for(submission: &PlayedSubmission<'_>, limits: Limits) -> SearchRoom {
 }
 
 impl SearchRoom {
-    // Takes the room of the state of a number from what is left. Returns false if there is none.
+    // Takes the room of the state of a number from that which is left. Returns false if it is too
+    // little.
     fn take(&mut self, number: usize, is_end: bool) -> bool {
         let weight = if is_end { self.end } else { self.state };
         let has_room = number < self.states && weight <= self.bytes;
