@@ -8,9 +8,9 @@ from scripts.pages import anchors
 from scripts.repository import ROOT, read, write
 
 PAGES = {"docs/use/ARCHIVE.md": "README.md"} | {
-    it: it for it in (*(f"docs/{name}.md" for name in ("use/BAD_ENTRY", "use/BINDINGS", "use/C", "use/CHECKING", "use/CHOOSING", "use/DIRECT", "inside/FLIGHT", "use/KERNEL", "use/LIMITS", "use/LINUX", "inside/MODEL", "use/PYTHON", "use/RECORDING", "use/RUST", "use/SCRIPT")), "examples/README.md")}
+    it: it for it in (*(f"docs/{name}.md" for name in ("use/BAD_ENTRY", "use/BINDINGS", "use/C", "use/CHECKING", "use/CHOOSING", "use/DIRECT", "inside/FLIGHT", "use/GLOSSARY", "use/KERNEL", "use/LIMITS", "use/LINUX", "inside/MODEL", "use/PYTHON", "use/RECORDING", "use/RUST", "use/SCRIPT")), "examples/README.md")}
 # the first page of the other archive is the section of the first one
-ARM_PAGES = {"docs/use/ARCHIVE.md": "README.md"} | {it: it for it in (f"docs/use/{name}.md" for name in ("BINDINGS", "C", "CHOOSING", "DIRECT", "PYTHON", "RUST"))}
+ARM_PAGES = {"docs/use/ARCHIVE.md": "README.md"} | {it: it for it in (f"docs/use/{name}.md" for name in ("BINDINGS", "C", "CHOOSING", "DIRECT", "GLOSSARY", "PYTHON", "RUST"))}
 # what the archives have beside pages and scripts
 FOLDERS = ("LICENSE", "c", "completions", "docs/pictures", "examples", "kernel", "man")
 ARM_FOLDERS = ("LICENSE", "c", "examples", "man")

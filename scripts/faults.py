@@ -15,7 +15,7 @@ SHOWN = 76
 FAULTS = {
     "long-script": ("the script is too long", f"at most {LONGEST_SCRIPT:,} bytes"),
     "long-line": ("the line is too long", f"at most {LONGEST_LINE:,} bytes"),
-    "not-text": ("the line has a byte that is not text", "printable ASCII, bytes 32 to 126"),
+    "not-text": ("the line has a byte that is not text", "printable ASCII, bytes 32 to 126, and a line feed alone at its end"),
     "unknown-command": ("there is no such command", f"one of file, {', '.join(it.decode() for it in [*COMMANDS, b'open', *REQUESTS])}"),
     "late-file": ("a `file` line follows another line", "all `file` lines before the other lines"),
     "word-count": ("the line has too few words, or too many", ""),

@@ -37,7 +37,7 @@ ROWS = [
     (HEAD.encode() + b"settled\xe9\n", NOT_A_LOG, "line 5: no line"),
     (f"{HEAD}\u2028settled\n", NOT_A_LOG, "line 5: no line"),
     (f"{HEAD}settled\x0csettled\n", NOT_A_LOG, "line 5: no line"),
-    (f"{HEAD}settled\r\n", NOT_A_LOG, "line 5: no line"),
+    (f"{HEAD}settled\r\n", NOT_A_LOG, "line 5: the line ends with a carriage return"),
     (f"{HEAD}settled", NOT_A_LOG, "line 5: the last line has no end: 'settled'"),
     (f"{HEAD}settled \n", NOT_A_LOG, "line 5: the line ends with a space"),
     (f"{HEAD}settled 3\n", NOT_A_LOG, "line 5: nothing follows"),

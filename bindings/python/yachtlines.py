@@ -213,6 +213,7 @@ class Lines:
             for number, line in enumerate(lines, 1):
                 word, _, more = line.partition(" ")
                 _want(not line.endswith(" "), "the line ends with a space")
+                _want(not line.endswith("\r"), "the line ends with a carriage return; a line feed alone ends a line")
                 _want(word in readers, f"no line of a log begins with {_shown(word)}")
                 _want(self._is_registered or word in words[:4], "the table is not registered yet")
                 readers[word](number, more)

@@ -140,7 +140,8 @@ fn serve_all(load: &Load) -> Result<(), Box<dyn std::error::Error>> {
     let sum = |count: fn(&Server) -> u32| servers.iter().map(count).sum::<u32>();
     println!("{} connections at a time:", load.open);
     println!("{} were ended by their keys", sum(|it| it.ended));
-    println!("some requests were late: {}", sum(|it| it.late) > 0);
+    let late = if sum(|it| it.late) > 0 { "some" } else { "no" };
+    println!("{late} requests came after the end of their connection");
     println!("{} requests found another connection", sum(|it| it.wrong));
     println!("{} connections were closed", CLOSED.swap(0, Relaxed));
     Ok(())
