@@ -3,7 +3,7 @@
 crates measure: writes the processor seconds of the crates that scripts/lanes.py has proved, by its log, to scripts/seconds.txt, and the minutes
 of the pages (bench/write-tables). The seconds of tests are written by hand.
 crates progress LOG: prints on standard error how long the gate is expected to take here, and then once a minute how much of it is done, by
-its LOG, and how long the rest takes. Ends with the gate, or with the process that started this one."""
+its LOG. Ends with the gate, or with the process that started this one."""
 import contextlib
 import os
 import re
@@ -71,15 +71,8 @@ def expected(seconds, below, lanes):
     return clock
 
 
-def in_words(seconds, is_least=False):
-    """Returns some seconds in words: an estimate, or a lower bound."""
-    minutes = max(round(seconds / 60), 1)
-    amount = "a minute" if minutes == 1 else f"{minutes} minutes"
-    return f"at least {amount}" if is_least else "less than a minute" if seconds < 50 else f"about {amount}"
-
-
 class Estimate:
-    """How long crates take that are proved in some lanes: their measured seconds, scaled by those that have passed."""
+    """How long crates take that are proved in some lanes, by their measured seconds, and how much of that is done."""
 
     def __init__(self, seconds, below, lanes):
         self.seconds, self.below, self.lanes = seconds, below, lanes
@@ -88,13 +81,11 @@ class Estimate:
     def range(self):
         """Returns as a range of minutes how long all take: if no lane is ever free, and if each crate has one lane."""
         first, last = max(round(sum(self.seconds.values()) / self.lanes / 60), 1), max(round(self.whole / 60), 1)
-        return f"{first} to {last} minutes" if first < last else in_words(self.whole).removeprefix("about ")
+        return f"{first} to {last} minutes" if first < last else "a minute" if last == 1 else f"{last} minutes"
 
-    def left(self, done):
-        """Returns how long the rest takes, in words: a lower bound if no crate has ended."""
-        rest = expected({it: seconds for it, seconds in self.seconds.items() if it not in done}, self.below, self.lanes)
-        scale = (time.monotonic() - self.begin) / (self.whole - rest) if rest < self.whole else 1
-        return in_words(rest * scale, rest == self.whole)
+    def share(self, done):
+        """Returns the part of all expected work that is done, which never falls."""
+        return f"{100 * sum(self.seconds[it] for it in done) // max(sum(self.seconds.values()), 1)} % of the work"
 
     def is_due(self):
         """Checks whether a minute has passed since the last one."""
@@ -121,8 +112,8 @@ def show_progress(path):
         time.sleep(1)
         said = read_bytes(os.path.abspath(path)).decode(errors="replace") if os.path.exists(path) else ""
         if estimate.is_due():
-            done = {name + tests for name, tests in PROVED.findall(said)}
-            print(f"  after {estimate.minutes} min: {len(done & {*seconds})} of {len(seconds)} proved, {estimate.left(done)} left", file=sys.stderr, flush=True)
+            done = {name + tests for name, tests in PROVED.findall(said)} & {*seconds}
+            print(f"  after {estimate.minutes} min: {len(done)} of {len(seconds)} proved, {estimate.share(done)}", file=sys.stderr, flush=True)
 
 
 def measure():

@@ -9,7 +9,7 @@ lanes keep FILE CRATE NAME: copies what was built from CRATE to bin/NAME, as old
 Crates that don't depend on each other are proved in parallel, as far as memory goes. The crates on the longest paths to the programs
 share the processors; each other crate has one job at a lower priority. The toolchain locks the folders of a crate and of its
 dependencies while it proves, so one crate is proved in place, and the others in copies (scripts/proved.py). Prints on standard error
-what is proved and how long the rest is expected to take. What the prover prints goes to build/program.log, and each verdict to a log of
+how long the proofs are expected to take, what is proved, and how much of the work that is. What the prover prints goes to build/program.log, and each verdict to a log of
 build, for scripts/dist."""
 import fcntl
 import os
@@ -98,7 +98,7 @@ class Job:
     def now(self):
         """Returns its progress in words."""
         done = DONE_OF.findall(self.said())
-        return f"{self.name} {done[-1]} functions" if done else self.name
+        return f"{self.name} {done[-1]} functions" if done and not done[-1].startswith("0 ") else f"{self.name}'s definitions and lemmas"
 
     def has_ended(self):
         """Checks whether it has ended, and notes its status and its processor seconds."""
@@ -185,7 +185,7 @@ class Lanes:
         """Updates the line of a terminal, or prints a line a minute."""
         if not self.jobs or not (sys.stderr.isatty() or self.estimate.is_due()):
             return
-        line = f"{len(self.done)} of {len(self.those)} crates proved, {self.estimate.left(self.done)} left: {', '.join(it.now() for it in self.jobs)}"
+        line = f"{len(self.done)} of {len(self.those)} crates proved, {self.estimate.share(self.done)}; under way: {', '.join(it.now() for it in self.jobs)}"
         if sys.stderr.isatty():
             self.tell(f"  {line}"[: shutil.get_terminal_size().columns - 1], "")
         else:
