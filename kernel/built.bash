@@ -16,9 +16,11 @@ skip() {
     exit 77
 }
 
-# built PROGRAM CALL FILE..: builds a program of these files, which makes a call of liburing
+# built PROGRAM CALL FILE..: builds a program of these files, which makes a call of liburing, unless
+# it is newer than the sources
 built() {
     program=$build/$1
+    if [ -x "$program" ] && [ -z "$(find "$top"/kernel -name '*.[ch]' -newer "$program" -print -quit)" ]; then return; fi
     command -v cc > /dev/null || skip 'there is no C compiler cc'
     if ! echo '#include <liburing.h>' | cc -E -x c - 2> /dev/null | grep -q "$2"; then
         skip 'there is no liburing 2.3 or later (Debian: liburing-dev)'

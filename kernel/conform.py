@@ -1,4 +1,4 @@
-"""conform [--scripts N] [--seed S] [--rule NAME] [--player PROGRAM] [--seconds N]: checks which rules of docs/inside/MODEL.md this machine's
+"""conform [--build] [--scripts N] [--seed S] [--rule NAME] [--player PROGRAM] [--seconds N]: checks which rules of docs/inside/MODEL.md this machine's
 kernel keeps.
 
 Plays the examples, the scripts of kernel/differences, N random scripts (default 500) and a fifth as many scripts whose chains contend
@@ -7,6 +7,8 @@ tenth and a tenth as many logs, and has the verified judge of the library yachtj
 library these rules are skipped. The last of them, which is Linux's alone, asks the judge by whole updates. Prints a report in KTAP, the format of the kernel's own tests: a test for each rule, with its scripts as subtests. The comments before a failed
 script name the script, the text and the first wrong line. `# XFAIL` names the differences of docs/use/LINUX.md that explain a text. A script that has no system calls is skipped.
 Failed scripts and their texts are kept. With --rule, only the rule of that name in the report is checked.
+
+With --build, only the programs in C are built, and later runs need no C compiler.
 
 With --player, PROGRAM is judged instead of the kernel. It reads a script from standard input and writes the text to standard output;
 with the argument --async it may play the chains of a submission in another order. Calls in flight are left out. A play that takes more
@@ -334,7 +336,7 @@ def complaint_of(options):
 
 
 def command():
-    options = arguments(__doc__, options={"scripts": 500, "seed": 1, "seconds": 120, "player": PLAYER, "fixcheck": FIXCHECK},
+    options = arguments(__doc__, flags="build", options={"scripts": 500, "seed": 1, "seconds": 120, "player": PLAYER, "fixcheck": FIXCHECK},
                         words=("rule",))
     complaint = complaint_of(options)
     if complaint:
@@ -348,6 +350,10 @@ def command():
         if status:
             print(f"1..0 # SKIP {missing if status == NO_KERNEL else 'the player cannot be built: ' + missing.splitlines()[0]}")
             return NOTHING_TO_PLAY_ON
+    if options.build:
+        flights.built_recorder()
+        print("1..0 # SKIP the programs in C are built")
+        return PASSED
     if not os.path.exists(options.fixcheck):
         print(f"1..0 # SKIP {missing_program(os.path.relpath(options.fixcheck, ROOT), 'check')}")
         return NOTHING_TO_PLAY_ON

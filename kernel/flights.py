@@ -7,7 +7,7 @@ import subprocess
 from typing import NamedTuple
 
 from scripts.programs import given_time, run
-from scripts.repository import BUILD, ROOT
+from scripts.repository import BUILD, ROOT, is_newer
 
 RECORDER = os.path.join(BUILD, "record-in-flight")
 # how often the recorder waits until all is settled
@@ -41,8 +41,10 @@ def judge():
 
 
 def built_recorder(sources=f"{ROOT}/kernel", program=RECORDER):
-    """Builds the recorder."""
+    """Builds the recorder, unless it is newer than its sources."""
     files = [*glob.glob(f"{sources}/flight/*.c"), f"{sources}/events.c", f"{sources}/script.c"]
+    if is_newer(program, [*files, *glob.glob(f"{sources}/*.h"), *glob.glob(f"{sources}/flight/*.h")]):
+        return program
     subprocess.run(["cc", "-O1", "-Wall", "-Wextra", "-o", program, *files, "-luring", "-lpthread"], check=True)
     return program
 
