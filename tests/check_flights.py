@@ -31,6 +31,8 @@ CERTIFIED = 89
 LOGS, WRONG_LOGS = 1_000, 20
 # the number of logs of a recorder of which fewer than half have calls that overlap
 OVERLAPPING = 60
+# the order of lines with the same time, and of each so many logs one is tried
+AT_ONE_TIME, TIMED = ["call", "done", "free", "closed", "settled"], 10
 # the number of cases that need a kernel with io_uring
 OF_KERNEL = 15
 # a log that is legal, but not if each update is one step
@@ -141,6 +143,16 @@ def complaint_of_reason(lines, line, facts):
     return "" if reasons.complaint(text_of(lines, line - 1), facts) else "the reason is not refused for the lines before the last one"
 
 
+def at_equal_times(lines, words):
+    """Returns a log by a clock that moves on after each fourth line, and around `settled` lines. Lines with the same time are in the order of
+    their first words."""
+    def key(nth):
+        line = lines[nth]
+        return lines[: nth + 1].count("settled"), line != "settled", nth // 4, words.index(line.split()[0]) if nth > 1 else -1
+
+    return [lines[nth] for nth in sorted(range(len(lines)), key=key)]
+
+
 def is_legal(lines, is_whole=False):
     try:
         return tiny_flights.is_legal(lines, is_whole)
@@ -239,6 +251,14 @@ class Checks(Counted):
         print(f"# {certified} of {len(those)} tiny logs that are not legal have a reason")
         self.want(certified * 100 >= len(those) * CERTIFIED, f"only {certified} of {len(those)} logs that are not legal have a reason")
 
+    def equal_times(self, found):
+        """Checks that legal logs stay legal by a coarse clock, and that some don't if answers or closes come first."""
+        those = [lines for lines, _, legal in found[::TIMED] if legal]
+        self.want(all(is_legal(at_equal_times(it, AT_ONE_TIME)) for it in those), "a legal log isn't legal by a coarse clock")
+        for first in "done", "closed":
+            words = sorted(AT_ONE_TIME, key=first.__ne__)
+            self.want(not all(is_legal(at_equal_times(it, words)) for it in those), f"each log stays legal if {first} comes first")
+
     def wrong_judges(self, found):
         """Checks that each wrong judge takes some log for legal that is not, and that no wrong verdict agrees with all orders."""
         wrong = [lines for lines, _, legal in found if not legal]
@@ -296,6 +316,7 @@ def command():
     found = checks.compare(given.count, given.seed)
     checks.whole_updates(given.count // 3, given.seed)
     checks.reasons(found)
+    checks.equal_times(found)
     checks.wrong_judges(found)
     checks.conform()
     checks.kernel()

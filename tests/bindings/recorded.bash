@@ -118,3 +118,85 @@ slab_found() {
     done
     return 1
 }
+
+# makes_example C|C++|Python [SED [HEADER_SED]]: the example table in a language, with a change of
+# it or of the recorder
+makes_example() {
+    local of=bindings/c/recorded.c recorder=include/yachtrecord.h to=$room/example flags=("${strict[@]/-Iinclude/-I$room/example}" -O1)
+    [ "$1" != Python ] || of=bindings/python/yachtrecord_example.py recorder=bindings/python/yachtrecord.py
+    rm -rf "$to" && mkdir "$to" && sed "${2-}" "$of" > "$to/${of##*/}" && sed "${3-}" "$recorder" > "$to/${recorder##*/}" || return 1
+    [ -z "${2-}" ] || ! cmp -s "$of" "$to/${of##*/}" || return 1
+    [ -z "${3-}" ] || ! cmp -s "$recorder" "$to/${recorder##*/}" || return 1
+    plays=("$to/recorded")
+    case $1 in
+        C) gcc -std=c11 "${flags[@]}" "$to/recorded.c" -pthread -o "$to/recorded" ;;
+        C++) g++ -std=c++17 "${flags[@]}" -x c++ "$to/recorded.c" -pthread -o "$to/recorded" ;;
+        Python) plays=(python3 -B "$to/yachtrecord_example.py") ;;
+    esac
+}
+
+# plays_example SEED [N]
+plays_example() {
+    timeout 120 "${plays[@]}" "$@" > "$room/log" 2> "$room/found"
+}
+
+# legal_example LANGUAGE [SED]: the logs of three seeds are legal
+legal_example() {
+    local seed
+    makes_example "$@" || return 1
+    for seed in 1 2 3; do
+        plays_example "$seed" && judged legal || return 1
+    done
+}
+
+# found_example LANGUAGE N [SED [HEADER_SED]]: one of twenty logs is not legal
+found_example() {
+    local seed
+    makes_example "$1" "${@:3}" || return 1
+    for seed in {1..20}; do
+        plays_example "$seed" "$2" || return 1
+        judged 'not legal' > /dev/null && return
+    done
+    return 1
+}
+
+# ends_example LANGUAGE WHY SED: the log ends early, and it is legal up to there
+ends_example() {
+    makes_example "$1" "$3" || return 1
+    plays_example 1
+    [ $? -eq 1 ] && grep -qF "recorder: $2; the log ends there" "$room/found" && [ "$(wc -l < "$room/log")" -lt 50000 ] && judged legal
+}
+
+recorded_in_c() {
+    local take='^    int was_full = swap(slot, NULL);' drop='^    yacht_record_drop(it->value);' crashed='a call crashed, or a thread had no handle'
+    want 'a log of a right table in C is not legal' legal_example C
+    want 'a stale look of 10,000 in C is not noticed' found_example C 10000
+    want 'a call in C that aborts leaves no log' ends_example C "$crashed" "s/$take/    if (++looks == 500) abort();\n&/"
+    want 'a call in C that uses memory wrongly leaves no log' ends_example C "$crashed" "s/$take/    if (++looks == 500) *(volatile int *)8 = 1;\n&/"
+    want 'a call in C++ that throws leaves no log' ends_example C++ "$crashed" "s/$take/    if (++looks == 500) throw 1;\n&/"
+    want 'a call in C that never returns leaves no log' ends_example C 'no call began or ended in time' \
+        "s/$take/    if (++looks == 500) for (;;) poll(NULL, 0, -1);\n&/; s/SLOTS, 20}/SLOTS, 2}/"
+    want 'fewer handles than threads in C leave no log' ends_example C "$crashed" 's/entered < THREADS/entered < THREADS - 1/'
+    want 'a value in C that another thread drops has no line' legal_example C "s/^static void end_use/static void *other(void *it) {\n    yacht_record_drop(\
+(yacht_value *)it);\n    return NULL;\n}\n\n&/; s/$drop/    pthread_t thread;\n    pthread_create(\&thread, NULL, other, it->value);\n    pthread_join(thread, NULL);/"
+    want 'a value in C that is dropped twice is not noticed' found_example C 0 "s/$drop/&\n&/"
+    want 'a value of 100 in C that is never dropped is not noticed' found_example C 0 "s/$drop/    if (++looks % 100) yacht_record_drop(it->value);/"
+    want 'a recorder in C that ends a hold too late is not noticed' found_example C 0 '' '/^        its->release(handle, found);$/d; s/^ *yacht_record_note(own, "free .*/        its->release(handle, found);\n&/'
+    want 'a recorder in C that settles before all rest is not noticed' found_example C 0 '' 's/(own, 2 \* round + 1, 0)/(own, 2 * round + 1, 1)/'
+}
+
+recorded_in_python() {
+    local take='^            return self.swap(slot, None)' again='            self.looks += 1\n'
+    want 'a log of a right table in Python is not legal' legal_example Python
+    want 'a stale look of 10,000 in Python is not noticed' found_example Python 10000
+    want 'a call in Python that raises an exception leaves no log' ends_example Python "KeyError('lost')" \
+        "s/$take/$again            if self.looks > 500: raise KeyError('lost')\n&/"
+    want 'a call in Python that never returns leaves no log' ends_example Python "TimeoutError('no call began or returned for 2 s')" \
+        "s/$take/$again            while self.looks > 500: threading.Event().wait(1)\n&/; s/slots=SLOTS/slots=SLOTS, silence=2/"
+    want 'a value in Python that another thread drops has no line' legal_example Python 's/^            self.before = \[None\] \* SLOTS/            it = threading.Thread(\
+target=self.__dict__.update, args=({"before": [None] * SLOTS},))\n            it.start()\n            it.join()/'
+    want 'a value in Python that is closed in use is not noticed' found_example Python 0 's/^            self.before\[slot\] = old/&\n            old.close()/'
+    want 'a recorder in Python that settles before all rest is not noticed' found_example Python 0 '' \
+        's/rests, settles = threading.Barrier(threads), /rests, settles = threading.Barrier(threads, lambda: lines.append("settled")), /'
+    want 'a recorder in Python with a close of what was never put is not noticed' found_example Python 0 '' '/^        value.is_open = value.is_open and at/d'
+}
