@@ -10,8 +10,8 @@ import argparse
 import re
 import sys
 
-from scripts.canvas import BAR, COLOURS, GREY, INK, MARGIN, MONO, PALE, RED, TAIL, Canvas
 from scripts.drawn import REQUEST, ROWS_OF_A_HEAD, History, NoHistory, Part
+from yachtcanvas import BAR, COLOURS, GREY, INK, MARGIN, MONO, PALE, RED, TAIL, Canvas, colour_of
 
 # pixels
 WIDTH, MOST_WIDTH, ROW, LETTER = 600, 1200, 23, 6.65
@@ -21,14 +21,20 @@ ERRORS = {"-2": "ENOENT", "-6": "ENXIO", "-9": "EBADF", "-11": "EAGAIN", "-12": 
           "-23": "ENFILE", "-24": "EMFILE", "-125": "ECANCELED"}
 TITLE = "A legal history of a file table: its slots, the events and the requests"
 NOT_A_TRACE = "An order of the requests that explains the text, not a trace of the play."
+# each sign of the legend, drawn on a canvas at a point, in the order of the legend
+SIGNS = {
+    "at the slot": lambda it, x, y: it.rect(x, y - 9, BAR, 11, f' fill="{COLOURS[0]}" stroke="{INK}" stroke-width="0.7"'),
+    "removed": lambda it, x, y: it.rect(x + 6, y - 9, TAIL, 11, f' fill="{COLOURS[0]}" fill-opacity="0.45"'),
+    "closed": lambda it, x, y: it.line(((x + 4, y - 4), (x + 12, y - 4)), INK, 2.2),
+    "held by a read": lambda it, x, y: it.rect(x + 4, y - 9, 8, 11, f' rx="4" fill="#FFFFFF" stroke="{INK}" stroke-width="1.4"'),
+    "no file found": lambda it, x, y: it.circle(x + 8, y - 4),
+    "in the range": lambda it, x, y: it.line(((x + 8, y - 10), (x + 8, y + 3)), GREY, 1.6, ' stroke-dasharray="1 4"'),
+    "linked": lambda it, x, y: it.line(((x + 8, y - 10), (x + 8, y + 3)), INK, 1.4),
+    "hard-linked": lambda it, x, y: [it.line(((at, y - 10), (at, y + 3)), INK, 1.4) for at in (x + 6, x + 10)],
+    "failed": lambda it, x, y: it.text(x, y, "-9", 11, RED, f'{MONO} font-weight="bold"'),
+    "canceled": lambda it, x, y: it.rect(x, y - 9, BAR, 11, f' rx="3" fill="#FFFFFF" stroke="{GREY}" stroke-dasharray="3 3"'),
+}
 SIDE_BY_SIDE = "Chains that share no slot are side by side: between them no order is shown."
-
-
-def colour_of(file):
-    """Returns a file's colour. After the first ones, hues are a golden angle apart, so that none occurs twice."""
-    if file.nth < len(COLOURS):
-        return COLOURS[file.nth]
-    return f"hsl({file.nth * 137.508 % 360:.1f}, {55 + file.nth % 3 * 15}%, {42 + file.nth % 4 * 8}%)"
 
 
 def short_names(names):
@@ -136,7 +142,7 @@ class Drawing(Canvas):
                 self.line(((x + self.slot - 20, begin), (x + self.slot - 20, end)), GREY, 1.6, ' stroke-dasharray="1 4"')
 
     def draw_file(self, file):
-        x, begin, colour = self.lane(file.slot), self.y(file.installed), colour_of(file)
+        x, begin, colour = self.lane(file.slot), self.y(file.installed), colour_of(file.nth)
         end = self.y(file.closed) if file.closed is not None else self.bottom + 4
         removed = self.y(file.removed) if file.removed is not None else end
         self.signs.add("at the slot")
@@ -173,7 +179,7 @@ class Drawing(Canvas):
     def draw_event(self, event):
         y, middle = self.y(event.row), self.words_at + self.word / 2
         half = len(event.word) * 3.3 + 4
-        colour = colour_of(event.file) if event.file else GREY
+        colour = colour_of(event.file.nth) if event.file else GREY
         if event.slot in self.slots:
             x = self.lane(event.slot)
             from_x = x - TAIL - 2 if event.word.startswith("Close") else x + BAR
@@ -270,7 +276,7 @@ def picture(history, got, slots=None, chains=None):
         canvas.place(drawing, x, y)
         x, high = x + drawing.width, max(high, height)
         width = max(width, x)
-    end = canvas.draw_legend(width, y + high + 16)
+    end = canvas.draw_legend(SIGNS, width, y + high + 16)
     return canvas.svg(width, end + 16, TITLE)
 
 
