@@ -1,16 +1,16 @@
 """Logs of calls in flight (docs/inside/FLIGHT.md): reads a log as the recorders print it, and has the verified judge decide whether it is legal
 (yachtjudge.judge_events). That the lines are read rightly is tested.
 
-    python3 yachtlog.py [--full-reason] [--whole-updates] [--states N] [--memory MIB] LOG..
+    python3 yachtlog.py [--full-reason] [--whole-updates] [--states N] [--memory MIB] [--draw SVG] LOG..
 
 prints for each log `legal`, `not legal` with the line at which no flight is left and the reason, `undecided`, or `not a log` with the first
 line that no log has there. Of a long reason the last sentences are printed, and with --full-reason all of them. With --whole-updates each
 update must be one step, as on Linux; a log that is not legal for that alone has no reason. A log `-` is read from
-standard input. `python3 yachtlog.py --shorten LOG` prints a log with fewer calls and the same wrong line. Without the library yachtjudge a
-log is read, and not judged.
+standard input. `python3 yachtlog.py --shorten LOG` prints a log with fewer calls and the same wrong line. --draw writes a picture of one log, or
+of the shorter one. Without the library yachtjudge a log is read, and not judged.
 
 The exit status is 1 if a log is not legal, whatever the others are. Else it is 5 if an allocation of the judge failed, 4 if a log can't be
-read or something that the command needs is missing, 3 if a text is not a log, 6 if a log is undecided, and 0 if all are legal. It is 2 if
+read, a picture can't be written or something that the command needs is missing, 3 if a text is not a log, 6 if a log is undecided, and 0 if all are legal. It is 2 if
 an argument is invalid. From Python:
 
     >>> import yachtlog
@@ -117,10 +117,11 @@ def arguments() -> argparse.Namespace:
     parser.add_argument("--full-reason", action="store_true", help=f"print the whole reason, not its last {SENTENCES} sentences")
     parser.add_argument("--whole-updates", action="store_true", help="each update must be one step, not one for each entry")
     parser.add_argument("--shorten", action="store_true", help="print a log with fewer calls and the same wrong line, and the verdict on standard error")
+    parser.add_argument("--draw", metavar="SVG", help="write a picture of the log to this file")
     parser.add_argument("--memory", type=limit, default=MEMORY, metavar="MIB", help=f"largest number of MiB for them (default {MEMORY})")
     options = parser.parse_args()
-    if options.shorten and len(options.logs) > 1:
-        parser.error("--shorten takes one log")
+    if (options.shorten or options.draw) and len(options.logs) > 1:
+        parser.error(f"{'--shorten' if options.shorten else '--draw'} takes one log")
     return options
 
 
@@ -163,7 +164,21 @@ def status_of(path: str, options: argparse.Namespace) -> int:
     line, to = f": line {verdict.line}: {log.line(verdict.line)}" if verdict.line else "", sys.stderr if options.shorten else sys.stdout
     print(f"{path}: {verdict.word}{line}", file=to)
     print(shown(log.reason(verdict), options.full_reason), end="", file=to)
-    return STATUSES[verdict.word]
+    return (drawn(log, verdict, options) if options.draw else 0) or STATUSES[verdict.word]
+
+
+def drawn(log: Log, verdict: LogVerdict, options: argparse.Namespace) -> int:
+    """Draws a log. Returns a status if the picture can't be written, or 0."""
+    from yachtdraw import TooLong, picture
+
+    try:
+        svg = picture(log, verdict, len(verdict.reason) if options.full_reason else SENTENCES)
+        with open(options.draw, "w", encoding="utf-8") as file:
+            file.write(svg)
+    except (OSError, TooLong) as fault:
+        print(f"yachtlog: {options.draw} is not drawn: {fault.strerror if isinstance(fault, OSError) else fault}", file=sys.stderr)
+        return MISSING
+    return 0
 
 
 def shown(sentences: list[str], is_full: bool) -> str:

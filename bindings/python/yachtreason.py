@@ -31,8 +31,14 @@ class Words:
 
     def sentences(self) -> list[str]:
         """Returns the sentences of the reason. The last one is the contradiction."""
-        derived = (it for it in self._steps[:-1] if it.premises and it.rule != "then" and not self._is_strange(it))
-        return [*(f"{self._link(it)}{self._evidence(it)}, since {self._premises(it)}" for it in derived), self._contradiction()]
+        return [*(f"{self._link(it)}{self._evidence(it)}, since {self._premises(it)}" for it in self._derived()), self._contradiction()]
+
+    def orders(self) -> list[Step]:
+        """Returns for each sentence the step with its order. That of the contradiction is what the last line shows."""
+        return [*self._derived(), self._cycle()[0]]
+
+    def _derived(self) -> list[Step]:
+        return [it for it in self._steps[:-1] if it.premises and it.rule != "then" and not self._is_strange(it)]
 
     def _is_strange(self, step: Step) -> bool:
         """Checks whether a step says when a file was installed, or at which slot, that no call of the log installs."""
@@ -55,12 +61,14 @@ class Words:
             return f", which answered {answer.result}"
         return f", which found {name_of(answer.found)}"
 
-    def _contradiction(self) -> str:
-        last = len(self._steps) - 1
-        parts = list(self._parts(last))
-        # the cycle begins with what the last line shows
+    def _cycle(self) -> list[Step]:
+        """Returns the steps whose orders contradict each other. The first one is what the last line shows."""
+        parts = list(self._parts(len(self._steps) - 1))
         begin = max(range(len(parts)), key=lambda at: (max(parts[at].lines, default=0), parts[at].rule in ("finds", "closes")))
-        first, *rest = filter(None, map(self._link, parts[begin:] + parts[:begin]))
+        return parts[begin:] + parts[:begin]
+
+    def _contradiction(self) -> str:
+        first, *rest = filter(None, map(self._link, self._cycle()))
         return f"{first}; but {listed(rest)}" if rest else first
 
     def _parts(self, nth: int) -> Iterator[Step]:
