@@ -167,12 +167,12 @@ def dated(page):
     return re.sub(r"^\.Dd .*$", f".Dd {day:%B} {day.day}, {day.year}", page, count=1, flags=re.M)
 
 
-def for_manual(name):
+def for_manual(name, names_all=True):
     """Returns a function that returns the manual page of a library with the functions of its header, and with its constants, each of which the
-    page must name."""
+    page must name, unless the header has them alone."""
     def made():
         page, header = read(f"man/{name}.3"), read(f"include/{name}.h")
-        if {*re.findall(r"\b(YACHT_\w+) = ", header)} != {*re.findall(r"^\.(?:It )?Dv (YACHT_\w+)", page, re.M)}:
+        if names_all and {*re.findall(r"\b(YACHT_\w+) = ", header)} != {*re.findall(r"^\.(?:It )?Dv (YACHT_\w+)", page, re.M)}:
             raise ValueError(f"man/{name}.3 has other constants than its header")
         lines = []
         for result, function, given in functions(header):
@@ -230,11 +230,12 @@ VERSIONED = {
     "include/yachtbanyan.h": 5, "include/yachtdirect.h": 5, "include/yachtjudge.h": 8,
     "crates/fx_direct_c/src/exports.rt": 1, "bench/life.rs": 2, **{f"bindings/rust/src/direct/{it}.rs": 1 for it in ("core", "machine", "stand_in")},
 }
-DATED = sorted(glob.glob("man/*.1", root_dir=ROOT))
+DATED = [*sorted(glob.glob("man/*.1", root_dir=ROOT)), "man/yachtrecord.3"]
 FILES = {
     **{path: lambda path=path: dated(read(path)) for path in DATED},
     "man/yachtbanyan.3": for_manual("yachtbanyan"),
     "man/yachtdirect.3": for_manual("yachtdirect"),
+    "man/yachtjudge.3": for_manual("yachtjudge", names_all=False),
     LIMITS: for_limits,
     "bindings/c/core.h": for_c,
     "bindings/rust/src/access/exports.rs": for_rust,
@@ -245,6 +246,7 @@ WRITTEN = (
     (SOURCE, r"(?<=fn )yacht_core_\w+"), (CODES, r"(?<=: i64 = )[-\d]+"), (LIMITS, r"(?<=^    )[\d,]+(?= .*: [A-Z_]+$)"), *((path, VERSION.pattern) for path in VERSIONED),
     *((path, r"^\.Dd .*$") for path in DATED),
     *((path, r'(?<=^\.Fn )\w+(?= "yacht_)|(?<=^\()[\d,]+(?=\))|(?<=Dv )YACHT_\w+') for path in ("man/yachtbanyan.3", "man/yachtdirect.3")),
+    ("man/yachtjudge.3", r'(?<=^\.Fn )\w+(?= ")|(?<=^\()[\d,]+(?=\))'),
 )
 
 
