@@ -44,7 +44,6 @@ def scripts(part):
 
 
 def counted(program, script):
-    """Returns the instructions of a run on a script."""
     words = ["valgrind", "--tool=callgrind", "--callgrind-out-file=/dev/null", *program]
     said = subprocess.run(words, input=script.encode(), capture_output=True, check=False).stderr.decode()
     return int(re.search(r"Collected : (\d+)", said)[1])

@@ -1,8 +1,7 @@
-"""measure-calls [TIMES]: prints the instructions and the locked steps of calls of the Rust crate, by slot and by key, of its core as C calls
-it, and of arc-swap and sharded-slab, in a loop of one thread (crates/bench_rust/src/calls.rs), by callgrind: the difference between runs of
-TIMES calls (10,000) and of twice as many. A locked step is an instruction with a lock, or an exchange with memory. Of ten times as many
-look-ups at random of 65,536 values it prints how many cache lines each waits for, by cachegrind, with caches of 32 KB and of 1 MB. It
-needs valgrind, objdump and what bench/bench-rust needs, which builds the program first."""
+"""measure-calls [TIMES]: prints the instructions and the locked steps (with a lock, or an exchange with memory) of calls of the Rust
+crate, of its core as C calls it, and of arc-swap and sharded-slab (crates/bench_rust/src/calls.rs), by callgrind: the difference between
+runs of TIMES calls (10,000) and of twice as many; and the cache lines that look-ups at random of 65,536 values wait for, by cachegrind.
+It needs valgrind, objdump and what bench/bench-rust needs, which builds the program first."""
 import os
 import re
 import subprocess

@@ -1,6 +1,5 @@
-"""measure-contending [SCRIPTS [TIMES]]: plays SCRIPTS (200) random scripts whose chains contend for two slots on this machine's io_uring, each
-TIMES (10) times as it is, and TIMES times with each request started by a thread of the kernel (IOSQE_ASYNC). It prints how many different
-texts there were and how many of them bin/fixcheck calls legal, of all scripts and of one. It needs what kernel/conform needs."""
+"""measure-contending [SCRIPTS [TIMES]]: plays SCRIPTS (200) scripts whose chains contend on this machine's io_uring, each TIMES (10)
+times as it is, and as often with IOSQE_ASYNC. Prints how many texts there were, and how many bin/fixcheck calls legal."""
 import collections
 import os
 import platform

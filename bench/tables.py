@@ -2,7 +2,6 @@
 scripts/seconds.txt. A page has each table between two lines: `<!-- bench/write-tables NAME -->` and `<!-- end -->`. tests/check-claims
 complains of a page that has another text there."""
 import glob
-import operator
 import re
 import statistics
 
@@ -42,9 +41,8 @@ def cells(rows):
 
 
 def ratio(path, what, own, other):
-    """Returns how often a table took another one's time in a row: of each kept run the median, and of these the median."""
-    runs = [statistics.median(map(operator.truediv, times[own], times[other])) for row, times in read_kept(read(path).splitlines()) if row == what]
-    return statistics.median(runs)
+    """Returns how often a table took another one's time in a row: the median of the kept runs."""
+    return statistics.median(read_kept(read(path))[what, own, other])
 
 
 def on_threads(path, name, own, other):
@@ -145,7 +143,7 @@ def of_lasting():
 
 def of_others():
     """Returns ratios of the core and of the crate to others, the least and the greatest of several rows."""
-    titles = dict.fromkeys(row for row, _ in read_kept(read("bench/tables.txt").splitlines()))
+    titles = dict.fromkeys(row for row, *_ in read_kept(read("bench/tables.txt")))
 
     def ratios(pattern, own, other):
         return span(ratio("bench/tables.txt", it, own, other) for it in titles if re.match(pattern, it))
@@ -164,10 +162,10 @@ def of_program():
     """Returns the instructions of fixfiles by those of plain Rust, and the times of more workers by those of one."""
     rows = [("script", "fixfiles / plain")]
     rows += found("bench/program.txt", r"^bench: (.*?)(?: over words)?: ([\d.]+) times the plain")
-    workers, text = [("by the clock, times as long as on one worker", "2 workers", "4 workers")], "bench/program.txt"
+    workers = [("by the clock, times as long as on one worker", "2 workers", "4 workers")]
     name = "1,023 chains of 16 at one of 256 slots each"
-    those = found(text, rf"^bench: {name}, \d+ times: .*?words, ([\d.]+) times that on 2 and ([\d.]+) times")
-    workers.append((name, *(f"{statistics.median(map(float, it)):.2f}" for it in zip(*those))))
+    those = found("bench/program.txt", rf"^bench: {name}, in .* runs: ([\d. ]+) times that of one worker on 2 and ([\d. ]+) times on 4")[0]
+    workers.append((name, *(f"{statistics.median(map(float, it.split())):.2f}" for it in those)))
     return f"{lines(rows)}\n\n{lines(workers)}"
 
 
@@ -183,24 +181,21 @@ def of_judge():
 
 
 def of_lives():
-    """Returns the instructions of one life of a direct descriptor."""
     machine, slab, other = found("bench/direct.txt", r"^machine (.*), slab (.*), ratio (.*)$")[0]
     return lines([("libyachtdirect", "slab in plain Rust", "ratio"), (f"{machine} instructions", slab, other)])
 
 
 def of_descriptors():
-    """Returns the CPU time by direct descriptors, divided by that by the process's: of each kept run the median, the least and the greatest."""
-    rings = [it.split("\n", 1)[1] for it in re.split("^a ring with", read("bench/descriptors.txt"), flags=re.MULTILINE)[1:]]
+    """Returns the CPU time by direct descriptors, divided by that by the process's: the least and the greatest of the kept runs."""
     works = {"request": "64 bytes: a send and a receive", "life": "a connection: accept, receive, shutdown, close", "file": "a file: open, read, close"}
     rows = [("direct / the process's", "a ring without flags", "a single issuer")]
     for name, words in works.items():
-        ratios = [re.search(rf"^{name}: .* ratio ([\d.]+),", it, re.MULTILINE)[1] for it in rings]
-        rows.append((words, span(ratios[::2]), span(ratios[1::2])))
+        ratios = (found("bench/descriptors.txt", f"^a ring with{ring}, {name}: (.*)$")[0] for ring in ("out flags", " a single issuer"))
+        rows.append((words, *(span(it.split()) for it in ratios)))
     return lines(rows)
 
 
 def of_machine():
-    """Returns the bytes that a machine of lives allocates."""
     (few, least), (many, most) = [map(int, it) for it in found("bench/direct.txt", r"^a machine of (\d+) slots: (\d+) bytes")]
     each = (most - least) // (many - few)
     return f"A machine of lives (`fx_direct`) with S slots allocates {each} S + {least - each * few} bytes when it opens, and nothing later."
@@ -234,8 +229,8 @@ def of_fixcheck():
 def of_wrong():
     """Returns for each way in which a table is wrong: of one wrong call in how many, and the calls, what was judged of its logs."""
     rows = {}
-    for way, rare, wrong, logs, calls in found("bench/recording.txt", r"^(\w+):(\d+): (\d+) of (\d+) not legal; (\d+) calls"):
-        rows.setdefault(way, {}).setdefault(int(rare), {})[int(calls)] = int(wrong), int(logs)
+    for way, rare, logs, those in found("bench/recording.txt", r"^(\w+):(\d+): of (\d+) logs are not legal: (.*)$"):
+        rows.setdefault(way, {})[int(rare)] = {int(calls): (int(wrong), int(logs)) for wrong, calls in re.findall(r"(\d+) of (\d+) calls", those)}
     return rows
 
 
@@ -256,20 +251,17 @@ def of_stale_looks():
 
 
 def of_vm():
-    """Returns how long kernels in a virtual machine took."""
     def started(kernel):
         return span(found("bench/in_vm.txt", rf"^in-vm: kernel {kernel}, started in ([\d.]+) s"), 1) + " s"
 
     user, system = found("bench/in_vm.txt", r"^build: ([\d.]+) seconds of user and ([\d.]+) of system")[0]
-    kernels, bisected = found("bench/in_vm.txt", r"^bisection of 8 commits: (\d+) kernels, found commit 6, in (\d+) s")[0]
     return lines([
         ("the build of the small kernel", f"{round((float(user) + float(system)) / 60)} minutes of CPU time"),
         ("its image", f"{int(found('bench/in_vm.txt', r'^image: (.*) bytes')[0]) / 1e6:.1f} MB"),
         ("its start", started(r"6\.1\.192")),
         ("the start of Debian's own kernel (package linux-image-cloud-amd64)", started(".*cloud-amd64")),
-        ("one rule", found("bench/in_vm.txt", r"^conform took (\d+ s)")[0]),
-        ("conform with 100 random scripts", found("bench/in_vm.txt", r"^conform took (\d+ s)")[-1]),
-        ("the bisection", f"{kernels} kernels built, {round(int(bisected) / 60)} minutes"),
+        ("one rule", found("bench/in_vm.txt", r"^conform: .*, in (\d+ s)")[0]),
+        ("conform with 100 random scripts", found("bench/in_vm.txt", r"^conform: .*, in (\d+ s)")[-1]),
     ])
 
 
@@ -316,7 +308,6 @@ def written(path, text):
 
 
 def named():
-    """Returns the names of the tables on the pages."""
     return [name for it in pages() for _, name, *_ in MARKED.findall(read(it))]
 
 

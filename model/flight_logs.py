@@ -1,11 +1,8 @@
-"""Long logs of calls in flight (docs/inside/FLIGHT.md), as they happened and spoiled. A table of slots is played access by access, so what is not
-spoiled is legal."""
+"""Long logs of calls in flight (docs/inside/FLIGHT.md), legal ones and spoiled ones: a table of slots is played access by access."""
 import random
 
 NAMES = {"v": "61", "w": "6262"}
 EBADF, ENFILE = "-9", "-23"
-# ways in which a log is spoiled
-WAYS = ("stale", "full", "take", "untake", "lost")
 
 
 class Call:
@@ -16,26 +13,21 @@ class Call:
 
 
 class Log:
-    """A log of `calls` calls, `width` at a time, at `slots` slots. All calls end, and the log is settled, after each `settle` calls, or
-    never for 0. Each call is a single request or a look."""
+    """A log of `calls` calls, `width` at a time, at `slots` slots. Each call is a single request or a look."""
 
-    def __init__(self, calls, width, slots, settle, seed):
+    def __init__(self, calls, width, slots, seed):
         self.random, self.size = random.Random(seed), slots
         self.slots, self.held, self.removed, self.running = [None] * slots, {}, [], []
         self.lines = [f"file {name} {content}" for name, content in NAMES.items()] + [f"call 1 sparse {slots}", "done 1.1 0"]
         self.next = 2
         while self.next < calls + 2 or self.running:
-            is_waiting = settle and self.next % settle == 1 and self.running
-            if len(self.running) < width and self.next < calls + 2 and not is_waiting:
+            if len(self.running) < width and self.next < calls + 2:
                 self.begin()
             for _ in range(self.random.randrange(3)):
                 self.access()
             self.answer(width)
             if self.random.random() < 0.3:
                 self.close(2)
-            if settle and self.next % settle == 1 and not self.running:
-                self.close(len(self.removed))
-                self.lines.append("settled")
 
     def begin(self):
         share, slot, name = self.random.random(), self.random.randrange(self.size), "vw"[self.next % 2]
@@ -93,36 +85,16 @@ class Log:
             self.lines.append(f"closed {file[0]} {'vw'[file[1]]}")
 
 
-def spoiled(lines, way, share):
-    """Returns the lines of a log of single requests, spoiled near a share of its length by one of WAYS, or None if no line fits."""
-    chains = {it.split()[1]: it.split()[2:] for it in lines if it.startswith("call")}
-
-    def of(line):
-        return chains[line.split()[1].split(".")[0]] if line.startswith("done") else [""]
-
-    fits = {
-        "stale": lambda it: of(it)[0] == "look" and len(it.split()) == 4,
-        "full": lambda it: of(it)[2:3] == ["any"] and it.split()[2] != ENFILE,
-        "take": lambda it: of(it)[0] == "close" and it.split()[2] == EBADF,
-        "untake": lambda it: of(it)[0] == "close" and it.split()[2] == "0",
-        "lost": lambda it: it.startswith("closed"),
-    }[way]
-    at = next((k for k in range(int(share * len(lines)), len(lines)) if fits(lines[k])), None)
-    if at is None:
-        return None
-    if way == "lost":
-        return lines[:at] + lines[at + 1:]
-    place, answer = lines[at].split()[1], {"take": "0", "untake": EBADF, "full": ENFILE}.get(way)
-    answered = [*lines[:at], f"done {place} {answer}", *lines[at + 1:]]
-    if way in ("take", "untake"):
-        return answered
-    if way == "full":
-        gone = {it.split()[1].split(".")[0] for it in lines if it.startswith("done") and it.endswith(f" {place}.0")}
-        left = [it for it in answered if f" {place}.0" not in it]
-        return [it for it in left if not (it.split()[0] in ("call", "free") and it.split()[1] in gone)]
-    # a look answers the file that an earlier look of its slot found
-    before = next((it.split()[3] for it in reversed(lines[: at - 30]) if of(it) == of(lines[at]) and len(it.split()) == 4
-                   and it.split()[3] != lines[at].split()[3]), None)
-    if before is None:
-        return None
-    return [it for it in [*lines[:at], f"done {place} 0 {before}", *lines[at + 1:]] if not it.startswith(f"closed {before} ")]
+def spoiled(lines, share):
+    """Returns the lines of a log, spoiled near a share of its length: a look answers the file that an earlier look of its slot found."""
+    slots = {it.split()[1]: it.split()[3] for it in lines if it.startswith("call") and it.split()[2] == "look"}
+    # the lines of looks that found a file, each with the slot and the file
+    found = {}
+    for at, (word, *words) in enumerate(map(str.split, lines)):
+        call = words[0].split(".")[0]
+        if word == "done" and len(words) == 3 and call in slots:
+            found[at] = slots[call], words[2]
+    at = next(it for it in found if it >= int(share * len(lines)))
+    slot, file = found[at]
+    before = next(other for it, (where, other) in reversed(found.items()) if it < at - 30 and where == slot and other != file)
+    return [it for it in [*lines[:at], f"{lines[at].rsplit(' ', 1)[0]} {before}", *lines[at + 1 :]] if not it.startswith(f"closed {before} ")]
