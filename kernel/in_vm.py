@@ -1,15 +1,14 @@
-"""in-vm [--async]: plays a script from standard input on the io_uring of another kernel, in a virtual machine, and writes the text to standard
-output. KERNEL is the path of the kernel's image (bzImage or vmlinuz), for x86-64.
-in-vm --with COMMAND WORD..: starts the machine once and runs COMMAND. Each in-vm that COMMAND calls plays on this machine. Ends with the status
-of COMMAND, as in: in-vm --with kernel/conform --rule NAME --player kernel/in-vm
-in-vm --record SEED WORD..: records calls in flight on that kernel, by the recorder of docs/inside/FLIGHT.md, and writes the log.
+"""in-vm [--async]: plays a script from standard input on the io_uring of another kernel, in a virtual machine, and writes the text to
+standard output. KERNEL is the path of the kernel's image (bzImage or vmlinuz), for x86-64.
+in-vm --with COMMAND WORD..: starts the machine once and runs COMMAND, whose calls of in-vm play on it. Ends with the status of COMMAND, as
+in: in-vm --with kernel/conform --rule NAME --player kernel/in-vm
 
-The machine has 512 MB, and one processor with `tcg`, else two. It needs no rights, and nothing but the kernel: its file system has our programs alone. It needs
-qemu-system-x86_64, cc and liburing.a (Debian: qemu-system-x86 gcc liburing-dev). ACCEL is QEMU's accelerator, `tcg` by default. With `tcg`
-the machine's clock counts instructions, so the load of the host changes no result.
+The machine has 512 MB, and one processor with `tcg`, else two. It needs no rights, and of files our programs alone; and qemu-system-x86_64,
+cc and liburing.a (Debian: qemu-system-x86 gcc liburing-dev). ACCEL is QEMU's accelerator, `tcg` by default: the machine's clock counts
+instructions, so the load of the host changes no result.
 
-The exit status is that of the player; 77 if a tool, KERNEL or the kernel's io_uring is missing; 4 if
-the machine doesn't start, or ends before the answer, as after an oops of the kernel. Only the QEMU that it started is ended."""
+The exit status is that of the player; 77 if a tool, KERNEL or the kernel's io_uring is missing; 4 if the machine doesn't start, or ends
+before the answer. Only the QEMU that it started is ended."""
 import contextlib
 import os
 import signal
@@ -95,23 +94,13 @@ def written(status, text, message):
     return status
 
 
-def words_of(words):
-    """Returns the words of the program in the machine, and whether it reads a script."""
-    if words[:1] == ["--record"]:
-        return ["/record", *words[1:]], False
-    if words not in ([], ["--async"]):
-        sys.exit(__doc__)
-    return ["/play", *words], True
-
-
 def command():
     signal.signal(signal.SIGTERM, lambda *_: sys.exit(143))
     words = sys.argv[1:]
     asked = words[1:] if words[:1] == ["--with"] else None
-    if asked == []:
+    if asked == [] or asked is None and words not in ([], ["--async"]):
         sys.exit(__doc__)
-    program, reads = words_of(words) if asked is None else ([], False)
-    given = sys.stdin.buffer.read() if reads else b""
+    program, given = ["/play", *words], sys.stdin.buffer.read() if asked is None else b""
     if asked is None and os.environ.get(ROOM):
         return written(*played_there(os.environ[ROOM], program, given))
     with tempfile.TemporaryDirectory(prefix="in-vm-") as room:

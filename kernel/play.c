@@ -1,51 +1,46 @@
 /* Plays a script of docs/use/SCRIPT.md on the io_uring of the running kernel, and writes the text
  * that fixfiles writes.
  *
- * Each line is the real call or request with its real flags: `sparse`, `register`, `unregister`,
- * `range` and `regupdate` are calls of io_uring_register(2), and all requests of a `submit` go to
- * the kernel by one io_uring_enter(2). The ring is set up with IORING_SETUP_SUBMIT_ALL, so that a
- * request that can't be submitted doesn't end the submission. Nothing is counted or refused here:
- * the text has the kernel's answers. Submissions and registrations are numbered as the kernel
- * accepts them.
+ * Each line is the real call or request with its real flags, and all requests of a `submit` go to
+ * the kernel by one io_uring_enter(2). By IORING_SETUP_SUBMIT_ALL a request that can't be submitted
+ * doesn't end the submission. Nothing is counted or refused: the text has the kernel's answers.
  *
- * How closes are observed: a catalogue entry is a file in a new folder. For each installation that
- * a script asks for (an open, or a file in a list) a hard link is made, and the kernel gets that
- * link. inotify(7) watches the links' folder, so an event IN_CLOSE says that the kernel has
- * released the last use of the open file of that installation. The program keeps no account of the
- * slots. The kernel's list in /proc/self/fdinfo says which files are in the table. After each
- * command the program waits until every opened file is in that list or closed, and then writes the
- * closed lines.
+ * How closes are observed: a catalogue entry is a file in a new folder. For each installation (an
+ * open, or a file in a list) the kernel gets a hard link of its own. inotify(7) watches the links'
+ * folder, so an event IN_CLOSE says that the kernel has released the last use of that open file.
+ * The kernel's list in /proc/self/fdinfo says which files are in the table. After each command the
+ * program waits until every opened file is in that list or closed, and writes the closed lines.
  *
- * A file of a list is first a descriptor of this process, as io_uring_register(2) requires. It is
- * closed here when the command or the submission has ended. It has a closed line only if the
- * kernel's result says that the kernel took it.
+ * A file of a list is first a descriptor of this process, as io_uring_register(2) requires, and is
+ * closed when the command or the submission has ended. It has a closed line only if the kernel's
+ * result says that the kernel took it.
  *
- * How tags are observed: a list with tags goes to the kernel by the calls that take tags, and the
- * kernel posts a completion for a tag. After each command, once the closes are there, the program
- * waits at most a second for a completion for each closed file with a tag. It writes the tags in
- * the order of the closed files' marks, and then any other tags, which no text of the model has. So
- * a tag and the close that inotify saw are two witnesses. At the end the table is unregistered
- * before the ring is closed, since a closed ring can't post a tag. The user data of requests is
- * chosen so that no tag of the script is among it.
+ * How tags are observed: the kernel posts a completion for a tag. Once the closes are there, the
+ * program waits at most a second for one for each closed file with a tag. It writes the tags in the
+ * order of the closed files' marks, and then any others, which no text of the model has. So a tag
+ * and the close that inotify saw are two witnesses. At the end the table is unregistered before the
+ * ring is closed, since a closed ring can't post a tag. No tag of the script is the user data of a
+ * request.
  *
- * With the argument --async a thread of the kernel starts each request (IOSQE_ASYNC), so that the
- * chains of a submission run concurrently. Without it a kernel runs the first requests of all
- * chains in their order.
+ * With --async a thread of the kernel starts each request (IOSQE_ASYNC), so that chains run
+ * concurrently. Without it a kernel runs the first requests of all chains in their order.
  *
  * What can't be observed: when within a command a file was closed, in which order, and by whom; who
  * holds it meanwhile; and whether an open was started that failed before it opened its file. A file
  * that is opened and closed without having been in the table has a closed line like any other,
  * since the kernel did close it. */
 #include <errno.h>
+#include <fcntl.h>
+#include <limits.h>
 #include <signal.h>
 #include <stdio.h>
 #include <stdlib.h>
 #include <string.h>
 #include <sys/resource.h>
 
+#include "events.h"
 #include "files.h"
 #include "refused.h"
-#include "submission.h"
 
 enum { BAD_SCRIPT = 3, NO_IO_URING = 77, UNSAID = 78, LEAST_ROOM = 256 };
 
@@ -56,6 +51,151 @@ struct play {
 	unsigned request_count;
 	unsigned submissions, registrations;	/* the accepted ones */
 };
+
+/* A list of the script as descriptors of this process, opened for it. */
+struct descriptors {
+	int *numbers;
+	size_t *installations;	/* of the entries that are files of the catalogue */
+	const struct command *command;
+};
+
+/* A request, its place, and what it needs until it has completed. */
+struct member {
+	const struct command *request;
+	unsigned chain, place;
+	int res;
+	unsigned char *buffer;		/* of a read */
+	char path[NAME_BYTES];		/* of an open */
+	struct descriptors list;	/* of an update */
+};
+
+/* Opens a list of the script. -1 and -2 mean the same to the kernel as in a script, and entries
+ * below them are invalid in both. A number past the catalogue is replaced by one that is not a
+ * descriptor of this process. `mark` is the first entry's. */
+static struct descriptors open_list(const struct script *script, const struct command *command, struct mark mark) {
+	struct descriptors list = { .command = command };
+	unsigned *place = &mark.numbers[mark.is_registered ? 1 : 3];
+	list.numbers = memory_of(command->length * sizeof(int));
+	list.installations = memory_of(command->length * sizeof(size_t));
+	for (unsigned at = 0; at < command->length; at++) {
+		int entry = command->list[at];
+		list.numbers[at] = entry < 0 ? entry : INT_MAX;
+		*place = at;
+		if (entry >= 0 && entry < (int)script->file_count) {
+			list.installations[at] = add_installation(mark, entry, command->tags ? command->tags[at] : 0);
+			list.numbers[at] = open_descriptor(list.installations[at]);
+		}
+	}
+	return list;
+}
+
+/* Closes what `open_list` opened. The kernel took the first `taken` entries. */
+static void close_list(struct descriptors *list, unsigned taken) {
+	for (unsigned at = 0; at < list->command->length; at++)
+		if (list->numbers[at] >= 0 && list->numbers[at] != INT_MAX)
+			close_descriptor(list->installations[at], at < taken);
+	free(list->numbers);
+	free(list->installations);
+}
+
+static unsigned more_flags;	/* of each request */
+
+static void prepare_open(struct io_uring_sqe *sqe, const struct script *script, struct member *it, unsigned submission) {
+	struct mark mark = { .numbers = { submission, it->chain, it->place, 0 } };
+	write_name(add_installation(mark, entry_of(script, it->request->name), 0), it->path);
+	io_uring_prep_openat(sqe, links_folder(), it->path, O_RDONLY, 0);
+	sqe->file_index = it->request->kind == OPEN ? it->request->numbers[0] + 1 : IORING_FILE_INDEX_ALLOC;
+}
+
+static void prepare_read(struct io_uring_sqe *sqe, struct member *it) {
+	const unsigned *numbers = it->request->numbers;
+	it->buffer = memory_of(numbers[2]);
+	io_uring_prep_read(sqe, numbers[0], it->buffer, numbers[2], numbers[1]);
+	sqe->flags |= IOSQE_FIXED_FILE;
+}
+
+static void prepare(struct io_uring *ring, const struct script *script, struct member *it, unsigned submission,
+		    unsigned long long data) {
+	struct io_uring_sqe *sqe = io_uring_get_sqe(ring);
+	const struct command *request = it->request;
+	if (request->kind == READ) {
+		prepare_read(sqe, it);
+	} else if (request->kind == CLOSE) {
+		io_uring_prep_close(sqe, 0);
+		sqe->file_index = request->numbers[0] + 1;
+	} else if (request->kind == UPDATE) {
+		struct mark mark = { .numbers = { submission, it->chain, it->place, 0 } };
+		it->list = open_list(script, request, mark);
+		io_uring_prep_files_update(sqe, it->list.numbers, request->length, request->numbers[0]);
+	} else {
+		prepare_open(sqe, script, it, submission);
+	}
+	if (request->link == SOFT_LINK)
+		sqe->flags |= IOSQE_IO_LINK;
+	else if (request->link == HARD_LINK)
+		sqe->flags |= IOSQE_IO_HARDLINK;
+	sqe->flags |= more_flags;
+	sqe->user_data = data;
+}
+
+static void submit(struct io_uring *ring, unsigned count) {
+	int submitted = count ? io_uring_submit(ring) : 0;
+	errno = submitted < 0 ? -submitted : 0;
+	if (errno)
+		die("the submission");
+	if (submitted != (int)count)
+		die_of("the kernel took a part of the submission");
+}
+
+/* Waits for the completions of all requests. A completion with other user data has a tag. */
+static void wait_for_all(struct io_uring *ring, struct member *members, unsigned count, unsigned long long first_data) {
+	struct io_uring_cqe *cqe;
+	for (unsigned left = count; left;) {
+		errno = -io_uring_wait_cqe(ring, &cqe);
+		if (errno)
+			die("waiting for a completion");
+		if (cqe->user_data - first_data < count) {
+			members[cqe->user_data - first_data].res = cqe->res;
+			left--;
+		} else {
+			keep_tag(cqe);
+		}
+		io_uring_cqe_seen(ring, cqe);
+	}
+}
+
+static void write_member(struct member *it, unsigned submission) {
+	printf("%u.%u.%u %d", submission, it->chain, it->place, it->res);
+	if (it->request->kind == READ && it->res > 0) {
+		putchar(' ');
+		for (int at = 0; at < it->res; at++)
+			printf("%02x", it->buffer[at]);
+	}
+	putchar('\n');
+	free(it->buffer);
+	if (it->request->kind == UPDATE)
+		close_list(&it->list, it->res > 0 ? it->res : 0);
+}
+
+/* Submits the requests, waits for all of them, and writes their lines, with `number` as that of the
+ * submission. */
+static void play_submission(struct io_uring *ring, const struct script *script, const struct command **requests,
+			    unsigned count, unsigned number) {
+	struct member *members = memory_of(count * sizeof *members);
+	unsigned chain = 1, place = 1;
+	for (unsigned at = 0; at < count; at++) {
+		members[at] = (struct member){ .request = requests[at], .chain = chain, .place = place };
+		prepare(ring, script, &members[at], number, script->first_data + at);
+		int is_last = requests[at]->link == NO_LINK;
+		place = is_last ? 1 : place + 1;
+		chain += is_last;
+	}
+	submit(ring, count);
+	wait_for_all(ring, members, count, script->first_data);
+	for (unsigned at = 0; at < count; at++)
+		write_member(&members[at], number);
+	free(members);
+}
 
 static unsigned largest_submission(const struct script *script) {
 	unsigned largest = 1, requests = 0;
@@ -167,7 +307,7 @@ int main(int count, char **words) {
 	static struct play play;
 	for (int at = 1; at < count; at++)
 		if (!strcmp(words[at], "--async"))
-			start_in_threads();
+			more_flags = IOSQE_ASYNC;
 	if (!read_script(&play.script)) {
 		fprintf(stderr, "play-on-kernel: line %ld: not in the language\n", play.script.bad_line);
 		return BAD_SCRIPT;

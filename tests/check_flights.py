@@ -1,7 +1,7 @@
-"""check-flights [COUNT [SEED]]: compares the verified judge of logs (bindings/python/yachtlog.py) with a search of all orders
-(model/tiny_flights.py) on COUNT tiny random logs, as they happened and spoiled, and on a third as many by whole updates. tests/reasons.py, which
-shares nothing with the library, checks the reasons. The rows of tests/reason_rows.py and tests/log_lines.py must hold. This machine's kernel
-must keep the rules of kernel/conform of calls in flight, on LOGS logs of each. Wrong judges, modules and recorders must each be noticed."""
+"""check-flights [COUNT [SEED]]: compares the verified judge of logs with a search of all orders (model/tiny_flights.py) on COUNT tiny
+random logs, as they happened and spoiled, and on a third as many by whole updates. tests/reasons.py checks the reasons. The rows of
+tests/reason_rows.py and tests/log_lines.py must hold. This machine's kernel must keep the rules of calls in flight, on LOGS logs of
+each. Wrong judges, modules and recorders must each be noticed."""
 import collections
 import os
 import re
@@ -26,8 +26,7 @@ COUNT, SEED = 10_000, 1
 SPLIT = 8
 # the least share of the tiny logs that are not legal that must have a reason, in percent
 CERTIFIED = 89
-# the number of logs of each rule, and of logs of each wrong recorder but the one that spoils one of
-# LOGS
+# the number of logs of each rule, and of each wrong recorder but the rarely wrong one
 LOGS, WRONG_LOGS = 1_000, 20
 # the number of logs of a recorder of which fewer than half have calls that overlap
 OVERLAPPING = 60
@@ -53,8 +52,7 @@ closed 2.1.1 a
 settled
 """
 CUT = BETWEEN[: BETWEEN.index("call 5")]
-# rows for kernel/conform: the rule, the log of a recorder, its status, and whether it passes; and
-# changes of kernel/flights.py with which a row is wrong
+# rows for conform: the rule, a log, the recorder's status, whether it passes; and wrong changes
 CHAINS, WHOLE = "chains_in_flight_are_requests_one_at_a_time", "updates_in_flight_are_one_step"
 CONFORM_ROWS = (CHAINS, BETWEEN, 0, True), (CHAINS, BETWEEN, 3, False), (CHAINS, CUT, 0, False), (WHOLE, BETWEEN, 0, False)
 WRONG_CONFORM = {
@@ -68,9 +66,8 @@ SPOILS_ONE = f"spoils one of {LOGS} logs"
 WRONG_RECORDERS = {
     "loses a close": ([], "links.c", "\t\tappend_close(of,", "\t\tstatic int is_lost;\n\t\tif (is_lost++)\n\t\t\tappend_close(of,"),
     "closes twice": ([], "links.c", "\t\tremove_link(link);", '\t\tappend_close(of, "closed %.*s %s", (int)(name - link), link, name + 1);'),
-    "answers that a file is missing": ([], "chain.c", "\tif (res < 0)\n", "\tif (it->is_read)\n\t\tres = -9;\n\tif (res < 0)\n"),
-    "closes a file that a read waits for": (["--waiting-read"], "record.c", "\n\tfeed_a_pipe();",
-                                            '\n\tappend_close((struct member_name){ 2, 1 }, "closed 2.1.0 p0");\n\tfeed_a_pipe();'),
+    "answers that a file is missing": ([], "record.c", "\tif (res < 0)\n", "\tif (it->is_read)\n\t\tres = -9;\n\tif (res < 0)\n"),
+    "closes a file that a read waits for": (["--pipes", "--chains", "20"], "links.c", "\treap();\n", "\tstatic int turn;\n\tif (turn++ % 2)\n\t\treap();\n"),
     SPOILS_ONE: ([], "record.c", "\twrite_log();", f'\tif (seed % {LOGS} == {LOGS // 2})\n\t\tappend("closed 2.1.0 a");\n\twrite_log();'),
 }
 
@@ -121,7 +118,6 @@ def facts_of(lines):
 
 
 def text_of(lines, last):
-    """Returns the text of a log up to a line."""
     return HEAD + "".join(f"{it}\n" for it in lines[:last])
 
 
@@ -132,8 +128,7 @@ def without_step(facts, nth):
 
 
 def complaint_of_reason(lines, line, facts):
-    """Returns what is wrong with a reason of a log, or what is not refused: the reason without a step, or for the lines before the last one,
-    which are legal."""
+    """Returns what is wrong with a reason, or that it stands without a step, or for the lines before the last one."""
     text = text_of(lines, line)
     if why := reasons.complaint(text, facts):
         return why
@@ -181,7 +176,6 @@ def changed_recorder(room, file, old, new):
 
 
 def overlapping(program):
-    """Returns how many logs of a recorder have calls that overlap."""
     return sum(flights.overlaps(flights.recorded(program, [], seed)[0]) for seed in range(1, OVERLAPPING + 1))
 
 
@@ -291,7 +285,7 @@ class Checks(Counted):
         for rule in flights.RULES:
             self.want(self.skips(rule), f"{rule} is judged without the library, or isn't skipped by name")
         with tempfile.TemporaryDirectory() as room:
-            self.want(overlapping(changed_recorder(room, "chain.c", "\t\tsqe->flags |= IOSQE_ASYNC;\n", "")) * 2 < OVERLAPPING,
+            self.want(overlapping(changed_recorder(room, "record.c", "\t\tsqe->flags |= IOSQE_ASYNC;\n", "")) * 2 < OVERLAPPING,
                       "a recorder whose requests start at once is not noticed")
             for what, (words, *change) in WRONG_RECORDERS.items():
                 count = LOGS if what == SPOILS_ONE else WRONG_LOGS
@@ -304,7 +298,6 @@ class Checks(Counted):
         return status == 0 and f"  ok 1 {rule} # SKIP The library {ROOT}/libyachtjudge.so.6 was not found." in text
 
     def is_found(self, program, words, count):
-        """Returns whether one of the logs of a recorder is not legal."""
         logs = in_parallel(lambda seed: flights.recorded(program, words, seed)[0], range(1, count + 1))
         return any(flights.complaint_of(yachtlog, it)[0] for it in logs)
 

@@ -38,10 +38,9 @@ const char *name_of(int entry);
 /* Makes the link for entry `in_list` of what a member installs, and writes its path. */
 void make_link(char path[PATH_BYTES], struct member_name of, int in_list, int entry);
 
-/* Reads the closes that inotify has seen, then calls `reap`, and then appends a line for each
- * close. The kernel posts a completion before it releases the request's file. So the line of an
- * answer is before that of a close which had to wait for it, if `reap` appends the answers that are
- * there. */
+/* Reads the closes that inotify has seen, then has `reap` append the answers that are there, and
+ * then appends a line for each close: the kernel posts a completion before it releases the
+ * request's file. */
 void read_closes(void (*reap)(void));
 
 /* Returns the number of files that were opened by links and are not closed. */

@@ -2,19 +2,18 @@
  * log of docs/inside/FLIGHT.md.
  *
  *   record SEED [--chains N] [--pipes]
- *   record SEED --waiting-read
  *
  * One thread submits chains while at most three of them are in flight, reaps completions and reads
  * inotify(7) events. Each request has IOSQE_ASYNC. A second thread makes three calls of
  * io_uring_register_files_update_tag(3), some of them with tags. With --pipes the files are named
- * pipes, and each chain is one request: a read waits until the first thread feeds its pipe. With
- * --waiting-read it plays no chains at random: a read waits on a pipe while the pipe leaves its
- * slot.
+ * pipes, and each chain is one request: a read waits until the first thread feeds its pipe.
  *
  * At the end an update empties all slots. A `call` line is appended before its system call, and a
  * `done` line after its answer was seen. So a call whose answer was seen before another call began
  * has its line before that call's. */
+#define _GNU_SOURCE
 #include <errno.h>
+#include <fcntl.h>
 #include <liburing.h>
 #include <pthread.h>
 #include <stdio.h>
@@ -25,20 +24,149 @@
 #include "../events.h"
 #include "../refused.h"
 #include "../script.h"
-#include "chain.h"
 #include "links.h"
 
 enum { BAD_ARGUMENT = 2, NO_IO_URING = 77, ENTRIES = 256, MOST_OPEN = 3, UPDATES = 3, TURN_MICROSECONDS = 200, IDLE = 50 };
-/* In a waiting read the kernel has a tenth of a second to do too much, and so has the observer to
- * see it. */
-enum { LOOKS = 100, LOOK_MICROSECONDS = 1000 };
+enum { SLOTS = 3, LONGEST_CHAIN = 3, LONGEST_LIST = SLOTS, LONGEST_READ = 3, LINE_BYTES = 1024, PLACE_BITS = 4 };
+
+/* A completion's user data: the call and the member, or with this bit a tag: the call and the place
+ * in its list. */
+#define TAG_BIT (1ull << 62)
+
+/* A list of an update: entries of the catalogue, -1 or -2, and descriptors of this process. */
+struct list {
+	int slot, count;
+	int entries[LONGEST_LIST], descriptors[LONGEST_LIST];
+};
+
+struct member {
+	struct member_name name;
+	int is_read, is_update;
+	unsigned char buffer[LONGEST_READ];
+	char path[PATH_BYTES];	/* of an open */
+	struct list list;	/* of an update */
+};
+
+struct chain {
+	int count, left;
+	struct member members[LONGEST_CHAIN];
+};
 
 static struct io_uring ring;
-static struct { int chains, pipes, waiting_read; } options = { .chains = 6 };
+static struct { int chains, pipes; } options = { .chains = 6 };
 static int last_call = 1;	/* 1 is the registration of the table */
 static struct chain **chains;
 static int in_flight, in_table;
 static volatile int updater_has_ended;
+
+static void open_entry(struct list *list, struct member_name of, int at) {
+	char path[PATH_BYTES];
+	make_link(path, of, at, list->entries[at]);
+	list->descriptors[at] = open_link(path);
+}
+
+/* Makes a random list for a member, opens its files, and writes the words `SLOT LIST`. */
+static void fill_list(struct list *list, struct member_name of, char *text) {
+	list->count = 1 + (int)below(LONGEST_LIST);
+	list->slot = (int)below(SLOTS - list->count + 1);
+	int size = sprintf(text, "%d ", list->slot);
+	for (int at = 0; at < list->count; at++) {
+		int entry = (int)below(4) - 2;
+		list->entries[at] = list->descriptors[at] = entry >= 0 ? pick_entry() : entry;
+		if (list->entries[at] >= 0)
+			open_entry(list, of, at);
+		size += sprintf(text + size, "%s%d", at ? "," : "", list->entries[at]);
+	}
+}
+
+static unsigned long long data_of(int call, int place) { return (unsigned long long)call << PLACE_BITS | (unsigned)place; }
+
+static void close_list(struct list *list) {
+	for (int at = 0; at < list->count; at++)
+		if (list->descriptors[at] >= 0)
+			close(list->descriptors[at]);
+}
+
+static void prepare_open(struct io_uring_sqe *sqe, struct member *it, int slot, char *text) {
+	int entry = (int)below(FILES);
+	make_link(it->path, it->name, 0, entry);
+	io_uring_prep_openat(sqe, links_folder(), it->path, O_RDONLY, 0);
+	sqe->file_index = slot < 0 ? IORING_FILE_INDEX_ALLOC : (unsigned)slot + 1;
+	if (slot < 0)
+		sprintf(text, "open %s any", name_of(entry));
+	else
+		sprintf(text, "open %s at %d", name_of(entry), slot);
+}
+
+static void prepare_read(struct io_uring_sqe *sqe, struct member *it, int slot, char *text) {
+	unsigned size = options.pipes ? 1 : 1 + below(LONGEST_READ);
+	it->is_read = 1;
+	io_uring_prep_read(sqe, slot, it->buffer, size, options.pipes ? -1 : 0);
+	sqe->flags |= IOSQE_FIXED_FILE;
+	sprintf(text, "read %d 0 %u", slot, size);
+}
+
+static void prepare_update(struct io_uring_sqe *sqe, struct member *it, char *text) {
+	it->is_update = 1;
+	memcpy(text, "update ", 8);
+	fill_list(&it->list, it->name, text + 7);
+	io_uring_prep_files_update(sqe, it->list.descriptors, it->list.count, it->list.slot);
+}
+
+/* One slot in eight may be the one past the table's end. A pipe is opened for lists alone, since an
+ * open of a pipe may wait. */
+static void prepare(struct io_uring_sqe *sqe, struct member *it, char *text) {
+	int slot = (int)below(SLOTS + !below(8));
+	char kind = options.pipes ? "rrrucr"[below(6)] : "oorrruca"[below(8)];
+	if (kind == 'r') {
+		prepare_read(sqe, it, slot, text);
+	} else if (kind == 'u') {
+		prepare_update(sqe, it, text);
+	} else if (kind == 'c') {
+		io_uring_prep_close(sqe, 0);
+		sqe->file_index = (unsigned)slot + 1;
+		sprintf(text, "close %d", slot);
+	} else {
+		prepare_open(sqe, it, kind == 'a' ? -1 : slot, text);
+	}
+}
+
+/* Prepares the requests of a random chain, or with --pipes one request, and writes its words. */
+static struct chain *prepare_chain(int call, char *text) {
+	struct chain *chain = memory_of(sizeof *chain);
+	char words[LINE_BYTES];
+	*text = 0;
+	chain->count = chain->left = options.pipes ? 1 : 1 + (int)below(LONGEST_CHAIN);
+	for (int at = 0; at < chain->count; at++) {
+		struct io_uring_sqe *sqe = io_uring_get_sqe(&ring);
+		struct member *it = &chain->members[at];
+		it->name = (struct member_name){ call, at + 1 };
+		prepare(sqe, it, words);
+		strcat(text, words);
+		if (at + 1 < chain->count) {
+			int is_hard = !below(3);
+			sqe->flags |= is_hard ? IOSQE_IO_HARDLINK : IOSQE_IO_LINK;
+			strcat(text, is_hard ? " hardlink ; " : " link ; ");
+		}
+		sqe->flags |= IOSQE_ASYNC;
+		sqe->user_data = data_of(call, at + 1);
+	}
+	return chain;
+}
+
+/* Appends the answer of a member, from 1 on. Returns 1 if it was the chain's last one, else 0. */
+static int finish_member(struct chain *chain, unsigned member, int res) {
+	struct member *it = &chain->members[member - 1];
+	char bytes[2 * LONGEST_READ + 2] = "";
+	for (int at = 0; it->is_read && at < res; at++)
+		sprintf(bytes + 2 * at, "%02x", it->buffer[at]);
+	if (res < 0)
+		leave_out_closes(it->name);
+	append("done %d.%d %d%s%s", it->name.call, it->name.member, res, *bytes ? " " : "", bytes);
+	if (it->is_update)
+		close_list(&it->list);
+	return --chain->left == 0;
+}
 
 static int next_call(void) { return __atomic_add_fetch(&last_call, 1, __ATOMIC_SEQ_CST); }
 
@@ -55,7 +183,7 @@ static void submit(int call, const char *text) {
 static void start_chain(void) {
 	int call = next_call();
 	char text[LINE_BYTES];
-	chains[call] = prepare_chain(&ring, options.pipes, call, text);
+	chains[call] = prepare_chain(call, text);
 	submit(call, text);
 }
 
@@ -149,47 +277,6 @@ static void empty_table(void) {
 	update(next_call(), "0 -1,-1,-1", 0, SLOTS, none, NULL);
 }
 
-static void look_around(void) {
-	for (int look = 0; look < LOOKS; look++) {
-		read_closes(reap);
-		usleep(LOOK_MICROSECONDS);
-	}
-}
-
-/* Installs a pipe with a tag at slot 0. */
-static void install_pipe(struct member_name of) {
-	char path[PATH_BYTES];
-	__u64 tag = TAG_BIT | data_of(of.call, 0);
-	make_link(path, of, 0, pick_entry());
-	int file = open_link(path);
-	update(of.call, "0 0", 0, 1, &file, &tag);
-	close(file);
-}
-
-static void start_read(struct member_name of) {
-	struct chain *chain = memory_of(sizeof *chain);
-	*chain = (struct chain){ .count = 1, .left = 1, .members = { { .name = of, .is_read = 1 } } };
-	struct io_uring_sqe *sqe = io_uring_get_sqe(&ring);
-	io_uring_prep_read(sqe, 0, chain->members[0].buffer, 1, -1);
-	sqe->flags |= IOSQE_FIXED_FILE;
-	sqe->user_data = data_of(of.call, of.member);
-	chains[of.call] = chain;
-	submit(of.call, "read 0 0 1");
-}
-
-/* Starts a read of a pipe, empties its slot, and then feeds the pipe. The kernel has time to close
- * the pipe, or to post its tag, before it is fed. */
-static void play_waiting_read(void) {
-	int none = -1;
-	install_pipe((struct member_name){ next_call(), 1 });
-	start_read((struct member_name){ next_call(), 1 });
-	look_around();
-	update(next_call(), "0 -1", 0, 1, &none, NULL);
-	look_around();
-	feed_a_pipe();
-	look_around();
-}
-
 static void play_beside_updates(int *seed) {
 	pthread_t updater;
 	if (pthread_create(&updater, NULL, make_updates, seed))
@@ -204,15 +291,13 @@ static int read_options(int count, char **words) {
 	for (; at < count; at++) {
 		if (!strcmp(words[at], "--pipes"))
 			options.pipes = 1;
-		else if (!strcmp(words[at], "--waiting-read"))
-			options.waiting_read = 1;
 		else if (!strcmp(words[at], "--chains") && at + 1 < count)
 			options.chains = atoi(words[++at]);
 		else
 			break;
 	}
 	if (count < 2 || at < count) {
-		fprintf(stderr, "record: the arguments are SEED [--chains N] [--pipes] [--waiting-read]\n");
+		fprintf(stderr, "record: the arguments are SEED [--chains N] [--pipes]\n");
 		exit(BAD_ARGUMENT);
 	}
 	return atoi(words[1]);
@@ -227,16 +312,13 @@ int main(int count, char **words) {
 		print_refused("record", error);
 		return NO_IO_URING;
 	}
-	if (!make_catalogue(options.pipes || options.waiting_read)) {
+	if (!make_catalogue(options.pipes)) {
 		fprintf(stderr, "record: inotify is refused: %s\n", strerror(errno));
 		return NO_IO_URING;
 	}
 	append("call 1 sparse %d", SLOTS);
 	append("done 1.1 %d", io_uring_register_files_sparse(&ring, SLOTS));
-	if (options.waiting_read)
-		play_waiting_read();
-	else
-		play_beside_updates(&seed);
+	play_beside_updates(&seed);
 	settle();
 	empty_table();
 	settle();

@@ -1,5 +1,4 @@
-"""A virtual machine that plays scripts on a kernel, for kernel/in-vm: builds its file system, starts QEMU, and speaks to its first process,
-kernel/vm/init.c, which has the protocol."""
+"""A virtual machine that plays scripts on a kernel, for kernel/in-vm: its file system, QEMU, and the protocol of kernel/vm/init.c."""
 import contextlib
 import glob
 import os
@@ -18,7 +17,6 @@ from scripts.repository import BUILD, ROOT
 PROGRAMS = {
     "init": (["vm/*.c"], []),
     "play": (["*.c"], ["-luring"]),
-    "record": (["flight/*.c", "events.c", "script.c"], ["-luring", "-lpthread"]),
 }
 TOOLS = {"qemu-system-x86_64": "qemu-system-x86", "cc": "gcc", "setpriv": "util-linux"}
 MEGABYTES = 512
@@ -49,13 +47,11 @@ def check(kernel):
 
 
 def built(name):
-    """Builds a program of the machine if it is older than a source, and returns its path. It is moved into place, so that two builds at
-    once do no harm."""
+    """Builds a program of the machine if it is older than a source. It is moved into place, so that two builds at once do no harm."""
     patterns, libraries = PROGRAMS[name]
     path, there = f"{BUILD}/vm/{name}", f"{ROOT}/kernel"
     sources = [source for it in patterns for source in sorted(glob.glob(f"{there}/{it}"))]
-    kept = [*sources, *glob.glob(f"{there}/*.h"), *glob.glob(f"{there}/flight/*.h")]
-    if os.path.exists(path) and all(os.path.getmtime(it) < os.path.getmtime(path) for it in kept):
+    if os.path.exists(path) and all(os.path.getmtime(it) < os.path.getmtime(path) for it in [*sources, *glob.glob(f"{there}/*.h")]):
         return path
     os.makedirs(os.path.dirname(path), exist_ok=True)
     command = ["cc", "-O1", "-Wall", "-Wextra", "-static", "-o", f"{path}.{os.getpid()}", *sources, *libraries]
