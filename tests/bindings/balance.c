@@ -58,12 +58,10 @@ static yacht_key first, right, stale;
 static call *raced;
 static int refusals;
 
-int64_t __real_yacht_core_get_at(yacht_core *, uint32_t, yacht_outcome *);
-int64_t __real_yacht_core_get(yacht_core *, uint32_t, uint64_t, yacht_outcome *);
-int64_t __real_yacht_core_replace_at(yacht_core *, uint32_t, uint64_t, yacht_outcome *);
-int64_t __real_yacht_core_insert(yacht_core *, uint64_t, uint64_t *);
-int64_t __real_yacht_core_remove(yacht_core *, uint32_t, uint64_t, yacht_outcome *);
-int64_t __real_yacht_core_replace(yacht_core *, uint32_t, uint64_t, uint64_t, yacht_outcome *);
+/* declares a call of the core, and begins what comes in its place */
+#define WRAP(name, ...) \
+    int64_t __real_yacht_core_##name(__VA_ARGS__); \
+    int64_t __wrap_yacht_core_##name(__VA_ARGS__)
 
 /* makes the call the last to use two other values; returns its answer */
 static int64_t hand_over(int64_t answer, yacht_outcome *out) {
@@ -85,30 +83,30 @@ static int64_t looked_up(int64_t answer, uint32_t slot) {
     return answer;
 }
 
-int64_t __wrap_yacht_core_get_at(yacht_core *worker, uint32_t slot, yacht_outcome *out) {
+WRAP(get_at, yacht_core *worker, uint32_t slot, yacht_outcome *out) {
     return hand_over(__real_yacht_core_get_at(worker, slot, out), out);
 }
 
-int64_t __wrap_yacht_core_get(yacht_core *worker, uint32_t slot, uint64_t number, yacht_outcome *out) {
+WRAP(get, yacht_core *worker, uint32_t slot, uint64_t number, yacht_outcome *out) {
     return hand_over(__real_yacht_core_get(worker, slot, number, out), out);
 }
 
-int64_t __wrap_yacht_core_replace_at(yacht_core *worker, uint32_t slot, uint64_t tag, yacht_outcome *out) {
+WRAP(replace_at, yacht_core *worker, uint32_t slot, uint64_t tag, yacht_outcome *out) {
     return looked_up(__real_yacht_core_replace_at(worker, slot, tag, out), slot);
 }
 
-int64_t __wrap_yacht_core_insert(yacht_core *worker, uint64_t tag, uint64_t *number) {
+WRAP(insert, yacht_core *worker, uint64_t tag, uint64_t *number) {
     if (is_refused()) return YACHT_AGAIN;
     int64_t answer = __real_yacht_core_insert(worker, tag, number);
     return looked_up(answer, (uint32_t)answer);
 }
 
-int64_t __wrap_yacht_core_remove(yacht_core *worker, uint32_t slot, uint64_t number, yacht_outcome *out) {
+WRAP(remove, yacht_core *worker, uint32_t slot, uint64_t number, yacht_outcome *out) {
     if (is_refused()) return *out = (yacht_outcome){0}, hand_over(YACHT_AGAIN, out);
     return hand_over(__real_yacht_core_remove(worker, slot, number, out), out);
 }
 
-int64_t __wrap_yacht_core_replace(yacht_core *worker, uint32_t slot, uint64_t number, uint64_t tag, yacht_outcome *out) {
+WRAP(replace, yacht_core *worker, uint32_t slot, uint64_t number, uint64_t tag, yacht_outcome *out) {
     if (is_refused()) return *out = (yacht_outcome){0}, hand_over(YACHT_AGAIN, out);
     return hand_over(looked_up(__real_yacht_core_replace(worker, slot, number, tag, out), slot), out);
 }

@@ -1,14 +1,13 @@
 """exchanged FOLDER TO: copies the libraries of a folder for ARM64. In a copy each store with release is an exchange: `stlr x, [y]`
-is `swpal x, xzr, [y]`. qemu-aarch64 7.2 on x86-64 lets a load pass an earlier `stlr`, which ARM64 forbids (store_load.c), and no
-`swpal`. It prints the number of stores of each library."""
+is `swpal x, xzr, [y]`. qemu-aarch64 7.2 on x86-64 translates `stlr` to a fence and a store, and `ldar` to a load and a fence, so that a
+load may pass an earlier store, which ARM64 forbids, and no `swpal`. It prints the number of stores of each library."""
 import shutil
 import struct
 import sys
 from pathlib import Path
 
 CODE, PROGBITS = 4, 1
-# the opcode of `stlr` of 64 bits, without its registers, and that of `swpal` to the register that
-# keeps nothing
+# the opcodes of `stlr` of 64 bits and of `swpal` to the register that keeps nothing
 OPCODE, STORE, EXCHANGE = 0xFFFFFC00, 0xC89FFC00, 0xF8E0801F
 
 

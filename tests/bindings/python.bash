@@ -7,7 +7,6 @@ python() {
     PYTHONDONTWRITEBYTECODE=1 PYTHONPATH=$module:$PWD YACHTBANYAN_LIB_DIR=${library-lib} python3 -B "$@"
 }
 
-# judges_rows NAME NUMBER
 judges_rows() {
     [ "$(python "tests/bindings/$1.py")" = "$1.py: $2 looked at, 0 wrong" ]
 }
@@ -32,8 +31,7 @@ $room/none: not a log: line 3: a read has at most 4096 bytes, not 4097" ] || ret
     [ $? -eq 4 ] && grep -qF 'Set YACHTBANYAN_LIB_DIR to the folder that has it.' "$room/found"
 }
 
-# another_version WORDS C..: a library with these lines of C, which finds everything legal, is
-# refused
+# another_version WORDS C..: a library with these lines of C is refused
 another_version() {
     printf '%s\n' 'unsigned yacht_judge_6(void) { return 0; }' 'unsigned yacht_outcomes_6(void) { return 0; }' \
         'unsigned yacht_judge_events_6(void) { return 0; }' "${@:2}" > "$room/stub.c"
@@ -41,13 +39,11 @@ another_version() {
     without_library "$room" "$room/libyachtjudge.so.6 has $1, and this module needs 6."
 }
 
-# without_library FOLDER WORDS: the module says in a sentence that its library is missing there
 without_library() {
     library=$1 python -c 'import yachtjudge' > "$room/found" 2>&1 && return 1
     tail -n 1 "$room/found" | grep -qF "ImportError: The library $2" && tail -n 1 "$room/found" | grep -qF 'Set YACHTBANYAN_LIB_DIR to the folder that has it.'
 }
 
-# over_the_stand_in_of_rows: the rows over the stand-in for the library
 over_the_stand_in_of_rows() {
     stand_in_of_judge && JUDGE_ROWS=$rows_of_judge library=$room/judge python tests/bindings/judge_rows.py "$@"
 }

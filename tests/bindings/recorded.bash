@@ -13,7 +13,6 @@ judged() {
     grep -qE "^$room/log: $1(: line [0-9]+: .*)?$" "$room/verdict" || { head -c 500 "$room/verdict"; return 1; }
 }
 
-# records TABLE SEED [NUMBER..]
 records() {
     timeout "${limit:-120}" "$recorder/release/recorder" "$@" > "$room/log"
 }
@@ -24,7 +23,6 @@ refuses_arguments() {
     [ $? -eq 2 ] && [ ! -s "$room/log" ] && grep -qxF "${1##*/}: $2" "$room/found"
 }
 
-# ends_early: a recording of a table that panics, or never returns, has a log up to there
 ends_early() {
     (cd "$room/bindings/recorder" && CARGO_TARGET_DIR=$recorder timeout 300 cargo test --offline --quiet --no-default-features --test cut)
 }
@@ -37,13 +35,11 @@ legal() {
     done
 }
 
-# reasoned LOG: the reason of a log that is not legal follows from the log
 reasoned() {
     YACHTBANYAN_LIB_DIR=$libraries scripts/run tests.reasons "$1"
 }
 
-# found TABLE [none]: one of twenty logs is not legal, and has a right reason; with `none`, perhaps
-# no reason is found
+# found TABLE [none]: one of twenty logs is not legal, and its reason, if one is found, is right
 found() {
     local seed
     for seed in {1..20}; do
@@ -55,8 +51,7 @@ found() {
     return 1
 }
 
-# in_turns TABLE SLOTS: threads that take turns of a few instructions; a log is tried again if its
-# threads don't end in time
+# in_turns TABLE SLOTS: threads in turns (tests/step.c); a seed that takes too long is skipped
 in_turns() {
     local seed
     gcc -O2 -shared -fPIC tests/step.c -o "$room/step.so" -ldl || return 1
@@ -101,7 +96,6 @@ wrong_recorded() {
     want 'a put of a hundred that says full is not noticed' found full:100
 }
 
-# a key of sharded-slab that is removed twice while a guard lives
 slab_recorded() {
     want 'that sharded-slab removes a key twice is not noticed' slab_found
     want 'a seed of the slab that is none is not refused' refuses_arguments record_sharded_slab "SEED is a number from 0 to 4294967295, not 'abc'" abc
