@@ -1,7 +1,6 @@
-"""check-allocations FIXFILES BENCH_TABLES: counts, by tests/watch.c, the allocations of calls that must make none, on which contracts are
-silent. FIXFILES plays submissions of 1,000 equal chains over each table, on one worker and on two: what it allocates beyond the reading of the
-script must be that of a few chains. BENCH_TABLES makes 30,000 or more calls on each shared table, and must allocate for its setting alone;
-of calls that open and close a table or a ring it makes as many allocations as are kept here, and none after a failed one."""
+"""check-allocations FIXFILES BENCH_TABLES: counts, by tests/watch.c, the allocations of calls on which contracts are silent. FIXFILES
+plays 1,000 equal chains, with what a few chains allocate. BENCH_TABLES makes 30,000 or more calls on each shared table, and allocates
+for its setting alone; its calls that open or close allocate as often as is kept here."""
 
 from scripts.checks import Counted, arguments
 from scripts.programs import built
@@ -20,19 +19,16 @@ CHAINS = {
     ("close 1",): 0, ("close 2",): 0, ("update 0 0,-2",): 0, ("update 0 -1,0",): 0, ("update 0 -1,9",): 0, ("update 1 -1,0",): 0,
     ("read 0 0 0",): 0, ("close 1", "close 0"): 0, ("read 1 0 1",): 1, ("read 0 0 1",): 1, ("read 0 0 1", "read 0 0 1"): 2,
 }
-# calls with a table and without one, and how often each allocates for the line that it prints:
-# once, and once more for a negative number
+# allocations of calls with a table and without: for a line one, and one more for a negative number
 CALLS = (
     {"range 0 2": 1, "range 1 2": 2, "register 0": 2, "sparse 1": 2, "regupdate 2 0": 2, "regupdate 0 9": 2},
     {"range 0 0": 1, "range 0 1": 2, "unregister": 2, "regupdate 0 0": 2, "register 9": 2, "sparse 257": 2},
 )
-# the kept number of allocations of calls of tests/failing_calls.py, with those that set them up and
-# end them
+# those of calls of tests/check-allocation-failures, with what sets them up and ends them
 ONCE = {"add - 0": 8, "prepare - 5": 3, "open words 1": 8, "open baton 1": 9, "tags - 0": 16}
 # the allocations of such a call that end it if they fail
 ENDING = "tags - 0", range(1, 16)
-# the kind of work, the number of slots, and how many calls find, read, install or take a file:
-# each of 200,000 or 150,000, or three or two of 15,000
+# the kind of work, the number of slots, and how many calls find, read, install or take a file
 WORKS = ("look", 16, 200_000), ("mix", 16, 150_000), ("outside", 256, 45_000), ("inside", 256, 45_000), ("allocate", 256, 30_000)
 
 

@@ -1,9 +1,8 @@
 """check-workers PROGRAM [--few]: checks that the program plays with the requested number of workers and over the requested table, and
-writes each command's text at once. tests/watch.c, which is preloaded, counts threads, bytes and writes. The table in use shows in the memory
-requested for each file number: the lock-free table has a word and a place for each, and a list of them that is moved; the table guarded by
-one word has none of these."""
+writes each command's text at once (tests/watch.c). The table shows in the memory for each file number: the lock-free table has a word
+and a place for each, and a list of them that is moved."""
 
-from tests.allocation_failures import Outcomes
+from tests.check_allocation_failures import Outcomes
 from scripts.checks import Counted, arguments
 from tests.counts import counted
 from tests.limits import BYTES, CHAINS, ENTRIES, MEMBERS, heaviest_submission, lines, linked
@@ -14,12 +13,10 @@ TABLES, MOST_WORKERS, CHAINS_OF_ONE = ("words", "baton"), 16, 400
 BYTES_PER_NUMBER = {"words": (90, 100), "baton": (-2, 2)}
 # what a worker takes: for itself, for a request, and for a file that may be closed with its tag
 BYTES_OF_A_WORKER, BYTES_PER_REQUEST, BYTES_PER_CLOSE = 2048, 72, 40
-# what one of 100 more submissions of an open and a read takes, played by one worker on a table that
-# stays open: allocations and bytes, at least and at most; and the requests
+# of one of 100 more small submissions, on one worker: allocations, bytes and the requests
 ALLOCATIONS_EACH, BYTES_EACH = (6, 8), {"words": (800, 1_300), "baton": (5_000, 8_000)}
 SMALL = "open a at 0", "read 0 0 1", "submit"
-# numbers of chains, each with the least workers that play it as more do: one worker keeps the table
-# open; and by how many bytes the words of two runs may differ
+# chains with the least workers that play them so, and by how many bytes words may differ
 IDLE, BYTES_OF_WORDS = ((0, 2), (1, 2), (3, 3)), 64
 FEW = (1, 3, 16)
 
@@ -70,8 +67,7 @@ class Workers(Counted):
         self.want(ran.writes == wanted, f"{name} were written in {len(ran.writes)} parts, {ran.writes}, and not {wanted}")
 
     def check_table(self, table, workers, options):
-        """Each chain of a submission gets as many numbers as the chain with the most opens: of two submissions with as many chains
-        and requests, one has a chain of opens alone, and so that many numbers for each chain, where the other has one."""
+        """Each chain gets as many numbers as the one with the most opens: of two equal submissions one has a chain of 16."""
         alone, reads = ["open a at 0"] * CHAINS_OF_ONE, ["read 0 0 0"] * (MEMBERS - 1)
         chains = linked(*["open a at 0"] * MEMBERS), linked("open a at 0", *reads)
         scripts = [lines("file a 61", "sparse 256", *alone, *it, "submit") for it in chains]
@@ -91,8 +87,7 @@ class Workers(Counted):
         small = lines("sparse 1", *["read 0 0 0"] * 64, "submit")
         for script, requests, closes in ((heaviest_submission()[0], CHAINS * MEMBERS, updates), (small, 64, 0)):
             alone, several = (self.counts(script, "--table", table, "--workers", str(it)) for it in (1, workers))
-            # one worker fills the lists of the report; several fill lists each, which are joined in
-            # those of the report
+            # several workers fill lists each, which are joined
             each = (several.bytes - alone.bytes) / workers
             least = BYTES_PER_REQUEST * requests + BYTES_PER_CLOSE * closes
             holds = is_within(least, each, least + BYTES_OF_A_WORKER)
@@ -106,16 +101,14 @@ class Workers(Counted):
             self.want(is_within(100 * least, found, 100 * most), f"a small submission over {table} takes {found / 100:,.1f} {what}, and not {least:,} to {most:,}")
 
     def check_apart(self, table):
-        """Submissions that need more numbers on one table than on two take little more memory than each by itself: one has a chain that
-        installs the most files, and one the most chains but one, each of which installs a file."""
+        """Submissions that need more numbers on one table than on two take little more memory than each by itself."""
         head, opens = ("file a 61", "sparse 256"), ["open a at 0"] * (CHAINS - 1)
         heavy = linked(*[f"update 0 {','.join(['0'] * ENTRIES)}"] * 4)
         options = "--table", table, "--workers", "1"
         alone = sum(self.counts(lines(*head, *it, "submit"), *options).bytes for it in (heavy, opens))
         for one, other in ((heavy, opens), (opens, heavy)):
             both = self.counts(lines(*head, *one, "submit", *other, "submit"), *options).bytes
-            # a table for both has ten times as many bytes; between the submissions files are moved,
-            # and of a longer text more is kept
+            # a table for both has ten times as many bytes; files are moved between the submissions
             self.want(0 < both <= alone * 1.25, f"two submissions over {table} ask for {both:,} bytes together, and for {alone:,} by themselves")
 
     def check_idle(self, table):
