@@ -1,18 +1,5 @@
-"""conform [--build] [--scripts N] [--seed S] [--rule NAME] [--player PROGRAM] [--seconds N]: checks which rules of docs/inside/MODEL.md this machine's
-kernel keeps.
-
-Plays the examples, the scripts of kernel/differences, N random scripts (default 500) and a fifth as many scripts whose chains contend
-for two slots on the io_uring of this machine, and has fixcheck judge each text. Then it records calls in flight on the kernel, a fifth, a
-tenth and a tenth as many logs, and has the verified judge of the library yachtjudge decide on each log (docs/inside/FLIGHT.md); without the
-library these rules are skipped. The last of them, which is Linux's alone, asks the judge by whole updates. Prints a report in KTAP, the format of the kernel's own tests: a test for each rule, with its scripts as subtests. The comments before a failed
-script name the script, the text and the first wrong line. `# XFAIL` names the differences of docs/use/LINUX.md that explain a text. A script that has no system calls is skipped.
-Failed scripts and their texts are kept. With --rule, only the rule of that name in the report is checked.
-
-With --build, only the programs in C are built, and later runs need no C compiler.
-
-With --player, PROGRAM is judged instead of the kernel. It reads a script from standard input and writes the text to standard output;
-with the argument --async it may play the chains of a submission in another order. Calls in flight are left out. A play that takes more
-than --seconds N (default 120), or prints more than 64 MiB, fails.
+"""conform [--build] [--scripts N] [--seed S] [--rule NAME] [--player PROGRAM] [--seconds N]: checks which rules of docs/inside/MODEL.md
+this machine's kernel keeps, or PROGRAM, which plays a script of standard input. conform(1) describes the options and the report.
 
 The exit status is 0 if every failure is a listed difference, 1 if another one is found, 2 if an argument is invalid, and 4 if there is
 no io_uring, or a tool is missing: fixcheck, a C compiler, liburing or Python 3.10."""
@@ -27,8 +14,7 @@ from kernel import flights
 from scripts.checks import arguments
 from kernel.kernels import FIXCHECK, LEFT_OUT, NO_KERNEL, PLAYER, UNSAID
 from kernel.kernels import built_player, found_of_kernel, large_differences, listed, missing_program, of_older_kernels, text_of_kernel, verdict_of
-from scripts.programs import LEGAL, TooLong, in_parallel
-from scripts.progress import Progress
+from scripts.programs import LEGAL, Progress, TooLong, in_parallel
 from model.random_scripts import random_scripts
 from scripts.examples import rows
 from scripts.repository import BUILD, ROOT, keep, scripts_of, write
@@ -39,8 +25,7 @@ CONTENDING, TIMES = 0.2, 4
 # no contending script is played after this many seconds of them
 SECONDS = 40
 SCHEDULE, RANDOM = "submission_is_its_requests_one_at_a_time", "random_scripts"
-# for each section of docs/inside/MODEL.md the names of its rules, each with words of the page and
-# its scripts
+# the rules of each section of docs/inside/MODEL.md, each with words of the page and its scripts
 RULES = {
     "Chains": {
         "link_severs_after_a_failure": ("`IOSQE_IO_LINK`", """canceled_tail short_read_severs read_at_the_end_severs
@@ -95,8 +80,8 @@ RULES = {
 
 
 class Outcome:
-    """The outcome of a script or a rule: its name, whether it passed, the names of the listed differences that explain a failure, the
-    reason why it was skipped, and the comments before it."""
+    """The outcome of a script or a rule: its name, whether it passed, the differences that explain a failure, why it was skipped,
+    comments."""
 
     def __init__(self, name, is_ok=True, known=frozenset(), skipped="", comments=()):
         self.name, self.is_ok, self.known, self.skipped, self.comments = name, is_ok, known, skipped, comments
@@ -133,8 +118,7 @@ def named_lines(lines, said):
 
 
 class Scripts:
-    """Plays scripts on the player, several at a time, each for at most `seconds`. `shown` has the differences that their own scripts
-    have shown."""
+    """Plays scripts on the player, each for at most `seconds`. `shown` has the differences that their own scripts have shown."""
 
     def __init__(self, player, fixcheck, count, seconds=120):
         self.player, self.fixcheck, self.seconds, self.shown = player, fixcheck, seconds, listed()[0]
@@ -237,8 +221,7 @@ def tests(options):
     contending = list(random_scripts("contending", options.seed, max(1, int(CONTENDING * options.scripts))))
     if options.rule:
         wanted = next((names.split() for rules in RULES.values() for rule, (_, names) in rules.items() if rule == options.rule), [])
-        # the other scripts of differences tell which of them may be expected; the large ones are of
-        # no other script
+        # other scripts of differences show which may be expected, but the large ones
         large = dict(large_differences())
         differences = [it for it in differences if it[0] in wanted or it[0] not in large]
         others = [it for it in others if it[0] in wanted]

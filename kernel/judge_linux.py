@@ -1,16 +1,10 @@
-"""judge-linux [--states N] [--fixcheck PROGRAM] SCRIPT TEXT: judges a text that a Linux kernel printed for a script, on this machine
-or another. It prints one of these verdicts:
+"""judge-linux [--states N] [--fixcheck PROGRAM] SCRIPT TEXT: judges a text that a Linux kernel printed for a script, on this machine or
+another: `legal`, `legal but for N differences of Linux`, `not legal` or `undecided` within N states (default 200,000). man/judge-linux.1
+describes them. TEXT may be -, for standard input.
 
-    legal                                  the rules of docs/inside/MODEL.md allow the text: fixcheck says so, and prints orders
-    legal but for N differences of Linux   they allow it with N differences of docs/use/LINUX.md; each follows by name, with its lines
-    not legal: ..                          neither; the rest is what fixcheck says
-    undecided: ..                          neither fixcheck nor a search through N states (default 200,000) decides it
-
-The exit status is 0, 7, 1 or 6 by the verdict, 4 if fixcheck or Python 3.10 is missing, and otherwise that of fixcheck. TEXT may be -, for standard input.
-
-A `closed` line of a refused open is taken out first, and fixcheck judges the rest. If the script has a line at which another difference
-may show, that is searched for: the requests are done, in some order, on the model with the differences (model/orders.py,
-kernel/rules.py), and nothing is proved of that."""
+The exit status is 0, 7, 1 or 6 by the verdict, 4 if fixcheck or Python 3.10 is missing, and otherwise that of fixcheck. A `closed` line
+of a refused open is taken out first, and fixcheck judges the rest. Any other difference is searched for on the model with the
+differences (model/orders.py, kernel/rules.py), and nothing is proved of that."""
 import argparse
 import itertools
 import os
@@ -72,8 +66,7 @@ class Search(orders.Search):
 
 
 def lines_of(lines, begin, place):
-    """The places of the lines that show a difference: the command's first line or the request's, and the line of the file that a
-    refused open opened and closed."""
+    """The places of the lines that show a difference: the first one, and that of a file that a refused open opened and closed."""
     if place is None:
         return [begin]
     marks = "{}.{}.{} ".format(*place), "closed {}.{}.{}.0 ".format(*place)
@@ -107,7 +100,7 @@ def differences_in(script, text, splits):
 
 def refused_opens(script, lines):
     """The places of the `closed` lines of opens that were refused for their slot, each with that of the open's own line. The closed
-    files of a submission are in order of their marks, or nothing is taken out of them."""
+    files of a submission must be in order of their marks."""
     opens = {place: request[1].decode() for place, request, _ in requests_of(script) if request[0] == "open"}
     found, results, block = {}, {}, []
     for nth, line in enumerate([*lines, ""]):

@@ -16,8 +16,7 @@ from kernel.rules import Linux
 
 PLAYER = os.path.join(BUILD, "play-on-kernel")
 FIXCHECK = os.path.join(ROOT, "bin/fixcheck")
-# the player's exit status if a line has no system call, and that of kernel/play-on-kernel if there
-# is no io_uring
+# the exit statuses if a line has no system call, and if there is no io_uring
 CANT_SAY, NO_KERNEL = 78, 77
 # the limit of states for most texts, and for those that need more
 STATES, MOST_STATES = 1_000, 1_000_000
@@ -27,8 +26,7 @@ AGREES, LEFT_OUT, UNSAID = "agrees", "left out", "unsaid"
 
 
 def listed():
-    """Returns the names of the differences, which are the first cells of docs/use/LINUX.md's first table, and the version of the kernel
-    that has them, such as 6.18."""
+    """Returns the differences' names, by docs/use/LINUX.md's first table, and the version of the kernel that has them."""
     table = read("docs/use/LINUX.md").split("\n## ")[1]
     names = frozenset(re.findall(r"^\| `([a-z_]+)` \|", table, re.MULTILINE))
     return names, re.search(r"^Found on kernel (\d+\.\d+)", table, re.MULTILINE)[1]
@@ -70,8 +68,8 @@ def verdict_of(fixcheck, text, written):
 
 
 class Found(NamedTuple):
-    """A player's text of a script. `standing` is AGREES, LEFT_OUT, UNSAID, the names of the differences that explain the text, or None
-    if nothing does. Then come the text, what the player printed on standard error, and what fixcheck prints of the text."""
+    """A player's text of a script. `standing` is AGREES, LEFT_OUT, UNSAID, the differences that explain it, or None. Then come the
+    text, the player's message, and what fixcheck prints."""
 
     standing: object
     written: str
@@ -95,8 +93,7 @@ def found(status, said, text, written, shown):
 
 
 def found_of_kernel(player, fixcheck, text, shown, seconds=120):
-    """Plays a script for at most `seconds`, or longer on a busy machine, and compares its text with the rules and the differences
-    `shown`. Raises TimeoutExpired, or TooLong if the player prints more than MOST_BYTES."""
+    """Plays a script for at most `seconds`, and compares its text with the rules and the differences. May raise TooLong."""
     fault = play(text)[2]
     status, written, complaint = run_within(MOST_BYTES, [player], text, given_time(seconds))
     if status == CANT_SAY:
@@ -109,7 +106,6 @@ def found_of_kernel(player, fixcheck, text, shown, seconds=120):
 
 
 def text_of_kernel(player, text, nth, seconds=120):
-    """Returns the text of the nth play of a script, or None if it failed. In every second play each request is started by a thread of
-    the kernel, so that chains run beside each other. Raises what `found_of_kernel` raises."""
+    """Returns the text of the nth play, or None if it failed. In every second play a thread of the kernel starts each request."""
     status, written, complaint = run_within(MOST_BYTES, [player, *(["--async"] if nth % 2 else [])], text, given_time(seconds))
     return None if status or complaint else written

@@ -1,13 +1,9 @@
-"""litmus [SCRIPT [N]] [--fixfiles PROGRAM] [--fixcheck PROGRAM] [--build]: lists every text that the rules allow for a script, and counts how
-often this machine's kernel and fixfiles gave each in N plays (default 1,000). SCRIPT and N default to the variables of these names. If
-no PROGRAM is given, bin/fixfiles and bin/fixcheck are used; --build, which `make litmus` passes, proves and builds them first.
+"""litmus [SCRIPT [N]] [--fixfiles PROGRAM] [--fixcheck PROGRAM] [--build]: lists every text that the rules allow for a script, and counts
+how often this machine's kernel and fixfiles gave each in N plays (default 1,000). SCRIPT and N default to the variables of these names.
+--build, which `make litmus` passes, proves and builds the programs first. litmus(1) describes the players and the rows.
 
-The kernel plays the script as it is, and with each request started by a thread of its own (IOSQE_ASYNC). fixfiles plays on 4 and on 16
-workers, and on 2 to 16 in turns of a few instructions (tests/step.c). A text that the rules don't allow is explained by differences
-of docs/use/LINUX.md (kernel/rules.py), or is NOT ALLOWED, and then the exit status is 1.
-
-The list is that of `fixcheck --all`, which has the texts of plays in which no allocation fails. fixcheck judges each listed text and
-each other text that was given. Beyond 100 texts, or beyond the limits of the list, the rows are the texts that were given."""
+A text that the rules don't allow is explained by differences of docs/use/LINUX.md (kernel/rules.py), or is NOT ALLOWED, and then the
+exit status is 1."""
 import argparse
 import collections
 import concurrent.futures
@@ -24,31 +20,25 @@ from scripts.listing import MOST
 from model.model import Script, requests_of
 from model import orders
 from scripts import listing, programs
-from scripts.programs import LEGAL, NOT_LEGAL, UNDECIDED, in_parallel, run
-from scripts.progress import Progress
+from scripts.programs import LEGAL, NOT_LEGAL, UNDECIDED, Progress, in_parallel, run
 from scripts.repository import ROOT, read_bytes
 
 PLAYS, MOST_PLAYS = 1_000, 1_000_000
 # the most instructions of a turn, one after another
 TURNS = (20, 100, 500)
 SHOWN_NEVER = 20
-# the width of a row's number and of a player's column, and what separates the columns from the
-# lines
+# the widths of a row's number and of a player's column, and what follows them
 NUMBER, COLUMN, GAP = 4, 12, "   "
 # the limit of states in the search for differences of Linux that explain a text
 orders.LARGEST_SEARCH = 20_000
 
 
 class Allowed:
-    """The texts that the rules allow: how many there are, None if that isn't known, and a list of them with their orders, None if
-    there are too many."""
+    """The texts that the rules allow: their number and a list with their orders, each None if it isn't known or is too long."""
 
     def __init__(self, found):
         self.count = found.count if found.are_all else None
         self.texts = found.texts if found.are_all and found.count == len(found.texts) else None
-
-
-# players, each a function of the script and the number of the play that returns the text
 
 
 class Failed(Exception):
@@ -74,7 +64,7 @@ def player_of(*command):
 
 
 def players(fixfiles):
-    """Returns the players by their names, and a line about each that is left out."""
+    """Returns the players, each a function of the script and the number of the play, and a line about each that is left out."""
     those, left_out = {}, []
     status, missing = kernels.built_player()
     if status == 0:
@@ -109,9 +99,6 @@ def counted(those, script, plays):
                     it.cancel()
     progress.end()
     return counts, left_out
-
-
-# verdicts of texts
 
 
 class Row(NamedTuple):
@@ -158,9 +145,6 @@ class Judge:
         if isinstance(names, frozenset):
             return f"not allowed; explained by {', '.join(sorted(names))}: ", False
         return "NOT ALLOWED: " if status == NOT_LEGAL else f"fixcheck ENDS WITH STATUS {status}: ", True
-
-
-# what is printed
 
 
 def lines_of(script):
@@ -282,7 +266,6 @@ def count_texts(path, plays, fixfiles, fixcheck):
 
 
 def typed(in_repository, in_archive):
-    """Returns what a user types for a command."""
     return in_repository if os.path.exists(os.path.join(ROOT, "Makefile")) else in_archive
 
 

@@ -8,8 +8,7 @@ SLOTS_OF_LINUX = 1 << 20
 
 
 class Linux(Player):
-    """The model with the differences in `shown`. `met` has those that a play met; each is visible in the text, whatever the order of
-    chains. `files_allowed` is the hard limit of open files where the kernel runs."""
+    """The model with the differences in `shown`. `met` has those that a play met. `files_allowed` is the hard limit of open files."""
 
     files_allowed = resource.getrlimit(resource.RLIMIT_NOFILE)[1]
 

@@ -17,8 +17,7 @@ SAYS, OF_SLOT = "no order of the requests gives ", re.compile(r"which concerns? 
 CLOSES_NO_OTHER, FEWER = "and closes no other file", re.compile("fewer of them may contradict|there may be none without it")
 NO_MEMORY = -12
 CANCELS = "and cancels the same requests"
-# reasons that rest on the files that have no line, and those that a line's place alone shows to be
-# wrong
+# reasons that rest on files without a line, and those that a line's place alone shows
 NO_LINE = re.compile(r"(?:has no|neither has a) `closed` line|" + CLOSES_NO_OTHER)
 PLACE_ALONE = re.compile(r"a file is closed once|closed files (stand|are) in order")
 # with more requests than these not all orders are looked at
@@ -52,8 +51,7 @@ class Step:
 
 
 def before(script, lines, command):
-    """The player in front of a command, by its number, and the first line of what it prints. What is at the slots is known by the
-    files that were closed: no line of one is left over by the commands in front, unless an empty submission follows."""
+    """The player before a command, and the first line that it prints, before which no line of a closed file is left."""
     search, player, at = Search(lines, splits=True), Player(script.files), 0
     for earlier in script.commands[: command - 1]:
         ends = search.after(player, earlier, at)
@@ -63,8 +61,7 @@ def before(script, lines, command):
 
 
 class Submission:
-    """A submission of a text, by its command: the player before it, what each chain's lines tell, its first line, and the lines of closed
-    files, by their places."""
+    """A submission of a text: the player before it, what each chain's lines say, its first line, and the lines of closed files."""
 
     def __init__(self, script, lines, command):
         self.player, at = before(script, lines, command)
@@ -100,8 +97,7 @@ class OfLines(Submission):
         super().__init__(script, lines, command)
         self.steps = [[it for it in self.steps_of(nth) if slot is None or it.slot() in (slot, None)] for nth in range(len(self.chains))]
         if slot is not None:
-            # an open that finds the range full finds a file at this slot, if it is there; nothing
-            # is known of the others
+            # an open that finds the range full finds a file at this slot; no other is known
             self.player.range = (slot, 1) if slot in range(self.player.range[0], sum(self.player.range)) else (0, 0)
             marks = {step.mark() for chain in self.steps for step in chain}
             marks |= {text_of_mark(file[0]) for nth, file in enumerate(self.player.slots) if file and nth == slot}
@@ -131,15 +127,13 @@ class OfLines(Submission):
                     yield after, ((*places[:nth], places[nth] + 1, *places[nth + 1 :]),)
 
     def strange(self, named):
-        """Returns those of the lines that don't depend on the slot, or on what is at the slots. Where all are of requests that install or remove
-        files, these alone have no order."""
+        """Returns those of the lines that don't depend on the slot; none if all are of requests that install or remove files."""
         steps = [step for chain in self.steps for step in chain]
         if named and named <= {step.line for step in steps if not step.may_be_left_out()}:
             return set()
         return named - {step.line for step in steps if step.tells()} - set(self.closed)
 
     def optional(self, named):
-        """Those of the lines that may be left out one by one."""
         reads = {step.line for chain in self.steps for step in chain if step.may_be_left_out()}
         return [it for it in named if it in reads]
 
@@ -198,8 +192,7 @@ class Free(Submission):
 
 
 def complaint_of(script, text, said, most=20_000):
-    """What is wrong with the lines that a verdict, `said`, names as having no order; None where nothing is. TooManyOrders where that
-    isn't looked at."""
+    """What is wrong with the lines that a verdict, `said`, names as having no order, or None. May raise TooManyOrders."""
     lines, command = text.split("\n")[:-1], int(re.search(r"command (\d+)", said[0])[1])
     of_slot = OF_SLOT.search(said[0])
     submission = OfLines(script, lines, command, int(of_slot[1]) if of_slot else None)
@@ -225,8 +218,7 @@ def complaint_of(script, text, said, most=20_000):
 
 
 def order_of_named(script, text, said, most=20_000):
-    """Whether there is an order that gives the lines that a verdict, `said`, names, None where it names none or its reason needs no
-    order. TooManyOrders where that isn't looked at."""
+    """Whether an order gives the lines that a verdict names, or None if its reason needs no order. May raise TooManyOrders."""
     if len(said) < 2 or not said[0].startswith("not legal: ") or PLACE_ALONE.search(said[0]) or CANCELS in said[0]:
         return None
     lines, command = text.split("\n")[:-1], int(re.search(r"command (\d+)", said[0])[1])

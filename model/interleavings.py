@@ -1,6 +1,5 @@
-"""Finds all texts of a script: plays every order of its chains' members, and of the entries of updates, to its end, each on a player of
-its own. No state is remembered and no order is left out; a member that doesn't reach the table takes a turn like any other. So it is
-for tiny scripts. Nothing answers -12 here. tests/check-outcomes compares the lists of fixcheck with it."""
+"""Finds all texts of a tiny script: plays every order of its chains' members, and of the entries of updates, each on a player of its
+own, so that no order is left out. Nothing answers -12 here. tests/check-outcomes compares the lists of fixcheck with it."""
 from model.model import ECANCELED, Player, Script, chains_of, completion_line, severs
 from model.orders import TooManyOrders
 

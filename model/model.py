@@ -70,8 +70,7 @@ def constant(_):
     return None
 
 
-# what each command's words are, and one that it may have more; a request may have the word `link`
-# or `hardlink` more
+# the words of each command, one more that it may have, and those of requests, which may be linked
 COMMANDS = {
     b"sparse": [number],
     b"register": [entries],
@@ -93,8 +92,7 @@ OPENS = {
 
 
 class Script:
-    """The files, each a name and its bytes, and the commands in order. A submit has its requests, each a request and
-    its last word, which is `link`, `hardlink` or None."""
+    """The files, each a name and its bytes, and the commands. A submit has its requests, each with its last word."""
 
     def __init__(self, text):
         self.files, self.commands, self.requests = [], [], []
@@ -249,8 +247,7 @@ class Player:
         self.wanted = None
 
     def copy(self):
-        # copy.copy takes five times as long, and the searches of model/orders.py copy a player for
-        # each step
+        # copy.copy takes five times as long, and model/orders.py copies a player for each step
         other = object.__new__(type(self))
         other.__dict__.update(self.__dict__)
         other.slots, other.closed = self.slots[:], self.closed[:]

@@ -1,9 +1,6 @@
-"""Searches for an order of requests in which a model prints a text.
-
-The chains of a submission run concurrently, and an open at any slot may take any free one. So a script can have many texts.
-`ending_of` searches for an order of steps in which a model writes a given text. A request is one step; with `splits` each entry of
-an update is a step of its own, so that requests of other chains may come between two of them.
-"""
+"""Searches for an order of requests in which a model prints a text: chains run concurrently, and an open at any slot may take any free
+one. A request is one step; with `splits` each entry of an update is a step of its own, so that other chains may come between two of
+them."""
 import re
 
 from model.model import Player, chains_of, completion_line, severs
@@ -34,8 +31,7 @@ def pieces_of(request, res):
 
 
 def steps_of_chain(chain, places, lines, splits):
-    """The steps of the members that were started, or None where the lines aren't those of a chain: a place, a request,
-    its result and its bytes."""
+    """The steps of the members that were started: place, request, result and bytes; None unless the lines are a chain's."""
     steps, is_severed = [], False
     for (request, linked_by), place, line in zip(chain, places, lines):
         completion = completion_of(line, place)
@@ -67,8 +63,7 @@ def state_of(player):
 
 
 def reached(first, moves):
-    """Each player with its place that moves lead to from the first one, once. What a move leads to comes before what the
-    next one leads to."""
+    """Each player with its place that moves lead to, once; what a move leads to comes before what the next one leads to."""
     seen, stack = set(), [iter([first])]
     while stack:
         found = next(stack[-1], None)
@@ -95,8 +90,7 @@ class Search:
             raise TooManyOrders
 
     def moves(self, player, chains, at):
-        """The players and places after one step of each chain. A chain that has done less comes first. A read, or an open or a close that
-        is refused, comes alone: it leaves the player as it is, whenever it comes."""
+        """The players and places after one step of each chain, the least done first. A step that changes nothing comes alone."""
         found = []
         for done, nth in sorted(zip(at, range(len(chains)))):
             if done < len(chains[nth]):

@@ -2,14 +2,21 @@
 import re
 
 from model.model import ECANCELED, Player, completion_line, severs
-from model.illegal import want
 
 ORDER = re.compile(r"order (\d+):((?: \d+\.\d+\.\d+(?:\.\d+)?)*)")
 
 
+class Illegal(Exception):
+    """A step of an order or a history that is not allowed there, or text that isn't a step."""
+
+
+def want(holds, complaint):
+    if not holds:
+        raise Illegal(complaint)
+
+
 def orders_of(lines):
-    """What the lines `order S: S.C.M S.C.M.E ..` say: for each submission its steps, each a chain, a member and a place in an
-    update's list, or None."""
+    """The steps of each submission by its line `order S: S.C.M S.C.M.E ..`: a chain, a member and a place in a list, or None."""
     orders = {}
     for line in lines:
         order = ORDER.fullmatch(line)
@@ -28,8 +35,8 @@ class Replayed(Player):
         self.orders, self.results = orders, results
 
     def chain(self, place, members):
-        """A chain that waits for its turns: each step that is sent to it must be that of its next request at the table, or of the next
-        entry of an update. Returns its lines at the end. Requests that were canceled or never reach the table have no step."""
+        """A chain that waits for its turns: each step must be that of its next request at the table, or of the next entry.
+        Returns its lines."""
         is_severed, lines = False, []
         for nth, (request, linked_by) in enumerate(members, 1):
             at, (kind, *words) = (*place, nth), request

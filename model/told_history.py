@@ -4,14 +4,13 @@ text. The number of bytes of a read is checked, and the bytes aren't, since a hi
 import re
 
 from model.model import Script, chains_of
-from model.illegal import Illegal, want
+from model.replay import Illegal, want
 
 EVENT = re.compile(r"(Look|Release|Put|Clear|Take|Allocate|Full|Close)(?:\(([^)]*)\))?(?: tag (\d+))?")
 
 
 class Table:
-    """What the events lead to: the file at each slot, the one that is held and whose hold it is, and what was removed. `names`
-    has the files that were installed, each once."""
+    """What the events lead to: the file at each slot, the one that is held and by whom, and what was removed."""
 
     def __init__(self):
         self.size, self.at, self.held, self.removed, self.names = 0, {}, None, None, {}
@@ -94,8 +93,7 @@ class Reader:
     def __init__(self, lines, script):
         self.lines, self.table, self.closed = lines, Table(), []
         self.asked = [it for it in script.decode().split("\n") if it and not it.startswith(("#", "file "))]
-        # what each request or call has done that hasn't answered: each event but a release and a
-        # close, with its slot
+        # what each has done that hasn't answered: events but releases and closes, with slots
         self.made = {}
 
     def line(self):

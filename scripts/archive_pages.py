@@ -40,8 +40,7 @@ def aligned(line, new):
 
 
 def with_commands(text):
-    """Replaces the commands of make. A line of code with a command that the archive doesn't have is left out, and in a sentence such a
-    command is said to be in the repository."""
+    """Replaces the commands of make. A line of code without one in the archive is left out; a sentence says where it is."""
     lines = []
     for line in text.split("\n"):
         found = MAKE.search(line) if line.startswith("    make ") else None

@@ -24,7 +24,6 @@ def kept_numbers():
 
 
 def comment(text):
-    """Returns a text as a comment of the protocol."""
     return "# " + text.replace("\n", "\n# ")
 
 
@@ -37,8 +36,7 @@ def name_of(key):
 
 
 def protocol(seen, wrong, left_out, is_least, number):
-    """Yields the plan, and a line for each case: first those of the wrong ones. If `number` isn't exact, the plan has one case more, which
-    stands for all further ones. So a check that looks at fewer cases than it should doesn't fulfil its plan."""
+    """Yields the plan, and a line for each case, wrong ones first. If `number` isn't exact, one stands for all further ones."""
     each = [("not ok", "")] * wrong + [("ok", "")] * (seen - wrong) + [("ok", f" # SKIP no {tool}") for count, tool in left_out for _ in range(count)]
     yield f"1..{number + is_least}"
     for nth, (word, why) in enumerate(each[:number] if is_least else each, 1):
@@ -48,9 +46,8 @@ def protocol(seen, wrong, left_out, is_least, number):
 
 
 def last_line(key, seen, wrong, what="looked at", left_out=()):
-    """Prints the end of a check, and returns its status: 1 if a case is wrong, or if their number isn't the kept one. `key` has the
-    check's name and its options. Options without a kept number must have some case. `left_out` has numbers of cases that are left out,
-    each with the missing tool."""
+    """Prints the end of a check, and returns its status: 1 if a case is wrong, or if their number isn't the kept one. `key` has its
+    name and options: with others than the kept ones it must have some case. `left_out` has numbers of cases with the missing tools."""
     cases = seen + sum(count for count, _ in left_out)
     words, number = kept_numbers().get(key, ("", max(cases, 1) if key != name_of(key) else sys.maxsize))
     if "HARNESS_ACTIVE" in os.environ or not sys.stdout.isatty():
@@ -86,9 +83,8 @@ class Counted:
 
 
 def arguments(usage, paths="", flags="", numbers=None, options=None, words=()):
-    """Parses the arguments of a command. Paths come first, of which those with a `?` may be left out, and
-    then numbers, each with what it is where it is left out. Flags are there or not; and an option
-    has a value, which is a path unless it is a number. An option of `words` has a word, by default ""."""
+    """Parses the arguments of a command: paths (with a `?` they may be left out), then numbers with their defaults; flags; options,
+    whose value is a path unless it is a number; and options that have a word."""
     parser = argparse.ArgumentParser(usage=usage)
     for name in paths.split():
         may_lack = {"nargs": "?"} if name.endswith("?") else {}

@@ -1,8 +1,7 @@
 """clauses [--names OLD=NEW ..] REVISION [CRATE..]: compares each public function's signature and contract, each public type, and each
-definition of specs/ with those of a revision. It prints what is gone, new or different, and ends with status 1 if a contract, a type or
-a definition of the revision is gone or different. OLD=NEW names a word that was renamed: it is replaced in the revision's text before
-the comparison. A function is public if it is `pub`, or of a `pub trait`, or of an `impl` of a trait with clauses. Clauses that moved, in
-another order or layout, are the same clauses."""
+definition of specs/ with those of a revision. It prints what is gone, new or different, and ends with status 1 unless something is only
+new. OLD=NEW names a word that was renamed. A function is public if it is `pub`, or of a `pub trait`, or of an `impl` of a trait with
+clauses. Order and layout make no difference."""
 import argparse
 import re
 import subprocess
@@ -51,8 +50,7 @@ def functions_of(text):
 
 
 def last_of(lines, at, indentation):
-    """Returns the last line of the signature and the contract of the function that begins at line `at`: its body begins in the next line,
-    or in this one; or the function has none."""
+    """Returns the last line of the signature and the contract of the function that begins at line `at`."""
     depth = 0
     for end in range(at, len(lines)):
         line = lines[end]

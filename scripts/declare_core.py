@@ -1,7 +1,7 @@
-"""declare-core: writes the declarations of the core's exports for C and Rust, from the sources of fx_server_c and fx_server:
-bindings/c/core.h and bindings/rust/src/access/exports.rs; the functions and the limits of yachtbanyan(3) and yachtdirect(3), from the
-headers; the numbers of the table of docs/use/LIMITS.md, from the constants that its rows name; the version, from VERSION, in each file
-that has it; and the date of the manual pages, that of the newest version in CHANGELOG.md. If a limit has changed, it prints the lines of other pages and headers that have the old number."""
+"""declare-core: writes the declarations of the core's exports for C and Rust, from fx_server_c and fx_server; the functions and the
+limits of yachtbanyan(3) and yachtdirect(3), from the headers; the numbers of docs/use/LIMITS.md, from the constants that its rows name;
+the version, from VERSION, and the date of the manual pages. If a limit has changed, it prints the lines of other pages and headers that
+have the old number."""
 import contextlib
 import datetime
 import functools
@@ -168,8 +168,7 @@ def dated(page):
 
 
 def for_manual(name, names_all=True):
-    """Returns a function that returns the manual page of a library with the functions of its header, and with its constants, each of which the
-    page must name, unless the header has them alone."""
+    """Returns a function that returns the manual page of a library with its header's functions and constants, which it names, or not all."""
     def made():
         page, header = read(f"man/{name}.3"), read(f"include/{name}.h")
         if names_all and {*re.findall(r"\b(YACHT_\w+) = ", header)} != {*re.findall(r"^\.(?:It )?Dv (YACHT_\w+)", page, re.M)}:

@@ -1,11 +1,8 @@
 """draw-history [--text TEXT] [--slots A-B] [--chains A-B] [FILE]: draws the history that `fixcheck --history` prints, from FILE or standard
-input, and writes an SVG to standard output. With the judged text, it draws the bytes of each read too; a text that the history does
-not print is refused. Of more than 40 slots or 30 chains it draws the first ones and says so; --slots and --chains choose others.
+input, and writes an SVG to standard output. draw-history(1) describes the options and the picture.
 
-Time runs downwards, an event a row. At the left is a lane for each slot that an event concerns, while there is a table, with a bar for
-each file from its installation to its close. In the middle are the events. At the right is a lane for each chain, with its requests in
-their order and their results. Chains that share no slot are drawn side by side, with their own slots. The first colours are those of
-Okabe and Ito, which colour-blind people can tell apart; each file has a colour of its own."""
+At the left is a lane for each slot, in the middle are the events, a row each, and at the right is a lane for each chain. Chains that
+share no slot are drawn side by side. The first colours are those of Okabe and Ito, which colour-blind people can tell apart."""
 import argparse
 import re
 import sys

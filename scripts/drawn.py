@@ -74,7 +74,6 @@ class Part:
     chains: set
 
     def has(self, who):
-        """Checks whether it has the chain of a request."""
         found = REQUEST.fullmatch(who)
         return found is not None and (int(found[1]), int(found[2])) in self.chains
 
@@ -182,7 +181,6 @@ class History:
         return sorted(some)
 
     def places(self):
-        """Returns the places of all requests."""
         return [it.place() for it in self.boxes if it.place()]
 
     def chains(self):

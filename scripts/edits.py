@@ -1,8 +1,7 @@
 """Reads the wrong bodies of the crates. An edit has a line 'file: src/NAME.rt', and then pairs of lines 'old: TEXT' and 'new: TEXT'.
 
-The gate requires a file of its own for each edit that it tries, in a crate's must-fail/. All other edits of a crate are in its file
-wrong-bodies.txt, each after a line with its name in brackets. There a line '# src/NAME.rt' names the file of the edits after it that
-have no line 'file:'."""
+Each edit that the gate tries has a file in a crate's must-fail/. The others are in its file wrong-bodies.txt, each after a line with its
+name in brackets. A line '# src/NAME.rt' names the file of the edits after it that have no line 'file:'."""
 import os
 import re
 
@@ -22,8 +21,7 @@ def parts(text):
 
 
 def edits(kind, crate="*"):
-    """Returns the edits of a crate, or of all crates, as triples: the crate, the edit's name and its lines. `kind` is 'must-fail' or
-    'wrong-bodies'."""
+    """Returns the edits of a crate, or of all: the crate, the name and the lines. `kind` is 'must-fail' or 'wrong-bodies'."""
     if kind == "must-fail":
         return [(it.split("/")[1], os.path.basename(it)[:-5], read(it)) for it in files_of(crate, kind)]
     files = [it for it in files_of(crate) if os.path.basename(it) == FILE]

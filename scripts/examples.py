@@ -12,8 +12,7 @@ INVALID = 3
 
 
 class Example:
-    """A script by its path, or of a row by faults/NAME, its text, and if it is invalid what standard error has after the program's
-    name."""
+    """A script by its path, or by faults/NAME, its text, and if it is invalid what standard error has after the program's name."""
 
     def __init__(self, name, script, text, fault=""):
         self.name, self.script, self.text, self.fault = name, script, text, fault
@@ -31,7 +30,6 @@ def repeated(text, ends):
 
 
 def lines_of(line):
-    """Returns the lines that a line of the table means."""
     line = re.sub(r"\{(.*?)\}", lambda it: repeated(it[1], ""), line)
     return "".join(repeated(it, "\n") for it in line.split(" / "))
 
@@ -53,7 +51,6 @@ def examples(*folders):
 
 
 def text_beside(path):
-    """The text that is kept beside a script."""
     return read(path.removesuffix("script") + "text")
 
 

@@ -61,8 +61,7 @@ def start_in(word, kind):
 
 
 def word_of(name, words):
-    """Returns the place of the bad word, from 0, and of the first bad byte in it. The place is that after the last word if one is
-    missing."""
+    """Returns the place of the bad word, from 0, or of the missing one, and of the first bad byte in it."""
     kinds = kinds_of(words)
     if name == "word-count":
         return (words.index(b"") if b"" in words else min(len(words), len(kinds) + 1)), 0

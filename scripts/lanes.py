@@ -1,16 +1,14 @@
-"""lanes CRATE NAME [CRATE NAME..]: proves the crates that programs or static libraries depend on, builds these, and leaves each at bin/NAME,
-for scripts/build-program.
+"""lanes CRATE NAME [CRATE NAME..]: proves the crates that programs or static libraries depend on, builds these, and leaves each at
+bin/NAME, for scripts/build-program.
 lanes static [--gate BEGAN LOG] CRATE MACHINE..: proves and builds the static library of a crate for x86_64 or aarch64, or both, if it is
-older than a source, and keeps it at bin/libCRATE.MACHINE.a: in a copy, over the libraries of the crates below. With --gate the libraries are
-the gate's: it proves the crates but builds no static library, and this waits until it has proved those below. BEGAN is a file older than
-the gate, LOG the gate's output.
+older than a source, and keeps it at bin/libCRATE.MACHINE.a: in a copy, over the libraries of the crates below. With --gate
+(scripts/proved.py) these are the gate's, for which this waits.
 lanes keep FILE CRATE NAME: copies what was built from CRATE to bin/NAME, as old as FILE, which was made before the build began.
 
-Crates that don't depend on each other are proved in parallel, as far as memory goes. The crates on the longest paths to the programs
-share the processors; each other crate has one job at a lower priority. The toolchain locks the folders of a crate and of its
-dependencies while it proves, so one crate is proved in place, and the others in copies (scripts/proved.py). Prints on standard error
-how long the proofs are expected to take, what is proved, and how much of the work that is. What the prover prints goes to build/program.log, and each verdict to a log of
-build, for scripts/dist."""
+Crates that don't depend on each other are proved in parallel, as far as memory goes, those on the longest paths to the programs at a
+higher priority. The toolchain locks the folders of a crate and of its dependencies, so one crate is proved in place, and the others in
+copies. Prints on standard error how long the proofs are expected to take, what is proved, and how much of the work that is. What the
+prover prints goes to build/program.log, and each verdict to a log of build, for scripts/dist."""
 import fcntl
 import os
 import re
@@ -53,8 +51,7 @@ def is_kept(name, below, kept):
 
 
 def keep(folder, crate, name, began):
-    """Copies what was built in a crate's folder to bin. It gets the time at which the build began, so that a source that was changed since
-    counts as newer."""
+    """Copies what was built to bin, with the time at which the build began: a source that was changed since is newer."""
     os.makedirs("bin", exist_ok=True)
     new, built = f"bin/{name}.{os.getpid()}", f"{folder}/out/{crate}"
     shutil.copy(built if os.path.exists(built) else f"{folder}/out/lib{crate}.a", new)
@@ -68,8 +65,8 @@ def note_verdict(path, name, said, *more):
 
 
 class Job:
-    """A crate that is being proved, in a process group of its own: in place, or in a copy with the crates below (`is_apart`). Its folder is
-    locked as the toolchain does it, so that another run there waits. It has a lower priority unless it is on a longest path (`is_far`)."""
+    """A crate that is being proved, in a process group of its own: in place, or in a copy (`is_apart`). Its folder is locked as the
+    toolchain does it, so that another run there waits. It has a lower priority unless it is on a longest path (`is_far`)."""
 
     def __init__(self, name, words, is_far, is_apart):
         self.name, self.path, self.begin = name, f"build/{name}.log", time.monotonic()
@@ -141,9 +138,9 @@ class Lanes:
         sys.stderr.flush()
 
     def words(self, name, jobs):
-        """Returns the command that proves a crate with that many jobs. Of a library the statements are kept and not the proofs, as in the
-        gate, so that dependent crates have less to read. A program is built by a run on an empty script, which prints nothing, or
-        by a run that prints its help if it needs arguments."""
+        """Returns the command that proves a crate with that many jobs. Of a library the statements alone are kept, so that
+        dependent crates have less to read. A program is built by a run on an empty script, or by one that prints its help if it
+        needs arguments."""
         if name not in self.roots:
             return ["rt", "lib", "--jobs", str(jobs), "--statements"]
         if name in static_libraries():

@@ -53,7 +53,6 @@ def parsed(lines):
 
 
 def kept(path):
-    """Reads the list in a file."""
     return parsed(read(path).split("\n"))
 
 

@@ -1,6 +1,6 @@
-"""packages FOLDER DATE TO: makes packages of the unpacked archive for x86-64 in FOLDER: a wheel of the Python modules with their library, a
-.crate of each Rust crate with its library, and a Debian package of all that scripts/install installs. DATE, in seconds since 1970, is
-that of each file, so the same archive results in the same bytes. They are written into the folder TO, and their paths are printed."""
+"""packages FOLDER DATE TO: makes packages of the archive in FOLDER, of the same bytes for the same archive: a wheel, a .crate of each
+Rust crate, and a Debian package of all that scripts/install installs. Files are of DATE, in seconds since 1970. Prints their paths in
+the folder TO."""
 import base64
 import glob
 import gzip
@@ -14,6 +14,8 @@ import tarfile
 import tempfile
 import time
 import zipfile
+
+from scripts.repository import read, read_bytes, write
 
 SUMMARY = "Verdicts on texts and logs of io_uring's registered file table, by a verified judge"
 CONTROL = """\
@@ -30,11 +32,6 @@ Description: verified table of slots for threads, and a checker of io_uring's fi
  user of a value drops it, and a judge of texts and logs. The programs fixfiles and fixcheck play
  and judge scripts of io_uring's registered file table.
 """
-
-
-def read_bytes(path):
-    with open(path, "rb") as it:
-        return it.read()
 
 
 def libc_of(library):
@@ -102,9 +99,7 @@ def debian_package(folder, version, major, date, to):
         subprocess.run([f"{folder}/scripts/install"], env=given, check=True, stdout=subprocess.DEVNULL)
         # a list for its `uninstall`
         os.remove(f"{root}/usr/lib/yachtbanyan/folders")
-        os.makedirs(f"{root}/DEBIAN")
-        with open(f"{root}/DEBIAN/control", "w", encoding="utf-8") as it:
-            it.write(CONTROL.format(version=version, libc=libc))
+        write(f"{root}/DEBIAN/control", CONTROL.format(version=version, libc=libc))
         path = f"{to}/yachtbanyan_{version}_amd64.deb"
         command = ["dpkg-deb", "--root-owner-group", "-Zxz", "--build", root, path]
         subprocess.run(command, env={**os.environ, "SOURCE_DATE_EPOCH": str(date)}, check=True, stdout=subprocess.DEVNULL)
@@ -114,11 +109,9 @@ def debian_package(folder, version, major, date, to):
 def command():
     folder, date, to = sys.argv[1], int(sys.argv[2]), sys.argv[3]
     os.umask(0o022)
-    with open(f"{folder}/VERSION", encoding="utf-8") as it:
-        version = it.read().strip()
+    version = read(f"{folder}/VERSION").strip()
     major = version.split(".")[0]
     for name, content in (python_wheel(folder, version, major, date), *crates(folder, version, date)):
-        with open(f"{to}/{name}", "wb") as it:
-            it.write(content)
+        write(f"{to}/{name}", content)
         print(f"{to}/{name}")
     print(debian_package(folder, version, major, date, to))

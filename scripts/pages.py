@@ -50,8 +50,7 @@ def blank(text):
 
 
 def prose_of_page(text):
-    """Returns a page without its code: fenced and indented blocks, backticks, the targets of links. An indented line of a list of names,
-    each with its meaning, is prose."""
+    """Returns a page without its code and the targets of links. An indented line of a name and its meaning is prose."""
     text = re.sub(r"^```.*?^```", lambda it: blank(it[0]), text, flags=re.MULTILINE | re.DOTALL)
     text = re.sub(r"^    (?! *[\w/().-]+ {2,}\S).*$|`[^`]*`|(?<=\])\([^)\s]*\)", lambda it: blank(it[0]), text, flags=re.MULTILINE)
     return text
@@ -79,8 +78,8 @@ def paragraphs(page):
 
 
 def long_sentences(page):
-    """Yields each sentence with too many words: the number of its paragraph's first line, the number of words, and the sentence. A part
-    before a colon or a semicolon counts by itself, as an item of a list does; a name in backticks is a word."""
+    """Yields each sentence with too many words: the line, the number of words, and the sentence. A part before a colon or a
+    semicolon counts by itself; a name in backticks is a word."""
     for number, text in paragraphs(page):
         plain = re.sub(r"`[^`]*`", "Code", re.sub(r"\]\([^)]*\)", "]", text))
         for sentence in END.split(plain):

@@ -4,7 +4,9 @@ import os
 import resource
 import signal
 import subprocess
+import sys
 import tempfile
+import time
 
 from scripts.repository import BUILD, ROOT
 
@@ -27,8 +29,7 @@ class TooLong(Exception):
 
 
 def run_within(most, command, given, seconds):
-    """The status, the text and the message of a program that may print `most` bytes of each. Raises TooLong as soon as it has printed more,
-    and TimeoutExpired if it hasn't ended in time. What it began ends with it."""
+    """The status, the text and the message of a program. Raises TooLong beyond `most` bytes of either. What it began ends with it."""
     import threading
 
     def kill():
@@ -65,8 +66,7 @@ def run_within(most, command, given, seconds):
 
 
 def given_time(seconds):
-    """Returns the seconds of wall-clock time for a run that takes so many if nothing else runs: more if several processes wait for
-    each processor."""
+    """Returns the seconds for a run that takes so many alone: more if several processes wait for each processor."""
     return seconds * max(1, os.getloadavg()[0] / os.cpu_count())
 
 
@@ -119,16 +119,14 @@ def kept_script(script):
 
 
 def verdict(fixcheck, script, text, *options):
-    """The status, the lines and the message of fixcheck, asked of a text, which it reads from standard
-    input. In the message `script` replaces the script's path."""
+    """The status, the lines and the message of fixcheck on a text. In the message `script` replaces the script's path."""
     with kept_script(script) as path:
         status, said, message = run([fixcheck, *options, path, "-"], text, given_time(120))
     return status, said.splitlines(), message.replace(path, "script")
 
 
 def built(source):
-    """Builds a library or a program of a source in C of tests/, and returns its path. It is moved
-    into place, so that two builds at once do no harm."""
+    """Builds a library or a program of tests/, and returns its path. It is moved into place, so that two builds at once do no harm."""
     os.makedirs(BUILD, exist_ok=True)
     ending = ".so" if "-shared" in FLAGS[source] else ""
     path = os.path.join(BUILD, source.removesuffix(".c") + ending)
@@ -139,13 +137,27 @@ def built(source):
 
 
 def preloaded(library, **variables):
-    """Returns how a program is run with a library of build/: in its folder, since a space or a colon in the
-    library's path would end that for the loader."""
+    """Returns how a program is run with a library of build/: there, since the loader can't read a path with a space or a colon."""
     return {"env": {**os.environ, "LD_PRELOAD": f"./{library}.so", **variables}, "cwd": BUILD}
 
 
+class Progress:
+    """A line on standard error, where that is a terminal."""
+
+    def __init__(self):
+        self.is_shown, self.last = sys.stderr.isatty(), 0
+
+    def show(self, words):
+        if self.is_shown and time.monotonic() - self.last > 0.2:
+            self.last = time.monotonic()
+            print(f"\r\033[K{words}", end="", file=sys.stderr, flush=True)
+
+    def end(self):
+        if self.is_shown:
+            print("\r\033[K", end="", file=sys.stderr, flush=True)
+
+
 def in_turns(fixfiles, script, seed, turn, *options):
-    """Plays with threads in turns of at most `turn` instructions (tests/step.c), or as they
-    like where that is 0."""
+    """Plays with threads in turns of at most `turn` instructions (tests/step.c), or as they like for 0."""
     how = preloaded("step", SEED=str(seed), TURN=str(turn)) if turn else {}
     return run([fixfiles, *options], script, **how)

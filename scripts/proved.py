@@ -39,8 +39,7 @@ class Gate:
 
 
 def link_or_copy(one, other):
-    """Gives a file a second name, or makes a copy of it where that can't be had. The toolchain makes files of out/ anew, and never
-    writes into one."""
+    """Links or copies a file. The toolchain makes files of out/ anew, and never writes into one."""
     try:
         os.link(one, other)
     except OSError:
@@ -48,15 +47,14 @@ def link_or_copy(one, other):
 
 
 def copy_part(room, name, part):
-    """Copies a folder of a crate, where it has one."""
     how = link_or_copy if part.startswith("out") else shutil.copy2
     if os.path.isdir(f"{ROOT}/crates/{name}/{part}"):
         shutil.copytree(f"{ROOT}/crates/{name}/{part}", f"{room}/crates/{name}/{part}", symlinks=True, copy_function=how)
 
 
 def copy_crates(room, gate=None, of=None):
-    """Copies the crates into a folder, with what earlier checks kept of them, or with the libraries that the gate has made so far. If `of` is a
-    crate, only this one is copied, with the crates below it and their libraries, and no other crate is listed there."""
+    """Copies the crates into a folder, with what earlier checks kept of them, or with the gate's libraries. If `of` is a crate, only
+    this one is copied, with the crates below it and their libraries, and no other crate is listed there."""
     those = needed(of, crates()) if of else os.listdir(f"{ROOT}/crates")
     shutil.copy(f"{ROOT}/HANDLES", room)
     lines = read("crates.txt").splitlines(keepends=True)
@@ -72,8 +70,7 @@ def copy_crates(room, gate=None, of=None):
 
 
 def prove(folder, paths=(), jobs=()):
-    """What the prover says of the crate in a folder, or of these functions of it and those that they call, and its status. It says
-    it of the whole crate where it knows a function by another name."""
+    """What the prover says of a crate, or of functions of it, and its status; of the crate if it knows one by another name."""
     how = {"stdin": subprocess.DEVNULL, "stdout": subprocess.PIPE, "stderr": subprocess.STDOUT, "errors": "replace"}
     ran = subprocess.run(["rt", "check", *jobs, *(word for it in paths for word in ("--only", it))], cwd=folder, check=False, **how)
     return prove(folder, (), jobs) if paths and ran.returncode == 2 else (ran.stdout, ran.returncode)
@@ -88,8 +85,8 @@ def take_back(room, name):
 
 
 def mark_libraries(room, gate):
-    """Gives the libraries that the gate made, or has kept, the mark of their sources, which `rt lib` leaves beside one and the gate
-    doesn't: by it `rt` knows that they needn't be proved for a crate above. A kit that has no such marks proves them."""
+    """Gives the gate's libraries the mark of their sources that `rt lib` leaves beside one and the gate doesn't, so that `rt`
+    doesn't prove them again. A kit that has no such marks proves them."""
     sys.path.insert(0, os.path.dirname(os.path.realpath(shutil.which("rt"))))
     try:
         import rtlib

@@ -23,8 +23,7 @@ def is_refusal(said):
 
 
 def refused_functions(lines):
-    """The functions that are themselves not proved, each once and as the prover names it. One that is known by an error in
-    its files alone is named without its crate."""
+    """The functions that are themselves not proved. One that is known by an error in its files alone is named without its crate."""
     said = ((line, LINE.match(line)) for line in lines if line.startswith("fn "))
     names = [at[1] for _, at in said if at and is_refusal(at[2])]
     wrong = {it[1].replace("/", "::") for it in map(ERROR.match, lines) if it}

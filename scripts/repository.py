@@ -6,8 +6,7 @@ import shutil
 ROOT = os.path.dirname(os.path.dirname(os.path.abspath(__file__)))
 # the folders of scripts, and of what they play
 ROOMS = "scripts", "tests", "model", "kernel", "bench"
-# for what is built and kept: build/, or a folder of the user if this one is read-only, as
-# kernel/play-on-kernel has it
+# for what is built and kept: build/, or a folder of the user (kernel/play-on-kernel)
 CACHE = os.environ.get("XDG_CACHE_HOME") or os.path.expanduser("~/.cache")
 BUILD = os.path.join(ROOT, "build") if os.access(ROOT, os.W_OK) else os.path.join(CACHE, "yachtbanyan")
 # where a crate has its sources, definitions and proofs

@@ -1,8 +1,6 @@
-"""check-all: tries tests/all on commands that do nothing, in a folder of their own: a check prints its plan and its case, and the
-toolchain's rt prints that each crate is proved. Then all is well. Once for each command that fails, each check that prints nothing or
-looks at fewer cases than it plans, and each way in which the gate fails, tests/all must fail, and not end with the gate's line.
-
-Checks that are written in bash are tried too: each counts a wrong case, and ends with its number of cases. check-must-spend fails if
+"""check-all: tries tests/all on commands that do nothing: each check prints its plan and its case, and the toolchain's rt that each
+crate is proved. Then all is well. For each command that fails, each check that prints nothing or too little, and each way in which the
+gate fails, tests/all must fail, and not end with the gate's line. Checks in bash must count a wrong case, check-must-spend must fail if
 the checker rejects nothing, and check-layout on files with a fault."""
 import contextlib
 import io
@@ -26,8 +24,7 @@ APART = "style"
 VERDICT = "7 passed, 0 failed"
 # how the gate ends: its lines and its status
 GATES = {"well": (VERDICT, 0), "with a failure": ("6 passed, 1 failed", 1), "with a failure after its line": (VERDICT, 3), "without its line": ("", 0)}
-# a command of the folder: it prints its lines unless it is the one in SILENT, and fails if it is
-# the one in FAILS
+# a command: it prints its lines unless SILENT names it, and fails if FAILS does
 STUB = """#!/bin/bash
 case "$SILENT" in NAME) ;; "NAME few") echo 1..1 ;; *) printf '%s' 'LINES' ;; esac
 case "$FAILS" in "NAME" | "NAME ${1##*.}") exit 1 ;; esac
@@ -79,7 +76,6 @@ def file_of(check):
 
 
 def listed():
-    """Returns the checks that tests/all runs."""
     return re.findall(r"^[a-z]+-? +([a-z-]+)", read("tests/all.txt"), re.MULTILINE)
 
 
@@ -118,8 +114,7 @@ def check_all(checks):
     kept = {file_of(it) for it in kept_numbers() if it == name_of(it) and it not in (*INSIDE, APART)}
     checks.want(kept == {f"tests/{it}" for it in listed()}, f"tests/all runs other checks than have numbers in tests/cases.txt: {sorted(kept)}")
     with tempfile.TemporaryDirectory(prefix="all-") as room:
-        # all are written before the first one runs: no program can be started while a child that
-        # is being started has it open
+        # a program can't be started while a child that is being started has it open
         rooms = [f"{room}/{nth}" for nth in range(len(cases))]
         for it in rooms:
             lay_out(it)

@@ -1,6 +1,5 @@
 """check-break [--gate BEGAN LOG]: applies the bug from README.md to a copy of the repository and expects the prover to reject the
-function with the lines that README.md shows. With --gate it runs beside the gate, and checks that function alone over the
-libraries that the gate has proved: BEGAN is a file older than the gate, LOG the gate's output."""
+function with the lines that README.md shows. With --gate it checks that function alone (scripts/proved.py)."""
 import argparse
 import re
 import tempfile

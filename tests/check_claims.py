@@ -1,10 +1,9 @@
-"""check-claims: compares the pages with the sources: functions, clauses, preconditions, types and names; the reading list; quoted lines of laws,
-examples and outputs; the refusals of crates/WRONG_BODIES.md; atomic steps, options and defaults; and the tables and minutes that
-bench/write-tables writes. So it finds a page that is older than the code. Each kind of claims has some (tests/check-all has a wrong page of
-each).
+"""check-claims: compares the pages with the sources: functions, clauses, preconditions, types and names; the reading list; quoted lines;
+the refusals of crates/WRONG_BODIES.md; atomic steps, options and defaults; and what bench/write-tables writes. So it finds a page that is
+older than the code (tests/check-all has a wrong page of each kind).
 
-A claim is written '`f`, `g`: `x`, `y`; `h`: `z`': f and g both have the clauses x and y, and h has z. Without clauses it refers to
-the whole contract. A word with a capital letter is a definition that the contract cites."""
+A claim is written '`f`, `g`: `x`, `y`; `h`: `z`': f and g both have the clauses x and y, and h has z. Without clauses it refers to the
+whole contract. A word with a capital letter is a definition that the contract cites."""
 import collections
 import contextlib
 import glob
@@ -121,8 +120,7 @@ class Claims(Counted):
         return [it for crate in crates for it in self.found[crate] if it.name == parts[-1] and set(parts[:-1]) <= it.owners]
 
     def claim(self, where, names, clauses, crates):
-        """Checks that each of the functions, which a user can call, has each of the clauses. A path may begin with its crate. If several
-        functions have the name, one has all of the clauses."""
+        """Checks that each function has each clause; of several with one name, one has all of them."""
         for name in names:
             named = [it for it in name.split("::")[:1] if it in self.found] or crates
             contracts = self.contracts_of(name, named)
@@ -132,8 +130,7 @@ class Claims(Counted):
                 self.want(clause in known, f"{where}: {name} has no clause {clause}")
 
     def row(self, file, heading, cell):
-        """The functions that a cell names, and what it claims of each of them. They are in a crate that the
-        heading names, or else in that of the last path."""
+        """Claims of the functions that a cell names: of a crate in the heading, or else of that of the last path."""
         told = [it for it in re.findall(r"\b(?:fx|check)_\w+", heading) if it in self.found]
         crates = told or list(self.found)
         for names, clauses in groups(cell):
@@ -148,8 +145,7 @@ class Claims(Counted):
                     self.want(it.name in told, f"docs/inside/PROOFS.md: what a caller of {crate}'s {it.name} must know isn't there")
 
     def page(self, file):
-        """Each `path::of::names`, each `TypeName` and each `name_of_words` of a page is one of the sources, a test, a script or
-        of bench_rust; or it is one of liburing. The wrong bodies by name are looked at by `wrong_bodies`."""
+        """Each `path::of::names`, `TypeName` and `name_of_words` of a page is in the sources, a test, a script or liburing."""
         text = named_in(file)
         if file == BODIES:
             text = re.sub(r"^\|.*$", "", text, flags=re.MULTILINE)
@@ -161,8 +157,7 @@ class Claims(Counted):
 
 
 def named_in(file):
-    """Returns a page; CHANGELOG.md without the names that are gone: those below `Removed`, in the first column of a table, and after
-    `in place of`, of any version."""
+    """Returns a page; CHANGELOG.md without the names that are gone, or were replaced."""
     text = read(file)
     if file == "CHANGELOG.md":
         gone = r"^### Removed(?s:.*?)(?=^##)|^ *\|[^|]*\||in place of\s+`[^`]*`(?:(?:,| and)\s+`[^`]*`)*"
@@ -248,8 +243,7 @@ def is_test(name):
 
 
 def tables_of_proofs(claims):
-    """The claims of docs/inside/PROOFS.md, table by table. The headings of those that name functions, and the calls of which a caller
-    must know, by its list."""
+    """Claims what the tables of docs/inside/PROOFS.md say. Returns their headings, and the calls of which a caller must know."""
     headings, told = set(), set()
     for heading, cells in rows(read(PROOFS)):
         is_head = cells[0] == "claim" or cells[1:] == ["contract"]

@@ -1,7 +1,6 @@
-"""check-declarations: compares the declarations of the exported functions in Rattle, C, Rust and Python: their names, the number
-and width of each argument and of the result, the fields of the structs, and the values of the constants. What scripts/declare-core
-writes is as it writes it, in manual pages, docs/use/LIMITS.md and files with a version too. Then each declaration is changed in turn, in
-memory, and each change must be noticed."""
+"""check-declarations: compares the declarations of the exported functions in Rattle, C, Rust and Python: names, widths of arguments and
+results, fields of structs, values of constants. Files that scripts/declare-core writes are as it writes them. Then each declaration is
+changed in turn, in memory, and each change must be noticed."""
 import ast
 import re
 
@@ -36,8 +35,7 @@ WIDTHS = {
     "size_t": "size", "c_size_t": "size",
 }
 NUMBERS = re.compile(r"\b(?:" + "|".join(WIDTHS) + r")\b")
-# by language: what is no declaration for C, and the forms of a function, of a struct, of its fields
-# and of a constant
+# by language: what isn't for C; forms of a function, a struct, its fields and a constant
 FORMS = {
     "Rattle": (
         None, r'extern "C" fn (?P<name>\w+)\((?P<given>.*?)\)(?: -> (?P<result>\w+))?\s*(?=ghost|requires|ensures|\{)',
@@ -88,8 +86,7 @@ def symbols(text):
 
 
 def declared(language, text):
-    """Returns what a text declares: the shapes of the result and the parameters of each function, the fields of each struct, and the values
-    of constants."""
+    """Returns what a text declares: the shapes of each function, the fields of each struct, and the values of constants."""
     _, function, struct, field, constant = FORMS[language]
     found, renamed = {}, symbols(text)
     for it in re.finditer(function, text, re.S):
@@ -146,8 +143,7 @@ def of_rows(text):
 
 
 def differences(texts):
-    """Returns a line for each function, struct or constant of Rattle that another language lacks or declares otherwise, and for each
-    function that Rattle lacks. Languages but C may leave constants out."""
+    """Returns a line for each difference of another language from Rattle. Languages but C may leave constants out."""
     found = {language: declared(language, "\n".join(those.values())) for language, those in texts.items()}
     exported, lines = found.pop("Rattle"), []
     for language, those in found.items():
@@ -164,8 +160,7 @@ def differences(texts):
 
 
 def changes(language, text, exported):
-    """Yields what is changed in a text of a language, where, and what replaces it: the name of each function of Rattle, each number in its
-    declaration and in that of a struct, and each constant."""
+    """Yields what is changed in a text, where, and what replaces it: names of Rattle's, numbers and constants."""
     _, function, struct, _, constant = FORMS[language]
     renamed = symbols(text)
     for name, symbol in renamed.items():
@@ -196,8 +191,7 @@ def spoiled(texts):
 
 
 def written(counted):
-    """Checks that the files of scripts/declare-core are what it writes, and expects a complaint about each change of what it writes, or of
-    what this is written from."""
+    """Checks that files are what scripts/declare-core writes, and that each change of them, or of their sources, is noticed."""
     stale = list(declare_core.stale())
     for path in declare_core.FILES:
         counted.want(path not in stale, f"{path} isn't what scripts/declare-core writes")

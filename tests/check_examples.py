@@ -1,8 +1,6 @@
-"""check-examples PROGRAM [--few]: plays every example on the program, over both tables and on 1, 2, 3 and 16 workers, and compares
-text, status and standard error. It plays one of them with standard input and output that fail at each byte, or transfer few bytes at
-a time (tests/watch.c). With --few it plays two.
-
-The examples are the scripts of examples, with the text beside each, and the rows of examples/faults.txt."""
+"""check-examples PROGRAM [--few]: plays every example, and the rows of examples/faults.txt, over both tables and on 1, 2, 3 and 16
+workers, and compares text, status and standard error. One is played with standard input and output that fail at each byte, or transfer
+few bytes at a time (tests/watch.c). With --few it plays two."""
 import errno
 import os
 import shutil
@@ -16,8 +14,7 @@ from scripts.repository import ROOT, read_bytes
 
 TABLES = "words", "baton"
 FEW = "faults/bad_two_spaces", "examples/open_read_close.script"
-# These have a chain whose answer depends on what another chain has done: their texts are those of
-# one worker, who plays the chains in their order.
+# their texts are those of one worker: a chain's answer depends on what another one has done
 IN_ORDER = [f"examples/{it}.script" for it in (
     "allocation_fills_its_range", "read_of_nothing_wants_a_file", "replaced_between_two_members")]
 OPEN_READ_CLOSE = "examples/open_read_close.script"
@@ -33,8 +30,7 @@ STREAMS = [
 # how often standard input is read before that fails, and with which errors a read fails
 MOST_READS = 8_388_608
 READ_ERRORS = errno.EIO, errno.ECONNRESET, errno.EINTR
-# a script with a text for each of its four commands that print, and how many bytes they print one
-# after another
+# a script with a text for each of its four commands that print, and the bytes printed by each
 FOUR_TEXTS = "file a.txt 68656c6c6f\nsparse 1\nopen a.txt at 0\nsubmit\nread 0 0 5\nsubmit\nread 0 0 1\nsubmit\n"
 TEXTS, WHOLE = "sparse 0\n1.1.1 0\n2.1.1 5 68656c6c6f\n3.1.1 1 68\n", (0, 9, 17, 36)
 REFUSED = ("--workers 0", "--workers=0", "--workers=-1", "--workers 17", "--workers x", "--workers",
@@ -79,8 +75,7 @@ class Examples(Counted):
         self.compare(f"{what}, {variables}", run([self.program], script, **how), wanted)
 
     def readers(self):
-        """Standard input gives some bytes at a time, and each read fails in its turn, which no other read makes up for: the end is
-        read for too, and behind a bad line."""
+        """Standard input gives some bytes at a time, and each read fails in its turn, also that of the end."""
         script, text = read_bytes(OPEN_READ_CLOSE), text_beside(OPEN_READ_CLOSE)
         for step in range(1, len(script) + 1):
             self.narrow("standard input by few bytes", script, (0, text, ""), READ_BYTES=step)
@@ -92,8 +87,7 @@ class Examples(Counted):
                     self.narrow(f"{reads} reads", given, wanted, READ_BYTES=7, FAILING_READ=nth, READ_ERROR=error)
 
     def long_readers(self):
-        """Empty lines, one at a read, are read to the last one. Where the end is the last read that is made, they are too many
-        bytes; else what was read isn't looked at."""
+        """Empty lines are read to the last one: if the end is the last read that is made, they are too many bytes."""
         for lines, status, message in ((MOST_READS - 1, 3, "line 0: long-script"), (MOST_READS, 4, "read failed")):
             with tempfile.TemporaryFile() as file:
                 file.write(b"\n" * lines)
@@ -106,8 +100,7 @@ class Examples(Counted):
                 self.want(read == lines, f"of {lines} empty lines {read} were read")
 
     def writers(self):
-        """Standard output takes a byte at a time, and all that it has room for is written; or whole texts, and of one that it has no
-        room for nothing is, nor any later one."""
+        """Standard output takes a byte at a time, as far as it has room; or whole texts."""
         script, text = read_bytes(OPEN_READ_CLOSE), text_beside(OPEN_READ_CLOSE)
         for room in range(len(text) + 1):
             wanted = (4, text[:room], "fixfiles: write failed\n") if room < len(text) else (0, text, "")

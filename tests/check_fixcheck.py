@@ -18,12 +18,11 @@ from model.model import Player
 from model.orders import TooManyOrders, ending_of
 from scripts.programs import LEGAL, NOT_LEGAL, UNDECIDED, in_parallel, in_processes, run, verdict
 from model.random_scripts import random_scripts
-from model.replay import replayed
+from model.replay import Illegal, replayed
 from scripts.examples import examples
 from scripts.repository import keep
 from tests.spoiled_lines import parsed
 from model.told_history import complaint_of
-from model.illegal import Illegal
 
 # the answer of a lack of memory: a checker accepts it, and the model never returns it
 NO_MEMORY = re.compile(r"^\S+ -12$", re.MULTILINE)

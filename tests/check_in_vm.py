@@ -1,7 +1,6 @@
-"""check-in-vm FIXCHECK: tests kernel/in-vm, on stand-ins for QEMU (tests/machines.py): each play gets its own text, a script of several parts
-is sent whole, a wrong kernel is refused by conform, a machine that doesn't start or that oopses is named, and so is what is missing; the
-status is that of the command, and no machine is left, however in-vm ends. Where there are QEMU, liburing.a and a kernel (the variable
-KERNEL, or the newest /boot/vmlinuz-*), two scripts are played on a real machine and must print what the model prints."""
+"""check-in-vm FIXCHECK: tests kernel/in-vm, on stand-ins for QEMU (tests/machines.py): texts and statuses are passed on, faults and what
+is missing are named, a wrong kernel is refused by conform, and no machine is left. Where there are QEMU, liburing.a and a kernel (the
+variable KERNEL, or the newest /boot/vmlinuz-*), a real machine must print what the model prints."""
 import glob
 import os
 import shutil
@@ -57,7 +56,6 @@ class Checks(Counted):
         self.want(found == (0, play(script)[0], "") and self.has_ended(), f"a play of {len(script)} bytes ends with {found[0]} {found[1:]}"[:500])
 
     def ends(self, kind, words, status, part, how=None):
-        """Checks the status of in-vm, and a part of what it prints."""
         found = run([IN_VM, *words], LARGE, given_time(120), **(how or self.how(kind)))
         self.want(found[0] == status and part in found[1] + found[2], f"in-vm {words} on a machine that is {kind}: {found}"[:900])
 

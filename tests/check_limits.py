@@ -1,7 +1,7 @@
-"""check-limits PROGRAM [--few | --memory] [--seconds N]: plays the scripts of tests/limits.py on the program and compares text and
-status. It also plays those between the limits, over both tables and on one worker and on seven, or on each number of workers. Then
-it measures the memory that the largest submissions need; check-allocation-failures checks what the program does with less. With --few
-it plays some short scripts, with --memory it only measures, over one table. A run may take N seconds."""
+"""check-limits PROGRAM [--few | --memory] [--seconds N]: plays the scripts of tests/limits.py and compares text and status, and those
+between the limits over both tables, on one worker and on seven, or on each number of workers. Then it measures the memory that the
+largest submissions need. With --few it plays some short scripts, with --memory it only measures, over one table. A run may take N
+seconds."""
 import re
 
 from scripts.checks import Counted, arguments
@@ -14,11 +14,9 @@ KIB = 1024
 # the count of its holds; without a lock its word and the place of its file, in lists that are moved
 # over once as the table is made
 BYTES_PER_NUMBER = {"words": 100, "baton": 64}
-# what the tags of closed files may take: 8 bytes in a worker's list and in the joined one, for all
-# that may be closed
+# the tags of closed files: 8 bytes in a worker's list and in the joined one
 BYTES_OF_TAGS = 2 * 8 * CHAINS * MEMBERS * ENTRIES
-# what is played over each table: on one worker, and on a number that is neither the least nor a
-# power of two
+# one worker, and a number that is neither the least nor a power of two
 WORKERS = (1, 7)
 # and what depends on how many they are, on each number; the heaviest submission on some
 ALL_WORKERS = range(1, 17)
@@ -29,8 +27,7 @@ LONGEST = 120
 
 
 def ran(program, script, kibibytes=None):
-    """The status, the text and the message; in so much memory where that is given. Else nothing runs in the child before the program,
-    which would take longer than most plays."""
+    """The status, the text and the message. Without a limit nothing runs in the child before the program: that takes long."""
     return run(program, script, LONGEST, **(limited(kibibytes) if kibibytes else {}))
 
 
@@ -76,8 +73,7 @@ def check_memory(program, table, told):
     told.want(least <= 10 * 1024, "that is more than 10 MiB")
     for name, (script, text) in (("heaviest_submission", heaviest_submission()), ("text_of_8_megabytes", large_text(1))):
         least = least_memory(program, script)
-        # the script and its requests, the numbers, the closes with their tags, the lines, and the
-        # text as it grows
+        # the script and its requests, the numbers, the closes with tags, the lines, the text
         most = 8 * 1024 + (4 * len(script) + 65_728 * BYTES_PER_NUMBER[table] + BYTES_OF_TAGS + 4 * len(text)) // KIB
         print(f"limits: over {table} {name} plays in {least:,} KiB, for a script of {len(script):,} bytes and a text of {len(text):,}", flush=True)
         told.want(least <= most, f"{name} takes more than {most:,} KiB")

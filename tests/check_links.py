@@ -1,7 +1,6 @@
-"""check-links [FOLDER]: checks that the targets of the pages exist: the file of each link, the heading of each `#` and of each title that is
-quoted next to a link, each file that a page names, each target of make and each script; and that each table has a head. So it finds a page
-that is older than its subject. Of the pages of an unpacked archive, FOLDER, it checks the links, and that they name no command of make but
-as one of the repository."""
+"""check-links [FOLDER]: checks that the targets of the pages exist: the file of each link, the heading of each `#` and of each title
+quoted next to a link, each file, target of make and script that a page names; and that each table has a head. Of the pages of an
+unpacked archive, FOLDER, it checks the links, and that they name no command of make but as one of the repository."""
 import functools
 import glob
 import os
@@ -83,8 +82,7 @@ class Links(Counted):
                 self.want_on(page, NOT_KEPT.search(path) or os.path.isfile(f"{self.root}/{path}"), f"plays {path}, which is not there")
 
     def files(self, page, paragraph):
-        """A name without a folder, or with one of a crate's, is in the crate that was named last. One that is marked as new
-        is that of a file which a change would make."""
+        """A name without a folder is in the crate that was named last. One marked as new is that of a file to be made."""
         crate = None
         for name, new in re.findall(r"`([^`\n]+)`( \(new\))?", paragraph):
             first = name.split("/")[0]

@@ -1,8 +1,8 @@
 """check-meetings PROGRAM FIXCHECK [COUNT [SEED]] [--few] [--turn N]: checks that the texts of threads that run at the same time are
-legal. tests/step.c, which is preloaded, lets the threads run in turns of at most N instructions. COUNT random scripts, whose chains contend
-for two slots, are played so on 2 to 16 workers, over both tables alternately, and fixcheck judges each text. If few of the texts over a
-table differ from one worker's, the threads didn't meet, and that is an error. Then four workers play large submissions whose chains contend
-for 1, 16 or 256 slots, without turns and with. --few leaves these out; --turn 0 plays without turns."""
+legal. COUNT random scripts, whose chains contend for two slots, are played on 2 to 16 workers in turns of at most N instructions
+(tests/step.c). If few of the texts over a table differ from one worker's, the threads didn't meet, and that is an error. Then four
+workers play large submissions whose chains contend for 1, 16 or 256 slots, without turns and with. --few leaves these out; --turn 0
+plays without turns."""
 import random
 import re
 

@@ -1,7 +1,6 @@
-"""check-outcomes FIXCHECK [COUNT [SEED]] [--few]: checks that `fixcheck --all` lists every text that the rules allow, and no
-other, and `fixcheck --may` each answer: of COUNT tiny random scripts, which model/interleavings.py plays in every order, of the examples and of
-the questions of examples/questions. Wrong lists are reported. With --few it asks fixcheck about few requests. tests/check-meetings has
-fixcheck judge the texts of threads in turns."""
+"""check-outcomes FIXCHECK [COUNT [SEED]] [--few]: checks that `fixcheck --all` lists every text that the rules allow, and no other, and
+`fixcheck --may` each answer: of COUNT tiny random scripts, which model/interleavings.py plays in every order, of the examples and of the
+questions of examples/questions. Wrong lists are reported. With --few it asks about few requests."""
 import collections
 import contextlib
 import functools
@@ -10,13 +9,12 @@ import os
 import re
 
 from scripts.checks import Counted, arguments
-from model.illegal import Illegal
 from model.interleavings import Interleavings, TooManyOrders, texts_of_all_orders
 from scripts import listing
 from model.model import Player, Script
 from scripts.programs import in_parallel, in_processes, kept_script, run
 from model.random_scripts import random_scripts
-from model.replay import replayed
+from model.replay import Illegal, replayed
 from scripts.examples import text_beside
 from scripts.repository import ROOT, scripts_of
 
@@ -30,21 +28,16 @@ ASKED, CONTENDING = 150, 20
 FEW, FEW_CONTENDING = 30, 2
 # at least one of this many contending scripts has a list
 LISTED_OF = 4
-# contending scripts may have many states; those with more aren't asked of, and nor are those with
-# more texts
+# those with more states or more texts aren't asked of
 STATES, TEXTS = 20_000, 20_000
 # with so few states a list says what it lacks
 FEW_STATES = ("1", "4", "20")
 QUESTIONS = 8
-# what `fixcheck --may` says last where its list is whole, and where it may not be; places that no
-# request has
+# what `fixcheck --may` says last of a whole list, and of another; places that no request has
 ALL = "these are all, if no allocation fails"
 AT_LEAST = "at least these, if no allocation fails: not shown to be all within {} states and 1024 MiB"
 NOWHERE = ("0.1.1", "1.0.1", "1.1.0", "1.1.9", "1.9.1", "9.1.1")
 NO_PLACES = ("", "1", "1.1", "1.1.1.1", "1.1.x", "-1.1.1", "1..1")
-
-
-# lists and their comparison
 
 
 def list_of(fixcheck, script, *options):
@@ -89,9 +82,6 @@ def compared(fixcheck, case):
         if listing.Listing(len(spoiled), True, [(it, []) for it in spoiled]).complaint(every.texts) is None:
             wrong = wrong or f"nothing complains of the list {spoiled!r}"
     return wrong and f"{name}: {wrong}", len(listed), every.orders
-
-
-# what `fixcheck --may` prints
 
 
 def answers_in(texts):
@@ -159,8 +149,7 @@ class Checks(Counted):
         print(f"outcomes: {len(done)} tiny scripts were played in all {orders} orders, which give {texts} texts; {several} have several")
 
     def listed(self, seed, is_few):
-        """Tiny scripts, and larger ones whose chains contend, each with the list of its texts. All tiny ones have one, and enough of the
-        others."""
+        """Yields tiny scripts, and larger ones whose chains contend, each with the list of its texts. Enough of them have one."""
         tiny, contending = (FEW, FEW_CONTENDING) if is_few else (ASKED, CONTENDING)
         for shape, count, least in (("tiny", tiny, tiny), ("contending", contending, contending // LISTED_OF)):
             listed = 0
@@ -172,7 +161,6 @@ class Checks(Counted):
             self.want(listed >= least, f"{listed} of {count} {shape} scripts have a list, and at least {least} are expected")
 
     def may(self, path, place, *options):
-        """The status and the lines of `fixcheck --may`."""
         status, lines, message = run([self.fixcheck, "--may", *options, "--", path, place])
         return status, (lines or message).split("\n")[:-1]
 

@@ -1,7 +1,6 @@
 """check-page PROGRAM [FIXCHECK]: plays and runs what the pages show: scripts, commands, the table of faults, the tutorial of
-docs/use/RECORDING.md, the programs of docs/use/BAD_ENTRY.md, C.md, RUST.md and DIRECT.md, and kept outputs. With FIXCHECK it looks at
-man/fixfiles.1 and man/fixcheck.1 too: their options, which are those of the completions too, their numbers and statuses are those of the
-programs' help, their examples are played, and mandoc, where it is there, finds nothing to complain of."""
+docs/use/RECORDING.md, programs, and kept outputs. With FIXCHECK it looks at man/fixfiles.1 and man/fixcheck.1 too: they and the
+completions are as the programs' help, their examples are played, and mandoc finds nothing to complain of."""
 import os
 import re
 import shutil
@@ -18,13 +17,11 @@ from tests.echo_clients import run_clients
 OF_FIXCHECK, OF_MANDOC = 13, 3
 # the first lines of README.md that name its readers, and its largest number of bytes
 HEAD, MOST_BYTES = 30, 8_200
-# the number of cases of the tutorial, that of logs of which one must show the bug, the most lines
-# of a shortened log, and the number of logs without the bug
+# cases of the tutorial; logs, of which one shows the bug, a short one's lines; legal logs
 OF_TUTORIAL, LOGS, MOST_LINES, LEGAL_LOGS = 6, 20, 15, 3
 
 
 def texts_of(page):
-    """The indented blocks of a page, each as a text."""
     return ["".join(f"{line}\n" for line in it) for it in blocks(read(page))]
 
 
@@ -61,8 +58,7 @@ def sample_of(page):
 
 
 def is_history(lines):
-    """Checks whether lines show the state of a.txt, which is at slot 0, after each event: by the table of steps in docs/inside/MODEL.md, and each
-    event is allowed."""
+    """Checks whether lines show the state of a.txt at slot 0 after each event, and each event is allowed."""
     place, holds = "at slot 0", 0
     for line in lines:
         event = re.match(r"\w+ +(\w+)\(", line)[1]
@@ -130,8 +126,7 @@ def manual_pages(programs):
 
 
 def first_commands(checks):
-    """Checks that README.md is short, and that its first lines name both readers. Runs the sample's script on this machine's kernel, as its first
-    command does, and the server of its next command over the library."""
+    """Checks that README.md is short and names both readers first, and what its first commands print."""
     text = read("README.md")
     head = "\n".join(text.split("\n")[:HEAD])
     is_short = len(text.encode()) <= MOST_BYTES and all(it in head for it in ("server's author", "kernel's maintainer"))

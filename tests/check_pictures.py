@@ -1,6 +1,5 @@
-"""check-pictures FIXCHECK [--draw]: draws the pictures of docs/pictures again, from the histories that FIXCHECK prints, and compares them
-with the kept ones; with --draw it keeps the new ones. Checks that draw-history refuses the text of another script, that it says what a
-picture is, that it draws chains that share no slot side by side, and that docs/use/CHECKING.md shows the history that FIXCHECK prints."""
+"""check-pictures FIXCHECK [--draw]: compares the pictures of docs/pictures with those of the histories that FIXCHECK prints; with --draw
+it keeps the new ones. Checks what draw-history refuses, says and places side by side."""
 import glob
 import os
 import re

@@ -1,10 +1,9 @@
-"""check-steps: makes calls of the lasting table in every order of their steps: small programs of one, two or three threads over the Rust
-crate's stand-in for the core (bindings/rust/src/access/stand_in), which agrees with the core word by word (check-bindings). The programs,
-with the number of states of each, are in bindings/rust/src/access/tests/steps.rs.
+"""check-steps: makes calls of the lasting table in every order of their steps: small programs of up to three threads over the Rust crate's
+stand-in for the core, which agrees with the core word by word (check-bindings). bindings/rust/src/access/tests/steps.rs has the programs.
 
-Then it makes them over the wrong tables of tests/wrong_steps.txt, each of which must be found. A wrong table is a line with its name, the
-test that finds it, the fault that is found, and pairs of a text that the sources have once and what replaces it, with tabs between them;
-`\\n` is the end of a line. So each fault that the checks can report is reported of some wrong table."""
+Then it makes them over the wrong tables of tests/wrong_steps.txt, each of which must be found. A wrong table is a line with its name,
+the test that finds it, the fault that is found, and pairs of a text that the sources have once and what replaces it, with tabs between
+them; `\\n` is the end of a line. Each fault that the checks can report is reported of some wrong table."""
 import glob
 import os
 import re

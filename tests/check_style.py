@@ -1,9 +1,7 @@
 """check-style [PATH ..]: prints the places in the files and folders PATH, or in all, that the style of this repository avoids: words
-(style.txt) in pages, manual pages, comments, heads of scripts and names in code; sentences of a page with more than 25 words; titles and
-comments that begin with What, Whether, Which, How or That. Code samples, names in backticks and the targets of links don't count.
-
-It also prints names that stand for two things in the product: types that other modules can use, functions that several crates export,
-definitions, and modules with the name of an item that their crate exports. The tables count as one crate. `make style` runs it."""
+(style.txt) in pages, comments, heads of scripts and names in code; sentences of a page with more than 25 words; titles and comments that
+begin with What, Whether, Which, How or That. Code samples, names in backticks and the targets of links don't count. It also prints names
+that stand for two things in the product. The tables count as one crate. `make style` runs it."""
 import glob
 import os
 import re
@@ -112,8 +110,7 @@ def faults(path, kind, text, those):
 
 
 def samples(style, those):
-    """Each rule finds its wrong text once, as a page and as a comment, and its right text not. A sentence of one word more is found,
-    wherever it is, and shorter ones and code aren't."""
+    """Each rule finds its wrong text once, as a page and as a comment, and its right text not. So it is with long sentences."""
     for it in those:
         for text, wanted in ((it.wrong, 1), (it.right, 0)):
             comment = comments("\n".join(f"    /// {line}" for line in text.split("\n")), "///")

@@ -1,10 +1,9 @@
-"""check-verdicts PROGRAM [--few]: checks that fixcheck, the PROGRAM, prints what examples/judged has for each script and text, with its
-exit status; its arguments, and what it can't read or write; and what it prints for texts that are too long or too odd to be kept as
-lines. --few leaves out what tests/spoil.c can't replace: failing writes.
+"""check-verdicts PROGRAM [--few]: checks that fixcheck, the PROGRAM, prints what examples/judged has for each script and text; its
+arguments, and what it can't read or write; and texts that are too long or too odd to be kept as lines. --few leaves out what tests/spoil.c
+can't replace: failing writes.
 
 A file NAME.judged has indented lines under the headings `script`, `text` and `fixcheck OPTIONS, status N`: for the script and text
-above, fixcheck, or with `judge-linux` kernel/judge-linux, prints these lines, and nothing on standard error. A line that begins with `#` is a
-comment."""
+above, fixcheck, or with `judge-linux` kernel/judge-linux, prints these lines, and nothing on standard error. `#` begins a comment."""
 import contextlib
 import errno
 import glob
@@ -21,24 +20,19 @@ from scripts.repository import ROOT, read, read_bytes, write
 
 # with this many reads of 4,096 bytes a submission has a text of more than 2,000,000 bytes
 READS = 256
-# with this many opens at one slot a submission has a state for each, of 2 bytes a chain and 256
-# more: more than 1 MiB
+# so many opens at one slot have states, of 2 bytes a chain and 256 more, of more than 1 MiB
 OPENS = 1_000
-# numbers of opens at one slot beside a chain that has no order: with the second more states than a
-# set of lines is looked for in, and fewer than a verdict
+# opens at one slot beside a conflict: with the second number a set of lines isn't looked for
 FEW_OPENS, MANY_OPENS = 8, 14
-# a number of chains at slots of their own, and of reads beside an update of their slot, each of
-# which may find two files; or of opens at one slot
+# chains at slots of their own; reads beside an update of their slot, or opens at one slot
 OWN, BESIDE = 64, 10
-# so many reads beside an update, twice; so many submissions of one such read; and how much memory a
-# program may have that keeps 8 MiB of their texts
+# reads beside an update, twice; submissions of one; and memory for 8 MiB of their texts
 TWICE, OFTEN, LIST_MIB = 8, 60, 64
 # so many opens at any of as many slots leave a ring for each way to choose the slots; then so many
 # submissions, each of so many long reads: 8 MB of text. A program that makes a text for each of the
 # 120 rings has no room for them in so many MiB
 ANY, AFTER, LONG, ANY_MIB = 5, 100, 10, 128
-# so many opens at one slot have more states than so many MiB hold, and a program that holds no more
-# than that, beside itself, lists some texts of theirs
+# opens at one slot with more states than so many MiB hold, and what the program needs besides
 HELD, HELD_MIB, BESIDE_MIB = 100, 192, 32
 # the states of the searches before the last one, on a terminal: quarters of the limit
 TRIED = {15_625, 62_500, 250_000}
@@ -90,17 +84,14 @@ class Verdicts(Counted):
         self.program, self.folder = program, folder
 
     def path(self, name, contents):
-        """A file with these contents."""
         path = os.path.join(self.folder, name)
         write(path, contents)
         return path
 
     def run(self, words, given=b"", **how):
-        """The status, what is written, and the message."""
         return run_bytes([self.program, *words], given, **how)
 
     def want_told(self, what, words, wanted, given=b"", **how):
-        """It ends with this status, and writes this and this message."""
         found = self.run(words, given, **how)
         self.want(found == wanted, f"{what}: {found}, and not {wanted}"[:2000])
 
@@ -232,8 +223,7 @@ class Verdicts(Counted):
         self.want_told("states that 4 MiB hold", ["--memory=4", *paths], (0, legal, b""))
 
     def fewer_lines(self):
-        """A file that is at a slot no more isn't read again, whatever the other lines say about the slot; if many files come there that
-        isn't seen in time, and all lines are named."""
+        """A file that is at a slot no more isn't read again; of many files that isn't seen in time, and all lines are named."""
         for opens in (FEW_OPENS, MANY_OPENS):
             script = lines("file a 61", "file b 62", "sparse 1", "open b at 0 link", "read 0 0 1 link", "read 0 0 1", *["open a at 0"] * opens, "submit")
             closed = ["closed 1.1.1.0 b", *(f"closed 1.{it + 2}.1.0 a" for it in range(opens))]
@@ -271,8 +261,7 @@ class Verdicts(Counted):
         self.want((status, written, b"") == self.run(words), f"on a terminal a verdict is {written}, with status {status}")
 
     def lists(self):
-        """Chains at slots of their own are played one after another, so that each access leads to one state. Reads that aren't asked
-        for are left alone. What a list may lack is said with the limits."""
+        """Chains at slots of their own are played one after another; reads that aren't asked for are left alone."""
         own = [f"{request}{link}" for it in range(OWN) for request, link in ((f"open a at {it}", " link"), (f"read {it} 0 1", " link"), (f"close {it}", ""))]
         path = self.path("own", lines("file a 61", f"sparse {OWN}", *own, "submit").encode())
         states = 3 * OWN + 1
@@ -291,8 +280,7 @@ class Verdicts(Counted):
         opens = self.path("opens", lines("file a 61", "sparse 1", *["open a at 0"] * BESIDE, "submit").encode())
         self.want_list("answers that a MiB doesn't hold", ["--memory=1", "--may", opens, "1.1.1"], 6, -1, f"at least these, {all_of}: {some}")
         self.want_list("answers that 16 MiB hold", ["--memory=16", "--may", opens, "1.1.1"], 0, -1, f"these are all, {all_of}")
-        # a state for each set of reads before the update; and after it one for each number of reads
-        # left, which are played in one order
+        # a state for each set of reads before the update, and then for each number of reads
         states = 2 ** BESIDE * (BESIDE // 2 + 2)
         self.want_list("all texts of reads beside an update", [f"--states={states}", "--all=0", path], 0, 0, f"{2 ** BESIDE} texts, {all_of}; the first 0:")
         some = f"if no allocation fails: not shown to be all within {states - 1} states and 1024 MiB"
@@ -300,8 +288,7 @@ class Verdicts(Counted):
         self.whole_scripts(own)
 
     def whole_scripts(self, own):
-        """The limits of a list of texts hold over the whole script. Two rings are left by two opens at one slot, which have five states:
-        the chains after them are searched for at each. At one ring they are searched for once, whatever was printed before."""
+        """The limits of a list hold over the whole script: chains are searched for at each ring before them, once."""
         all_of, states = "if no allocation fails", 5 + 2 * (3 * OWN + 1)
         two = self.path("two", lines("file a 61", "file b 62", f"sparse {OWN + 1}", f"open a at {OWN}", f"open b at {OWN}", "submit", *own, "submit").encode())
         self.want_list("all texts from two rings", [f"--states={states}", "--all=1", two], 0, 0, f"2 texts, {all_of}; the first 1:")
@@ -332,7 +319,6 @@ class Verdicts(Counted):
         self.want_list("texts within their memory", [f"--memory={HELD_MIB}", "--all=1", path], 6, 0, head, **how)
 
     def want_list(self, what, words, status, nth, line, **how):
-        """A list ends with this status, and its nth line is this."""
         ended, written, message = self.run(words, **how)
         told = written.decode().splitlines() or [""]
         self.want((ended, message) == (status, b"") and re.fullmatch(line, told[nth]), f"{what}: status {ended}, {told[nth]!r}, {message}")

@@ -1,10 +1,6 @@
-"""check-wrong-bodies [--prover]: checks that tests/wrong-bodies distinguishes accepted edits from refused ones if several are tried in
-one check. Two of four edits of fx_baton change nothing: one in a function that may wait, and one in a function that calls a refused
-one. These must be reported as ACCEPTED, the other two as refused, each in its function. The output of scripts/refusals.py is
-checked too.
-
-The prover's output is RECORDED, which it printed for these edits; with --prover it comes from the prover itself, in a copy of the
-crates."""
+"""check-wrong-bodies [--prover]: checks that tests/wrong-bodies distinguishes accepted edits from refused ones in one check, and the
+output of scripts/refusals.py. Two of four edits of fx_baton change nothing: one in a function that may wait, and one in a function that
+calls a refused one. The prover's output is RECORDED; with --prover it comes from the prover itself, in a copy of the crates."""
 import contextlib
 import io
 import sys

@@ -1,7 +1,6 @@
-"""compare PROGRAM [COUNT [SEED]] [--few | --large]: plays random scripts on the program and on model/model.py, and compares text,
-status and standard error. In half of the scripts some bytes, words or lines were changed. Then it plays the largest submissions, and last the
-examples, the scripts of tests/limits.py and each beginning of a script: so the model agrees with their texts, which were derived by hand.
-With --few it plays only the random scripts, and keeps none; with --large only one of the largest submissions."""
+"""compare PROGRAM [COUNT [SEED]] [--few | --large]: plays random scripts, half of them with changes, on the program and on
+model/model.py, and compares text, status and standard error; then the largest submissions, the examples, the scripts of tests/limits.py
+and each beginning of a script. With --few it plays random ones alone, and keeps none; with --large one of the largest."""
 import itertools
 import random
 
@@ -101,8 +100,7 @@ def command():
             hard += hard_links_that_matter(script, written) if fault is None else 0
         played += 1
     if keeps:
-        # one script in four has such a member, or the random scripts don't show what a hard link
-        # does
+        # one in four, so that the random scripts show what a hard link does
         checks.want(hard >= given.count // 4, f"{hard} members with a failed hard link are few")
         checks.want(len(set(names)) >= FAULTS, f"the changed scripts have {len(set(names))} faults, which are few")
         checks.want(len(large) == LARGE, f"{len(large)} of the largest submissions were played, and not {LARGE}")

@@ -1,6 +1,5 @@
-"""Runs a program and counts, by tests/watch.c, the threads that it started, the bytes that it requested, its allocations and its
-writes. An allocation is a call that requests memory from the C library, from the start of main on. Also fails one allocation of a run
-after another, and checks each outcome."""
+"""Runs a program and counts, by tests/watch.c, its threads, bytes, allocations and writes: an allocation is a call that requests memory
+from the C library, from the start of main on. Also fails one allocation of a run after another, and checks each outcome."""
 import collections
 import shutil
 import sys
@@ -38,8 +37,7 @@ def counted(command, script, failing=0):
 
 
 def spread(count, most):
-    """Returns which of `count` allocations fail: all, or if they are more than `most`, a third of that at the begin, at the end and
-    between, evenly spread."""
+    """Returns which of `count` allocations fail: all, or of more than `most` some at the begin, at the end and between."""
     third = most // 3
     if count <= most:
         return range(1, count + 1)
@@ -63,8 +61,7 @@ class Failures(Counted):
         return True
 
     def fail(self, name, command, given, kind_of, whole, wanted=()):
-        """Runs a command, and fails each of its allocations in turn. `kind_of` names an outcome, given that of a run without a failure, or
-        is None if it is not allowed. Without a failure it is `whole`, and each of `wanted` must occur."""
+        """Fails each allocation of a command in turn. `kind_of` names an outcome, or is None; each of `wanted` must occur."""
         kinds, wrong, ran = collections.Counter(), [], counted(command, given)
         count, ended = ran.allocations, ran.ended
         if kind_of(ended, ended) != whole or count == 0:

@@ -11,7 +11,6 @@ def lines(*parts):
 
 
 def linked(*requests):
-    """One chain of requests."""
     return [f"{it} link" for it in requests[:-1]] + [requests[-1]]
 
 

@@ -142,8 +142,7 @@ ROWS = [
     (f"{FED}call 4 update 1 0\ndone 3.1 1 41\n", NOT_A_LOG, "line 9: a pipe that is read is installed once, and p 2 times"),
     (f"{PIPE}call 2 read 0 0 1 link ; close 0\n", NOT_A_LOG, "line 4: a read of a pipe is a call of its own"),
 ]
-# an answer -12, which the rules allow a read: the judge doesn't decide such a log, but refuses what
-# comes before
+# after an answer -12 the judge decides nothing, but refuses what comes before
 NO_MEMORY = f"{OPENED}call 3 read 0 0 1 link ; close 0\ndone 3.1 -12\n"
 ROWS += [
     (f"{NO_MEMORY}done 3.2 -125\n", UNDECIDED, "undecided: line 8: done 3.1 -12"),
@@ -301,7 +300,6 @@ def wrong_rows(yachtlog, room):
 
 
 def count():
-    """Returns the number of rows."""
     return len(ROWS) + len(ARGUMENTS) + len(LACKING)
 
 

@@ -1,7 +1,5 @@
-"""machines KIND: speaks as the virtual machine of kernel/in-vm does (kernel/vm/init.c), in place of QEMU, for tests/check-in-vm. KIND is
-`right`, which plays as the model does; `late`, which answers the first play after the second one; or a fault: `wrong` changes the result
-of 1.1.1, `dead` ends at once, `oopses` ends at the first script, after a line on its console, and `lacks-io-uring` has a player that finds
-none. The file of the variable PID_FILE gets the number of the process."""
+"""machines KIND: speaks as the virtual machine of kernel/in-vm does (kernel/vm/init.c), for tests/check-in-vm. KIND is `right`, which
+plays as the model does; `late`, which answers the first play after the second one; or a fault. PID_FILE gets the number of the process."""
 import os
 import re
 import sys

@@ -16,8 +16,7 @@ ENDLESS = "closed 1.1.1.0 a\n" * 4_096
 
 
 class Concurrent(Player):
-    """The model, but chains are played concurrently, a member of each at a time, and reads look up their files first. With
-    `closes_at_removal` a read finds nothing in a file that was removed after the look-up."""
+    """The model, but chains take turns, and reads look up their files first; then `closes_at_removal` may find none."""
 
     closes_at_removal = False
 

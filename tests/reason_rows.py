@@ -1,5 +1,4 @@
-"""Rows for tests/reasons.py, each derived by hand: for each rule steps that follow from LOG, and last steps in their place that don't. wrong_rows
-yields each row that comes out otherwise."""
+"""Rows for tests/reasons.py, derived by hand: for each rule steps that follow from LOG, and last steps in their place that don't."""
 from collections import namedtuple
 
 from tests.reasons import ACCESS, EVENT, GONE, PUT, complaint
@@ -116,8 +115,7 @@ B_IS_GONE = [*B_IS_THERE, closes_b, of_lines(20, 30), step("then", (), GONE_B, e
 B_IS_GONE_SOONER = [*B_IS_GONE, of_lines(20, 28), step("then", (), GONE_B, event(28), premises=(3, 6))]
 # an order that doesn't end at an event, and an open at any slot
 NO_LANDING = [step("follows", LOOKED, PUT_A, access(8)), step("calls", (28,), event(28), (PUT, (10, 2, 0)))]
-# steps that come first, the last one, which follows, and others in its place, which don't: steps,
-# or what of the last one is another
+# steps that come first, the last one, and others in its place, or what of it is another
 ROWS = [
     ([], of_lines(5, 6),
      [of_lines(6, 5), of_lines(6, 6), of_lines(4, 5), of_lines(1, 5), of_lines(35, 36), of_lines(0, 5),

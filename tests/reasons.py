@@ -1,10 +1,10 @@
-"""reasons LOG: checks the reason why a log of calls in flight is not legal: whether each of its steps follows from the log and from earlier
-steps, and whether they contradict each other. The exit status is 0 if it is so, 1 if it isn't, and 2 if no reason is found.
+"""reasons LOG: checks whether each step of the reason why a log is not legal follows from the log and from earlier steps, and whether they
+contradict each other. The exit status is 0 if it is so, 1 if it isn't, and 2 if no reason is found.
 
-Written from docs/inside/FLIGHT.md and docs/inside/MODEL.md alone; it shares the reader of lines with the module yachtlog, and nothing with
-the library. A step is the rule, the lines of the events that it is applied to, the number of an access, the numbers of earlier steps, the
-earlier point, the later point, and whether the points differ in time. A point is EVENT and its line, ACCESS, the line of the answer and a
-number, PUT and a mark, or GONE, a mark and a slot."""
+Written from docs/inside/FLIGHT.md and docs/inside/MODEL.md alone; it shares only the reader of lines with the library's modules. A step
+is the rule, the lines of its events, the number of an access, the numbers of earlier steps, the earlier point, the later point, and
+whether they differ in time. A point is EVENT and its line, ACCESS, the line of the answer and a number, PUT and a mark, or GONE, a mark
+and a slot."""
 import sys
 
 import yachtlines
@@ -36,7 +36,6 @@ class Log:
         self.size = self.read.slots
 
     def chain(self, call):
-        """Returns the requests of a call."""
         want(call in self.calls, f"there is no call {call}")
         return self.read.chains[call]
 
@@ -50,7 +49,6 @@ class Log:
         return self.events[line]
 
     def call_at(self, line):
-        """Returns the call that a line begins."""
         return self.event_at(line, "call").call
 
     def answer_at(self, line):
@@ -65,8 +63,7 @@ class Log:
         return call, found
 
     def access(self, call_line, line, number):
-        """Returns what is known of an access of the member that a line answers, by the answer: the slot that the access leaves, with the file
-        there or None; or None if nothing is known of it. Raises Wrong if the member didn't surely make that access."""
+        """Returns the slot that an access leaves and the file there, or None if the answer doesn't show it."""
         call = self.call_at(call_line)
         answered, member, result, _ = self.answer_at(line)
         want(answered == call, f"line {line} doesn't answer call {call}")
@@ -106,8 +103,7 @@ class Log:
         return [request.slot] if request.kind in ("close", "read", "look") and result >= 0 else []
 
     def changes(self, before):
-        """Yields the accesses that calls before a line may make and that put or take a file: the call, the member, the number of the access, the
-        slot, or None if it may be any, and the file that it installs, or None."""
+        """Yields the accesses that calls before a line may make: call, member, number, slot (None for any) and new file."""
         for call, line in self.calls.items():
             for member, it in enumerate(self.chain(call) if line < before else [], 1):
                 if it.kind in ("close", "open") and not self.refusal(it):
@@ -121,8 +117,7 @@ class Log:
         return [file for *_, at, file in self.changes(before) if file and at in (slot, None)]
 
     def takers(self, slot, before):
-        """Yields the accesses that calls before a line may make to a slot and that take its file: the call, the member, the number of the access,
-        and the file that it installs, or None."""
+        """Yields the accesses before a line that may take the file of a slot: call, member, number and new file."""
         return ((*access, file) for *access, at, file in self.changes(before) if at == slot)
 
     def refusal(self, request):
@@ -144,8 +139,7 @@ class Log:
         return (self.lines[file[:2]], self.read.answers[file[:2]].result) if file[:2] in self.lines else (0, 0)
 
     def left_before(self, slot, before):
-        """Yields for each access to a slot that was answered before a line, and whose answer says what it leaves there, the line of its call
-        and the file, or None."""
+        """Yields what accesses to a slot leave that were answered before a line, with the line of the call."""
         for (call, _), line in self.lines.items():
             for left in self.accesses_of(line) if line < before else ():
                 if left and left[0] == slot:
@@ -171,9 +165,9 @@ def is_put(point):
 
 
 class Reason:
-    """The steps of a reason up to some step: `known` has the order of each. The rules are methods. Each gets the lines and the access of a step,
-    the orders of its premises, and the points that it says it orders, which alone name some files and slots; and returns the order that the
-    step adds: both points, and whether they differ in time."""
+    """The steps of a reason so far: `known` has the order of each. The rules are methods: each gets the lines and the access of a
+    step, the orders of its premises, and its points, and returns the order that the step adds: both points, and whether they differ
+    in time."""
 
     def __init__(self, log):
         self.log, self.known = log, []

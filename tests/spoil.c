@@ -12,8 +12,7 @@
  *   words     it gets none of its arguments
  *
  * If there is no text, byte and line change the message, and if there is neither, an empty line is
- * written. tests/check-checks uses it. It is linked statically, so that what is preloaded into the
- * program isn't preloaded into this. */
+ * written. It is linked statically, so that what is preloaded into the program isn't into this. */
 #define _GNU_SOURCE
 #include <stdio.h>
 #include <stdlib.h>

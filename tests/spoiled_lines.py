@@ -1,7 +1,5 @@
-"""Spoils a line of a text, by kinds, and looks whether a refusal names it: the command whose line was spoiled, and the line.
-
-A verdict names a line by its number; a lost line by its place, or by the file that it reported closed. What names a line names its
-command too."""
+"""Spoils a line of a text, by kinds, and looks whether a refusal names it: the command, and the line by its number or, if it is lost, by
+its place or its file. What names a line names its command too."""
 import functools
 import re
 

@@ -1,9 +1,8 @@
-/* Runs the threads of the program into which it is preloaded in turns of a few instructions, from
- * the start of its first thread to the end of one, however many processors there are: the trap flag
- * of x86-64 raises SIGTRAP after every instruction, and the handler counts, and passes the turn to
- * a thread drawn at random. So threads meet of which the first would otherwise end before the next
- * one starts. The variable SEED is the seed of the draws, and TURN the most instructions of a turn.
- * tests/check-meetings plays with it.
+/* Runs the threads of the program into which it is preloaded in turns of a few instructions: the
+ * trap flag of x86-64 raises SIGTRAP after every instruction, and the handler counts, and passes
+ * the turn to a thread drawn at random. So threads meet of which the first would otherwise end
+ * before the next one starts. SEED is the seed of the draws, and TURN the most instructions of a
+ * turn.
  *
  * A thread passes its turn on before a system call in which it may wait for another thread, and
  * waits for a turn after it. The C library's own creation and joining of threads isn't stepped,

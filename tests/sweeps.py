@@ -1,7 +1,6 @@
-"""Makes scripts between the limits of the language and of the table: for each thing that has a size one script, or one for each size. For
-lists, tables, and the files that the end closes, that is every size up to the limit; for all others each power of two, one less and
-one more, up to the limit, and the limit. Each has the text that it must write: that of model/model.py, which the order of chains doesn't
-change. tests/check-limits plays them."""
+"""Makes scripts between the limits of the language and of the table, of each size up to the limit for lists, tables and what the end
+closes, and else of each power of two, one less and one more, and the limit. model/model.py writes the texts, which the order of chains
+doesn't change."""
 from tests.limits import BYTES, CHAINS, ENTRIES, FILES, LARGEST_TAG, MEMBERS, SCRIPT_BYTES, SLOTS, lines, linked
 from model.model import play
 
@@ -11,8 +10,7 @@ REQUESTS = CHAINS * MEMBERS
 EACH_SIZE = range(1, SLOTS + 1)
 # how many files the requests of a submission may close at most
 WEIGHT = REQUESTS * ENTRIES
-# those of which each number of workers is tried: how many there are decides how a table is shared,
-# and each has lists of its own
+# played by each number of workers, which decides how a table is shared
 BY_WORKERS = ("openings", "chains", "heavy_chains", "requests")
 
 
@@ -29,12 +27,10 @@ def hexed(count):
 
 
 def in_chains(requests):
-    """Requests in chains of the most members."""
     return [it for at in range(0, len(requests), MEMBERS) for it in linked(*requests[at : at + MEMBERS])]
 
 
 def zeros(count):
-    """A list of that many entries of the first file."""
     return ",".join(["0"] * count)
 
 
@@ -44,8 +40,7 @@ def tags(first, places=()):
 
 
 def lists():
-    """A list of each size is registered, updated between submissions, and unregistered. Each third entry has no file. In every second
-    list each file has a tag of its own: those that the update replaces, and those that are left."""
+    """A list of each size, each third entry without a file, is registered, updated and unregistered; each second has tags."""
     for count in EACH_SIZE:
         files, has_tags = [it % 3 != 2 for it in range(count)], count % 2
         yield f"register {','.join('0' if it else '-1' for it in files)}{tags(7, files * has_tags)}"
@@ -54,8 +49,7 @@ def lists():
 
 
 def tagged_tables():
-    """A sparse table of each size is filled with tagged files by one update, a submission closes every second one of them, and
-    the table is unregistered."""
+    """A sparse table of each size is filled with tagged files; a submission closes every second one, and the table is unregistered."""
     for count in sizes(SLOTS):
         yield from (f"sparse {count}", f"regupdate 0 {zeros(count)}{tags(1, [True] * count)}")
         yield from (*(f"close {it}" for it in range(0, count, 2)), "submit", "unregister")
@@ -67,8 +61,7 @@ def ends(count):
 
 
 def tables():
-    """A sparse table of each size is filled, an open at any slot finds none free, each file is read, and the table is
-    unregistered."""
+    """A sparse table of each size is filled, an open at any slot finds none free, each file is read, and the table is unregistered."""
     for count in EACH_SIZE:
         yield from (f"sparse {count}", *(f"open a.txt at {it}" for it in range(count)), "submit")
         yield from ("open a.txt any", *(f"read {it} 0 5" for it in range(count)), "submit", "unregister")

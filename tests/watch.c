@@ -12,9 +12,8 @@
  *   ROOM                 the bytes that all writes take; one without room fails with ENOSPC, as on
  *                        a full disk
  *
- * Allocations are the calls of malloc, calloc, realloc, posix_memalign and aligned_alloc from the
- * start of main to its end. The counts are there however the program ends: tests/counts.py reads
- * them, and tests/check-examples has the streams fail. */
+ * Allocations are those from the start of main to its end. The counts are there however the program
+ * ends: tests/counts.py reads them, and tests/check-examples has the streams fail. */
 #define _GNU_SOURCE
 #include <dlfcn.h>
 #include <errno.h>

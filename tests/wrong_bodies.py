@@ -1,13 +1,12 @@
-"""wrong-bodies [--named] [--beside N] [--gate BEGAN LOG] [NAME..]: tries the edits of crates/*/wrong-bodies.txt (scripts/edits.py), for which the
-gate has no time: all, those of a crate, or CRATE/EDIT. With --named it tries only those of the first table of crates/WRONG_BODIES.md that
-nothing but the prover refuses, as `make test` does. It tries N crates at a time. wrong-bodies --fit only checks that each edit can be
-applied, also those of must-fail/. With --gate it runs beside the gate; BEGAN is a file older than the gate, LOG the gate's output: a crate's
-edits are tried once the gate has proved the crates below, over those libraries and by one job.
+"""wrong-bodies [--named] [--beside N] [--gate BEGAN LOG] [NAME..]: tries the edits of crates/*/wrong-bodies.txt (scripts/edits.py), for
+which the gate has no time: all, those of a crate, or CRATE/EDIT; N crates at a time. With --named it tries those of the first table of
+crates/WRONG_BODIES.md that nothing but the prover refuses, as `make test` does. wrong-bodies --fit only checks that each edit can be
+applied, also those of must-fail/. With --gate (scripts/proved.py) a crate's edits are tried once the gate has proved the crates below, over
+those libraries and by one job.
 
-Each edit changes the meaning of a body, and the prover must refuse the function. A caller knows only the contract of a function, so
-edits of different functions don't affect each other and are tried in one check, in a copy of the crates. An edit that isn't refused in its
-function is tried again alone, in a check of the whole crate, and then a refusal anywhere counts, and is printed with its place: a body
-without a contract is refused at its caller. The prover's output of each check is kept in build/wrong-bodies/."""
+A caller knows only the contract of a function, so edits of different functions are tried in one check, in a copy of the crates. One that
+isn't refused in its function is tried again alone, in a check of the whole crate, where a refusal anywhere counts: a body without a
+contract is refused at its caller. build/wrong-bodies/ has the prover's output."""
 import argparse
 import collections
 import concurrent.futures
@@ -33,8 +32,7 @@ NOT_PROVED = re.compile(r"logic=not-proved|only=\d+ proved=\d+$")
 
 
 class Edit:
-    """An edit, with the functions that it is in, each as (module, type, name), where a function of no impl has no type; and what the
-    prover is likely to call each, or the module where the edit is in none."""
+    """An edit, with the functions that it is in, each as (module, type, name), and what the prover is likely to call each."""
 
     def __init__(self, crate, name, text):
         self.crate, self.name = crate, f"{crate}/{name}"
@@ -78,8 +76,7 @@ def module_of(file):
 
 
 def function_at(text, place):
-    """The trait and the type of the impl and the name of the function at this place of a source; '' where there is
-    none."""
+    """The trait and the type of the impl and the name of the function at this place of a source, or ''."""
     depth, name, kind, trait = 0, "", "", ""
     for line in text[: text.index("\n", place)].split("\n"):
         begins = re.match(r"( *)(?:pub(?:\([a-z]+\))? )?(?:const |unsafe )*fn (\w+)", line)
@@ -111,18 +108,15 @@ class Verdict:
             self.how = f"the prover was not reached: {told[0][:200] if told else 'nothing was said'}"
 
     def refuses(self, edit):
-        """Whether a function of the edit is among those that are refused."""
         return any(is_function(edit.crate, name, *at) for name in self.refused for at in edit.functions if at[2])
 
     def place(self, crate):
-        """Where it was refused."""
         names = [it.removeprefix(f"{crate}::") for it in self.refused]
         return ", ".join(names[:3]) + (f" and {len(names) - 3} more" if len(names) > 3 else "") or "no function of its own"
 
 
 def is_function(crate, name, module, kind, function):
-    """Whether the prover's name of a function is that of the function in that module. The methods of a type may be reported under
-    the type's own module, whichever module has their impl."""
+    """Whether the prover's name is that of the function. Methods may be reported under the module of their type."""
     path = name.removeprefix(f"{crate}::").split("::")
     within = module.split("::") if module else []
     inside = path[len(within) :]
@@ -188,8 +182,7 @@ def batches(edits, copy):
 
 
 class Tally:
-    """Prints a line for each edit of a crate, and counts what becomes of them: `here` if it is refused in its function, and else what
-    the prover says of the crate."""
+    """Prints a line for each edit of a crate, and counts what becomes of them."""
 
     def __init__(self, copy, crate):
         self.copy, self.crate, self.counts = copy, crate, collections.Counter()
@@ -208,8 +201,7 @@ class Tally:
         for edit in seen:
             self.tell(edit, "here", "refused in its function", verdict.seconds, count)
         if count > 1 and unseen:
-            # callers of what was refused are tried without it; else one may have kept the others
-            # from the prover
+            # callers of what was refused are tried without it
             part = len(unseen) if seen else len(unseen) // 2 if verdict.how.startswith("the prover") else 1
             for at in range(0, len(unseen), part):
                 self.try_batch(unseen[at : at + part])
