@@ -1,13 +1,14 @@
 -- Laws of a whole life.
-use Rattle.std.specs.Prelude.{◌≡◌, ℕ, ◌+◌, ◌≤◌, ◌<◌, List, Option}
+use Rattle.std.specs.Prelude.{◌≡◌, ◌⊎◌, ℕ, ◌+◌, ◌≤◌, ◌<◌, true, List, [], ◌∷◌, Option}
 use Rattle.fx_plain.specs.History.{◌▷▷◌}
 use Rattle.fx_direct.specs.Counts.{times, reserves, chains, opens, starts, finishes, holds}
 use Rattle.fx_direct.specs.Counts.{releases, ends, asks, closes, fails, phase_of}
-use Rattle.fx_direct.specs.Phases.{Ending, AllFree, bit, is_chained, phase_at}
+use Rattle.fx_direct.specs.Phases.{Ending, AllFree, bit, is_chained, is_live, phase_at, users_in}
+use Rattle.fx_direct.specs.Phases.{calls_in_flight, lives_of}
 use Rattle.fx_direct.specs.Transitions.{Reserves, Chains, Starts, Holds, key_concerned}
 use Rattle.fx_direct.specs.Transitions.{HasLife}
 use Rattle.fx_direct.specs.Transitions.{IsEnabled, AreEnabled, slots_left_by, Advances}
-use Rattle.fx_direct.specs.Transitions.{AdvancesAndAsks}
+use Rattle.fx_direct.specs.Transitions.{AdvancesAndAsks, DirectMachine, machine_with}
 use Rattle.fx_direct.specs.declared.key.LifeKey.{LifeKey}
 use Rattle.fx_direct.specs.declared.phase.Slot.{Slot}
 use Rattle.fx_direct.specs.declared.transition.Transition.{Transition}
@@ -24,14 +25,17 @@ NeverAsks (Starts k) = Unit {0}
 NeverAsks (Holds k) = Unit {0}
 NeverAsks t = ⊥
 
+-- a call of the machine that makes the transition
+abbrev pub IsCall : DirectMachine → Transition → DirectMachine → Type 0
+IsCall old t new =
+    (NeverAsks t × Advances old t new) ⊎ ((ask : Option ℕ) × AdvancesAndAsks old t ask new)
+
 -- no close is due when a machine begins, nor after any of its calls: none is asked for late
 abbrev pub NoCloseIsLate : Type 0
 NoCloseIsLate =
     ((slots : List Slot) → AllFree slots → NoCloseIsDue slots)
-    × ((old new : List Slot) (t : Transition)
-    → NoCloseIsDue old → NeverAsks t → Advances old t new → NoCloseIsDue new)
-    × ((old new : List Slot) (t : Transition) (ask : Option ℕ)
-    → NoCloseIsDue old → AdvancesAndAsks old t ask new → NoCloseIsDue new)
+    × ((old new : DirectMachine) (t : Transition)
+    → NoCloseIsDue old.list → IsCall old t new → NoCloseIsDue new.list)
 
 -- the close of a file is asked for at most once, and again each time that it failed; where no file
 -- was installed, only by a chain. It succeeds at most once, and where no file was installed, only
@@ -54,6 +58,24 @@ EachCloseIsAskedForOnce =
     → times (starts k) h ≡ times (finishes k) h
     → times (holds k) h ≡ times (releases k) h
     → times (asks k) h ≡ 1 + times (fails k) h)
+
+-- calls lead from one machine to another. The newest is the first
+abbrev pub IsRun : DirectMachine → List Transition → DirectMachine → Type 0
+IsRun start [] end = end ≡ start
+IsRun start (t ∷ h) end = (m : DirectMachine) × IsRun start h m × IsCall m t end
+
+-- after a stop, once each life that was live was ended, each call was completed and each user was
+-- released, no life is under way
+abbrev pub AStopLeavesNothing : Type 0
+AStopLeavesNothing =
+    (start stops end : DirectMachine) (earlier later : List Transition)
+    → AllFree start.list
+    → IsRun start earlier stops
+    → IsRun (machine_with stops.list true) later end
+    → ((k : LifeKey) → is_live (phase_of stops.list k) ≡ true → 0 < times (ends k) later)
+    → calls_in_flight end.list ≡ 0
+    → ((slot : ℕ) → users_in (phase_at end.list slot) ≡ 0)
+    → lives_of end.list ≡ 0
 
 -- once the life of a key that was given is over, no transition under the key is ever possible again
 abbrev pub StaleKeysStayStale : Type 0

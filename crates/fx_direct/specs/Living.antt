@@ -1,37 +1,41 @@
--- The keys of the lives under way.
-use Rattle.std.specs.Prelude.{◌≡◌, ℕ, ◌+◌, ◌==◌, ◌&&◌, Bool, List, [], ◌∷◌}
-use Rattle.std.specs.Prelude.{if◌then◌else◌}
-use Rattle.std.specs.List.{AllByRecursion}
-use Rattle.fx_direct.specs.Phases.{slot_numbered, phase_at, is_free}
+-- Keys, and the lives under way.
+use Rattle.std.specs.Prelude.{◌≡◌, ℕ, ◌<◌, ◌≤◌, ◌==◌, ◌&&◌, Bool, List, Option, Some, None}
+use Rattle.fx_direct.specs.Phases.{Free, Opening, Live, Ending, Closing, Chained, slot_numbered}
+use Rattle.fx_direct.specs.Phases.{phase_at}
 use Rattle.fx_direct.specs.Transitions.{HasLife}
 use Rattle.fx_direct.specs.declared.key.LifeKey.{LifeKey}
-use Rattle.fx_direct.specs.declared.keys.Keys.{Keys}
+use Rattle.fx_direct.specs.declared.phase.Phase.{Phase}
+use Rattle.fx_direct.specs.declared.phase.PhaseName.{PhaseName}
+use Rattle.fx_direct.specs.declared.phase.PhaseName.TheVariants.{Opening as OpeningName}
+use Rattle.fx_direct.specs.declared.phase.PhaseName.TheVariants.{Live as LiveName}
+use Rattle.fx_direct.specs.declared.phase.PhaseName.TheVariants.{Ending as EndingName}
+use Rattle.fx_direct.specs.declared.phase.PhaseName.TheVariants.{Closing as ClosingName}
+use Rattle.fx_direct.specs.declared.phase.PhaseName.TheVariants.{Chained as ChainedName}
 use Rattle.fx_direct.specs.declared.phase.Slot.{Slot}
 
 abbrev pub same_key : LifeKey → LifeKey → Bool
 same_key j k = (j.slot == k.slot) && (j.number == k.number)
 
--- how often a key is in a list
-abbrev pub appearances : LifeKey → List LifeKey → ℕ
-appearances k [] = 0
-appearances k (j ∷ keys) = (if same_key j k then 1 else 0) + appearances k keys
-
--- the list has each key whose life is under way once, and no other key
-pub record AreKeysOf (slots : List Slot) (keys : List LifeKey) : Type 0 where
-  pub each : AllByRecursion (HasLife slots) keys
-  pub once : (k : LifeKey) → HasLife slots k → appearances k keys ≡ 1
-
 -- the key of the slot's last life
 abbrev pub life_at : List Slot → ℕ → LifeKey
 life_at slots slot = record { slot = slot; number = (slot_numbered slots slot).number }
 
--- the keys of the lives under way at these slots
-abbrev pub keys_at : List Slot → List ℕ → List LifeKey
-keys_at slots [] = []
-keys_at slots (slot ∷ rest) =
-    if is_free (phase_at slots slot) then keys_at slots rest
-    else life_at slots slot ∷ keys_at slots rest
+-- the name of a phase. A free slot has none
+abbrev pub name_of : Phase → Option PhaseName
+name_of Free = None
+name_of Opening = Some OpeningName
+name_of (Live requests users) = Some LiveName
+name_of (Ending requests users) = Some EndingName
+name_of Closing = Some ClosingName
+name_of (Chained c) = Some ChainedName
 
--- the keys that the iterator has left
-abbrev pub keys_left : Keys → List LifeKey
-keys_left it = keys_at it.list.now it.rest.now
+-- the slot's life is in a phase of this name
+abbrev pub IsNamed : List Slot → PhaseName → ℕ → Type 0
+IsNamed slots name slot = name_of (phase_at slots slot) ≡ Some name
+
+-- the key is that of the first such life from a slot on, or there is none
+abbrev pub IsFirstFrom : List Slot → PhaseName → ℕ → Option LifeKey → Type 0
+IsFirstFrom slots name from None = (slot : ℕ) → from ≤ slot → IsNamed slots name slot → ⊥
+IsFirstFrom slots name from (Some k) =
+    HasLife slots k × (from ≤ k.slot) × IsNamed slots name k.slot
+    × ((slot : ℕ) → from ≤ slot → slot < k.slot → IsNamed slots name slot → ⊥)

@@ -1,7 +1,5 @@
 -- The slots in an order of which the first ones are vacant.
-use Rattle.std.specs.Prelude.{◌≡◌, ℕ, ◌+◌, ◌==◌, ◌<◌, ◌≤◌, ◌^◌, nat_lt, Bool, false, List, [], ◌∷◌}
-use Rattle.std.specs.Prelude.{length, slice_index, if◌then◌else◌}
-use Rattle.std.specs.List.{AllByRecursion}
+use Rattle.std.specs.Prelude.{◌≡◌, ℕ, ◌<◌, ◌≤◌, ◌^◌, nat_lt, Bool, List, length, slice_index}
 
 -- slots in some order, of which this number are vacant, and the place of each slot in the order
 pub record Order : Type 0 where
@@ -15,17 +13,6 @@ ordered order place vacant = record { order = order; place = place; vacant = vac
 -- the slot is one of the vacant ones
 abbrev pub is_among_vacant : Order → ℕ → Bool
 is_among_vacant v slot = nat_lt (slice_index v.place slot) v.vacant
-
--- how often a slot is in a list
-abbrev pub times_in : ℕ → List ℕ → ℕ
-times_in slot [] = 0
-times_in slot (other ∷ rest) = (if other == slot then 1 else 0) + times_in slot rest
-
--- the list has each slot that isn't vacant once, and no slot past the last one
-pub record AreOthers (v : Order) (slots : List ℕ) : Type 0 where
-  pub inside : AllByRecursion (λ slot. slot < length v.place) slots
-  pub once : (slot : ℕ) → slot < length v.place → is_among_vacant v slot ≡ false
-      → times_in slot slots ≡ 1
 
 -- the slots and the places name each other
 pub record IsOrder (v : Order) : Type 0 where

@@ -1,12 +1,15 @@
 -- Why the machine refuses a transition.
 use Rattle.std.specs.Prelude.{◌≡◌, ◌-◌, ◌^◌, true, false, List}
 use Rattle.fx_direct.specs.Phases.{phase_at, requests_in, users_in, is_chained, ends_anyway}
-use Rattle.fx_direct.specs.Transitions.{Starts, Holds, Ends, HasLife, IsEnabled, key_concerned}
+use Rattle.fx_direct.specs.Transitions.{Reserves, Starts, Holds, Ends, HasLife, IsEnabled}
+use Rattle.fx_direct.specs.Transitions.{DirectMachine, key_concerned}
 use Rattle.fx_direct.specs.declared.key.LifeKey.{LifeKey}
 use Rattle.fx_direct.specs.declared.phase.Slot.{Slot}
 use Rattle.fx_direct.specs.declared.refusal.LifeRefusal.{LifeRefusal}
 use Rattle.fx_direct.specs.declared.refusal.LifeRefusal.TheVariants.{Stale, Is, TooManyRequests}
 use Rattle.fx_direct.specs.declared.refusal.LifeRefusal.TheVariants.{TooManyUsers}
+use Rattle.fx_direct.specs.declared.refusal.ReserveRefusal.{ReserveRefusal}
+use Rattle.fx_direct.specs.declared.refusal.ReserveRefusal.TheVariants.{Full, Stopped}
 use Rattle.fx_direct.specs.declared.transition.Transition.{Transition}
 
 -- the life of the key isn't under way; or its slot is in this phase, in which the transition is
@@ -29,6 +32,11 @@ RefusesUnchained slots t (Is phase) =
     HasLife slots (key_concerned t) × (phase ≡ phase_at slots (key_concerned t).slot)
     × (IsEnabled slots t → is_chained phase ≡ true)
 RefusesUnchained slots t why = RefusesTransition slots t why
+
+-- no slot begins a life: the machine was stopped, or no slot may
+abbrev pub RefusesReserve : DirectMachine → ReserveRefusal → Type 0
+RefusesReserve m Stopped = m.stopped ≡ true
+RefusesReserve m Full = (m.stopped ≡ false) × ((k : LifeKey) → IsEnabled m.list (Reserves k) → ⊥)
 
 -- the life of the key isn't under way, or it can't be ended and no chain ends it
 abbrev pub RefusesEnd : List Slot → LifeKey → LifeRefusal → Type 0

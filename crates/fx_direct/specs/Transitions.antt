@@ -1,6 +1,6 @@
 -- The transitions of the machine: when each one is possible, and the slots after it.
 use Rattle.std.specs.Prelude.{◌≡◌, ◌≢◌, ℕ, ◌+◌, ◌-◌, ◌<◌, ◌≤◌, Bool, true, false, List, [], ◌∷◌}
-use Rattle.std.specs.Prelude.{length, slice_set, Option, Some, None, ◌⊎◌}
+use Rattle.std.specs.Prelude.{length, slice_set, Option, Some, None, ◌⊎◌, ◌&&◌, not}
 use Rattle.fx_direct.specs.Phases.{Free, Opening, Live, Ending, Closing, Chained, Installed, Failed}
 use Rattle.fx_direct.specs.Phases.{Unseen, Later, Due, Awaited, Took, Left, chain, chain_of}
 use Rattle.fx_direct.specs.Phases.{chain_phase, slot_numbered, phase_at, requests_in, users_in}
@@ -165,21 +165,54 @@ abbrev pub AreEnabled : List Slot → List Transition → Type 0
 AreEnabled slots [] = Unit {0}
 AreEnabled slots (t ∷ h) = AreEnabled slots h × IsEnabled (slots_left_by slots h) t
 
--- the transition is made, and nothing else
-abbrev pub Advances : List Slot → Transition → List Slot → Type 0
-Advances old t new = IsEnabled old t × (new ≡ slots_with old t)
+-- a machine: its slots, and whether it was stopped
+pub record DirectMachine : Type 0 where
+  pub list : List Slot
+  pub stopped : Bool
 
--- the transition is made. If it leaves an ending slot with no request and no user, the close of
--- that slot is asked for, else no close is
-abbrev pub AdvancesAndAsks : List Slot → Transition → Option ℕ → List Slot → Type 0
+abbrev pub machine_with : List Slot → Bool → DirectMachine
+machine_with list stopped = record { list = list; stopped = stopped }
+
+-- a life in this phase becomes live by the transition
+abbrev pub becomes_live : Transition → Phase → Bool
+becomes_live t p = not (is_live p) && is_live (phase_after t p)
+
+-- the phase, or in place of a live one that of its life's end
+abbrev pub unless_live : Bool → Phase → Phase
+unless_live true p = when_ended p
+unless_live false p = p
+
+-- the transition, and perhaps the end of its life after it
+abbrev pub and_ends : Bool → Transition → List Transition
+and_ends true t = Ends (key_concerned t) ∷ t ∷ []
+and_ends false t = t ∷ []
+
+-- the transitions of a call: after a stop a life that becomes live is ended at once
+abbrev pub made_by : DirectMachine → Transition → List Transition
+made_by m t =
+    and_ends (becomes_live t (phase_at m.list (key_concerned t).slot) && m.stopped) t
+
+-- these transitions are made, and nothing else
+abbrev pub AdvancesBy : DirectMachine → List Transition → DirectMachine → Type 0
+AdvancesBy old h new =
+    AreEnabled old.list h × (new ≡ machine_with (slots_left_by old.list h) old.stopped)
+
+-- the transition is made, and nothing else
+abbrev pub Advances : DirectMachine → Transition → DirectMachine → Type 0
+Advances old t new = IsEnabled old.list t × (new ≡ machine_with (slots_with old.list t) old.stopped)
+
+-- a call makes the transition. If this leaves an ending slot with no request and no user, the close
+-- of that slot is asked for, else no close is
+abbrev pub AdvancesAndAsks : DirectMachine → Transition → Option ℕ → DirectMachine → Type 0
 AdvancesAndAsks old t None new =
-    Advances old t new × (phase_at new (key_concerned t).slot ≡ Ending 0 0 → ⊥)
+    AdvancesBy old (made_by old t) new
+    × (phase_at new.list (key_concerned t).slot ≡ Ending 0 0 → ⊥)
 AdvancesAndAsks old t (Some slot) new =
-    (slot ≡ (key_concerned t).slot) × IsEnabled old t
-    × Advances (slots_with old t) (Asks (key_concerned t)) new
+    (slot ≡ (key_concerned t).slot) × AdvancesBy old (Asks (key_concerned t) ∷ made_by old t) new
 
 -- the life of a key is ended. Where its chain ends it anyway, nothing changes
-abbrev pub EndsLife : List Slot → LifeKey → Option ℕ → List Slot → Type 0
+abbrev pub EndsLife : DirectMachine → LifeKey → Option ℕ → DirectMachine → Type 0
 EndsLife old k ask new =
     AdvancesAndAsks old (Ends k) ask new
-    ⊎ (HasLife old k × (ends_anyway (phase_at old k.slot) ≡ true) × (ask ≡ None) × (new ≡ old))
+    ⊎ (HasLife old.list k × (ends_anyway (phase_at old.list k.slot) ≡ true) × (ask ≡ None)
+    × (new ≡ old))

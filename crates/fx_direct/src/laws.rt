@@ -10,7 +10,8 @@ ghost use Rattle.fx_direct.specs.Counts.{EachKeyIsBalanced, NothingIsLeftOfALife
 ghost use Rattle.fx_direct.specs.Haste.{ChainIsNotAnOpen, HasteIsWrong};
 ghost use Rattle.fx_direct.specs.Keys.{KeyBitsComeBack};
 ghost use Rattle.fx_direct.specs.Laws.{EachAccessFindsItsOwn, NothingIsLeft};
-ghost use Rattle.fx_direct.specs.Lives.{EachCloseIsAskedForOnce, NoCloseIsLate, StaleKeysStayStale};
+ghost use Rattle.fx_direct.specs.Lives.{AStopLeavesNothing, EachCloseIsAskedForOnce, NoCloseIsLate};
+ghost use Rattle.fx_direct.specs.Lives.{StaleKeysStayStale};
 ghost use Rattle.fx_direct.specs.Round.{GoesRound};
 ghost use Rattle.fx_direct.specs.declared.key.TheConstants.{KINDS, MOST_LIVES, MOST_SLOTS};
 
@@ -56,6 +57,13 @@ pub fn each_close_is_asked_for_once()
 #[tactic(auto, using(crate::proofs::Lives::no_close_is_late))]
 pub fn no_close_is_late()
     ensures { NoCloseIsLate }
+{}
+
+/// States that after a stop no life is left, once each life that was live was ended, each call was
+/// completed and each user was released.
+#[tactic(auto, using(crate::proofs::Stopping::a_stop_leaves_nothing))]
+pub fn a_stop_leaves_nothing()
+    ensures { AStopLeavesNothing }
 {}
 
 /// States that a slot is handed out only if nothing is left of any of its lives, and under a key

@@ -1,6 +1,8 @@
 //! The phases of a slot's life.
-ghost use Rattle.std.specs.Prelude.{◌≡◌, ◌≤◌, ◌+◌, ◌^◌};
-ghost use Rattle.fx_direct.specs.Phases.{calls_in, lives_in, requests_in, users_in};
+ghost use Rattle.std.specs.Prelude.{◌≡◌, ◌≤◌, ◌+◌, ◌^◌, ◌&&◌};
+ghost use Rattle.fx_direct.specs.Living.{name_of};
+ghost use Rattle.fx_direct.specs.Phases.{calls_in, is_live, lives_in, requests_in, users_in};
+ghost use Rattle.fx_direct.specs.Transitions.{unless_live};
 
 use crate::chain::LifeChain;
 use std::fmt;
@@ -20,6 +22,21 @@ pub enum Phase {
     Closing,
     /// A chain that opens the slot's file is in flight.
     Chained(LifeChain),
+}
+
+/// The name of a phase of a life.
+#[derive(Clone, Copy, Debug, PartialEq, Eq)]
+pub enum PhaseName {
+    /// The name of `Phase::Opening`.
+    Opening,
+    /// The name of `Phase::Live`.
+    Live,
+    /// The name of `Phase::Ending`.
+    Ending,
+    /// The name of `Phase::Closing`.
+    Closing,
+    /// The name of `Phase::Chained`.
+    Chained,
 }
 
 impl Phase {
@@ -57,6 +74,33 @@ impl Phase {
         match self {
             Phase::Live(_, users) | Phase::Ending(_, users) => users,
             _ => 0,
+        }
+    }
+
+    /// Returns the name of the phase of a life, or `None` of `Free`.
+    #[inline(always)]
+    pub fn name(self) -> Option<PhaseName>
+        ensures { result ≡ name_of self }
+    {
+        match self {
+            Phase::Free => None,
+            Phase::Opening => Some(PhaseName::Opening),
+            Phase::Live(_, _) => Some(PhaseName::Live),
+            Phase::Ending(_, _) => Some(PhaseName::Ending),
+            Phase::Closing => Some(PhaseName::Closing),
+            Phase::Chained(_) => Some(PhaseName::Chained),
+        }
+    }
+
+    // Returns the phase that is written in place of this one, in which a life begins: after a stop
+    // it is ended at once.
+    #[inline(always)]
+    pub(crate) fn unless_stopped(self, stopped: bool) -> Phase
+        ensures { result ≡ unless_live (is_live self && stopped) self }
+    {
+        match self {
+            Phase::Live(requests, users) if stopped => Phase::Ending(requests, users),
+            phase => phase,
         }
     }
 

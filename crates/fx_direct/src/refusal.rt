@@ -29,15 +29,22 @@ impl fmt::Display for LifeRefusal {
 
 impl Error for LifeRefusal {}
 
-/// The reason why no slot can begin a life: each slot has a life under way, or has had its last
-/// one.
+/// The reason why no slot begins a life.
 #[derive(Clone, Copy, Debug, PartialEq, Eq)]
-pub struct Full;
+pub enum ReserveRefusal {
+    /// Each slot has a life under way, or has had its last one.
+    Full,
+    /// The machine was stopped.
+    Stopped,
+}
 
-impl fmt::Display for Full {
+impl fmt::Display for ReserveRefusal {
     fn fmt<W: fmt::Write>(&self, f: &mut fmt::Formatter<W>) -> fmt::Result {
-        f.write_str("no slot is free")
+        f.write_str(match self {
+            ReserveRefusal::Full => "no slot is free",
+            ReserveRefusal::Stopped => "the machine was stopped",
+        })
     }
 }
 
-impl Error for Full {}
+impl Error for ReserveRefusal {}

@@ -1,5 +1,6 @@
 //! The slots, with the counts of their lives and of their calls.
 ghost use Rattle.std.specs.Prelude.{◌≡◌, ◌≤◌, ◌<◌, length, IfOk, MatchOption, MatchResult};
+ghost use Rattle.fx_direct.specs.Living.{IsFirstFrom};
 ghost use Rattle.fx_direct.specs.Phases.{AllUnused, calls_in_flight, lives_of, phase_at};
 ghost use Rattle.fx_direct.specs.Phases.{slot_numbered};
 ghost use Rattle.fx_direct.specs.Transitions.{HasLife, with_phase};
@@ -7,7 +8,7 @@ ghost use Rattle.fx_direct.specs.declared.key.TheConstants.{MOST_SLOTS};
 ghost use Rattle.fx_direct.specs.declared.refusal.LifeRefusal.TheVariants.{Stale};
 
 use crate::key::LifeKey;
-use crate::phase::{Phase, Slot};
+use crate::phase::{Phase, PhaseName, Slot};
 use crate::refusal::LifeRefusal;
 use fx_base::NoMemory;
 use std::alloc::Global;
@@ -94,6 +95,24 @@ impl SlotList {
             slot,
             number: it.number,
         })
+    }
+
+    // Returns the key of the first life in a phase of this name, at this slot or a later one.
+    pub(crate) fn key_in(&self, name: PhaseName, from: u32) -> Option<LifeKey>
+        ensures { IsFirstFrom self.now name from result }
+    {
+        let mut slot = from;
+        while (slot as usize) < self.slots.len() {
+            let it = self.slots[slot as usize];
+            if it.phase.name() == Some(name) {
+                return Some(LifeKey {
+                    slot,
+                    number: it.number,
+                });
+            }
+            slot += 1;
+        }
+        None
     }
 
     // Writes the number and the phase of a key's slot.

@@ -1,7 +1,7 @@
 //! The slots that may begin a life. Each call takes constant time.
 ghost use Rattle.std.specs.Prelude.{◌≡◌, ℕ, ◌<◌, ◌==◌, true, false, length, if◌then◌else◌, IfOk};
 ghost use Rattle.std.specs.Prelude.{IfSome, IfNone, vec_len, slice_index};
-ghost use Rattle.fx_direct.specs.Order.{AreOthers, is_among_vacant};
+ghost use Rattle.fx_direct.specs.Order.{is_among_vacant};
 
 use fx_base::NoMemory;
 use std::alloc::Global;
@@ -78,13 +78,6 @@ impl SlotOrder {
         self.place[slot as usize] = self.vacant;
         self.place[other as usize] = at;
         self.vacant += 1;
-    }
-
-    // Returns the slots that aren't vacant, each once.
-    pub(crate) fn others(&self) -> &[u32]
-        ensures { AreOthers self.now result.now }
-    {
-        &self.order[self.vacant as usize..]
     }
 }
 

@@ -1,13 +1,13 @@
 //! The machine: the life of each slot of one ring's table of direct descriptors.
-ghost use Rattle.std.specs.Prelude.{◌≡◌, ◌≤◌, length, MatchOption, MatchResult, IfOk, IfSome};
-ghost use Rattle.std.specs.Prelude.{None, Some};
-ghost use Rattle.std.specs.List.{AllByRecursion};
+ghost use Rattle.std.specs.Prelude.{◌≡◌, ◌≤◌, true, false, length, MatchOption, MatchResult};
+ghost use Rattle.std.specs.Prelude.{IfOk, IfSome, None, Some};
 ghost use Rattle.fx_direct.specs.Keys.{FitsBits};
-ghost use Rattle.fx_direct.specs.Living.{AreKeysOf, keys_left};
+ghost use Rattle.fx_direct.specs.Living.{IsFirstFrom};
 ghost use Rattle.fx_direct.specs.Phases.{AllFree, AllUnused, calls_in_flight, lives_of, phase_at};
-ghost use Rattle.fx_direct.specs.Refusals.{RefusesEnd, RefusesTransition, RefusesUnchained};
-ghost use Rattle.fx_direct.specs.Transitions.{HasLife, IsEnabled, Advances, AdvancesAndAsks};
-ghost use Rattle.fx_direct.specs.Transitions.{EndsLife, completion};
+ghost use Rattle.fx_direct.specs.Refusals.{RefusesEnd, RefusesReserve, RefusesTransition};
+ghost use Rattle.fx_direct.specs.Refusals.{RefusesUnchained};
+ghost use Rattle.fx_direct.specs.Transitions.{HasLife, Advances, AdvancesAndAsks};
+ghost use Rattle.fx_direct.specs.Transitions.{EndsLife, completion, machine_with};
 ghost use Rattle.fx_direct.specs.declared.key.TheConstants.{MOST_SLOTS};
 ghost use Rattle.fx_direct.specs.declared.transition.Transition.TheVariants.{Reserves, Chains};
 ghost use Rattle.fx_direct.specs.declared.transition.Transition.TheVariants.{Opens};
@@ -18,9 +18,8 @@ ghost use Rattle.fx_direct.specs.declared.transition.Transition.TheVariants.{Clo
 use crate::chain::{ChainEnd, LifeChain, Member};
 use crate::ending::{ask_again, free, set_ending, write};
 use crate::key::LifeKey;
-use crate::keys::Keys;
-use crate::phase::Phase;
-use crate::refusal::{Full, LifeRefusal};
+use crate::phase::{Phase, PhaseName};
+use crate::refusal::{LifeRefusal, ReserveRefusal};
 use crate::slot_list::SlotList;
 use crate::slot_order::SlotOrder;
 use fx_base::NoMemory;
@@ -28,24 +27,24 @@ use std::alloc::Global;
 use std::marker::Model;
 
 /// The lives of the slots of one ring's table of direct descriptors. One thread at a time uses it.
-/// Contracts see the list of slots.
+/// Contracts see the list of slots, and whether the machine was stopped.
 ///
-/// Each call but `open` and `keys` takes constant time, and no call but `open` allocates. A call
+/// Each call but `open` and `key_in` takes constant time, and no call but `open` allocates. A call
 /// that returns an error changes nothing.
 #[derive(Drop)]
 pub struct DirectSlots {
     list: SlotList,
     order: SlotOrder,
+    stopped: bool,
 }
 
 impl Model for DirectSlots {
-    ghost use Rattle.std.specs.Prelude.{List};
-    ghost use Rattle.fx_direct.specs.declared.phase.Slot.{Slot};
     ghost use Rattle.fx_direct.specs.Machine.{IsMachine};
+    ghost use Rattle.fx_direct.specs.Transitions.{DirectMachine, machine_with};
 
-    ghost Value = { List Slot };
+    ghost Value = { DirectMachine };
 
-    ghost view = { λ s. s.list };
+    ghost view = { λ s. machine_with s.list s.stopped };
 
     ghost invariant = { λ s. IsMachine s.list s.order };
 }
@@ -58,13 +57,18 @@ impl DirectSlots {
     /// `NoMemory` if an allocation fails.
     pub fn open(alloc: Global, slots: u32) -> Result<DirectSlots, NoMemory>
         requires { slots ≤ MOST_SLOTS }
-        ensures size { IfOk result (λ machine. length machine ≡ slots) }
-        ensures unused { IfOk result AllUnused }
-        ensures free { IfOk result AllFree }
+        ensures size { IfOk result (λ it. length it.list ≡ slots) }
+        ensures unused { IfOk result (λ it. AllUnused it.list) }
+        ensures free { IfOk result (λ it. AllFree it.list) }
+        ensures runs { IfOk result (λ it. it.stopped ≡ false) }
     {
         let list = SlotList::of_free(alloc, slots)?;
         let order = SlotOrder::of_vacant(alloc, slots)?;
-        Ok(DirectSlots { list, order })
+        Ok(DirectSlots {
+            list,
+            order,
+            stopped: false,
+        })
     }
 
     /// Begins a life at a free slot, and returns its key. Then submit an open at the key's slot:
@@ -72,16 +76,20 @@ impl DirectSlots {
     /// io_uring_prep_accept_direct(3)).
     ///
     /// # Errors
-    /// `Full` if no slot is free, or each free slot has had its last life.
+    /// `Stopped` after [`Self::stop`]. `Full` if no slot is free, or each free slot has had its last
+    /// life.
     #[inline(always)]
-    pub fn reserve(&mut self) -> Result<LifeKey, Full>
-        ensures reserved { MatchResult result (λ key. Advances self.old (Reserves key) self.new)
-            (λ _. (self.new ≡ self.old) × ((key : LifeKey) → IsEnabled self.old (Reserves key)
-            → ⊥)) }
+    pub fn reserve(&mut self) -> Result<LifeKey, ReserveRefusal>
+        ensures reserved { MatchResult result
+            (λ key. (self.old.stopped ≡ false) × Advances self.old (Reserves key) self.new)
+            (λ why. (self.new ≡ self.old) × RefusesReserve self.old why) }
         ensures fits { IfOk result FitsBits }
     {
+        if self.stopped {
+            return Err(ReserveRefusal::Stopped);
+        }
         let Some(slot) = self.order.take() else {
-            return Err(Full);
+            return Err(ReserveRefusal::Full);
         };
         let key = LifeKey {
             slot,
@@ -91,25 +99,38 @@ impl DirectSlots {
         Ok(key)
     }
 
+    /// Stops the machine: from now on no life is reserved, and each life that becomes live is ended
+    /// at once. A life that is reserved goes on. End each live life (a walk by [`Self::key_in`]):
+    /// then [`Self::len`] is 0 once each call was completed and each user was released.
+    #[inline(always)]
+    pub fn stop(&mut self)
+        ensures { self.new ≡ machine_with self.old.list true }
+    {
+        self.stopped = true;
+    }
+
     /// Reports that the open under a key was completed, and whether it installed a file. If it
-    /// didn't, the slot is free.
+    /// didn't, the slot is free. After [`Self::stop`] the life of an installed file is ended at
+    /// once: this returns the slot, so submit a close of it.
     ///
     /// # Errors
     /// `Stale`, or `Is` with the phase, if the key's life isn't opening.
     #[inline(always)]
-    pub fn opened(&mut self, key: LifeKey, installed: bool) -> Result<(), LifeRefusal>
+    pub fn opened(&mut self, key: LifeKey, installed: bool) -> Result<Option<u32>, LifeRefusal>
         ensures { MatchResult result
-            (λ _. AdvancesAndAsks self.old (Opens key installed) None self.new)
-            (λ why. (self.new ≡ self.old) × RefusesUnchained self.old (Opens key installed) why) }
+            (λ ask. AdvancesAndAsks self.old (Opens key installed) ask self.new)
+            (λ why. (self.new ≡ self.old)
+            × RefusesUnchained self.old.list (Opens key installed) why) }
     {
         match self.list.get(key)? {
             Phase::Opening => {
-                if installed {
-                    self.list.set(key, Phase::Live(0, 0));
+                let begun = if installed {
+                    Phase::Live(0, 0)
                 } else {
-                    free(&mut self.list, &mut self.order, key);
-                }
-                Ok(())
+                    Phase::Free
+                };
+                let phase = begun.unless_stopped(self.stopped);
+                Ok(write(&mut self.list, &mut self.order, key, phase))
             }
             phase => Err(LifeRefusal::Is(phase)),
         }
@@ -126,7 +147,7 @@ impl DirectSlots {
         ensures { MatchResult result
             (λ slot. (slot ≡ key.slot) × Advances self.old (Chains key requests closes) self.new)
             (λ why. (self.new ≡ self.old)
-            × RefusesTransition self.old (Chains key requests closes) why) }
+            × RefusesTransition self.old.list (Chains key requests closes) why) }
     {
         match self.list.get(key)? {
             Phase::Opening => {
@@ -141,7 +162,8 @@ impl DirectSlots {
     /// Reports that a member of the chain under a key was completed. They come in any order. An
     /// open succeeded if it installed a file, and a close if it took the file. After the last
     /// completion the slot is free, unless the file is left: then this returns the slot, so submit
-    /// a close of it. A chain without a close is a live life once its open succeeded.
+    /// a close of it. A chain without a close is a live life once its open succeeded, and after
+    /// [`Self::stop`] that life is ended at once.
     ///
     /// # Errors
     /// `Stale`, or `Is` with the phase, if no such call is in flight under the key, or if the open
@@ -156,11 +178,14 @@ impl DirectSlots {
         ensures { MatchResult result
             (λ ask. AdvancesAndAsks self.old (completion key member succeeded) ask self.new)
             (λ why. (self.new ≡ self.old)
-            × RefusesTransition self.old (completion key member succeeded) why) }
+            × RefusesTransition self.old.list (completion key member succeeded) why) }
     {
         match self.list.get(key)? {
             Phase::Chained(chain) => match chain.after(member, succeeded) {
-                Some(phase) => Ok(write(&mut self.list, &mut self.order, key, phase)),
+                Some(left) => {
+                    let phase = left.unless_stopped(self.stopped);
+                    Ok(write(&mut self.list, &mut self.order, key, phase))
+                }
                 None => Err(LifeRefusal::Is(Phase::Chained(chain))),
             },
             _ => self.completed(key, member, succeeded),
@@ -178,7 +203,7 @@ impl DirectSlots {
     pub fn start(&mut self, key: LifeKey) -> Result<u32, LifeRefusal>
         ensures { MatchResult result
             (λ slot. (slot ≡ key.slot) × Advances self.old (Starts key) self.new)
-            (λ why. (self.new ≡ self.old) × RefusesTransition self.old (Starts key) why) }
+            (λ why. (self.new ≡ self.old) × RefusesTransition self.old.list (Starts key) why) }
     {
         match self.list.get(key)? {
             Phase::Live(requests, users) => {
@@ -202,7 +227,7 @@ impl DirectSlots {
     pub fn finish(&mut self, key: LifeKey) -> Result<Option<u32>, LifeRefusal>
         ensures { MatchResult result
             (λ ask. AdvancesAndAsks self.old (Finishes key) ask self.new)
-            (λ why. (self.new ≡ self.old) × RefusesUnchained self.old (Finishes key) why) }
+            (λ why. (self.new ≡ self.old) × RefusesUnchained self.old.list (Finishes key) why) }
     {
         match self.list.get(key)? {
             Phase::Live(requests, users) if requests > 0 => {
@@ -225,7 +250,7 @@ impl DirectSlots {
     #[inline(always)]
     pub fn hold(&mut self, key: LifeKey) -> Result<(), LifeRefusal>
         ensures { MatchResult result (λ _. Advances self.old (Holds key) self.new)
-            (λ why. (self.new ≡ self.old) × RefusesTransition self.old (Holds key) why) }
+            (λ why. (self.new ≡ self.old) × RefusesTransition self.old.list (Holds key) why) }
     {
         match self.list.get(key)? {
             Phase::Live(requests, users) => {
@@ -248,7 +273,7 @@ impl DirectSlots {
     pub fn release(&mut self, key: LifeKey) -> Result<Option<u32>, LifeRefusal>
         ensures { MatchResult result
             (λ ask. AdvancesAndAsks self.old (Releases key) ask self.new)
-            (λ why. (self.new ≡ self.old) × RefusesTransition self.old (Releases key) why) }
+            (λ why. (self.new ≡ self.old) × RefusesTransition self.old.list (Releases key) why) }
     {
         match self.list.get(key)? {
             Phase::Live(requests, users) if users > 0 => {
@@ -271,7 +296,7 @@ impl DirectSlots {
     #[inline(always)]
     pub fn end(&mut self, key: LifeKey) -> Result<Option<u32>, LifeRefusal>
         ensures { MatchResult result (λ ask. EndsLife self.old key ask self.new)
-            (λ why. (self.new ≡ self.old) × RefusesEnd self.old key why) }
+            (λ why. (self.new ≡ self.old) × RefusesEnd self.old.list key why) }
     {
         match self.list.get(key)? {
             Phase::Live(requests, users) => { Ok(set_ending(&mut self.list, key, requests, users)) }
@@ -297,7 +322,7 @@ impl DirectSlots {
     #[inline(always)]
     pub fn closed(&mut self, key: LifeKey) -> Result<(), LifeRefusal>
         ensures { MatchResult result (λ _. AdvancesAndAsks self.old (Closes key) None self.new)
-            (λ why. (self.new ≡ self.old) × RefusesUnchained self.old (Closes key) why) }
+            (λ why. (self.new ≡ self.old) × RefusesUnchained self.old.list (Closes key) why) }
     {
         match self.list.get(key)? {
             Phase::Closing => {
@@ -317,7 +342,7 @@ impl DirectSlots {
     pub fn close_failed(&mut self, key: LifeKey) -> Result<u32, LifeRefusal>
         ensures { MatchResult result
             (λ slot. AdvancesAndAsks self.old (FailsToClose key) (Some slot) self.new)
-            (λ why. (self.new ≡ self.old) × RefusesUnchained self.old (FailsToClose key) why) }
+            (λ why. (self.new ≡ self.old) × RefusesUnchained self.old.list (FailsToClose key) why) }
     {
         match self.list.get(key)? {
             Phase::Closing => Ok(ask_again(&mut self.list, key)),
@@ -335,13 +360,10 @@ impl DirectSlots {
         ensures { MatchResult result
             (λ ask. AdvancesAndAsks self.old (completion key member succeeded) ask self.new)
             (λ why. (self.new ≡ self.old)
-            × RefusesUnchained self.old (completion key member succeeded) why) }
+            × RefusesUnchained self.old.list (completion key member succeeded) why) }
     {
         match member {
-            Member::Open => {
-                self.opened(key, succeeded)?;
-                Ok(None)
-            }
+            Member::Open => self.opened(key, succeeded),
             Member::Request => self.finish(key),
             Member::Close if succeeded => {
                 self.closed(key)?;
@@ -355,8 +377,8 @@ impl DirectSlots {
     /// under way under it.
     #[inline(always)]
     pub fn phase(&self, key: LifeKey) -> Option<Phase>
-        ensures { MatchOption result (HasLife self.now key → ⊥)
-            (λ phase. HasLife self.now key × (phase ≡ phase_at self.now key.slot)) }
+        ensures { MatchOption result (HasLife self.now.list key → ⊥)
+            (λ phase. HasLife self.now.list key × (phase ≡ phase_at self.now.list key.slot)) }
     {
         self.list.get(key).ok()
     }
@@ -364,9 +386,9 @@ impl DirectSlots {
     /// Returns the key of the life under way at a slot, or `None` if no life is under way there.
     #[inline(always)]
     pub fn key_at(&self, slot: u32) -> Option<LifeKey>
-        ensures key { MatchOption result ((key : LifeKey) → key.slot ≡ slot → HasLife self.now key
-            → ⊥)
-            (λ key. (key.slot ≡ slot) × HasLife self.now key) }
+        ensures key { MatchOption result
+            ((key : LifeKey) → key.slot ≡ slot → HasLife self.now.list key → ⊥)
+            (λ key. (key.slot ≡ slot) × HasLife self.now.list key) }
         ensures fits { IfSome result FitsBits }
     {
         self.list.key_at(slot)
@@ -376,7 +398,7 @@ impl DirectSlots {
     /// again.
     #[inline(always)]
     pub fn len(&self) -> u32
-        ensures { result ≡ lives_of self.now }
+        ensures { result ≡ lives_of self.now.list }
     {
         self.list.lives()
     }
@@ -385,16 +407,18 @@ impl DirectSlots {
     /// reported.
     #[inline(always)]
     pub fn in_flight(&self) -> u64
-        ensures { result ≡ calls_in_flight self.now }
+        ensures { result ≡ calls_in_flight self.now.list }
     {
         self.list.calls()
     }
 
-    /// Returns the keys of the lives under way.
-    pub fn keys(&self) -> Keys<'_>
-        ensures keys { AreKeysOf self.now (keys_left result) }
-        ensures fits { AllByRecursion FitsBits (keys_left result) }
+    /// Returns the key of the first life in a phase of this name, at slot `from` or a later one, or
+    /// `None` if there is none. So a walk over these lives, which may end each of them, goes on at
+    /// the slot after the key's.
+    pub fn key_in(&self, name: PhaseName, from: u32) -> Option<LifeKey>
+        ensures key { IsFirstFrom self.now.list name from result }
+        ensures fits { IfSome result FitsBits }
     {
-        Keys::new(&self.list, self.order.others())
+        self.list.key_in(name, from)
     }
 }

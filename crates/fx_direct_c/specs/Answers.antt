@@ -1,9 +1,10 @@
 -- The numbers that the functions return for C, and what they write.
-use Rattle.std.specs.Prelude.{◌≡◌, ◌⊎◌, ℕ, ℤ, ◌≤◌, List, length, map, take, slice_index, Option}
+use Rattle.std.specs.Ordering.{int_eq}
+use Rattle.std.specs.Prelude.{◌≡◌, ◌⊎◌, ℕ, ℤ, false, List, length, Option}
 use Rattle.std.specs.Prelude.{Some, None, Result, Ok, Err, MatchResult, MatchOption, Bool, ◌==◌}
 use Rattle.std.specs.Prelude.{if◌then◌else◌}
 use Rattle.fx_direct.specs.Keys.{FitsBits, bits_of}
-use Rattle.fx_direct.specs.Living.{AreKeysOf}
+use Rattle.fx_direct.specs.Living.{IsFirstFrom}
 use Rattle.fx_direct.specs.Phases.{AllUnused, phase_at}
 use Rattle.fx_direct.specs.declared.chain.Member.{Member}
 use Rattle.fx_direct.specs.declared.chain.Member.TheVariants.{Open, Request}
@@ -11,23 +12,32 @@ use Rattle.fx_direct.specs.declared.chain.Member.TheVariants.{Close as CloseOfCh
 use Rattle.fx_direct.specs.declared.phase.Phase.TheVariants.{Free, Opening, Live, Ending, Closing}
 use Rattle.fx_direct.specs.declared.phase.Phase.TheVariants.{Chained}
 use Rattle.fx_direct.specs.Phases.{requests_in, users_in}
-use Rattle.fx_direct.specs.Refusals.{RefusesEnd, RefusesTransition, RefusesUnchained}
-use Rattle.fx_direct.specs.Transitions.{HasLife, IsEnabled, Advances, AdvancesAndAsks, EndsLife}
-use Rattle.fx_direct.specs.Transitions.{completion, key_concerned}
+use Rattle.fx_direct.specs.Refusals.{RefusesEnd, RefusesReserve, RefusesTransition}
+use Rattle.fx_direct.specs.Refusals.{RefusesUnchained}
+use Rattle.fx_direct.specs.Transitions.{DirectMachine, HasLife, Advances, AdvancesAndAsks}
+use Rattle.fx_direct.specs.Transitions.{EndsLife, completion, key_concerned}
 use Rattle.fx_direct.specs.declared.transition.Transition.TheVariants.{Reserves}
 use Rattle.fx_direct.specs.declared.key.LifeKey.{LifeKey}
 use Rattle.fx_direct.specs.declared.phase.Phase.{Phase}
+use Rattle.fx_direct.specs.declared.phase.PhaseName.{PhaseName}
+use Rattle.fx_direct.specs.declared.phase.PhaseName.TheVariants.{Opening as OpeningName}
+use Rattle.fx_direct.specs.declared.phase.PhaseName.TheVariants.{Live as LiveName}
+use Rattle.fx_direct.specs.declared.phase.PhaseName.TheVariants.{Ending as EndingName}
+use Rattle.fx_direct.specs.declared.phase.PhaseName.TheVariants.{Closing as ClosingName}
+use Rattle.fx_direct.specs.declared.phase.PhaseName.TheVariants.{Chained as ChainedName}
 use Rattle.fx_direct.specs.declared.phase.Slot.{Slot}
 use Rattle.fx_direct.specs.declared.refusal.LifeRefusal.{LifeRefusal}
 use Rattle.fx_direct.specs.declared.refusal.LifeRefusal.TheVariants.{Stale, Is, TooManyRequests}
 use Rattle.fx_direct.specs.declared.refusal.LifeRefusal.TheVariants.{TooManyUsers}
+use Rattle.fx_direct.specs.declared.refusal.ReserveRefusal.{ReserveRefusal}
+use Rattle.fx_direct.specs.declared.refusal.ReserveRefusal.TheVariants.{Full, Stopped}
 use Rattle.fx_direct.specs.declared.transition.Transition.{Transition}
 use Rattle.fx_direct_c.specs.declared.codes.TheConstants.{DONE, CLOSE, FULL, STALE, IS_OPENING}
 use Rattle.fx_direct_c.specs.declared.codes.TheConstants.{IS_LIVE, IS_ENDING, IS_CLOSING, OPENING}
 use Rattle.fx_direct_c.specs.declared.codes.TheConstants.{TOO_MANY_REQUESTS, TOO_MANY_USERS, LIVE}
 use Rattle.fx_direct_c.specs.declared.codes.TheConstants.{ENDING, CLOSING, CHAINED, IS_CHAINED}
 use Rattle.fx_direct_c.specs.declared.codes.TheConstants.{OPEN_OF_CHAIN, REQUEST_OF_CHAIN}
-use Rattle.fx_direct_c.specs.declared.codes.TheConstants.{CLOSE_OF_CHAIN, BAD_ARGUMENT}
+use Rattle.fx_direct_c.specs.declared.codes.TheConstants.{CLOSE_OF_CHAIN, BAD_ARGUMENT, STOPPED}
 
 -- the number of a phase. No life that is under way is free
 abbrev pub phase_code : Phase → ℤ
@@ -45,6 +55,20 @@ member_numbered number =
     else if number == REQUEST_OF_CHAIN then Some Request
     else if number == CLOSE_OF_CHAIN then Some CloseOfChain
     else None
+
+-- the name of the phase that has this number
+abbrev pub name_numbered : ℤ → Option PhaseName
+name_numbered number =
+    if int_eq number OPENING then Some OpeningName
+    else if int_eq number LIVE then Some LiveName
+    else if int_eq number ENDING then Some EndingName
+    else if int_eq number CLOSING then Some ClosingName
+    else if int_eq number CHAINED then Some ChainedName
+    else None
+
+abbrev pub code_of_reserve : ReserveRefusal → ℤ
+code_of_reserve Full = FULL
+code_of_reserve Stopped = STOPPED
 
 -- the number of a refusal
 abbrev pub code_of_refusal : LifeRefusal → ℤ
@@ -69,76 +93,82 @@ close_slot (Ok (Some slot)) old = slot
 close_slot answer old = old
 
 -- a machine was opened with this number of unused slots, and is in its place
-pub record OpensMachine (slots : ℕ) (place : Option (List Slot)) : Type 0 where
-  pub machine : List Slot
+pub record OpensMachine (slots : ℕ) (place : Option DirectMachine) : Type 0 where
+  pub machine : DirectMachine
   pub placed : place ≡ Some machine
-  pub size : length machine ≡ slots
-  pub unused : AllUnused machine
+  pub size : length machine.list ≡ slots
+  pub unused : AllUnused machine.list
+  pub runs : machine.stopped ≡ false
 
 -- the call was refused, for a reason of this number
-pub record RefusesBy (refuses : LifeRefusal → Type 0) (old : List Slot) (code : ℤ) (new : List Slot)
-    : Type 0 where
+pub record RefusesBy (refuses : LifeRefusal → Type 0) (old : DirectMachine) (code : ℤ)
+    (new : DirectMachine) : Type 0 where
   pub why : LifeRefusal
   pub its_code : code ≡ code_of_refusal why
   pub refused : refuses why
   pub same : new ≡ old
 
 -- the transition was made, or refused
-abbrev pub MakesAs : List Slot → Transition → ℤ → List Slot → Type 0
+abbrev pub MakesAs : DirectMachine → Transition → ℤ → DirectMachine → Type 0
 MakesAs old t code new =
-    ((code ≡ DONE) × Advances old t new) ⊎ RefusesBy (RefusesTransition old t) old code new
+    ((code ≡ DONE) × Advances old t new) ⊎ RefusesBy (RefusesTransition old.list t) old code new
 
 -- the completion was that of no chain's member, and left no close that is due; or it was refused
-abbrev pub CompletesAs : List Slot → Transition → ℤ → List Slot → Type 0
+abbrev pub CompletesAs : DirectMachine → Transition → ℤ → DirectMachine → Type 0
 CompletesAs old t code new =
     ((code ≡ DONE) × AdvancesAndAsks old t None new)
-    ⊎ RefusesBy (RefusesUnchained old t) old code new
+    ⊎ RefusesBy (RefusesUnchained old.list t) old code new
 
 -- the calls of a transition were counted, and the slot was written; or it was refused
-abbrev pub StartsAs : List Slot → Transition → ℤ → (old_slot new_slot : ℕ) → List Slot → Type 0
+abbrev pub StartsAs : DirectMachine → Transition → ℤ → (old_slot new_slot : ℕ) → DirectMachine
+    → Type 0
 StartsAs old t code old_slot new_slot new =
     ((code ≡ DONE) × (new_slot ≡ (key_concerned t).slot) × Advances old t new)
-    ⊎ ((new_slot ≡ old_slot) × RefusesBy (RefusesTransition old t) old code new)
+    ⊎ ((new_slot ≡ old_slot) × RefusesBy (RefusesTransition old.list t) old code new)
 
 -- the call was done, and the close that is due was asked for; or it was refused
-pub record ClosesBy (asks : Option ℕ → Type 0) (refuses : LifeRefusal → Type 0) (old : List Slot)
-    (code : ℤ) (old_slot new_slot : ℕ) (new : List Slot) : Type 0 where
+pub record ClosesBy (asks : Option ℕ → Type 0) (refuses : LifeRefusal → Type 0)
+    (old : DirectMachine) (code : ℤ) (old_slot new_slot : ℕ) (new : DirectMachine)
+    : Type 0 where
   pub answer : Result (Option ℕ) LifeRefusal
   pub its_code : code ≡ close_code answer
   pub its_slot : new_slot ≡ close_slot answer old_slot
   pub made : MatchResult answer asks (λ why. (new ≡ old) × refuses why)
 
-abbrev pub ClosesAs : List Slot → Transition → ℤ → (old_slot new_slot : ℕ) → List Slot → Type 0
+abbrev pub ClosesAs : DirectMachine → Transition → ℤ → (old_slot new_slot : ℕ) → DirectMachine
+    → Type 0
 ClosesAs old t code old_slot new_slot new =
-    ClosesBy (λ ask. AdvancesAndAsks old t ask new) (RefusesTransition old t) old code old_slot
-    new_slot new
+    ClosesBy (λ ask. AdvancesAndAsks old t ask new) (RefusesTransition old.list t) old code
+    old_slot new_slot new
 
 -- the same of a call that isn't for chains
-abbrev pub FinishesAs : List Slot → Transition → ℤ → (old_slot new_slot : ℕ) → List Slot → Type 0
+abbrev pub FinishesAs : DirectMachine → Transition → ℤ → (old_slot new_slot : ℕ) → DirectMachine
+    → Type 0
 FinishesAs old t code old_slot new_slot new =
-    ClosesBy (λ ask. AdvancesAndAsks old t ask new) (RefusesUnchained old t) old code old_slot
-    new_slot new
+    ClosesBy (λ ask. AdvancesAndAsks old t ask new) (RefusesUnchained old.list t) old code
+    old_slot new_slot new
 
 -- the life was ended, or the call was refused
-abbrev pub EndsAs : List Slot → LifeKey → ℤ → (old_slot new_slot : ℕ) → List Slot → Type 0
+abbrev pub EndsAs : DirectMachine → LifeKey → ℤ → (old_slot new_slot : ℕ) → DirectMachine → Type 0
 EndsAs old k code old_slot new_slot new =
-    ClosesBy (λ ask. EndsLife old k ask new) (RefusesEnd old k) old code old_slot new_slot new
+    ClosesBy (λ ask. EndsLife old k ask new) (RefusesEnd old.list k) old code old_slot new_slot new
 
 -- the completion of a chain's member was seen; or it was refused, or no member has this number
-abbrev pub ChainedAs : List Slot → LifeKey → (member : ℕ) → (succeeded : Bool) → ℤ
-    → (old_slot new_slot : ℕ) → List Slot → Type 0
+abbrev pub ChainedAs : DirectMachine → LifeKey → (member : ℕ) → (succeeded : Bool) → ℤ
+    → (old_slot new_slot : ℕ) → DirectMachine → Type 0
 ChainedAs old k number succeeded code old_slot new_slot new =
     MatchOption (member_numbered number)
     ((code ≡ BAD_ARGUMENT) × (new_slot ≡ old_slot) × (new ≡ old))
     (λ member. ClosesAs old (completion k member succeeded) code old_slot new_slot new)
 
 -- a life began under this key, or none could
-abbrev pub ReservesAs : List Slot → ℤ → (old_key new_key old_slot new_slot : ℕ) → List Slot → Type 0
+abbrev pub ReservesAs : DirectMachine → ℤ → (old_key new_key old_slot new_slot : ℕ)
+    → DirectMachine → Type 0
 ReservesAs old code old_key new_key old_slot new_slot new =
     ((code ≡ DONE) × (k : LifeKey) × (new_key ≡ bits_of k 0) × (new_slot ≡ k.slot)
-    × Advances old (Reserves k) new × FitsBits k)
-    ⊎ ((code ≡ FULL) × (new_key ≡ old_key) × (new_slot ≡ old_slot) × (new ≡ old)
-    × ((k : LifeKey) → IsEnabled old (Reserves k) → ⊥))
+    × (old.stopped ≡ false) × Advances old (Reserves k) new × FitsBits k)
+    ⊎ ((new_key ≡ old_key) × (new_slot ≡ old_slot) × (new ≡ old)
+    × (why : ReserveRefusal) × (code ≡ code_of_reserve why) × RefusesReserve old why)
 
 -- the phase of the life under a key was returned, or that no life is under way
 abbrev pub ShowsPhase : List Slot → LifeKey → ℤ
@@ -157,11 +187,11 @@ ShowsKey slots slot code old_key new_key =
     ⊎ ((code ≡ STALE) × (new_key ≡ old_key)
     × ((k : LifeKey) → k.slot ≡ slot → HasLife slots k → ⊥))
 
--- keys of lives under way were written, each once and as many as fit, and nothing after them
-pub record WritesKeys (slots : List Slot) (count : ℕ) (old new : List ℕ) : Type 0 where
-  pub keys : List LifeKey
-  pub are : AreKeysOf slots keys
-  pub fits : (count ≤ length keys) × (count ≤ length old)
-  pub whole : (count ≡ length keys) ⊎ (count ≡ length old)
-  pub written : take count new ≡ map (λ k. bits_of k 0) (take count keys)
-  pub rest : (i : ℕ) → count ≤ i → slice_index new i ≡ slice_index old i
+-- the key of the first life in a phase of this number, from a slot on, was written; or there is
+-- none, or no phase has this number
+abbrev pub ShowsFirst : List Slot → ℤ → (from : ℕ) → ℤ → (old_key new_key : ℕ) → Type 0
+ShowsFirst slots number from code old_key new_key =
+    MatchOption (name_numbered number) ((code ≡ BAD_ARGUMENT) × (new_key ≡ old_key))
+    (λ name. ((code ≡ DONE) × (k : LifeKey) × (new_key ≡ bits_of k 0)
+    × IsFirstFrom slots name from (Some k))
+    ⊎ ((code ≡ STALE) × (new_key ≡ old_key) × IsFirstFrom slots name from None))

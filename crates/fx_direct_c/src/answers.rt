@@ -1,14 +1,15 @@
 //! The numbers of the machine's answers.
 ghost use Rattle.std.specs.Prelude.{◌≡◌};
 ghost use Rattle.fx_direct_c.specs.Answers.{close_code, close_slot, code_of_refusal};
-ghost use Rattle.fx_direct_c.specs.Answers.{member_numbered, phase_code};
+ghost use Rattle.fx_direct_c.specs.Answers.{code_of_reserve, member_numbered, name_numbered};
+ghost use Rattle.fx_direct_c.specs.Answers.{phase_code};
 
 use crate::codes::{
-    CHAINED, CLOSE, CLOSE_OF_CHAIN, CLOSING, DONE, ENDING, IS_CHAINED, IS_CLOSING, IS_ENDING,
-    IS_LIVE, IS_OPENING, LIVE, OPEN_OF_CHAIN, OPENING, REQUEST_OF_CHAIN, STALE, TOO_MANY_REQUESTS,
-    TOO_MANY_USERS,
+    CHAINED, CLOSE, CLOSE_OF_CHAIN, CLOSING, DONE, ENDING, FULL, IS_CHAINED, IS_CLOSING, IS_ENDING,
+    IS_LIVE, IS_OPENING, LIVE, OPEN_OF_CHAIN, OPENING, REQUEST_OF_CHAIN, STALE, STOPPED,
+    TOO_MANY_REQUESTS, TOO_MANY_USERS,
 };
-use fx_direct::{LifeRefusal, Member, Phase};
+use fx_direct::{LifeRefusal, Member, Phase, PhaseName, ReserveRefusal};
 
 // Returns the number of a refusal.
 #[inline(always)]
@@ -24,6 +25,17 @@ pub(crate) fn of_refusal(why: LifeRefusal) -> i32
         LifeRefusal::Is(Phase::Chained(_)) => IS_CHAINED,
         LifeRefusal::TooManyRequests => TOO_MANY_REQUESTS,
         LifeRefusal::TooManyUsers => TOO_MANY_USERS,
+    }
+}
+
+// Returns the number of the reason why no life begins.
+#[inline(always)]
+pub(crate) fn of_reserve(why: ReserveRefusal) -> i32
+    ensures { result ≡ code_of_reserve why }
+{
+    match why {
+        ReserveRefusal::Full => FULL,
+        ReserveRefusal::Stopped => STOPPED,
     }
 }
 
@@ -54,6 +66,20 @@ pub(crate) fn of_phase(phase: Phase) -> i32
         Phase::Ending(_, _) => ENDING,
         Phase::Closing => CLOSING,
         Phase::Chained(_) => CHAINED,
+    }
+}
+
+// Returns the name of the phase that has this number.
+pub(crate) fn name_of(number: i32) -> Option<PhaseName>
+    ensures { result ≡ name_numbered number }
+{
+    match number {
+        OPENING => Some(PhaseName::Opening),
+        LIVE => Some(PhaseName::Live),
+        ENDING => Some(PhaseName::Ending),
+        CLOSING => Some(PhaseName::Closing),
+        CHAINED => Some(PhaseName::Chained),
+        _ => None,
     }
 }
 

@@ -39,6 +39,9 @@ pub const TOO_MANY_USERS: i32 = -16;
 /// The life is chained, so the call is refused.
 pub const IS_CHAINED: i32 = -17;
 
+/// The machine was stopped, so no life begins.
+pub const STOPPED: i32 = -18;
+
 /// The phase of a life: its open is in flight.
 pub const OPENING: i32 = 1;
 

@@ -1,21 +1,22 @@
 //! The functions that C calls. Each borrows the handle of a machine, and calls the machine. Keys
 //! are bits: a call ignores the kind of the key that it gets, and the keys that it writes have the
 //! kind 0.
-ghost use Rattle.std.specs.Prelude.{◌≡◌, ◌≢◌, ◌⊎◌, ◌↔◌, ◌≤◌, ◌<◌, int_le, nat_lt, pos};
+ghost use Rattle.std.specs.Prelude.{◌≡◌, ◌≢◌, ◌⊎◌, ◌↔◌, ◌≤◌, ◌<◌, true, int_le, nat_lt, pos};
 ghost use Rattle.fx_direct.specs.Keys.{key_in_bits};
 ghost use Rattle.fx_direct.specs.Phases.{calls_in_flight, lives_of};
+ghost use Rattle.fx_direct.specs.Transitions.{machine_with};
 ghost use Rattle.fx_direct.specs.declared.key.TheConstants.{MOST_SLOTS};
 ghost use Rattle.fx_direct.specs.declared.transition.Transition.TheVariants.{Chains, Opens};
 ghost use Rattle.fx_direct.specs.declared.transition.Transition.TheVariants.{Starts, Finishes};
 ghost use Rattle.fx_direct.specs.declared.transition.Transition.TheVariants.{Holds, Releases};
 ghost use Rattle.fx_direct.specs.declared.transition.Transition.TheVariants.{Closes, FailsToClose};
 ghost use Rattle.fx_direct_c.specs.Answers.{ChainedAs, ClosesAs, CompletesAs, EndsAs, FinishesAs};
-ghost use Rattle.fx_direct_c.specs.Answers.{MakesAs, OpensMachine, ReservesAs, ShowsKey, ShowsPhase};
-ghost use Rattle.fx_direct_c.specs.Answers.{StartsAs, WritesKeys};
+ghost use Rattle.fx_direct_c.specs.Answers.{MakesAs, OpensMachine, ReservesAs, ShowsFirst};
+ghost use Rattle.fx_direct_c.specs.Answers.{ShowsKey, ShowsPhase, StartsAs};
 ghost use Rattle.fx_direct_c.specs.declared.codes.TheConstants.{BAD_ARGUMENT, DONE, NO_MEMORY};
 
-use crate::answers::{member_of, of_close, of_phase, of_refusal};
-use crate::codes::{BAD_ARGUMENT, DONE, FULL, NO_MEMORY, STALE};
+use crate::answers::{member_of, name_of, of_close, of_phase, of_refusal, of_reserve};
+use crate::codes::{BAD_ARGUMENT, DONE, NO_MEMORY, STALE};
 use crate::handle::{MachineHandle, MachinePlace};
 use fx_direct::{DirectSlots, LifeKey, MOST_SLOTS};
 use std::alloc::Global;
@@ -49,8 +50,8 @@ pub extern "C" fn yacht_direct_free(machine: MachineHandle) {
     machine.end();
 }
 
-/// Begins a life at a free slot, and writes its key and its slot. It returns `DONE`; or `FULL`, and
-/// writes nothing.
+/// Begins a life at a free slot, and writes its key and its slot. It returns `DONE`; or `FULL`, or
+/// `STOPPED`, and writes nothing.
 #[unsafe(no_mangle)]
 pub extern "C" fn yacht_direct_reserve(
     machine: &mut MachineHandle,
@@ -60,33 +61,39 @@ pub extern "C" fn yacht_direct_reserve(
     ensures { ReservesAs machine.old.slots result key.old key.new slot.old slot.new
         machine.new.slots }
 {
-    let Ok(begun) = machine.as_mut().reserve() else {
-        return FULL;
-    };
-    *key = begun.to_bits(0);
-    *slot = begun.slot;
-    DONE
+    match machine.as_mut().reserve() {
+        Ok(begun) => {
+            *key = begun.to_bits(0);
+            *slot = begun.slot;
+            DONE
+        }
+        Err(why) => of_reserve(why),
+    }
+}
+
+/// Stops a machine: no life begins by `yacht_direct_reserve`, and each life that becomes live is
+/// ended at once.
+#[unsafe(no_mangle)]
+pub extern "C" fn yacht_direct_stop(machine: &mut MachineHandle)
+    ensures { machine.new.slots ≡ machine_with machine.old.slots.list true }
+{
+    machine.as_mut().stop();
 }
 
 /// Reports the completion of a key's open, with its result: a negative one installed no file. It
-/// returns `DONE`, or why it is refused.
+/// returns what `yacht_direct_finish` returns.
 #[unsafe(no_mangle)]
 pub extern "C" fn yacht_direct_opened(
     machine: &mut MachineHandle,
     key: u64,
     result_of_open: i32,
+    slot: &mut u32,
 ) -> i32
-    ensures { CompletesAs machine.old.slots (Opens (key_in_bits key) (int_le (pos 0) result_of_open))
-        result machine.new.slots }
+    ensures { FinishesAs machine.old.slots (Opens (key_in_bits key) (int_le (pos 0) result_of_open))
+        result slot.old slot.new machine.new.slots }
 {
-    let installed = result_of_open >= 0;
-    match machine
-        .as_mut()
-        .opened(LifeKey::from_bits(key).0, installed)
-    {
-        Ok(()) => DONE,
-        Err(why) => of_refusal(why),
-    }
+    let its_key = LifeKey::from_bits(key).0;
+    of_close(machine.as_mut().opened(its_key, result_of_open >= 0), slot)
 }
 
 /// Counts an open, this number of requests and, unless `closes` is 0, a close that are submitted
@@ -233,8 +240,8 @@ pub extern "C" fn yacht_direct_phase(
     requests: &mut u32,
     users: &mut u32,
 ) -> i32
-    ensures shown { ShowsPhase machine.old.slots (key_in_bits key) result requests.old requests.new
-        users.old users.new }
+    ensures shown { ShowsPhase machine.old.slots.list (key_in_bits key) result requests.old
+        requests.new users.old users.new }
     ensures same { machine.new.slots ≡ machine.old.slots }
 {
     let Some(phase) = machine.as_mut().phase(LifeKey::from_bits(key).0) else {
@@ -248,7 +255,7 @@ pub extern "C" fn yacht_direct_phase(
 /// Returns the number of lives under way.
 #[unsafe(no_mangle)]
 pub extern "C" fn yacht_direct_len(machine: &mut MachineHandle) -> u32
-    ensures len { result ≡ lives_of machine.old.slots }
+    ensures len { result ≡ lives_of machine.old.slots.list }
     ensures same { machine.new.slots ≡ machine.old.slots }
 {
     machine.as_mut().len()
@@ -257,7 +264,7 @@ pub extern "C" fn yacht_direct_len(machine: &mut MachineHandle) -> u32
 /// Returns the number of calls in flight.
 #[unsafe(no_mangle)]
 pub extern "C" fn yacht_direct_in_flight(machine: &mut MachineHandle) -> u64
-    ensures calls { result ≡ calls_in_flight machine.old.slots }
+    ensures calls { result ≡ calls_in_flight machine.old.slots.list }
     ensures same { machine.new.slots ≡ machine.old.slots }
 {
     machine.as_mut().in_flight()
@@ -267,7 +274,7 @@ pub extern "C" fn yacht_direct_in_flight(machine: &mut MachineHandle) -> u64
 /// is, and writes nothing.
 #[unsafe(no_mangle)]
 pub extern "C" fn yacht_direct_key_at(machine: &mut MachineHandle, slot: u32, key: &mut u64) -> i32
-    ensures shown { ShowsKey machine.old.slots slot result key.old key.new }
+    ensures shown { ShowsKey machine.old.slots.list slot result key.old key.new }
     ensures same { machine.new.slots ≡ machine.old.slots }
 {
     let Some(found) = machine.as_mut().key_at(slot) else {
@@ -277,27 +284,25 @@ pub extern "C" fn yacht_direct_key_at(machine: &mut MachineHandle, slot: u32, ke
     DONE
 }
 
-/// Writes the keys of the lives under way, each once and as many as fit, and returns their number.
+/// Writes the key of the first life in the phase of this number, at slot `from` or a later one, and
+/// returns `DONE`; or returns `STALE` if there is none, or `BAD_ARGUMENT` if no phase has this
+/// number, and writes nothing.
 #[unsafe(no_mangle)]
-pub extern "C" fn yacht_direct_keys(machine: &mut MachineHandle, keys: &mut [u64]) -> usize
-    ensures written { WritesKeys machine.old.slots result keys.old keys.new }
+pub extern "C" fn yacht_direct_key_in(
+    machine: &mut MachineHandle,
+    phase: i32,
+    from: u32,
+    key: &mut u64,
+) -> i32
+    ensures shown { ShowsFirst machine.old.slots.list phase from result key.old key.new }
     ensures same { machine.new.slots ≡ machine.old.slots }
 {
-    write_keys(machine.as_mut(), keys)
-}
-
-// Writes the keys of the lives under way, as many as fit, and returns their number.
-fn write_keys(machine: &DirectSlots, keys: &mut [u64]) -> usize
-    ensures { WritesKeys machine.now result keys.old keys.new }
-{
-    let mut left = machine.keys();
-    let mut count = 0;
-    while count < keys.len() {
-        let Some(key) = left.next() else {
-            return count;
-        };
-        keys[count] = key.to_bits(0);
-        count += 1;
-    }
-    count
+    let Some(name) = name_of(phase) else {
+        return BAD_ARGUMENT;
+    };
+    let Some(found) = machine.as_mut().key_in(name, from) else {
+        return STALE;
+    };
+    *key = found.to_bits(0);
+    DONE
 }
