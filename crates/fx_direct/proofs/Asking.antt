@@ -1,38 +1,85 @@
--- A transition that leaves an ending slot, and the close that is asked for then.
-use Rattle.fx_direct.proofs.Words.{◌≡◌, List, sym, ap, ◌∙◌, Option, Some, None, Slot, Transition, Phase, Closing, ℕ}
-use Rattle.fx_direct.proofs.Words.{AdvancesAndAsks, with_phase, Asks, key_concerned, IsEnabled, phase_at, phase_after, slots_with}
+-- A call's transitions, and the close that is asked for then.
+use Rattle.fx_direct.proofs.Words.{arith, ◌≡◌, ◌<◌, ◌&&◌, List, ◌∷◌, length, subst, get_or-set_same, length-set, refl, sym, ap, ◌∙◌, Option, Some, None, Slot, Transition, Phase, Ending, Closing, ℕ}
+use Rattle.fx_direct.proofs.Words.{AdvancesAndAsks, with_phase, Asks, key_concerned, IsEnabled, AreEnabled, phase_at, phase_after, slots_with, slots_left_by, is_live}
 use Rattle.fx_direct.proofs.Words.{Bool, true, false, LifeKey, Member, Open, Request, CloseMember, NamesLastLife, FitsPhase, Opens, Finishes, Closes, FailsToClose}
 use Rattle.std.proofs.lemmas.List.{set-set}
-use Rattle.fx_direct.specs.Transitions.{completion}
+use Rattle.fx_direct.specs.Transitions.{completion, may_end, when_ended, machine_with, AdvancesBy, becomes_live, unless_live, and_ends}
 use Rattle.fx_direct.specs.Machine.{WritesPhase}
 use Rattle.fx_direct.proofs.Moves.{after-here, after-length}
 use Rattle.fx_direct.proofs.Turns.{within}
 
-pub asks : (old : List Slot) (d : Transition) (phase : Phase) (ask : Option ℕ) (new : List Slot) → IsEnabled old d
-    → phase_after d (phase_at old (key_concerned d).slot) ≡ phase → WritesPhase old (key_concerned d) phase ask new → AdvancesAndAsks old d ask new
-asks old d phase None new can leaves writes =
-    let e : slots_with old d ≡ with_phase old (key_concerned d) phase = ap (λ (p : Phase). with_phase old (key_concerned d) p) leaves in
-    let is : new ≡ slots_with old d = writes.0 ∙ sym e in
-    let here : phase_at new (key_concerned d).slot ≡ phase =
-    ap (λ (xs : List Slot). phase_at xs (key_concerned d).slot) is ∙ ap (λ (s : Slot). s.phase) (after-here old d (within old d can)) ∙ leaves in
-    ((can, is), λ none. writes.1 (sym here ∙ none))
-asks old d phase (Some slot) new can leaves writes =
-    let inside = within old d can in let k = key_concerned d in
-    let here = after-here old d inside in
-    let e : slots_with (slots_with old d) (Asks k) ≡ with_phase old k Closing = set-set old k.slot _ _ in (
-      writes.0,
-      can,
-      (
-        ((rw (after-length old d) inside, ap (λ (s : Slot). s.number) here), ap (λ (s : Slot). s.phase) here ∙ leaves ∙ writes.1),
-        writes.2 ∙ sym e,
-      ),
-    )
+-- the phase that a call leaves, before the close that is due is asked for
+abbrev pub phase_left : Bool → Transition → Phase → Phase
+phase_left stopped t p = unless_live (becomes_live t p && stopped) (phase_after t p)
+
+live_ends : (p : Phase) → is_live p ≡ true → may_end p ≡ true
+live_ends p live = grind arith
+
+pub is_begun : (t : Transition) (p : Phase) (stopped : Bool) → (becomes_live t p && stopped) ≡ true → is_live (phase_after t p) ≡ true
+is_begun t p stopped e = grind arith
+
+-- the slot whose phase was written
+pub at_key : (old : List Slot) (k : LifeKey) (p : Phase) → k.slot < length old → phase_at (with_phase old k p) k.slot ≡ p
+at_key old k p inside = grind (arith, get_or-set_same)
+
+names_key : (old : List Slot) (k : LifeKey) (p : Phase) → k.slot < length old → NamesLastLife (with_phase old k p) k
+names_key old k p inside = grind (arith, get_or-set_same, length-set)
+
+module _ (old : List Slot) (d : Transition) (can : IsEnabled old d) where
+  abbrev k : LifeKey
+  k = key_concerned d
+
+  here : phase_at (slots_with old d) k.slot ≡ phase_after d (phase_at old k.slot)
+  here = ap (λ (s : Slot). s.phase) (after-here old d (within old d can))
+
+  names : NamesLastLife (slots_with old d) k
+  names = (rw (after-length old d) (within old d can), ap (λ (s : Slot). s.number) (after-here old d (within old d can)))
+
+  -- the transition, and perhaps the end of its life after it
+  ends_may : (b : Bool) → (b ≡ true → is_live (phase_after d (phase_at old k.slot)) ≡ true) → AreEnabled old (and_ends b d)
+  ends_may true live = ((tt, can), (names, live_ends (phase_at (slots_with old d) k.slot) (ap is_live here ∙ live refl)))
+  ends_may false live = (tt, can)
+
+  pub ends_leaves : (b : Bool) → slots_left_by old (and_ends b d) ≡ with_phase old k (unless_live b (phase_after d (phase_at old k.slot)))
+  ends_leaves true = ap (λ (p : Phase). with_phase (slots_with old d) k (when_ended p)) here ∙ set-set old k.slot _ _
+  ends_leaves false = refl
+
+  -- what `AdvancesAndAsks` says of these transitions
+  abbrev AsksBy : Bool → Bool → Option ℕ → List Slot → Type 0
+  AsksBy b stopped None new = AdvancesBy (machine_with old stopped) (and_ends b d) (machine_with new stopped) × (phase_at new k.slot ≡ Ending 0 0 → ⊥)
+  AsksBy b stopped (Some slot) new = (slot ≡ k.slot) × AdvancesBy (machine_with old stopped) (Asks k ∷ and_ends b d) (machine_with new stopped)
+
+  asks_by : (b stopped : Bool) (phase : Phase) (ask : Option ℕ) (new : List Slot) → AreEnabled old (and_ends b d) → slots_left_by old (and_ends b d) ≡ with_phase old k phase
+      → WritesPhase old k phase ask new → AsksBy b stopped ask new
+  asks_by b stopped phase None new may is writes =
+      ((may, ap (λ (xs : List Slot). machine_with xs stopped) (writes.0 ∙ sym is)), λ none. writes.1 (sym (at_key old k phase (within old d can)) ∙ ap (λ (xs : List Slot). phase_at xs k.slot) (sym writes.0) ∙ none))
+  asks_by b stopped phase (Some slot) new may is writes = (
+    writes.0,
+    (
+      (may, subst (λ (xs : List Slot). IsEnabled xs (Asks k)) (sym is) (names_key old k phase (within old d can), at_key old k phase (within old d can) ∙ writes.1)),
+      ap (λ (xs : List Slot). machine_with xs stopped) (writes.2 ∙ sym (ap (λ (xs : List Slot). with_phase xs k Closing) is ∙ set-set old k.slot _ _)),
+    ),
+  )
+
+  abbrev is_ended : Bool → Bool
+  is_ended stopped = becomes_live d (phase_at old k.slot) && stopped
+
+  may : (stopped : Bool) → AreEnabled old (and_ends (is_ended stopped) d)
+  may stopped = ends_may (is_ended stopped) (is_begun d (phase_at old k.slot) stopped)
+
+  leaves_phase : (stopped : Bool) (phase : Phase) → phase_left stopped d (phase_at old k.slot) ≡ phase → slots_left_by old (and_ends (is_ended stopped) d) ≡ with_phase old k phase
+  leaves_phase stopped phase leaves = ends_leaves (is_ended stopped) ∙ ap (with_phase old k) leaves
+
+  pub asks : (stopped : Bool) (phase : Phase) (ask : Option ℕ) (new : List Slot) → phase_left stopped d (phase_at old k.slot) ≡ phase → WritesPhase old k phase ask new
+      → AdvancesAndAsks (machine_with old stopped) d ask (machine_with new stopped)
+  asks stopped phase None new leaves writes = asks_by (is_ended stopped) stopped phase None new (may stopped) (leaves_phase stopped phase leaves) writes
+  asks stopped phase (Some slot) new leaves writes = asks_by (is_ended stopped) stopped phase (Some slot) new (may stopped) (leaves_phase stopped phase leaves) writes
 
 -- the same of the completion of a chain's member
-pub completes : (old : List Slot) (k : LifeKey) (m : Member) (succeeded : Bool) (phase : Phase) (ask : Option ℕ) (new : List Slot) → NamesLastLife old k
-    → FitsPhase (completion k m succeeded) (phase_at old k.slot) → phase_after (completion k m succeeded) (phase_at old k.slot) ≡ phase
-    → WritesPhase old k phase ask new → AdvancesAndAsks old (completion k m succeeded) ask new
-completes old k Open succeeded phase ask new names may leaves writes = asks old (Opens k succeeded) phase ask new (names, may) leaves writes
-completes old k Request succeeded phase ask new names may leaves writes = asks old (Finishes k) phase ask new (names, may) leaves writes
-completes old k CloseMember true phase ask new names may leaves writes = asks old (Closes k) phase ask new (names, may) leaves writes
-completes old k CloseMember false phase ask new names may leaves writes = asks old (FailsToClose k) phase ask new (names, may) leaves writes
+pub completes : (old : List Slot) (stopped : Bool) (k : LifeKey) (m : Member) (succeeded : Bool) (phase : Phase) (ask : Option ℕ) (new : List Slot) → NamesLastLife old k
+    → FitsPhase (completion k m succeeded) (phase_at old k.slot) → phase_left stopped (completion k m succeeded) (phase_at old k.slot) ≡ phase
+    → WritesPhase old k phase ask new → AdvancesAndAsks (machine_with old stopped) (completion k m succeeded) ask (machine_with new stopped)
+completes old stopped k Open succeeded phase ask new names may leaves writes = asks old (Opens k succeeded) (names, may) stopped phase ask new leaves writes
+completes old stopped k Request succeeded phase ask new names may leaves writes = asks old (Finishes k) (names, may) stopped phase ask new leaves writes
+completes old stopped k CloseMember true phase ask new names may leaves writes = asks old (Closes k) (names, may) stopped phase ask new leaves writes
+completes old stopped k CloseMember false phase ask new names may leaves writes = asks old (FailsToClose k) (names, may) stopped phase ask new leaves writes

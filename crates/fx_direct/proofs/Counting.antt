@@ -49,7 +49,7 @@ pub record Kept (h : List Transition) (k : LifeKey) (number : ℕ) (p : Phase) :
 proper_chain : (n : ℕ) (opened : ChainOpen) (end : ChainEnd) → contradict opened end ≡ false → IsProper (chain_phase n opened end)
 proper_chain n opened end fit = grind arith
 
-proper_after : (d : Transition) (p : Phase) → FitsPhase d p → IsProper p → IsProper (phase_after d p)
+pub proper_after : (d : Transition) (p : Phase) → FitsPhase d p → IsProper p → IsProper (phase_after d p)
 proper_after d p may proper = grind (arith, proper_chain)
 
 of_same : (j k : LifeKey) (n : ℕ) → same_key j k ≡ true → of_key j k n ≡ n
@@ -191,7 +191,7 @@ module _ (k : LifeKey) (d : Transition) (none : same_key (key_concerned d) k ≡
   no_releases : releases k d ≡ 0
   no_releases = grind (arith, of_other)
 
-  no_ends : ends k d ≡ 0
+  pub no_ends : ends k d ≡ 0
   no_ends = grind (arith, of_other)
 
   no_asks : asks k d ≡ 0
@@ -251,7 +251,7 @@ new_of slots d can e = grind arith
 one_key : (j k : LifeKey) → j.slot ≡ k.slot → j.number ≡ k.number → same_key j k ≡ true
 one_key j k e n = rw (eq-eqb j.slot k.slot e, eq-eqb j.number k.number n) refl
 
-two_slots : (j k : LifeKey) → j.slot ≢ k.slot → same_key j k ≡ false
+pub two_slots : (j k : LifeKey) → j.slot ≢ k.slot → same_key j k ≡ false
 two_slots j k ne = rw (ne_eqb j.slot k.slot ne) refl
 
 two_numbers : (j k : LifeKey) → j.slot ≡ k.slot → j.number ≢ k.number → same_key j k ≡ false

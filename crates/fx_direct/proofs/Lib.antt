@@ -4,14 +4,13 @@ mod Calls
 mod Counting
 mod Effects
 mod Flown
-mod Listing
 mod Lives
 mod Mistakes
 mod Moves
 mod Orders
-mod Others
 mod Reach
 mod Rounds
+mod Stopping
 mod Sums
 mod Turns
 mod Words

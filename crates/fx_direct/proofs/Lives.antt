@@ -1,18 +1,20 @@
 -- Laws of a whole life.
-use Rattle.fx_direct.proofs.Words.{arith, ◌≡◌, ◌≢◌, ℕ, ◌+◌, ◌<◌, ◌≤◌, ◌⊎◌, inl, inr, Bool, true, false, List, [], ◌∷◌, length, refl, sym, ap, ◌∙◌, subst}
+use Rattle.fx_direct.proofs.Words.{arith, ◌≡◌, ◌≢◌, ℕ, ◌+◌, ◌<◌, ◌≤◌, ◌&&◌, ◌⊎◌, inl, inr, Bool, true, false, List, [], ◌∷◌, refl, sym, ap, ◌∙◌, get_or-set_other}
 use Rattle.fx_direct.proofs.Words.{Option, Some, None, cases_eq, cases_lt, ◌▷▷◌, Transition, LifeKey, Phase, Slot}
-use Rattle.fx_direct.proofs.Words.{Asks, Free, Ending, Closing, slot_numbered, phase_at, requests_in, users_in, is_live, is_installed, is_chained, bit}
-use Rattle.fx_direct.proofs.Words.{key_concerned, HasLife, FitsPhase, IsEnabled, phase_after, slots_with, AreEnabled, slots_left_by, Advances, AdvancesAndAsks}
+use Rattle.fx_direct.proofs.Words.{Free, Ending, Closing, slot_numbered, phase_at, requests_in, users_in, is_live, is_installed, is_chained, bit}
+use Rattle.fx_direct.proofs.Words.{key_concerned, HasLife, FitsPhase, IsEnabled, phase_after, slots_with, AreEnabled, slots_left_by, Advances, AdvancesAndAsks, with_phase}
 use Rattle.fx_direct.specs.Counts.{times, chains, opens, starts, finishes, holds, releases, ends, asks, closes, fails, is_early, phase_of, IsBalanced}
-use Rattle.fx_direct.specs.Lives.{NoCloseIsDue, NeverAsks, NoCloseIsLate, EachCloseIsAskedForOnce, StaleKeysStayStale}
+use Rattle.fx_direct.specs.Transitions.{DirectMachine, becomes_live, unless_live, and_ends}
+use Rattle.fx_direct.specs.Lives.{NoCloseIsDue, NeverAsks, IsCall, NoCloseIsLate, EachCloseIsAskedForOnce, StaleKeysStayStale}
 use Rattle.fx_direct.proofs.Counting.{Kept, IsProper, is_unopened, kept_always, possible, phase_else, phase_here}
+use Rattle.fx_direct.proofs.Asking.{phase_left, at_key, ends_leaves}
 use Rattle.fx_direct.proofs.Moves.{after-here, after-else}
 use Rattle.fx_direct.proofs.Turns.{within}
-use Rattle.std.proofs.lemmas.List.{get_or_past}
+use Rattle.std.proofs.lemmas.List.{get_or_past, set-set}
 
 -- Each close is asked for once.
 
-not_true : (b : Bool) → (b ≡ true → ⊥) → b ≡ false
+pub not_true : (b : Bool) → (b ≡ true → ⊥) → b ≡ false
 not_true b wrong = grind arith
 
 -- a phase that isn't opening has its file, or waits for its chain
@@ -78,31 +80,68 @@ each_close_is_asked_for_once start h k free can =
 never : (t : Transition) (p : Phase) → NeverAsks t → FitsPhase t p → phase_after t p ≡ Ending 0 0 → ⊥
 never t p calm may e = grind arith
 
--- after a transition no close is due, if none is due at its slot
-after_one : (old : List Slot) (t : Transition) → NoCloseIsDue old → (key_concerned t).slot < length old
-    → (phase_after t (phase_at old (key_concerned t).slot) ≡ Ending 0 0 → ⊥) → NoCloseIsDue (slots_with old t)
-after_one old t due inside here s e = grind (arith, after-here, after-else)
+calm_unlive : (t : Transition) (p : Phase) → NeverAsks t → FitsPhase t p → becomes_live t p ≡ false
+calm_unlive t p calm may = grind arith
 
-after_calm : (old new : List Slot) (t : Transition) → NoCloseIsDue old → NeverAsks t → Advances old t new → NoCloseIsDue new
-after_calm old new t due calm turns = grind (arith, after_one, within, never, possible)
+first_may : (old : List Slot) (t : Transition) (b : Bool) → AreEnabled old (and_ends b t) → IsEnabled old t
+first_may old t true may = may.0.1
+first_may old t false may = may.1
 
-after_asking : (old new : List Slot) (t : Transition) (ask : Option ℕ) → NoCloseIsDue old → AdvancesAndAsks old t ask new → NoCloseIsDue new
-after_asking old new t None due turns =
-    let here = after-here old t (within old t turns.0.0) in
-    subst NoCloseIsDue (sym turns.0.1)
-    (after_one old t due (within old t turns.0.0)
-    (λ e. turns.1 (ap (λ (xs : List Slot). phase_at xs (key_concerned t).slot) turns.0.1 ∙ ap (λ (x : Slot). x.phase) here ∙ e)))
-after_asking old new t (Some slot) due turns =
-    let k = key_concerned t in let mid = slots_with old t in
-    subst NoCloseIsDue (sym turns.2.1) (λ s e. elim (cases_eq s k.slot) [
-      | inl same ↦
-          let f : Closing ≡ Ending 0 0 = sym (ap (λ (x : Slot). x.phase) (after-here mid (Asks k) turns.2.0.0.0)) ∙ ap (phase_at (slots_with mid (Asks k))) (sym same) ∙ e in
-          cc
-      | inr ne ↦ due s (sym (ap (λ (x : Slot). x.phase) (after-else mid (Asks k) s ne ∙ after-else old t s ne)) ∙ e)
-    ])
+-- the slot of a call, and its phase then: its close is asked for, or isn't due
+pub record Leaves (old : DirectMachine) (t : Transition) (new : DirectMachine) : Type 0 where
+  pub can : IsEnabled old.list t
+  pub phase : Phase
+  pub list : new.list ≡ with_phase old.list (key_concerned t) phase
+  pub left : (phase ≡ Closing) ⊎ ((phase ≡ phase_left old.stopped t (phase_at old.list (key_concerned t).slot)) × (phase ≡ Ending 0 0 → ⊥))
+  pub same : new.stopped ≡ old.stopped
+
+by_calm : (old new : DirectMachine) (t : Transition) → NeverAsks t → Advances old t new → Leaves old t new
+by_calm old new t calm turns = let p = phase_at old.list (key_concerned t).slot in let may = possible old.list t turns.0 in record {
+  can = turns.0;
+  phase = phase_after t p;
+  list = ap (λ (m : DirectMachine). m.list) turns.1;
+  left = inr (ap (λ (b : Bool). unless_live (b && old.stopped) (phase_after t p)) (sym (calm_unlive t p calm may)), never t p calm may);
+  same = ap (λ (m : DirectMachine). m.stopped) turns.1;
+}
+
+by_asking : (old new : DirectMachine) (t : Transition) (ask : Option ℕ) → AdvancesAndAsks old t ask new → Leaves old t new
+by_asking old new t None turns =
+    let k = key_concerned t in let b = becomes_live t (phase_at old.list k.slot) && old.stopped in let can = first_may old.list t b turns.0.0 in
+    let list : new.list ≡ with_phase old.list k (phase_left old.stopped t (phase_at old.list k.slot)) = ap (λ (m : DirectMachine). m.list) turns.0.1 ∙ ends_leaves old.list t can b in
+    record {
+      can = can;
+      phase = phase_left old.stopped t (phase_at old.list k.slot);
+      list = list;
+      left = inr (refl, λ e. turns.1 (ap (λ (xs : List Slot). phase_at xs k.slot) list ∙ at_key old.list k _ (within old.list t can) ∙ e));
+      same = ap (λ (m : DirectMachine). m.stopped) turns.0.1;
+    }
+by_asking old new t (Some slot) turns =
+    let k = key_concerned t in let b = becomes_live t (phase_at old.list k.slot) && old.stopped in let can = first_may old.list t b turns.1.0.0 in record {
+      can = can;
+      phase = Closing;
+      list = ap (λ (m : DirectMachine). m.list) turns.1.1 ∙ ap (λ (xs : List Slot). with_phase xs k Closing) (ends_leaves old.list t can b) ∙ set-set old.list k.slot _ _;
+      left = inl refl;
+      same = ap (λ (m : DirectMachine). m.stopped) turns.1.1;
+    }
+
+pub call_leaves : (old new : DirectMachine) (t : Transition) → IsCall old t new → Leaves old t new
+call_leaves old new t (inl calm) = by_calm old new t calm.0 calm.1
+call_leaves old new t (inr asking) = by_asking old new t asking.0 asking.1
+
+at_other : (old : List Slot) (k : LifeKey) (p : Phase) (s : ℕ) → s ≢ k.slot → phase_at (with_phase old k p) s ≡ phase_at old s
+at_other old k p s ne = grind (arith, get_or-set_other)
+
+pub not_due : (old new : DirectMachine) (t : Transition) → NoCloseIsDue old.list → Leaves old t new → NoCloseIsDue new.list
+not_due old new t due leaves s e = let k = key_concerned t in elim (cases_eq s k.slot) [
+  | inl same ↦
+      let q : leaves.phase ≡ Ending 0 0 = sym (at_key old.list k leaves.phase (within old.list t leaves.can)) ∙ ap (λ (xs : List Slot). phase_at xs k.slot) (sym leaves.list)
+      ∙ ap (phase_at new.list) (sym same) ∙ e in
+      elim leaves.left [ inl c ↦ cc | inr l ↦ l.1 q ]
+  | inr ne ↦ due s (sym (ap (λ (xs : List Slot). phase_at xs s) leaves.list ∙ at_other old.list k leaves.phase s ne) ∙ e)
+]
 
 pub no_close_is_late : NoCloseIsLate
-no_close_is_late = grind (arith, after_calm, after_asking)
+no_close_is_late = (λ slots free slot e. let f = free slot in cc, λ old new t due call. not_due old new t due (call_leaves old new t call))
 
 -- Stale keys stay stale.
 

@@ -1,11 +1,12 @@
 -- The counts of all slots, and one slot that is written.
-use Rattle.fx_direct.proofs.Words.{arith, ◌≡◌, ℕ, ◌+◌, ◌≤◌, List, length, ap, Phase, Slot, unused, phase_at}
+use Rattle.fx_direct.proofs.Words.{arith, ◌≡◌, ℕ, zero, suc, ◌+◌, ◌<◌, ◌≤◌, List, [], ◌∷◌, length, ap, Phase, Slot, unused, phase_at, slot_numbered}
 use Rattle.fx_direct.proofs.Words.{calls_in, lives_in}
 use Rattle.fx_direct.specs.Phases.{calls_in_flight, lives_of}
 use Rattle.std.specs.Prelude.{◌*◌, ◌^◌}
-use Rattle.std.proofs.lemmas.List.Sums.{sum_by-le}
-use Rattle.std.proofs.lemmas.List.{get_or_default}
+use Rattle.std.proofs.lemmas.List.Sums.{sum_by-le, sum_by-cons}
+use Rattle.std.proofs.lemmas.List.{get_or_default, get_or_past}
 use Rattle.std.specs.Prelude.{slice_index_or}
+use Rattle.std.specs.List.{sum_by}
 
 pub one_life : (p : Phase) → lives_in p ≤ 1
 one_life p = grind arith
@@ -19,3 +20,18 @@ pub calls_high : (slots : List Slot) → ((slot : ℕ) → calls_in (phase_at sl
 calls_high slots each = sum_by-le (λ (s : Slot). calls_in s.phase) (2 ^ 32 + 1) slots (λ k d lt.
     let e : calls_in (slice_index_or slots k d).phase ≡ calls_in (phase_at slots k) = ap (λ (s : Slot). calls_in s.phase) (get_or_default slots k d unused lt) in
     let f = each k in omega arith)
+
+-- a sum is 0 if and only if each of its numbers is
+
+each_below : (f : Slot → ℕ) (slots : List Slot) (s : ℕ) → s < length slots → f (slot_numbered slots s) ≤ sum_by f slots
+each_below f [] s lt = absurd (omega arith)
+each_below f (x ∷ slots) zero lt = let e = sum_by-cons f x slots in omega arith
+each_below f (x ∷ slots) (suc s) lt = let e = sum_by-cons f x slots in let below = each_below f slots s (omega arith) in omega arith
+
+pub each_none : (f : Slot → ℕ) (slots : List Slot) (s : ℕ) → f unused ≡ 0 → sum_by f slots ≡ 0 → f (slot_numbered slots s) ≡ 0
+each_none f slots s past none = grind (arith, each_below, get_or_past)
+
+pub none_of_all : (f : Slot → ℕ) (slots : List Slot) → ((s : ℕ) → f (slot_numbered slots s) ≡ 0) → sum_by f slots ≡ 0
+none_of_all f slots each =
+    let h : sum_by f slots ≤ length slots * 0 = sum_by-le f 0 slots (λ k d lt. let e = ap f (get_or_default slots k d unused lt) in let z = each k in omega arith) in
+    omega arith

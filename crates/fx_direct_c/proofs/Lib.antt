@@ -1,3 +1,2 @@
 pub mod AsBox
 pub mod Sending
-pub mod Writing

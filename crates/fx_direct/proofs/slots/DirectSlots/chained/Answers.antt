@@ -1,12 +1,13 @@
-use Rattle.fx_direct.proofs.Words.{◌≡◌, sym, subst, ap, ◌∙◌, Phase, Chained, FitsPhase, phase_at, phase_after}
-use Rattle.fx_direct.specs.Transitions.{completion}
-use Rattle.fx_direct.proofs.Asking.{completes}
+use Rattle.fx_direct.proofs.Words.{◌≡◌, ◌&&◌, sym, subst, ap, ◌∙◌, Phase, Chained, FitsPhase, phase_at, is_live}
+use Rattle.fx_direct.specs.Transitions.{completion, unless_live}
+use Rattle.fx_direct.proofs.Asking.{completes, phase_left}
 use Rattle.fx_direct.proofs.slots.DirectSlots.chained.Goals as goal
 
 pub returns-in-Some : goal.returns-in-Some
 returns-in-Some c =
-    let d = completion c.args.key c.args.member c.args.succeeded in
+    let d = completion c.args.key c.args.member c.args.succeeded in let stopped = c.self.inside.stopped in
     let e : phase_at c.self.inside.list c.args.key.slot ≡ Chained c.in-Chained.chain = sym c.in_ok-chain.ensures.1 ∙ c.in-Chained.is in
     let after = c.in-Some.ensures c.args.key in
-    rw (sym c.self.view_is) (completes c.self.inside.list c.args.key c.args.member c.args.succeeded c.in-Some.phase c.write.result c.write.new.list
-    c.in_ok-chain.ensures.0.0 (subst (λ (p : Phase). FitsPhase d p) (sym e) after.0) (ap (phase_after d) e ∙ sym after.1) c.write.ensures.list)
+    let leaves = ap (phase_left stopped d) e ∙ sym (c.unless_stopped-phase.ensures ∙ ap (λ (p : Phase). unless_live (is_live p && stopped) p) after.1) in
+    rw (sym c.self.view_is) (completes c.self.inside.list stopped c.args.key c.args.member c.args.succeeded c.unless_stopped-phase.result c.write.result c.write.new.list
+    c.in_ok-chain.ensures.0.0 (subst (λ (p : Phase). FitsPhase d p) (sym e) after.0) leaves c.write.ensures.list)

@@ -1,9 +1,11 @@
-use Rattle.fx_direct.proofs.Words.{refl, sym, ap, ◌∙◌, Some, FailsToClose, Ending, is_closing, phase_after}
-use Rattle.fx_direct.proofs.Asking.{asks}
+use Rattle.fx_direct.proofs.Words.{refl, sym, subst, ap, ◌∙◌, Some, FailsToClose, Ending, is_closing, AdvancesAndAsks}
+use Rattle.fx_direct.specs.Transitions.{DirectMachine, machine_with}
+use Rattle.fx_direct.proofs.Asking.{asks, phase_left}
 use Rattle.fx_direct.proofs.slots.DirectSlots.close_failed.Goals as goal
 
 pub returns-in-Closing : goal.returns-in-Closing
 returns-in-Closing c =
-    rw (sym c.self.view_is) (asks c.self.inside.list (FailsToClose c.args.key) (Ending 0 0) (Some c.ask_again.result) c.ask_again.new.list
-    (c.in_ok-phase.ensures.0.0, ap is_closing (sym c.in_ok-phase.ensures.1 ∙ c.in-Closing.is))
-    (ap (phase_after (FailsToClose c.args.key)) (sym c.in_ok-phase.ensures.1 ∙ c.in-Closing.is)) (c.ask_again.ensures.slot, refl, c.ask_again.ensures.list))
+    let d = FailsToClose c.args.key in let stopped = c.self.inside.stopped in let closing = sym c.in_ok-phase.ensures.1 ∙ c.in-Closing.is in
+    subst (λ (m : DirectMachine). AdvancesAndAsks m d (Some c.ask_again.result) (machine_with c.ask_again.new.list stopped)) c.self.view_is
+    (asks c.self.inside.list d (c.in_ok-phase.ensures.0.0, ap is_closing closing) stopped (Ending 0 0) (Some c.ask_again.result) c.ask_again.new.list
+    (ap (phase_left stopped d) closing) (c.ask_again.ensures.slot, refl, c.ask_again.ensures.list))

@@ -1,0 +1,12 @@
+use Rattle.std.proofs.Common.{ℕ, ◌≤◌, ◌<◌, ◌-◌, length}
+use Rattle.fx_direct.specs.Living.{IsNamed}
+use Rattle.fx_direct.proofs.slot_list.SlotList.key_in.Given as goal
+
+abbrev pub invariant-loop-slot : goal.invariant-loop-slot
+invariant-loop-slot l = record {
+  above : l.fn.from ≤ l.slot;
+  passed : (other : ℕ) → l.fn.from ≤ other → other < l.slot → IsNamed l.self-inside.slots.items l.fn.name other → ⊥;
+}
+
+abbrev pub decreases-loop-slot : goal.decreases-loop-slot
+decreases-loop-slot l = length l.self-inside.slots.items - l.slot
