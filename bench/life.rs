@@ -12,7 +12,12 @@ mod machine {
         pub fn yacht_direct_open_6(machine: *mut Direct, slots: u32) -> i32;
         pub fn yacht_direct_free(machine: Direct);
         pub fn yacht_direct_reserve(machine: *mut Direct, key: *mut u64, slot: *mut u32) -> i32;
-        pub fn yacht_direct_opened(machine: *mut Direct, key: u64, result: i32) -> i32;
+        pub fn yacht_direct_opened(
+            machine: *mut Direct,
+            key: u64,
+            result: i32,
+            slot: *mut u32,
+        ) -> i32;
         pub fn yacht_direct_start(machine: *mut Direct, key: u64, slot: *mut u32) -> i32;
         pub fn yacht_direct_finish(machine: *mut Direct, key: u64, slot: *mut u32) -> i32;
         pub fn yacht_direct_end(machine: *mut Direct, key: u64, slot: *mut u32) -> i32;
@@ -161,7 +166,8 @@ fn main() {
             assert_eq!(yacht_direct_open_6(&mut it, 1024), 0);
             for _ in 0..lives {
                 assert!(yacht_direct_reserve(&mut it, &mut key, &mut slot) == 0);
-                assert!(yacht_direct_opened(&mut it, black_box(key), black_box(0)) == 0);
+                let result = black_box(0);
+                assert!(yacht_direct_opened(&mut it, black_box(key), result, &mut slot) == 0);
                 assert!(yacht_direct_start(&mut it, black_box(key), &mut slot) == 0);
                 assert!(yacht_direct_finish(&mut it, black_box(key), &mut slot) == 0);
                 closes += yacht_direct_end(&mut it, black_box(key), &mut slot) as u64;

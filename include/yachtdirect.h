@@ -100,7 +100,8 @@ enum {
     YACHT_DIRECT_IS_CLOSING = -14,      /* the close was asked for, and isn't completed */
     YACHT_DIRECT_TOO_MANY_REQUESTS = -15, /* 2^32 - 1 requests are in flight under the key */
     YACHT_DIRECT_TOO_MANY_USERS = -16,  /* the key has 2^32 - 1 users */
-    YACHT_DIRECT_IS_CHAINED = -17       /* the chain of the key isn't over */
+    YACHT_DIRECT_IS_CHAINED = -17,      /* the chain of the key isn't over */
+    YACHT_DIRECT_STOPPED = -18          /* the machine was stopped */
 };
 
 /* The phases of a life, as yacht_direct_phase returns them. */
@@ -132,7 +133,7 @@ static inline unsigned yacht_direct_kind_of(uint64_t data) { return (unsigned)(d
 
 /* Opens a machine of 1 to YACHT_DIRECT_MOST_SLOTS free slots: those from 0 of the table that the
  * caller registers with the ring. (A sparse table has at most RLIMIT_NOFILE slots.) No other call
- * allocates, and each other call but yacht_direct_keys takes constant time.
+ * allocates, and each other call but yacht_direct_key_in takes constant time.
  * Returns YACHT_DIRECT_DONE and writes *machine; or YACHT_DIRECT_BAD_ARGUMENT at any other number
  * of slots; or YACHT_DIRECT_NO_MEMORY. */
 int yacht_direct_open(yacht_direct *machine, uint32_t slots);
@@ -142,14 +143,15 @@ void yacht_direct_free(yacht_direct machine);
 
 /* Begins a life at a free slot, and writes its key and its slot. The caller submits an open at the
  * slot. A slot that has had 2^40 - 1 lives isn't free again.
- * Returns YACHT_DIRECT_DONE, or YACHT_DIRECT_FULL. */
+ * Returns YACHT_DIRECT_DONE, YACHT_DIRECT_FULL, or YACHT_DIRECT_STOPPED. */
 int yacht_direct_reserve(yacht_direct *machine, uint64_t *key, uint32_t *slot);
 
 /* Takes the result of the open. If it is 0 or more, the file is open, and else the life is over
- * and the slot is free.
- * Returns YACHT_DIRECT_DONE, YACHT_DIRECT_STALE, or the phase in which the life is instead of
- * opening: YACHT_DIRECT_IS_LIVE, .._IS_ENDING, .._IS_CLOSING or .._IS_CHAINED. */
-int yacht_direct_opened(yacht_direct *machine, uint64_t key, int32_t result);
+ * and the slot is free. After yacht_direct_stop the life of an open file is ended at once.
+ * Returns YACHT_DIRECT_DONE; or YACHT_DIRECT_CLOSE, and writes the slot, which the caller closes;
+ * or YACHT_DIRECT_STALE; or the phase in which the life is instead of opening:
+ * YACHT_DIRECT_IS_LIVE, .._IS_ENDING, .._IS_CLOSING or .._IS_CHAINED. */
+int yacht_direct_opened(yacht_direct *machine, uint64_t key, int32_t result, uint32_t *slot);
 
 /* Counts a chain in place of an open alone: the open, 0 to 2^32 - 1 requests on its file and,
  * unless `closes` is 0, a close, all under this key. Writes the slot. The caller submits the chain
@@ -165,7 +167,7 @@ int yacht_direct_chain(yacht_direct *machine, uint64_t key, uint32_t requests, u
  * or the close took the file. If the open succeeded and the close was canceled (a read that is
  * shorter than its buffer breaks a soft link), the slot is to be closed. A chain without a close is
  * a live life once its open is seen to succeed, and this takes its other requests as
- * yacht_direct_finish does.
+ * yacht_direct_finish does. After yacht_direct_stop that life is ended at once.
  * Returns YACHT_DIRECT_DONE; or YACHT_DIRECT_CLOSE, and writes the slot, which the caller closes;
  * or YACHT_DIRECT_STALE; or the phase in which the life is, if no such member is in flight, or the
  * open failed and the close took a file; or YACHT_DIRECT_BAD_ARGUMENT at any other member. */
@@ -200,6 +202,12 @@ int yacht_direct_release(yacht_direct *machine, uint64_t key, uint32_t *slot);
  * chain's life ends where the chain ends: YACHT_DIRECT_DONE. */
 int yacht_direct_end(yacht_direct *machine, uint64_t key, uint32_t *slot);
 
+/* Stops the machine, for a shutdown: no life begins any more, and each life that becomes live is
+ * ended at once. A life that is reserved goes on: its open is submitted, or yacht_direct_opened
+ * takes a failure. The caller ends each live life: a walk by yacht_direct_key_in. Once each call
+ * was completed and each user was released, yacht_direct_len is 0. */
+void yacht_direct_stop(yacht_direct *machine);
+
 /* Takes the completion of a close after which the slot is empty: it succeeded, or its result is
  * -EBADF (the slot was empty) or -ENXIO (the ring has no table), since another emptied the slot in
  * spite of the premises. The life is over and the slot is free.
@@ -229,10 +237,13 @@ uint64_t yacht_direct_in_flight(yacht_direct *machine);
  * Returns YACHT_DIRECT_DONE, or YACHT_DIRECT_STALE if there is none, or no such slot. */
 int yacht_direct_key_at(yacht_direct *machine, uint32_t slot, uint64_t *key);
 
-/* Writes the keys of all lives that are not over, each once, up to `length` of them. The lives may
- * be ended while the caller walks through the keys.
- * Returns the number of keys that it wrote. */
-size_t yacht_direct_keys(yacht_direct *machine, uint64_t *keys, size_t length);
+/* Writes the key of the first life in a phase, YACHT_DIRECT_OPENING to YACHT_DIRECT_CHAINED, at
+ * slot `from` or a later one. So a walk over these lives begins at slot 0 and goes on after the
+ * slot of each key. The caller may end each life meanwhile. The time depends on the slots that are
+ * passed.
+ * Returns YACHT_DIRECT_DONE; or YACHT_DIRECT_STALE if there is none; or YACHT_DIRECT_BAD_ARGUMENT
+ * at any other phase. */
+int yacht_direct_key_in(yacht_direct *machine, int phase, uint32_t from, uint64_t *key);
 
 /* A release that another thread asks for: part of a value of that thread. */
 typedef struct yacht_direct_note {

@@ -68,20 +68,19 @@ static void end(uint64_t key) {
     start(key, SHUTDOWN, 0);                /* ends what is in flight */
     yacht_direct_end(&machine, key, &slot); /* never CLOSE: the shutdown is in flight */
 }
-static void accepted(uint64_t key, int result) {
+static int accepted(uint64_t key, int result, uint32_t *slot) {
+    int next = yacht_direct_opened(&machine, key, result, slot);
     for (int i = 0; i < ACCEPTS; i++)
         if (accepting[i] == (key & ~15ull)) accepting[i] = 0;
-    yacht_direct_opened(&machine, key, result);
-    if (result < 0) return; /* the slot is free again */
-    opened++;
-    start(key, RECEIVE, sizeof *buffer);
-    if (stops) end(key); /* this completion was queued when the server stopped */
+    opened += result >= 0; /* else the slot is free again */
+    if (next == YACHT_DIRECT_DONE) start(key, RECEIVE, sizeof *buffer);
+    return next; /* CLOSE, if the server stopped: it ends the life at once */
 }
 static void completed(uint64_t key, int result) {
     int kind = yacht_direct_kind_of(key), next = YACHT_DIRECT_DONE;
     uint32_t slot;
     if (kind == ACCEPT) {
-        accepted(key, result);
+        next = accepted(key, result, &slot);
     } else if (kind == CLOSE && (result >= 0 || result == -EBADF)) { /* -EBADF: the slot is empty */
         yacht_direct_closed(&machine, key);
         closed++;
@@ -99,16 +98,19 @@ static void completed(uint64_t key, int result) {
     name(sqe, key, CLOSE);
 }
 static void stop(void) {
-    uint64_t keys[SLOTS];
-    size_t count = yacht_direct_keys(&machine, keys, SLOTS);
+    uint64_t key;
+    uint32_t from = 0;
     stops = 1;
+    yacht_direct_stop(&machine);
     for (int i = 0; i < ACCEPTS; i++) {
         if (!accepting[i]) continue;
         struct io_uring_sqe *sqe = request();
         io_uring_prep_cancel64(sqe, accepting[i] | ACCEPT, 0);
         sqe->user_data = CANCEL;
     }
-    for (size_t i = 0; i < count; i++) end(keys[i]); /* of an accept, this is refused */
+    for (; yacht_direct_key_in(&machine, YACHT_DIRECT_LIVE, from, &key) == YACHT_DIRECT_DONE;
+         from = yacht_direct_slot_of(key) + 1)
+        end(key);
 }
 static void serve(void) {
     while (!stops || yacht_direct_len(&machine)) {

@@ -13,18 +13,20 @@ static uint32_t slot;
 
 /* a life whose user is the last to go, by each call */
 static void one_life(void) {
-    uint64_t key, other = 0, keys[2] = {0, 7};
+    uint64_t key, other = 0;
     uint32_t requests, users;
     WANT(yacht_direct_open(&machine, 2) == YACHT_DIRECT_DONE);
     WANT(yacht_direct_reserve(&machine, &key, &slot) == YACHT_DIRECT_DONE && slot == yacht_direct_slot_of(key));
     WANT(yacht_direct_kind_of(key) == 0 && yacht_direct_kind_of(key | YACHT_DIRECT_MOST_KIND) == YACHT_DIRECT_MOST_KIND);
-    WANT(yacht_direct_opened(&machine, key | 9, 0) == YACHT_DIRECT_DONE);
+    WANT(yacht_direct_opened(&machine, key | 9, 0, &slot) == YACHT_DIRECT_DONE);
     WANT(yacht_direct_start(&machine, key, &slot) == YACHT_DIRECT_DONE && yacht_direct_start(&machine, key | 3, &slot) == YACHT_DIRECT_DONE);
     WANT(yacht_direct_hold(&machine, key) == YACHT_DIRECT_DONE);
     WANT(yacht_direct_phase(&machine, key, &requests, &users) == YACHT_DIRECT_LIVE && requests == 2 && users == 1);
     WANT(yacht_direct_len(&machine) == 1 && yacht_direct_in_flight(&machine) == 2);
     WANT(yacht_direct_key_at(&machine, slot, &other) == YACHT_DIRECT_DONE && other == key);
-    WANT(yacht_direct_keys(&machine, keys, 2) == 1 && keys[0] == key && keys[1] == 7);
+    WANT(yacht_direct_key_in(&machine, YACHT_DIRECT_LIVE, slot, &other) == YACHT_DIRECT_DONE && other == key);
+    WANT(yacht_direct_key_in(&machine, YACHT_DIRECT_LIVE, slot + 1, &other) == YACHT_DIRECT_STALE && other == key);
+    WANT(yacht_direct_key_in(&machine, 0, 0, &other) == YACHT_DIRECT_BAD_ARGUMENT && yacht_direct_key_in(&machine, 6, 0, &other) == YACHT_DIRECT_BAD_ARGUMENT);
     WANT(yacht_direct_finish(&machine, key, &slot) == YACHT_DIRECT_DONE && yacht_direct_end(&machine, key, &slot) == YACHT_DIRECT_DONE);
     WANT(yacht_direct_finish(&machine, key, &slot) == YACHT_DIRECT_DONE && yacht_direct_release(&machine, key, &slot) == YACHT_DIRECT_CLOSE);
     WANT(yacht_direct_close_failed(&machine, key, &slot) == YACHT_DIRECT_CLOSE && slot == yacht_direct_slot_of(key));
@@ -41,7 +43,7 @@ static void chains(void) {
     WANT(yacht_direct_open(&machine, 1) == YACHT_DIRECT_DONE && yacht_direct_reserve(&machine, &key, &slot) == YACHT_DIRECT_DONE);
     WANT(yacht_direct_chain(&machine, key, 1, 1, &slot) == YACHT_DIRECT_DONE && yacht_direct_in_flight(&machine) == 3);
     WANT(yacht_direct_phase(&machine, key, &requests, &users) == YACHT_DIRECT_CHAINED && requests == 1 && users == 0);
-    WANT(yacht_direct_start(&machine, key, &slot) == YACHT_DIRECT_IS_CHAINED && yacht_direct_opened(&machine, key, -2) == YACHT_DIRECT_IS_CHAINED);
+    WANT(yacht_direct_start(&machine, key, &slot) == YACHT_DIRECT_IS_CHAINED && yacht_direct_opened(&machine, key, -2, &slot) == YACHT_DIRECT_IS_CHAINED);
     WANT(yacht_direct_end(&machine, key, &slot) == YACHT_DIRECT_DONE && yacht_direct_chained(&machine, key, 3, 0, &slot) == YACHT_DIRECT_BAD_ARGUMENT);
     WANT(yacht_direct_chained(&machine, key, YACHT_DIRECT_CLOSE_OF_CHAIN, -125, &slot) == YACHT_DIRECT_DONE);
     WANT(yacht_direct_chained(&machine, key, YACHT_DIRECT_REQUEST_OF_CHAIN, 3, &slot) == YACHT_DIRECT_DONE);
@@ -51,6 +53,27 @@ static void chains(void) {
     WANT(yacht_direct_chained(&machine, key, YACHT_DIRECT_OPEN_OF_CHAIN, -2, &slot) == YACHT_DIRECT_DONE);
     WANT(yacht_direct_reserve(&machine, &next, &slot) == YACHT_DIRECT_FULL);
     WANT(yacht_direct_chained(&machine, key, YACHT_DIRECT_CLOSE_OF_CHAIN, -9, &slot) == YACHT_DIRECT_DONE && yacht_direct_len(&machine) == 0);
+    yacht_direct_free(machine);
+}
+
+/* a shutdown amid a live life, an open and a chain without a close: none of their slots is lost */
+static void stops(void) {
+    uint64_t live, opening, chained, key;
+    WANT(yacht_direct_open(&machine, 4) == YACHT_DIRECT_DONE && yacht_direct_reserve(&machine, &live, &slot) == YACHT_DIRECT_DONE);
+    WANT(yacht_direct_reserve(&machine, &opening, &slot) == YACHT_DIRECT_DONE && yacht_direct_reserve(&machine, &chained, &slot) == YACHT_DIRECT_DONE);
+    WANT(yacht_direct_opened(&machine, live, 0, &slot) == YACHT_DIRECT_DONE && yacht_direct_chain(&machine, chained, 1, 0, &slot) == YACHT_DIRECT_DONE);
+    yacht_direct_stop(&machine);
+    WANT(yacht_direct_reserve(&machine, &key, &slot) == YACHT_DIRECT_STOPPED);
+    WANT(yacht_direct_key_in(&machine, YACHT_DIRECT_LIVE, 0, &key) == YACHT_DIRECT_DONE && key == live);
+    WANT(yacht_direct_key_in(&machine, YACHT_DIRECT_OPENING, 0, &key) == YACHT_DIRECT_DONE && key == opening);
+    WANT(yacht_direct_key_in(&machine, YACHT_DIRECT_CHAINED, 0, &key) == YACHT_DIRECT_DONE && key == chained);
+    WANT(yacht_direct_end(&machine, live, &slot) == YACHT_DIRECT_CLOSE && yacht_direct_closed(&machine, live) == YACHT_DIRECT_DONE);
+    WANT(yacht_direct_opened(&machine, opening, 0, &slot) == YACHT_DIRECT_CLOSE && slot == yacht_direct_slot_of(opening));
+    WANT(yacht_direct_closed(&machine, opening) == YACHT_DIRECT_DONE);
+    WANT(yacht_direct_chained(&machine, chained, YACHT_DIRECT_OPEN_OF_CHAIN, 0, &slot) == YACHT_DIRECT_DONE);
+    WANT(yacht_direct_key_in(&machine, YACHT_DIRECT_ENDING, 0, &key) == YACHT_DIRECT_DONE && key == chained);
+    WANT(yacht_direct_chained(&machine, chained, YACHT_DIRECT_REQUEST_OF_CHAIN, 3, &slot) == YACHT_DIRECT_CLOSE && slot == yacht_direct_slot_of(chained));
+    WANT(yacht_direct_closed(&machine, chained) == YACHT_DIRECT_DONE && yacht_direct_len(&machine) == 0);
     yacht_direct_free(machine);
 }
 
@@ -99,7 +122,8 @@ static void words(void) {
         {0, "done"}, {1, "the slot is to be closed"}, {-6, "no slot is free"}, {-8, "an argument is out of its range"},
         {-9, "an allocation failed"}, {-10, "the life of the key is over"}, {-11, "the open is not completed"},
         {-12, "the file is open"}, {-13, "the life was ended"}, {-14, "the close is not completed"},
-        {-15, "too many requests are in flight"}, {-16, "there are too many users"}, {-17, "the chain is not over"}, {1234, "not a number of yachtdirect.h"},
+        {-15, "too many requests are in flight"}, {-16, "there are too many users"}, {-17, "the chain is not over"},
+        {-18, "the machine was stopped"}, {1234, "not a number of yachtdirect.h"},
     };
     for (size_t nth = 0; nth < sizeof said / sizeof *said; nth++) WANT(!strcmp(yacht_direct_strerror(said[nth].number), said[nth].words));
     WANT(!strcmp(yacht_direct_version(), YACHT_DIRECT_VERSION));
@@ -122,6 +146,7 @@ static void failing_allocations(void) {
 int main(void) {
     one_life();
     chains();
+    stops();
     threads_post();
     words();
     failing_allocations();

@@ -242,19 +242,21 @@ static void next_line(uint64_t key, struct connection *it) {
 static void accepted(uint64_t key, int result) {
     for (int i = 0; i < ACCEPTS; i++)
         if (accepting[i] == key) accepting[i] = 0;
-    expect(yacht_direct_opened(&machine, key, result), YACHT_DIRECT_DONE);
+    uint32_t slot;
+    int next = yacht_direct_opened(&machine, key, result, &slot);
+    settle(next, key, &slot);
     if (result < 0) {
         refused++;
         return;
     }
+    opened++;
+    if (next == YACHT_DIRECT_CLOSE) return; /* the server has stopped */
     struct connection *it = calloc(1, sizeof *it);
     must(!!it, "calloc");
-    opened++;
     it->note.key = key;
     connections[yacht_direct_slot_of(key)] = it;
     expect(yacht_direct_hold(&machine, key), YACHT_DIRECT_DONE);
     if (yacht_insert_key(handle, it, &it->name) < 0) wrong++;
-    if (stops) end_connection(key);
     receive(key, it);
 }
 
@@ -277,12 +279,14 @@ static void sent(uint64_t key, struct connection *it, int result) {
 
 static void opened_file(uint64_t key, struct file *it, int result) {
     uint32_t slot;
-    expect(yacht_direct_opened(&machine, key, result), YACHT_DIRECT_DONE);
+    int next = yacht_direct_opened(&machine, key, result, &slot);
     if (result < 0) {
         answer(it->reader, result == -ENOENT ? NO_SUCH_FILE : "busy\n");
         return;
     }
     opened++;
+    settle(next, key, &slot);
+    if (next == YACHT_DIRECT_CLOSE) return; /* the server has stopped */
     expect(yacht_direct_start(&machine, key, &slot), YACHT_DIRECT_DONE);
     struct io_uring_sqe *sqe = request();
     io_uring_prep_read(sqe, (int)slot, it->bytes, LINE - 1, 0);
@@ -352,16 +356,19 @@ static void completed(uint64_t data, int result) {
 
 /* the orderly end: no accept is left, and each connection is ended */
 static void begin_to_end(void) {
-    uint64_t keys[SLOTS];
-    size_t count = yacht_direct_keys(&machine, keys, SLOTS);
+    uint64_t key;
+    uint32_t from = 0;
+    yacht_direct_stop(&machine);
     for (int i = 0; i < ACCEPTS; i++) {
         if (!accepting[i]) continue;
         struct io_uring_sqe *sqe = request();
         io_uring_prep_cancel64(sqe, accepting[i] | ACCEPT, 0);
         as(sqe, 0, CANCEL);
     }
-    for (size_t i = 0; i < count; i++)
-        if (connections[yacht_direct_slot_of(keys[i])]) end_connection(keys[i]);
+    for (; yacht_direct_key_in(&machine, YACHT_DIRECT_LIVE, from, &key) == YACHT_DIRECT_DONE; from++) {
+        from = yacht_direct_slot_of(key);
+        if (connections[from]) end_connection(key);
+    }
 }
 
 static void serve(void) {

@@ -16,7 +16,7 @@
 //! and a close may also be submitted at once, linked: [`Slots::chain`].
 //!
 //! ```
-//! use yachtbanyan::direct::{Key, Next, Slots};
+//! use yachtbanyan::direct::{After, Key, Next, Slots};
 //! # struct Ring;
 //! # impl Ring {
 //! #     fn accept(&mut self, _slot: u32, _data: u64) {}
@@ -40,14 +40,14 @@
 //! ) -> Result<(), Box<dyn std::error::Error>> {
 //!     let (key, kind) = Key::from_bits(user_data);
 //!     let next = match kind {
-//!         ACCEPT => {
-//!             slots.opened(key, result)?;
-//!             if result < 0 {
-//!                 return Ok(()); // the slot is free again
+//!         ACCEPT => match slots.opened(key, result)? {
+//!             After::Close(slot) => Next::Close(slot), // after a stop
+//!             After::Over(()) => Next::Nothing,        // the slot is free again
+//!             After::Nothing => {
+//!                 ring.receive(slots.start(key)?, key.to_bits(RECEIVE));
+//!                 Next::Nothing
 //!             }
-//!             ring.receive(slots.start(key)?, key.to_bits(RECEIVE));
-//!             return Ok(());
-//!         }
+//!         },
 //!         CLOSE if result >= 0 || result == -EBADF => return Ok(slots.closed(key)?),
 //!         CLOSE => Next::Close(slots.close_failed(key)?),
 //!         // the end of what the peer sends, or a reset
@@ -116,10 +116,10 @@ mod stand_in;
 #[cfg(test)]
 mod tests;
 
-pub use errors::{Full, OpenError, Refusal};
+pub use errors::{OpenError, Refusal, ReserveError};
 pub use key::{Key, MOST_KIND};
 pub use releases::{Releases, User};
-pub use slots::{Chained, Member, Next, Phase, Slots};
+pub use slots::{After, Member, Next, Phase, PhaseName, Slots};
 
 /// The largest number of slots.
 pub const MOST_SLOTS: u32 = core::MOST_SLOTS;

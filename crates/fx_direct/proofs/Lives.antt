@@ -5,7 +5,7 @@ use Rattle.fx_direct.proofs.Words.{Free, Ending, Closing, slot_numbered, phase_a
 use Rattle.fx_direct.proofs.Words.{key_concerned, HasLife, FitsPhase, IsEnabled, phase_after, slots_with, AreEnabled, slots_left_by, Advances, AdvancesAndAsks, with_phase}
 use Rattle.fx_direct.specs.Counts.{times, chains, opens, starts, finishes, holds, releases, ends, asks, closes, fails, is_early, phase_of, IsBalanced}
 use Rattle.fx_direct.specs.Transitions.{DirectMachine, becomes_live, unless_live, and_ends}
-use Rattle.fx_direct.specs.Lives.{NoCloseIsDue, NeverAsks, IsCall, NoCloseIsLate, EachCloseIsAskedForOnce, StaleKeysStayStale}
+use Rattle.fx_direct.specs.Lives.{NoCloseIsDue, NeverAsks, IsMachineCall, NoCloseIsLate, EachCloseIsAskedForOnce, StaleKeysStayStale}
 use Rattle.fx_direct.proofs.Counting.{Kept, IsProper, is_unopened, kept_always, possible, phase_else, phase_here}
 use Rattle.fx_direct.proofs.Asking.{phase_left, at_key, ends_leaves}
 use Rattle.fx_direct.proofs.Moves.{after-here, after-else}
@@ -124,7 +124,7 @@ by_asking old new t (Some slot) turns =
       same = ap (λ (m : DirectMachine). m.stopped) turns.1.1;
     }
 
-pub call_leaves : (old new : DirectMachine) (t : Transition) → IsCall old t new → Leaves old t new
+pub call_leaves : (old new : DirectMachine) (t : Transition) → IsMachineCall old t new → Leaves old t new
 call_leaves old new t (inl calm) = by_calm old new t calm.0 calm.1
 call_leaves old new t (inr asking) = by_asking old new t asking.0 asking.1
 

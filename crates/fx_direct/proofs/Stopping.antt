@@ -3,7 +3,7 @@ use Rattle.fx_direct.proofs.Words.{arith, ◌≡◌, ◌≢◌, inl, inr, ℕ, �
 use Rattle.fx_direct.proofs.Words.{Transition, LifeKey, Phase, Slot, Ending, slot_numbered, phase_at, users_in, calls_in, lives_in, is_live, key_concerned, life_at}
 use Rattle.fx_direct.proofs.Words.{FitsPhase, phase_after, get_or-set_same, get_or-set_other}
 use Rattle.fx_direct.specs.Counts.{times, ends}
-use Rattle.fx_direct.specs.Lives.{NoCloseIsDue, IsRun, AStopLeavesNothing}
+use Rattle.fx_direct.specs.Lives.{NoCloseIsDue, IsMachineRun, AStopLeavesNothing}
 use Rattle.fx_direct.specs.Phases.{unused}
 use Rattle.fx_direct.specs.Transitions.{DirectMachine, machine_with, becomes_live, when_ended, unless_live}
 use Rattle.fx_direct.proofs.Asking.{phase_left, is_begun}
@@ -94,15 +94,15 @@ module _ (old new : DirectMachine) (t : Transition) (leaves : Leaves old t new) 
         (r.0, r.1, omega (arith, r.2, no_ends (life_at old.list s) t (two_slots k (life_at old.list s) (λ (q : k.slot ≡ s). ne (sym q)))))
   ]
 
-by_run : (start m : DirectMachine) (h : List Transition) → IsRun start h m → Settled start → Settled m
+by_run : (start m : DirectMachine) (h : List Transition) → IsMachineRun start h m → Settled start → Settled m
 by_run start m [] run was = subst Settled (sym run) was
 by_run start m (t ∷ h) run was = settled run.0 m t (call_leaves run.0 m t run.2) (by_run start run.0 h run.1 was)
 
-stays_stopped : (start m : DirectMachine) (h : List Transition) → IsRun start h m → m.stopped ≡ start.stopped
+stays_stopped : (start m : DirectMachine) (h : List Transition) → IsMachineRun start h m → m.stopped ≡ start.stopped
 stays_stopped start m [] run = ap (λ (x : DirectMachine). x.stopped) run
 stays_stopped start m (t ∷ h) run = (call_leaves run.0 m t run.2).same ∙ stays_stopped start run.0 h run.1
 
-remains_by_run : (start m : DirectMachine) (h : List Transition) → start.stopped ≡ true → IsRun start h m → Remains start.list h m.list
+remains_by_run : (start m : DirectMachine) (h : List Transition) → start.stopped ≡ true → IsMachineRun start h m → Remains start.list h m.list
 remains_by_run start m [] stopped run = subst (λ (x : DirectMachine). Remains start.list [] x.list) (sym run) (λ s live. (live, refl, refl))
 remains_by_run start m (t ∷ h) stopped run =
     remains run.0 m t (call_leaves run.0 m t run.2) start.list h (stays_stopped start run.0 h run.1 ∙ stopped) (remains_by_run start run.0 h stopped run.1)

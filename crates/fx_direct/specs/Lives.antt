@@ -26,8 +26,8 @@ NeverAsks (Holds k) = Unit {0}
 NeverAsks t = ⊥
 
 -- a call of the machine that makes the transition
-abbrev pub IsCall : DirectMachine → Transition → DirectMachine → Type 0
-IsCall old t new =
+abbrev pub IsMachineCall : DirectMachine → Transition → DirectMachine → Type 0
+IsMachineCall old t new =
     (NeverAsks t × Advances old t new) ⊎ ((ask : Option ℕ) × AdvancesAndAsks old t ask new)
 
 -- no close is due when a machine begins, nor after any of its calls: none is asked for late
@@ -35,7 +35,7 @@ abbrev pub NoCloseIsLate : Type 0
 NoCloseIsLate =
     ((slots : List Slot) → AllFree slots → NoCloseIsDue slots)
     × ((old new : DirectMachine) (t : Transition)
-    → NoCloseIsDue old.list → IsCall old t new → NoCloseIsDue new.list)
+    → NoCloseIsDue old.list → IsMachineCall old t new → NoCloseIsDue new.list)
 
 -- the close of a file is asked for at most once, and again each time that it failed; where no file
 -- was installed, only by a chain. It succeeds at most once, and where no file was installed, only
@@ -60,9 +60,10 @@ EachCloseIsAskedForOnce =
     → times (asks k) h ≡ 1 + times (fails k) h)
 
 -- calls lead from one machine to another. The newest is the first
-abbrev pub IsRun : DirectMachine → List Transition → DirectMachine → Type 0
-IsRun start [] end = end ≡ start
-IsRun start (t ∷ h) end = (m : DirectMachine) × IsRun start h m × IsCall m t end
+abbrev pub IsMachineRun : DirectMachine → List Transition → DirectMachine → Type 0
+IsMachineRun start [] end = end ≡ start
+IsMachineRun start (t ∷ h) end =
+    (m : DirectMachine) × IsMachineRun start h m × IsMachineCall m t end
 
 -- after a stop, once each life that was live was ended, each call was completed and each user was
 -- released, no life is under way
@@ -70,8 +71,8 @@ abbrev pub AStopLeavesNothing : Type 0
 AStopLeavesNothing =
     (start stops end : DirectMachine) (earlier later : List Transition)
     → AllFree start.list
-    → IsRun start earlier stops
-    → IsRun (machine_with stops.list true) later end
+    → IsMachineRun start earlier stops
+    → IsMachineRun (machine_with stops.list true) later end
     → ((k : LifeKey) → is_live (phase_of stops.list k) ≡ true → 0 < times (ends k) later)
     → calls_in_flight end.list ≡ 0
     → ((slot : ℕ) → users_in (phase_at end.list slot) ≡ 0)

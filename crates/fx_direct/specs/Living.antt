@@ -21,17 +21,17 @@ abbrev pub life_at : List Slot → ℕ → LifeKey
 life_at slots slot = record { slot = slot; number = (slot_numbered slots slot).number }
 
 -- the name of a phase. A free slot has none
-abbrev pub name_of : Phase → Option PhaseName
-name_of Free = None
-name_of Opening = Some OpeningName
-name_of (Live requests users) = Some LiveName
-name_of (Ending requests users) = Some EndingName
-name_of Closing = Some ClosingName
-name_of (Chained c) = Some ChainedName
+abbrev pub phase_name : Phase → Option PhaseName
+phase_name Free = None
+phase_name Opening = Some OpeningName
+phase_name (Live requests users) = Some LiveName
+phase_name (Ending requests users) = Some EndingName
+phase_name Closing = Some ClosingName
+phase_name (Chained c) = Some ChainedName
 
 -- the slot's life is in a phase of this name
 abbrev pub IsNamed : List Slot → PhaseName → ℕ → Type 0
-IsNamed slots name slot = name_of (phase_at slots slot) ≡ Some name
+IsNamed slots name slot = phase_name (phase_at slots slot) ≡ Some name
 
 -- the key is that of the first such life from a slot on, or there is none
 abbrev pub IsFirstFrom : List Slot → PhaseName → ℕ → Option LifeKey → Type 0

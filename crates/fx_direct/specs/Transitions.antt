@@ -188,8 +188,8 @@ and_ends true t = Ends (key_concerned t) ∷ t ∷ []
 and_ends false t = t ∷ []
 
 -- the transitions of a call: after a stop a life that becomes live is ended at once
-abbrev pub made_by : DirectMachine → Transition → List Transition
-made_by m t =
+abbrev pub call_makes : DirectMachine → Transition → List Transition
+call_makes m t =
     and_ends (becomes_live t (phase_at m.list (key_concerned t).slot) && m.stopped) t
 
 -- these transitions are made, and nothing else
@@ -205,10 +205,10 @@ Advances old t new = IsEnabled old.list t × (new ≡ machine_with (slots_with o
 -- of that slot is asked for, else no close is
 abbrev pub AdvancesAndAsks : DirectMachine → Transition → Option ℕ → DirectMachine → Type 0
 AdvancesAndAsks old t None new =
-    AdvancesBy old (made_by old t) new
+    AdvancesBy old (call_makes old t) new
     × (phase_at new.list (key_concerned t).slot ≡ Ending 0 0 → ⊥)
 AdvancesAndAsks old t (Some slot) new =
-    (slot ≡ (key_concerned t).slot) × AdvancesBy old (Asks (key_concerned t) ∷ made_by old t) new
+    (slot ≡ (key_concerned t).slot) × AdvancesBy old (Asks (key_concerned t) ∷ call_makes old t) new
 
 -- the life of a key is ended. Where its chain ends it anyway, nothing changes
 abbrev pub EndsLife : DirectMachine → LifeKey → Option ℕ → DirectMachine → Type 0

@@ -31,9 +31,9 @@ pub(crate) fn free(list: &mut SlotList, order: &mut SlotOrder, key: LifeKey)
     }
 }
 
-// Asks for the close of a slot again, and returns the slot.
+// Asks for the close of a slot, and returns the slot.
 #[inline(always)]
-pub(crate) fn ask_again(list: &mut SlotList, key: LifeKey) -> u32
+pub(crate) fn ask(list: &mut SlotList, key: LifeKey) -> u32
     requires { key.slot < length list.old }
     ensures slot { result ≡ key.slot }
     ensures list { list.new ≡ with_phase list.old key Closing }

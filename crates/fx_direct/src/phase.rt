@@ -1,6 +1,6 @@
 //! The phases of a slot's life.
 ghost use Rattle.std.specs.Prelude.{◌≡◌, ◌≤◌, ◌+◌, ◌^◌, ◌&&◌};
-ghost use Rattle.fx_direct.specs.Living.{name_of};
+ghost use Rattle.fx_direct.specs.Living.{phase_name};
 ghost use Rattle.fx_direct.specs.Phases.{calls_in, is_live, lives_in, requests_in, users_in};
 ghost use Rattle.fx_direct.specs.Transitions.{unless_live};
 
@@ -80,7 +80,7 @@ impl Phase {
     /// Returns the name of the phase of a life, or `None` of `Free`.
     #[inline(always)]
     pub fn name(self) -> Option<PhaseName>
-        ensures { result ≡ name_of self }
+        ensures { result ≡ phase_name self }
     {
         match self {
             Phase::Free => None,

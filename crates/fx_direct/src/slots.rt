@@ -16,7 +16,7 @@ ghost use Rattle.fx_direct.specs.declared.transition.Transition.TheVariants.{Hol
 ghost use Rattle.fx_direct.specs.declared.transition.Transition.TheVariants.{Closes, FailsToClose};
 
 use crate::chain::{ChainEnd, LifeChain, Member};
-use crate::ending::{ask_again, free, set_ending, write};
+use crate::ending::{ask, free, set_ending, write};
 use crate::key::LifeKey;
 use crate::phase::{Phase, PhaseName};
 use crate::refusal::{LifeRefusal, ReserveRefusal};
@@ -76,8 +76,8 @@ impl DirectSlots {
     /// io_uring_prep_accept_direct(3)).
     ///
     /// # Errors
-    /// `Stopped` after [`Self::stop`]. `Full` if no slot is free, or each free slot has had its last
-    /// life.
+    /// `Stopped` after [`Self::stop`]. `Full` if no slot is free, or each free slot has had its
+    /// last life.
     #[inline(always)]
     pub fn reserve(&mut self) -> Result<LifeKey, ReserveRefusal>
         ensures reserved { MatchResult result
@@ -124,13 +124,15 @@ impl DirectSlots {
     {
         match self.list.get(key)? {
             Phase::Opening => {
-                let begun = if installed {
-                    Phase::Live(0, 0)
+                if installed {
+                    if self.stopped {
+                        return Ok(Some(ask(&mut self.list, key)));
+                    }
+                    self.list.set(key, Phase::Live(0, 0));
                 } else {
-                    Phase::Free
-                };
-                let phase = begun.unless_stopped(self.stopped);
-                Ok(write(&mut self.list, &mut self.order, key, phase))
+                    free(&mut self.list, &mut self.order, key);
+                }
+                Ok(None)
             }
             phase => Err(LifeRefusal::Is(phase)),
         }
@@ -345,7 +347,7 @@ impl DirectSlots {
             (λ why. (self.new ≡ self.old) × RefusesUnchained self.old.list (FailsToClose key) why) }
     {
         match self.list.get(key)? {
-            Phase::Closing => Ok(ask_again(&mut self.list, key)),
+            Phase::Closing => Ok(ask(&mut self.list, key)),
             phase => Err(LifeRefusal::Is(phase)),
         }
     }

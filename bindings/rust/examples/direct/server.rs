@@ -13,7 +13,7 @@ use std::path::PathBuf;
 use std::sync::atomic::{AtomicBool, AtomicU32, Ordering};
 use std::sync::mpsc::{Receiver, Sender};
 use std::sync::Arc;
-use yachtbanyan::direct::{Key, Next, Releases, Slots};
+use yachtbanyan::direct::{After, Key, Next, PhaseName, Releases, Slots};
 use yachtbanyan::Handle;
 
 type Done<T = ()> = Result<T, Box<dyn Error>>;
@@ -226,17 +226,18 @@ impl Server {
 
     fn accepted(&mut self, key: Key, result: i32) -> Done {
         self.accepting.retain(|it| *it != key);
-        if self.slots.opened(key, result)?.is_some() {
+        let after = self.slots.opened(key, result)?;
+        if let After::Over(_) = after {
             return Ok(()); // canceled, or the client has gone
         }
         self.counts.opened += 1;
+        if let After::Close(slot) = after {
+            return self.settle(key, Next::Close(slot)); // the server has stopped
+        }
         let user = self.slots.hold_by(key, &self.releases)?;
         let answers = AtomicU32::new(0);
         let name = self.handle.insert(Session { user, answers })?;
         *self.slots.get_mut(key).expect("it is live") = Life::Connection(Connection::new(name));
-        if self.stops() {
-            self.end(key)?;
-        }
         self.receive(key)
     }
 
@@ -339,11 +340,15 @@ impl Server {
     }
 
     fn opened_file(&mut self, key: Key, result: i32) -> Done {
-        if let Some(Life::File(refused)) = self.slots.opened(key, result)? {
+        let after = self.slots.opened(key, result)?;
+        if let After::Over(Life::File(refused)) = after {
             let why = if result == NO_SUCH_FILE { NO_FILE } else { b"busy\n" };
             return self.answer(refused.reader, why);
         }
         self.counts.opened += 1;
+        if let After::Close(slot) = after {
+            return self.settle(key, Next::Close(slot)); // the server has stopped
+        }
         let (at, len) = self.file(key).bytes.room(0);
         let slot = self.slots.start(key)?;
         self.push(key, READ, Request::Read { slot, at, len })
@@ -409,7 +414,10 @@ impl Server {
             let data = key.to_bits(ACCEPT);
             self.ring.push(Request::Cancel { data }, CANCEL)?;
         }
-        for key in self.slots.keys() {
+        self.slots.stop();
+        let mut from = 0;
+        while let Some(key) = self.slots.key_in(PhaseName::Live, from) {
+            from = key.slot() + 1;
             if let Some(Life::Connection(_)) = self.slots.get(key) {
                 self.end(key)?;
             }

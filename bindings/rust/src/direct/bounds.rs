@@ -5,7 +5,8 @@
 //! | `Slots<T>` | `T: Send` | never | no | covariant | `T: UnwindSafe`, and never through `&` |
 //! | `Releases` | always | always | yes | | always |
 //! | `User` | always | always | no | | always |
-//! | `Key`, `Next`, `Phase`, errors | always | always | yes | | always |
+//! | `Key`, `Next`, `Phase`, `PhaseName`, `Member`, errors | always | always | yes | | always |
+//! | `After<T>` | `T: Send` | `T: Sync` | `T: Clone` | covariant | `T: UnwindSafe` |
 //!
 //! Each pair of programs below differs by one token ([`pair`]). These must compile: one thread has
 //! the slots, so a value that threads may not share does no harm; and values have a shorter
@@ -13,9 +14,10 @@
 //!
 //! ```
 //! use std::panic::{RefUnwindSafe, UnwindSafe};
-//! use yachtbanyan::direct::{Full, Key, Next, OpenError, Phase, Refusal, Releases, Slots, User};
+//! use yachtbanyan::direct::*;
 //! fn plain<T: Send + Sync + UnwindSafe + RefUnwindSafe>() {}
-//! plain::<(Key, Next, Phase, Full, OpenError, Refusal)>();
+//! plain::<(Key, Next, Phase, PhaseName, Member, After<u8>)>();
+//! plain::<(OpenError, ReserveError, Refusal)>();
 //! plain::<(Releases, User)>();
 //! fn send<T: Send>() {}
 //! send::<Slots<std::cell::Cell<u8>>>();
@@ -31,6 +33,10 @@ type Staying = std::rc::Rc<u8>;"
     {Clone Send}: Slots<u8>;
     // a user is counted once
     Clone: {User Releases};
+    Send: After<{Staying u8}>;
+    Clone: After<{User Key}>;
+    // the completions of a chain come in any order
+    {PartialOrd PartialEq}: Member;
 }
 
 // any thread wakes the ring's
@@ -50,6 +56,9 @@ let key = slots.reserve().unwrap();
 let value = slots.") {get phase} ("(key);
 slots.opened(key, 0).unwrap();
 println!(\"{value:?}\");"));
+// a walk goes by the name of a phase, and not by its counts
+pair!("compile_fail,E0308" ("let slots = yachtbanyan::direct::Slots::<u8>::new(1).unwrap();
+slots.key_in(yachtbanyan::direct::") {Next PhaseName} ("::Closing, 0);"));
 // a slot that is to be closed isn't forgotten
 pair!("compile_fail" ("#![deny(unused_must_use)]
 use yachtbanyan::direct::{Key, Refusal, Slots};

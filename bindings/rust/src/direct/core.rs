@@ -16,7 +16,7 @@ macro_rules! numbers {
 // the answers, as yachtdirect.h describes them
 numbers! { DONE 0, CLOSE 1, FULL -6, BAD_ARGUMENT -8, NO_MEMORY -9, STALE -10, IS_OPENING -11 }
 numbers! { IS_LIVE -12, IS_ENDING -13, IS_CLOSING -14, TOO_MANY_REQUESTS -15, TOO_MANY_USERS -16 }
-numbers! { IS_CHAINED -17 }
+numbers! { IS_CHAINED -17, STOPPED -18 }
 // the phases
 numbers! { OPENING 1, LIVE 2, ENDING 3, CLOSING 4, CHAINED 5 }
 
@@ -32,7 +32,13 @@ unsafe extern "C" {
     pub(super) fn yacht_direct_free(machine: Machine);
     pub(super) fn yacht_direct_reserve(machine: *mut Machine, key: *mut u64, slot: *mut u32)
         -> i32;
-    pub(super) fn yacht_direct_opened(machine: *mut Machine, key: u64, result: i32) -> i32;
+    pub(super) fn yacht_direct_opened(
+        machine: *mut Machine,
+        key: u64,
+        result: i32,
+        slot: *mut u32,
+    ) -> i32;
+    pub(super) fn yacht_direct_stop(machine: *mut Machine);
     pub(super) fn yacht_direct_chain(
         machine: *mut Machine,
         key: u64,
@@ -64,5 +70,10 @@ unsafe extern "C" {
     pub(super) fn yacht_direct_len(machine: *mut Machine) -> u32;
     pub(super) fn yacht_direct_in_flight(machine: *mut Machine) -> u64;
     pub(super) fn yacht_direct_key_at(machine: *mut Machine, slot: u32, key: *mut u64) -> i32;
-    pub(super) fn yacht_direct_keys(machine: *mut Machine, keys: *mut u64, length: usize) -> usize;
+    pub(super) fn yacht_direct_key_in(
+        machine: *mut Machine,
+        phase: i32,
+        from: u32,
+        key: *mut u64,
+    ) -> i32;
 }

@@ -1,6 +1,6 @@
 //! The errors. None of them changes anything.
 use super::core::{
-    FULL, IS_CHAINED, IS_CLOSING, IS_ENDING, IS_LIVE, IS_OPENING, MOST_SLOTS, STALE,
+    FULL, IS_CHAINED, IS_CLOSING, IS_ENDING, IS_LIVE, IS_OPENING, MOST_SLOTS, STALE, STOPPED,
     TOO_MANY_REQUESTS, TOO_MANY_USERS,
 };
 use super::key::Key;
@@ -22,20 +22,28 @@ pub enum OpenError {
     NoMemory,
 }
 
-/// No slot is free. The caller waits until a life is over: an `accept` that isn't submitted leaves
-/// clients in the backlog of the listening socket.
+/// The reason why no life begins.
 ///
 /// ```
 /// let mut slots = yachtbanyan::direct::Slots::<()>::new(1)?;
 /// slots.reserve()?;
 /// let full = slots.reserve().unwrap_err();
 /// assert_eq!(full.to_string(), "the only slot has a life");
+/// slots.stop();
+/// assert_eq!(slots.reserve().unwrap_err().to_string(), "the slots were stopped");
 /// # Ok::<(), Box<dyn std::error::Error>>(())
 /// ```
 #[derive(Clone, Copy, Debug, PartialEq, Eq)]
-pub struct Full {
-    /// The number of slots.
-    pub slots: u32,
+#[non_exhaustive]
+pub enum ReserveError {
+    /// No slot is free. The caller waits until a life is over: an `accept` that isn't submitted
+    /// leaves clients in the backlog of the listening socket.
+    Full {
+        /// The number of slots.
+        slots: u32,
+    },
+    /// The slots were [stopped](crate::direct::Slots::stop).
+    Stopped,
 }
 
 /// Defines the refusals of calls by a key, each with its number in yachtdirect.h and its words.
@@ -108,10 +116,13 @@ impl Refusal {
     }
 }
 
-impl Full {
-    /// Returns the number that the header yachtdirect.h has for it, -6.
+impl ReserveError {
+    /// Returns the number that the header yachtdirect.h has for it, -6 or -18.
     pub fn number(self) -> i32 {
-        FULL
+        match self {
+            ReserveError::Full { .. } => FULL,
+            ReserveError::Stopped => STOPPED,
+        }
     }
 }
 
@@ -124,11 +135,12 @@ impl fmt::Display for OpenError {
     }
 }
 
-impl fmt::Display for Full {
+impl fmt::Display for ReserveError {
     fn fmt(&self, f: &mut fmt::Formatter<'_>) -> fmt::Result {
-        match self.slots {
-            1 => f.write_str("the only slot has a life"),
-            slots => write!(f, "all {slots} slots have lives"),
+        match self {
+            ReserveError::Full { slots: 1 } => f.write_str("the only slot has a life"),
+            ReserveError::Full { slots } => write!(f, "all {slots} slots have lives"),
+            ReserveError::Stopped => f.write_str("the slots were stopped"),
         }
     }
 }
@@ -141,5 +153,5 @@ impl fmt::Display for Refusal {
 }
 
 impl Error for OpenError {}
-impl Error for Full {}
+impl Error for ReserveError {}
 impl Error for Refusal {}

@@ -2,10 +2,10 @@
 //!
 //! The only unsafe code of this module. A machine has memory of its own, which its calls alone
 //! use. It is one thread's at a time, since it isn't `Sync`.
-use super::core::{self, Machine as Raw, CLOSE, DONE, NO_MEMORY};
-use super::errors::{Full, OpenError, Refusal};
+use super::core::{self, Machine as Raw, CLOSE, DONE, NO_MEMORY, STOPPED};
+use super::errors::{OpenError, Refusal, ReserveError};
 use super::key::Key;
-use super::slots::{Member, Next, Phase};
+use super::slots::{Member, Next, Phase, PhaseName};
 use std::cell::UnsafeCell;
 use std::mem::MaybeUninit;
 
@@ -49,25 +49,31 @@ impl Machine {
         call: unsafe extern "C" fn(*mut Raw, u64, *mut u32) -> i32,
         key: Key,
     ) -> Result<Next, Refusal> {
-        self.numbered(call, key).map(|it| match it {
-            (CLOSE, slot) => Next::Close(slot),
-            _ => Next::Nothing,
-        })
+        let (answer, slot) = self.numbered(call, key)?;
+        next_of(answer, key, slot)
     }
 
-    pub(super) fn reserve(&mut self, slots: u32) -> Result<Key, Full> {
+    pub(super) fn reserve(&mut self, slots: u32) -> Result<Key, ReserveError> {
         let (mut key, mut slot) = (0, 0);
         // SAFETY: the machine is open, and no other thread uses it.
         match unsafe { core::yacht_direct_reserve(self.raw.get(), &mut key, &mut slot) } {
             DONE => Ok(Key::from_bits(key).0),
-            _ => Err(Full { slots }),
+            STOPPED => Err(ReserveError::Stopped),
+            _ => Err(ReserveError::Full { slots }),
         }
     }
 
-    pub(super) fn opened(&mut self, key: Key, result: i32) -> Result<(), Refusal> {
+    pub(super) fn stop(&mut self) {
         // SAFETY: the machine is open, and no other thread uses it.
-        let answer = unsafe { core::yacht_direct_opened(self.raw.get(), key.bits(), result) };
-        done(answer, key)
+        unsafe { core::yacht_direct_stop(self.raw.get()) }
+    }
+
+    pub(super) fn opened(&mut self, key: Key, result: i32) -> Result<Next, Refusal> {
+        let mut slot = 0;
+        // SAFETY: the machine is open, and no other thread uses it.
+        let answer =
+            unsafe { core::yacht_direct_opened(self.raw.get(), key.bits(), result, &mut slot) };
+        next_of(answer, key, slot)
     }
 
     pub(super) fn chain(&mut self, key: Key, requests: u32, closes: bool) -> Result<u32, Refusal> {
@@ -91,12 +97,7 @@ impl Machine {
         let answer = unsafe {
             core::yacht_direct_chained(self.raw.get(), key.bits(), member, result, &mut slot)
         };
-        done(answer, key)?;
-        Ok(if answer == CLOSE {
-            Next::Close(slot)
-        } else {
-            Next::Nothing
-        })
+        next_of(answer, key, slot)
     }
 
     pub(super) fn start(&mut self, key: Key) -> Result<u32, Refusal> {
@@ -163,14 +164,18 @@ impl Machine {
         (answer == DONE).then(|| Key::from_bits(key).0)
     }
 
-    pub(super) fn keys(&self) -> Vec<Key> {
-        let mut keys = vec![0; self.len() as usize];
-        // SAFETY: the machine is open, and no other thread uses it. It writes keys of the vector.
-        let count =
-            unsafe { core::yacht_direct_keys(self.raw.get(), keys.as_mut_ptr(), keys.len()) };
-        keys.truncate(count);
-        keys.into_iter().map(|key| Key::from_bits(key).0).collect()
+    // Returns the key of the first life in a phase, from a slot on.
+    pub(super) fn key_in(&self, phase: PhaseName, from: u32) -> Option<Key> {
+        let (mut key, phase) = (0, phase as i32);
+        // SAFETY: the machine is open, and no other thread uses it.
+        let answer = unsafe { core::yacht_direct_key_in(self.raw.get(), phase, from, &mut key) };
+        (answer == DONE).then(|| Key::from_bits(key).0)
     }
+}
+
+fn next_of(answer: i32, key: Key, slot: u32) -> Result<Next, Refusal> {
+    done(answer, key)?;
+    Ok(if answer == CLOSE { Next::Close(slot) } else { Next::Nothing })
 }
 
 fn done(answer: i32, key: Key) -> Result<(), Refusal> {

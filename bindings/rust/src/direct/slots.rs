@@ -1,5 +1,5 @@
 //! The slots of one ring's table.
-use super::errors::{Full, OpenError, Refusal};
+use super::errors::{OpenError, Refusal, ReserveError};
 use super::key::Key;
 use super::machine::Machine;
 use super::releases::{Releases, User};
@@ -44,6 +44,21 @@ pub enum Phase {
     },
 }
 
+/// The name of a phase, with its number in yachtdirect.h.
+#[derive(Clone, Copy, Debug, PartialEq, Eq)]
+pub enum PhaseName {
+    /// The name of [`Phase::Opening`].
+    Opening = 1,
+    /// The name of [`Phase::Live`].
+    Live,
+    /// The name of [`Phase::Ending`].
+    Ending,
+    /// The name of [`Phase::Closing`].
+    Closing,
+    /// The name of [`Phase::Chained`].
+    Chained,
+}
+
 /// A member of a chain.
 #[derive(Clone, Copy, Debug, PartialEq, Eq)]
 pub enum Member {
@@ -55,13 +70,13 @@ pub enum Member {
     Close,
 }
 
-/// What the completion of a chain's member leaves.
+/// What the completion of an open, or of a chain's member, leaves.
 #[must_use = "a slot that isn't closed is never free again"]
 #[derive(Clone, Copy, Debug, PartialEq, Eq)]
-pub enum Chained<T> {
-    /// Members are in flight, or the life goes on.
+pub enum After<T> {
+    /// Members of the chain are in flight, or the life goes on.
     Nothing,
-    /// Submit the close of this slot: the chain is over, and has left the file there.
+    /// Submit the close of this slot: the file is there, and the life was ended.
     Close(u32),
     /// The life is over and the slot is free. Its value is returned.
     Over(T),
@@ -69,17 +84,17 @@ pub enum Chained<T> {
 
 /// The slots of one ring's table of direct descriptors, with a value for each life.
 ///
-/// Every call but [`Slots::new`] and [`Slots::keys`] takes constant time and allocates nothing. A
-/// refused call has changed nothing. One thread at a time uses the slots; they may go to another
-/// one.
+/// Every call but [`Slots::new`], [`Slots::key_in`] and [`Slots::keys`] takes constant time, and
+/// none but the first allocates. A refused call has changed nothing. One thread at a time uses the
+/// slots; they may go to another one.
 ///
 /// ```
-/// use yachtbanyan::direct::{Next, Phase, Slots};
+/// use yachtbanyan::direct::{After, Next, Phase, Slots};
 ///
 /// let mut slots = Slots::new(64)?;
 /// let key = slots.reserve_with(|key| format!("connection {key}"))?;
 /// // submit an accept at key.slot()
-/// slots.opened(key, 0)?; // it succeeded
+/// assert_eq!(slots.opened(key, 0)?, After::Nothing); // it succeeded
 /// slots.start(key)?; // submit a receive
 /// assert_eq!(slots.phase(key), Some(Phase::Live { requests: 1, users: 0 }));
 /// assert_eq!(slots.end(key)?, Next::Nothing); // the receive is in flight
@@ -118,8 +133,8 @@ impl<T> Slots<T> {
     ///
     /// # Errors
     ///
-    /// No slot is free: then `make` isn't called.
-    pub fn reserve_with(&mut self, make: impl FnOnce(Key) -> T) -> Result<Key, Full> {
+    /// No slot is free, or the slots were stopped: then `make` isn't called.
+    pub fn reserve_with(&mut self, make: impl FnOnce(Key) -> T) -> Result<Key, ReserveError> {
         let key = self.machine.reserve(self.values.len() as u32)?;
         let kept = Unless(self, key);
         let value = make(key);
@@ -132,8 +147,8 @@ impl<T> Slots<T> {
     ///
     /// # Errors
     ///
-    /// No slot is free.
-    pub fn reserve(&mut self) -> Result<Key, Full>
+    /// No slot is free, or the slots were stopped.
+    pub fn reserve(&mut self) -> Result<Key, ReserveError>
     where
         T: Default,
     {
@@ -141,14 +156,14 @@ impl<T> Slots<T> {
     }
 
     /// Takes the result of the open. If it is negative, the life is over and the slot is free, and
-    /// its value is returned.
+    /// its value is returned. After [`Slots::stop`] the life of an open file is ended at once.
     ///
     /// # Errors
     ///
     /// The life isn't opening.
-    pub fn opened(&mut self, key: Key, result: i32) -> Result<Option<T>, Refusal> {
-        self.machine.opened(key, result)?;
-        Ok(if result < 0 { self.take(key) } else { None })
+    pub fn opened(&mut self, key: Key, result: i32) -> Result<After<T>, Refusal> {
+        let next = self.machine.opened(key, result)?;
+        self.after(key, next)
     }
 
     /// Counts an open, requests on its file and, if `closes`, its close, and returns the slot. The
@@ -156,16 +171,16 @@ impl<T> Slots<T> {
     /// their completions the slot isn't free, whatever they are.
     ///
     /// ```
-    /// use yachtbanyan::direct::{Chained, Member, Slots};
+    /// use yachtbanyan::direct::{After, Member, Slots};
     ///
     /// let mut slots = Slots::new(1)?;
     /// let key = slots.reserve_with(|key| format!("file {key}"))?;
     /// slots.chain(key, 1, true)?; // submit an openat, a read and a close, linked
-    /// assert_eq!(slots.chained(key, Member::Open, -2)?, Chained::Nothing); // no such file
+    /// assert_eq!(slots.chained(key, Member::Open, -2)?, After::Nothing); // no such file
     /// assert!(slots.reserve_with(|_| String::new()).is_err());
-    /// assert_eq!(slots.chained(key, Member::Request, -125)?, Chained::Nothing);
+    /// assert_eq!(slots.chained(key, Member::Request, -125)?, After::Nothing);
     /// let over = slots.chained(key, Member::Close, -125)?;
-    /// assert_eq!(over, Chained::Over(format!("file {key}")));
+    /// assert_eq!(over, After::Over(format!("file {key}")));
     /// # Ok::<(), Box<dyn std::error::Error>>(())
     /// ```
     ///
@@ -177,7 +192,8 @@ impl<T> Slots<T> {
     }
 
     /// Takes the completion of a chain's member with its result, in any order. A chain without a
-    /// close is a live life once its open has succeeded; this takes its other requests too.
+    /// close is a live life once its open has succeeded; this takes its other requests too. After
+    /// [`Slots::stop`] that life is ended at once.
     ///
     /// # Errors
     ///
@@ -187,15 +203,9 @@ impl<T> Slots<T> {
         key: Key,
         member: Member,
         result: i32,
-    ) -> Result<Chained<T>, Refusal> {
-        if let Next::Close(slot) = self.machine.chained(key, member, result)? {
-            return Ok(Chained::Close(slot));
-        }
-        if self.machine.phase(key).is_some() {
-            return Ok(Chained::Nothing);
-        }
-        let value = self.take(key).ok_or(Refusal::Stale { key })?;
-        Ok(Chained::Over(value))
+    ) -> Result<After<T>, Refusal> {
+        let next = self.machine.chained(key, member, result)?;
+        self.after(key, next)
     }
 
     /// Counts a request, and returns the slot. The caller submits the request there.
@@ -253,6 +263,34 @@ impl<T> Slots<T> {
     /// The life isn't live.
     pub fn end(&mut self, key: Key) -> Result<Next, Refusal> {
         self.machine.end(key)
+    }
+
+    /// Stops the slots, for a shutdown: no life begins any more, and each life that becomes live is
+    /// ended at once. A life that is reserved goes on: its open is submitted, or [`Slots::opened`]
+    /// takes a failure. The caller ends each live life: a walk by [`Slots::key_in`]. Once each call
+    /// was completed and each user was released, [`Slots::len`] is 0.
+    ///
+    /// ```
+    /// use yachtbanyan::direct::{After, Next, PhaseName, Slots};
+    ///
+    /// let mut slots = Slots::<()>::new(4)?;
+    /// let (live, late) = (slots.reserve()?, slots.reserve()?);
+    /// assert_eq!(slots.opened(live, 0)?, After::Nothing);
+    /// slots.stop();
+    /// let mut from = 0;
+    /// while let Some(key) = slots.key_in(PhaseName::Live, from) {
+    ///     from = key.slot() + 1;
+    ///     assert_eq!(slots.end(key)?, Next::Close(key.slot())); // submit a close
+    /// }
+    /// assert_eq!(slots.opened(late, 0)?, After::Close(late.slot())); // here too
+    /// for key in [live, late] {
+    ///     slots.closed(key)?;
+    /// }
+    /// assert!(slots.is_empty());
+    /// # Ok::<(), Box<dyn std::error::Error>>(())
+    /// ```
+    pub fn stop(&mut self) {
+        self.machine.stop();
     }
 
     /// Takes the completion of a close after which the slot is empty: it succeeded, or its result
@@ -321,24 +359,26 @@ impl<T> Slots<T> {
         self.machine.key_at(slot)
     }
 
-    /// Returns the keys of all lives that are not over, in any order. This allocates. A loop over
-    /// them may end the lives.
-    ///
-    /// ```
-    /// use yachtbanyan::direct::{Next, Slots};
-    ///
-    /// let mut slots = Slots::<()>::new(4)?;
-    /// for _ in 0..3 {
-    ///     let key = slots.reserve()?;
-    ///     slots.opened(key, 0)?;
-    /// }
-    /// for key in slots.keys() {
-    ///     assert_eq!(slots.end(key)?, Next::Close(key.slot()));
-    /// }
-    /// # Ok::<(), Box<dyn std::error::Error>>(())
-    /// ```
-    pub fn keys(&self) -> Vec<Key> {
-        self.machine.keys()
+    /// Returns the key of the first life in a phase, at slot `from` or a later one. So a walk over
+    /// these lives, which may end each of them, goes on after the slot of each key. The time
+    /// depends on the slots that are passed.
+    pub fn key_in(&self, phase: PhaseName, from: u32) -> Option<Key> {
+        self.machine.key_in(phase, from)
+    }
+
+    /// Returns the keys of the lives in a phase, in the order of their slots.
+    pub fn keys(&self, phase: PhaseName) -> impl Iterator<Item = Key> + '_ {
+        let next = move |key: &Key| self.key_in(phase, key.slot() + 1);
+        std::iter::successors(self.key_in(phase, 0), next)
+    }
+
+    // Returns what a completion leaves.
+    fn after(&mut self, key: Key, next: Next) -> Result<After<T>, Refusal> {
+        Ok(match next {
+            Next::Close(slot) => After::Close(slot),
+            Next::Nothing if self.machine.phase(key).is_some() => After::Nothing,
+            Next::Nothing => After::Over(self.take(key).ok_or(Refusal::Stale { key })?),
+        })
     }
 
     fn take(&mut self, key: Key) -> Option<T> {

@@ -2,7 +2,7 @@
 //! see into a library that they have not compiled. It has the same functions and numbers.
 use super::core::{
     Machine, BAD_ARGUMENT, CHAINED, CLOSE, CLOSING, DONE, ENDING, FULL, IS_CHAINED, LIVE,
-    MOST_SLOTS, OPENING, STALE, TOO_MANY_REQUESTS, TOO_MANY_USERS,
+    MOST_SLOTS, OPENING, STALE, STOPPED, TOO_MANY_REQUESTS, TOO_MANY_USERS,
 };
 
 const FREE: i32 = 0;
@@ -45,6 +45,7 @@ struct Plain {
     len: usize,
     free: usize,
     in_flight: u64,
+    stopped: bool,
 }
 
 unsafe fn plain<'a>(machine: *mut Machine) -> &'a mut Plain {
@@ -112,6 +113,9 @@ impl Plain {
     }
 
     fn begin(&mut self) -> Result<u64, i32> {
+        if self.stopped {
+            return Err(STOPPED);
+        }
         if self.len == self.free {
             return Err(FULL);
         }
@@ -137,6 +141,14 @@ impl Plain {
         }
         self.in_phase(key, OPENING)?.phase = LIVE;
         self.in_flight -= 1;
+        self.live(key)
+    }
+
+    // Ends a life that became live, if the machine was stopped.
+    fn live(&mut self, key: u64) -> Result<i32, i32> {
+        if self.stopped {
+            return self.end(key);
+        }
         Ok(DONE)
     }
 
@@ -188,7 +200,11 @@ impl Plain {
             life.requests == 0 && life.chain.closes == life.chain.took.is_some(),
         );
         match chain.opened {
-            Some(true) if !chain.closes => life.phase = if chain.ended { ENDING } else { LIVE },
+            Some(true) if !chain.closes && !chain.ended => {
+                life.phase = LIVE;
+                return self.live(key);
+            }
+            Some(true) if !chain.closes => life.phase = ENDING,
             Some(true) if is_last && chain.took == Some(false) => life.phase = ENDING,
             Some(_) if is_last => return self.free_slot(key),
             _ => return Ok(DONE),
@@ -255,6 +271,7 @@ pub(super) unsafe extern "C" fn yacht_direct_open_6(machine: *mut Machine, slots
         len: 0,
         free: slots as usize,
         in_flight: 0,
+        stopped: false,
     });
     let slots = Box::into_raw(made).cast();
     unsafe { machine.write(Machine { slots }) };
@@ -283,8 +300,14 @@ pub(super) unsafe extern "C" fn yacht_direct_opened(
     machine: *mut Machine,
     key: u64,
     result: i32,
+    slot: *mut u32,
 ) -> i32 {
-    number(unsafe { plain(machine) }.opened(key, result >= 0))
+    let seen = unsafe { plain(machine) }.opened(key, result >= 0);
+    unsafe { at_slot(seen, key, slot) }
+}
+
+pub(super) unsafe extern "C" fn yacht_direct_stop(machine: *mut Machine) {
+    unsafe { plain(machine) }.stopped = true;
 }
 
 pub(super) unsafe extern "C" fn yacht_direct_chain(
@@ -381,15 +404,22 @@ pub(super) unsafe extern "C" fn yacht_direct_key_at(
     }
 }
 
-pub(super) unsafe extern "C" fn yacht_direct_keys(
+pub(super) unsafe extern "C" fn yacht_direct_key_in(
     machine: *mut Machine,
-    keys: *mut u64,
-    length: usize,
-) -> usize {
-    let plain = unsafe { plain(machine) };
-    let count = length.min(plain.len);
-    for (at, slot) in plain.order[..count].iter().enumerate() {
-        unsafe { keys.add(at).write(plain.key(*slot)) };
+    phase: i32,
+    from: u32,
+    key: *mut u64,
+) -> i32 {
+    if !(OPENING..=CHAINED).contains(&phase) {
+        return BAD_ARGUMENT;
     }
-    count
+    let plain = unsafe { plain(machine) };
+    let mut later = plain.lives.iter().enumerate().skip(from as usize);
+    match later.find(|(_, life)| life.phase == phase) {
+        Some((slot, _)) => unsafe {
+            *key = plain.key(slot as u32);
+            DONE
+        },
+        None => STALE,
+    }
 }

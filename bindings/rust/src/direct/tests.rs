@@ -1,6 +1,8 @@
 //! Lives against a model that counts on its own, with random calls.
-use super::{Chained, Full, Key, Member, Next, OpenError, Phase, Refusal, Releases, Slots};
+use super::{After, Key, Member, Next, OpenError, Phase, PhaseName, Refusal, Releases};
+use super::{ReserveError, Slots};
 use std::collections::HashMap;
+use std::mem::discriminant;
 use std::sync::atomic::{AtomicU32, Ordering::Relaxed};
 use std::sync::{Arc, OnceLock};
 
@@ -15,7 +17,7 @@ enum Life {
 }
 
 /// A chain, as the lists of the completions that are to come and of those that were seen.
-#[derive(Clone, Copy, PartialEq, Debug)]
+#[derive(Clone, Copy, PartialEq, Debug, Default)]
 struct Chain {
     requests: u32,
     closes: bool,
@@ -51,6 +53,7 @@ struct Model {
     lives: HashMap<Key, Life>,
     all: Vec<Key>,
     seed: u64,
+    stopped: bool,
 }
 
 impl Model {
@@ -77,7 +80,7 @@ impl Model {
         mut chain: Chain,
         member: Member,
         good: bool,
-    ) -> Option<Chained<Key>> {
+    ) -> Option<After<Key>> {
         match member {
             Member::Open if chain.open.is_none() => chain.open = Some(good),
             Member::Request if chain.requests > 0 => chain.requests -= 1,
@@ -89,19 +92,26 @@ impl Model {
         }
         let is_over = chain.requests == 0 && chain.closes == chain.close.is_some();
         let life = match chain.open {
-            Some(true) if !chain.closes && !chain.ended => Life::Live(chain.requests, 0),
+            Some(true) if !chain.closes && !chain.ended && !self.stopped => {
+                Life::Live(chain.requests, 0)
+            }
             Some(true) if !chain.closes => Life::Ending(chain.requests, 0),
             Some(true) if is_over && chain.close == Some(false) => Life::Ending(0, 0),
             Some(_) if is_over => {
                 self.lives.remove(&key);
-                return Some(Chained::Over(key));
+                return Some(After::Over(key));
             }
             _ => Life::Chained(chain),
         };
-        Some(match self.left(key, life) {
-            Next::Nothing => Chained::Nothing,
-            Next::Close(slot) => Chained::Close(slot),
-        })
+        Some(self.after(key, life))
+    }
+
+    // What a completion leaves that ends no life.
+    fn after(&mut self, key: Key, life: Life) -> After<Key> {
+        match self.left(key, life) {
+            Next::Nothing => After::Nothing,
+            Next::Close(slot) => After::Close(slot),
+        }
     }
 
     // A completion of a member, or a chain's begin.
@@ -141,12 +151,13 @@ impl Model {
         let no = refusal(life, key);
         match (what, life) {
             (0, Some(Life::Opening)) => {
-                self.lives.insert(key, Life::Live(0, 0));
-                assert_eq!(slots.opened(key, key.slot() as i32), Ok(None));
+                let life = if self.stopped { Life::Ending(0, 0) } else { Life::Live(0, 0) };
+                let after = self.after(key, life);
+                assert_eq!(slots.opened(key, key.slot() as i32), Ok(after));
             }
             (1, Some(Life::Opening)) => {
                 self.lives.remove(&key);
-                assert_eq!(slots.opened(key, -125), Ok(Some(key)));
+                assert_eq!(slots.opened(key, -125), Ok(After::Over(key)));
             }
             (0 | 1, _) => assert_eq!(slots.opened(key, -(what as i32)), Err(no)),
             (2 | 3, Some(Life::Live(r, u))) => {
@@ -203,18 +214,57 @@ impl Model {
                 self.all.push(key);
                 self.lives.insert(key, Life::Opening);
             }
-            Err(Full { slots: count }) => {
+            Err(ReserveError::Full { slots: count }) => {
                 assert_eq!((count, self.lives.len() as u32), (slots.slots(), count));
             }
+            Err(error) => assert!(self.stopped && error == ReserveError::Stopped),
         }
+    }
+
+    // Ends each live life, and completes each call and each user: then no life is left.
+    fn stop(&mut self, slots: &mut Slots<Key>) {
+        self.stopped = true;
+        slots.stop();
+        self.reserve(slots);
+        let mut from = 0;
+        while let Some(key) = slots.key_in(PhaseName::Live, from) {
+            from = key.slot() + 1;
+            self.call(slots, key, 8);
+        }
+        assert_eq!(slots.keys(PhaseName::Live).next(), None);
+        while let Some((key, life)) = self.lives.iter().next().map(|(key, life)| (*key, *life)) {
+            let (open, close, member) = (self.below(2), 9 + self.below(2), self.below(3) + 1);
+            match life {
+                Life::Opening => self.call(slots, key, open),
+                Life::Chained(_) => self.call_of_a_chain(slots, key, member),
+                Life::Ending(0, _) => self.call(slots, key, 7),
+                Life::Ending(..) => self.call(slots, key, 4),
+                Life::Closing => self.call(slots, key, close),
+                Life::Live(..) => panic!("{key} is live after a stop"),
+            }
+        }
+        self.agrees(slots);
+        assert!(slots.is_empty() && slots.in_flight() == 0);
     }
 
     // Checks what can be asked.
     fn agrees(&self, slots: &mut Slots<Key>) {
-        let (keys, count) = (slots.keys(), self.lives.len());
-        assert_eq!((keys.len(), slots.len() as usize), (count, count));
-        assert_eq!(slots.is_empty(), count == 0);
-        assert!(keys.iter().all(|key| self.lives.contains_key(key)));
+        let count = self.lives.len();
+        assert_eq!((slots.len() as usize, slots.is_empty()), (count, count == 0));
+        let kinds = [
+            (PhaseName::Opening, Life::Opening),
+            (PhaseName::Live, Life::Live(0, 0)),
+            (PhaseName::Ending, Life::Ending(0, 0)),
+            (PhaseName::Closing, Life::Closing),
+            (PhaseName::Chained, Life::Chained(Chain::default())),
+        ];
+        for (name, like) in kinds {
+            let is_like = |life: &Life| discriminant(life) == discriminant(&like);
+            let of_model = self.lives.iter().filter(|(_, life)| is_like(life));
+            let mut of_model: Vec<Key> = of_model.map(|(key, _)| *key).collect();
+            of_model.sort_by_key(|key| key.slot());
+            assert_eq!(slots.keys(name).collect::<Vec<_>>(), of_model);
+        }
         let in_flight = self.lives.values().map(|life| match life {
             Life::Opening | Life::Closing => 1,
             Life::Live(requests, _) | Life::Ending(requests, _) => u64::from(*requests),
@@ -239,7 +289,8 @@ fn random_calls_answer_as_the_model() {
     for (seed, count) in [(1, 1), (2, 3), (3, 40)] {
         let mut slots = Slots::new(count).unwrap();
         let (lives, all) = (HashMap::new(), Vec::new());
-        let mut model = Model { lives, all, seed };
+        let stopped = false;
+        let mut model = Model { lives, all, seed, stopped };
         for round in 0..20_000 {
             if model.all.is_empty() || model.below(12) == 0 {
                 model.reserve(&mut slots);
@@ -260,6 +311,7 @@ fn random_calls_answer_as_the_model() {
             }
         }
         assert!(model.all.len() > 300, "{} lives", model.all.len());
+        model.stop(&mut slots);
     }
 }
 
@@ -271,7 +323,7 @@ fn numbers_of_slots_out_of_range() {
     }
     let mut slots = Slots::<()>::new(most).unwrap();
     let keys: Vec<Key> = (0..most).map(|_| slots.reserve().unwrap()).collect();
-    assert_eq!(slots.reserve(), Err(Full { slots: most }));
+    assert_eq!(slots.reserve(), Err(ReserveError::Full { slots: most }));
     let mut seen = vec![false; most as usize];
     for key in keys {
         assert!(!std::mem::replace(&mut seen[key.slot() as usize], true));
@@ -300,14 +352,16 @@ fn each_refusal_has_a_number_and_words() {
         (Refusal::IsClosing { key }, -14, "the close is not completed"),
         (Refusal::TooManyRequests { key }, -15, "too many requests are in flight"),
         (Refusal::TooManyUsers { key }, -16, "there are too many users"),
+        (Refusal::IsChained { key }, -17, "the chain is not over"),
     ];
     for (it, number, words) in refusals {
         assert_eq!((it.key(), it.number()), (key, number));
         assert_eq!((Refusal::of(number, key), it.to_string()), (it, format!("3#5: {words}")));
     }
-    let full = |slots| Full { slots }.to_string();
-    assert_eq!((Full { slots: 1 }.number(), full(1)), (-6, "the only slot has a life".into()));
-    assert_eq!(full(2), "all 2 slots have lives");
+    let full = |slots| ReserveError::Full { slots };
+    assert_eq!((full(1).number(), ReserveError::Stopped.number()), (-6, -18));
+    assert_eq!(full(1).to_string(), "the only slot has a life");
+    assert_eq!(full(2).to_string(), "all 2 slots have lives");
     assert_eq!((key.slot(), key.number(), key.to_bits(15)), (3, 5, 5 << 24 | 3 << 4 | 15));
     assert!(std::panic::catch_unwind(|| key.to_bits(16)).is_err());
 }
@@ -326,7 +380,7 @@ fn users_in_other_threads_come_back() {
     });
     let mut slots = Slots::<()>::new(2).unwrap();
     let key = slots.reserve().unwrap();
-    slots.opened(key, 0).unwrap();
+    assert_eq!(slots.opened(key, 0), Ok(After::Nothing));
     let mut users: Vec<_> = (0..40).map(|_| slots.hold_by(key, &releases).unwrap()).collect();
     assert_eq!((slots.end(key), users[0].key()), (Ok(Next::Nothing), key));
     let no = Refusal::IsEnding { key };

@@ -1,17 +1,14 @@
-use Rattle.fx_direct.proofs.Words.{◌≡◌, ◌&&◌, Bool, sym, ap, ◌∙◌, Phase, Opening, Opens, phase_at, is_live, when_opened}
-use Rattle.fx_direct.specs.Transitions.{may_open, unless_live}
+use Rattle.fx_direct.proofs.Words.{◌≡◌, Bool, true, refl, sym, subst, ap, ◌∙◌, Some, Opening, Ending, Opens, phase_at, AdvancesAndAsks}
+use Rattle.fx_direct.specs.Transitions.{DirectMachine, machine_with, may_open}
 use Rattle.fx_direct.proofs.Asking.{asks, phase_left}
 use Rattle.fx_direct.proofs.slots.DirectSlots.opened.Goals as goal
-use Rattle.fx_direct.proofs.slots.DirectSlots.opened.Goals.{then-installed, else-installed}
 
-pub returns-after-installed : goal.returns-after-installed
-returns-after-installed c =
-    let installed = c.args.installed in let d = Opens c.args.key installed in let stopped = c.self.inside.stopped in
-    let e : phase_at c.self.inside.list c.args.key.slot ≡ Opening = sym c.in_ok-phase.ensures.1 ∙ c.in-Opening.is in
-    let begun : c.if-installed.begun ≡ when_opened installed Opening = elim c.if-installed.branch [
-      | then-installed w ↦ w.begun-is ∙ ap (λ (b : Bool). when_opened b Opening) (sym w.if-installed.true)
-      | else-installed w ↦ w.begun-is ∙ ap (λ (b : Bool). when_opened b Opening) (sym w.if-installed.false)
-    ] in
-    let leaves = ap (phase_left stopped d) e ∙ sym (c.unless_stopped-phase.ensures ∙ ap (λ (p : Phase). unless_live (is_live p && stopped) p) begun) in
-    rw (sym c.self.view_is) (asks c.self.inside.list d (c.in_ok-phase.ensures.0.0, ap (may_open installed) e) stopped c.unless_stopped-phase.result c.write.result c.write.new.list
-    leaves c.write.ensures.list)
+pub returns-then-self : goal.returns-then-self
+returns-then-self c =
+    let k = c.args.key in let d = Opens k c.args.installed in let stopped = c.self.inside.stopped in
+    let e : phase_at c.self.inside.list k.slot ≡ Opening = sym c.in_ok-phase.ensures.1 ∙ c.in-Opening.is in
+    let leaves = ap (phase_left stopped d) e ∙ ap (λ (b : Bool). phase_left stopped (Opens k b) Opening) c.if-installed.true
+    ∙ ap (λ (b : Bool). phase_left b (Opens k true) Opening) c.if-self.true in
+    subst (λ (m : DirectMachine). AdvancesAndAsks m d (Some c.ask.result) (machine_with c.ask.new.list stopped)) c.self.view_is
+    (asks c.self.inside.list d (c.in_ok-phase.ensures.0.0, ap (may_open c.args.installed) e) stopped (Ending 0 0) (Some c.ask.result) c.ask.new.list
+    leaves (c.ask.ensures.slot, refl, c.ask.ensures.list))
