@@ -1,17 +1,17 @@
 -- Answers that a request can't have.
-use Rattle.check_certificate.proofs.Words.{◌≡◌, ℕ, List, [], length, refl, sym, ap, ◌∙◌, inl, inr, subst, Some, None, Option}
+use Rattle.check_certificate.proofs.Words.{◌≡◌, ℕ, List, length, refl, sym, ap, ◌∙◌, inl, inr, subst, Some, None, Option}
 use Rattle.check_certificate.proofs.Words.{Access, Place, Completed, FileEntry, refusal, Bool, true, false, Decides, Asked}
-use Rattle.check_certificate.specs.Answers.{IsImpossible, fits_refusal, is_error, is_impossible, is_severed}
-use Rattle.check_certificate.specs.Times.{IsMemberDoneBy}
+use Rattle.check_certificate.specs.Answers.{IsImpossible, fits_refusal, is_impossible, is_severed}
 use Rattle.fx_base.specs.declared.errno.Errno.{Errno}
 use Rattle.fx_base.specs.declared.errno.Errno.TheVariants.{ECANCELED, ENOMEM}
-use Rattle.fx_chain.specs.Completed.{negated}
+use Rattle.fx_chain.proofs.MayAnswer.{table_may_answer}
+use Rattle.fx_chain.specs.Completed.{is_error, negated}
 use Rattle.fx_chain.specs.Intents.{answer_at_table}
 use Rattle.fx_chain.specs.Operation.{Operation, Opens, Reads, Closes, Updates}
 use Rattle.fx_chain.specs.declared.intent.Finding.{Finding}
 use Rattle.fx_chain.specs.declared.intent.Finding.TheVariants.{At, Free, Full}
 use Rattle.fx_chain.specs.declared.request.Target.TheVariants.{Any, Slot}
-use Rattle.fx_order.proofs.Words.{Decides-eqb, Decides-like, ℤ, pos, false≢true, nil_from_length}
+use Rattle.fx_order.proofs.Words.{Decides-eqb, Decides-like, false≢true, nil_from_length}
 use Rattle.fx_order.specs.Requests.{IsDoneAtTable, IsRefused}
 use Rattle.std.proofs.lemmas.Bool.Decides.{Decides-and, Decides-int_eq, Decides-ltb}
 use Rattle.std.specs.Prelude.{MatchOption, not, ◌||◌}
@@ -38,17 +38,13 @@ module _ (catalogue : List FileEntry) (place : Place) where
   table_fits (Opens name Any) (Some (At file)) = refl
   table_fits (Opens name Any) (Some Full) = refl
   table_fits (Opens name Any) None = refl
-  table_fits (Reads slot off len) (Some (At (Some file))) = refl
-  table_fits (Reads slot off len) (Some (At None)) = refl
-  table_fits (Reads slot off len) (Some (Free own)) = refl
-  table_fits (Reads slot off len) (Some Full) = refl
-  table_fits (Reads slot off len) None = refl
+  table_fits (Reads slot off len) found = table_may_answer catalogue place (Reads slot off len) found
   table_fits (Closes slot) (Some (At (Some file))) = refl
   table_fits (Closes slot) (Some (At None)) = refl
   table_fits (Closes slot) (Some (Free own)) = refl
   table_fits (Closes slot) (Some Full) = refl
   table_fits (Closes slot) None = refl
-  table_fits (Updates off list) found = (Decides-int_eq (pos (length list)) (pos (length list))).1 refl
+  table_fits (Updates off list) found = table_may_answer catalogue place (Updates off list) found
 
 module _ (catalogue : List FileEntry) (c : Completed) (operation : Operation) (accesses : List Access) where
   done_fits : (refused : Option Errno)

@@ -8,20 +8,20 @@ use Rattle.check_certificate.proofs.Parts.{none_of}
 use Rattle.check_certificate.specs.Absent.{MayInstall}
 use Rattle.fx_base.specs.Catalogue.{IsCatalogue}
 use Rattle.fx_chain.proofs.Cases.{both_options}
-use Rattle.fx_base.specs.Catalogue.{name_at}
 use Rattle.fx_base.specs.declared.errno.Errno.{Errno}
 use Rattle.fx_chain.specs.Intents.{IsIntent, IsOpened, intents_of, none_if}
-use Rattle.fx_chain.specs.Operation.{Operation, Opens, Reads, Closes, Updates}
+use Rattle.fx_chain.specs.Operation.{Operation}
 use Rattle.fx_chain.specs.Refusal.{refusal_of}
 use Rattle.fx_chain.specs.declared.intent.Intent.{Intent}
 use Rattle.fx_chain.specs.declared.intent.Intent.TheVariants.{Look, Put, Clear, Take, Allocate}
 use Rattle.fx_order.proofs.Intents.{same_opened, zip_at}
 use Rattle.fx_order.proofs.Placed.{has_either}
 use Rattle.fx_order.proofs.RequestCases.{each_placed}
-use Rattle.fx_order.proofs.Words.{IsOf, pos, false≢true, bytes_decides}
-use Rattle.check_certificate.specs.Made.{entry_named, intended as found_intent, opened_by}
-use Rattle.std.specs.Prelude.{Bool, true, false, MatchOption, option_and_then, if◌then◌else◌}
-use Rattle.std.specs.Str.{bytes_eq}
+use Rattle.fx_order.proofs.Words.{IsOf, pos}
+use Rattle.check_certificate.specs.Made.{intended as found_intent}
+use Rattle.fx_chain.proofs.MayAnswer.{entry_opened}
+use Rattle.fx_chain.specs.Intents.{opened_by}
+use Rattle.std.specs.Prelude.{MatchOption, option_and_then}
 use Rattle.fx_order.specs.Requests.{IsDoneAtTable}
 
 -- an element of a list of two parts is in one of them
@@ -42,35 +42,6 @@ pub intent_once : (catalogue : List FileEntry) (size : ℕ) (place : Place) (ope
 intent_once catalogue size place operation k x y is one other = both_options {R = x ≡ y} (refusal_of catalogue size operation)
     (λ p q. p.2 ∙ (ap (λ (e : ℕ). slice_get (intents_of place e operation) k) (same_opened is operation p.0 q.0 p.1 q.1) ∙ sym q.2))
     (λ errno p q. p ∙ sym q) one other
-
--- the place of the entry with a name is the one that is found
-entry_found : (catalogue : List FileEntry) (name : List ℕ) (at entry : ℕ) → name_at catalogue entry ≡ Some name
-    → ((other : ℕ) → name_at catalogue other ≡ Some name → other ≡ entry) → entry_named name at catalogue ≡ Some (at + entry)
-entry_found [] name at entry is only = absurd (cc)
-entry_found (file ∷ catalogue) name at entry is only = by_name (entry_found catalogue name (at + 1)) (bytes_eq file.name name) refl entry is only
-  where
-    by_name : ((entry : ℕ) → name_at catalogue entry ≡ Some name
-        → ((other : ℕ) → name_at catalogue other ≡ Some name → other ≡ entry) → entry_named name (at + 1) catalogue ≡ Some (at + 1 + entry))
-        → (same : Bool) → bytes_eq file.name name ≡ same → (entry : ℕ) → name_at (file ∷ catalogue) entry ≡ Some name
-        → ((other : ℕ) → name_at (file ∷ catalogue) other ≡ Some name → other ≡ entry)
-        → (if same then Some at else entry_named name (at + 1) catalogue) ≡ Some (at + entry)
-    by_name later true same entry is only =
-        let first : 0 ≡ entry = only 0 (ap Some ((bytes_decides file.name name).0 same)) in
-        let here : at ≡ at + entry = omega arith in ap Some here
-    by_name later false same zero is only =
-        let own : file.name ≡ name = cc in absurd (false≢true (sym same ∙ (bytes_decides file.name name).1 own))
-    by_name later false same (suc entry) is only =
-        let count : at + 1 + entry ≡ at + suc entry = omega arith in
-        later entry is (λ other named. let next = only (suc other) named in omega (arith, next)) ∙ ap Some count
-
-entry_opened : (catalogue : List FileEntry) (operation : Operation) (entry : ℕ) → IsCatalogue catalogue → IsOpened catalogue operation entry
-    → opened_by catalogue operation ≡ Some entry
-entry_opened catalogue (Opens name target) entry is opened =
-    let count : 0 + entry ≡ entry = omega arith in
-    entry_found catalogue name 0 entry opened (λ other named. is.distinct other entry name named opened) ∙ ap Some count
-entry_opened catalogue (Reads slot off len) entry is opened = ap Some (sym opened)
-entry_opened catalogue (Closes slot) entry is opened = ap Some (sym opened)
-entry_opened catalogue (Updates off list) entry is opened = ap Some (sym opened)
 
 -- what a request intends is what its definition finds
 pub intended_is : (catalogue : List FileEntry) (size : ℕ) (place : Place) (operation : Operation) (k : ℕ) (x : Option Intent) → IsCatalogue catalogue

@@ -8,7 +8,6 @@ use Rattle.std.specs.Option.{is_none}
 use Rattle.fx_base.specs.Identity.{Identity}
 use Rattle.fx_base.specs.declared.mark.Mark.{Mark}
 use Rattle.fx_base.specs.declared.mark.Mark.TheVariants.{Registered, Submitted}
-use Rattle.fx_chain.specs.Completed.{Completed}
 use Rattle.fx_chain.specs.contracts.completion.PlacePartialEq.TheImpl.{eq-value as equality}
 use Rattle.fx_chain.specs.declared.completion.Place.{Place}
 use Rattle.fx_chain.specs.declared.intent.Intent.{Intent}

@@ -1,32 +1,20 @@
 -- The evidence for an access, by the call of its member and the member's answer.
-use Rattle.std.specs.Prelude.{ℕ, ◌+◌, ◌-◌, ◌==◌, nat_lt, ◌&&◌, ◌||◌, List, [], ◌∷◌, slice_get}
+use Rattle.std.specs.Prelude.{ℕ, ◌-◌, ◌==◌, nat_lt, ◌&&◌, ◌||◌, List, slice_get}
 use Rattle.std.specs.Prelude.{Option, Some, None, option_map, if◌then◌else◌}
-use Rattle.std.specs.Str.{bytes_eq}
 use Rattle.fx_base.specs.Catalogue.{FileEntry}
 use Rattle.fx_base.specs.Identity.{Identity}
 use Rattle.fx_base.specs.declared.errno.Errno.TheVariants.{ECANCELED, ENOMEM}
-use Rattle.fx_chain.specs.Completed.{Completed}
-use Rattle.fx_chain.specs.Intents.{intent_by}
-use Rattle.fx_chain.specs.Operation.{Asked, Operation, Opens}
+use Rattle.fx_chain.specs.Completed.{Completed, is_error}
+use Rattle.fx_chain.specs.Intents.{intent_by, opened_by}
+use Rattle.fx_chain.specs.Operation.{Asked, Operation}
 use Rattle.fx_chain.specs.declared.completion.Place.{Place}
 use Rattle.fx_chain.specs.declared.intent.Intent.{Intent}
 use Rattle.fx_flight.specs.Events.{Happening, Called, Answered, LookCalled, LookAnswered}
-use Rattle.check_certificate.specs.Answers.{is_error, is_impossible}
+use Rattle.check_certificate.specs.Answers.{is_impossible}
 use Rattle.check_certificate.specs.Evidence.{evidence_of}
 use Rattle.check_certificate.specs.Said.{◌>>=◌, Given, event_at, only_if, slots_of}
 use Rattle.check_certificate.specs.declared.evidence.Evidence.{Evidence}
 use Rattle.check_certificate.specs.declared.evidence.Evidence.TheVariants.{Empties, Finds, Never}
-
--- the place, counted from `at` on, of the entry with this name
-abbrev pub entry_named : List ℕ → ℕ → List FileEntry → Option ℕ
-entry_named name at [] = None
-entry_named name at (file ∷ catalogue) =
-    if bytes_eq file.name name then Some at else entry_named name (at + 1) catalogue
-
--- the catalogue entry that an open opens by its name, and 0 for another request
-abbrev pub opened_by : List FileEntry → Operation → Option ℕ
-opened_by catalogue (Opens name target) = entry_named name 0 catalogue
-opened_by catalogue operation = Some 0
 
 -- the access that a request at a place intends after `k` others, if there is one
 unfoldable pub intended : List FileEntry → ℕ → Place → Operation → ℕ → Option Intent

@@ -3,46 +3,19 @@ ghost use Rattle.std.specs.Prelude.{◌≡◌, IsTrue};
 ghost use Rattle.fx_base.specs.Catalogue.{IsCatalogue};
 ghost use Rattle.fx_chain.specs.Completed.{completed_of};
 ghost use Rattle.fx_chain.specs.Operation.{asked_of, operation_of};
-ghost use Rattle.check_certificate.specs.Answers.{IsImpossible, fits_refusal, is_error};
+ghost use Rattle.check_certificate.specs.Answers.{IsImpossible, fits_refusal};
 ghost use Rattle.check_certificate.specs.Answers.{is_impossible, is_possible, is_severed};
-ghost use Rattle.check_certificate.specs.Answers.{may_answer};
 
 use fx_base::{Catalogue, Errno};
-use fx_chain::{Completion, Op, Request, Target, refusal_of};
-
-/// Checks whether an answer is that of a request that fails with this error.
-pub(crate) fn is_error(c: &Completion, errno: Errno) -> bool
-    ensures { result ≡ is_error (completed_of c.now) errno }
-{
-    c.is_refusal(c.place, errno)
-}
-
-// Checks whether a request that isn't refused may have an answer, by its result.
-fn may_answer(op: &Op, c: &Completion) -> bool
-    ensures { result ≡ may_answer (operation_of op.now) (completed_of c.now) }
-{
-    match op {
-        Op::Open {
-            name: _,
-            target: Target::Slot(_),
-        } => c.res == 0,
-        Op::Open {
-            name: _,
-            target: Target::Any,
-        } => c.res >= 0 || is_error(c, Errno::ENFILE),
-        Op::Read { .. } => c.res >= 0 || is_error(c, Errno::EBADF),
-        Op::Close { slot: _ } => c.res == 0 || is_error(c, Errno::EBADF),
-        Op::Update { off: _, list } => c.res >= 0 && c.res as usize == list.len(),
-    }
-}
+use fx_chain::{Completion, Request, refusal_of};
 
 // Checks whether a request fits an answer: one that is refused has the answer of its error.
 fn fits_refusal(refused: Option<Errno>, request: &Request, c: &Completion) -> bool
     ensures { result ≡ fits_refusal refused (operation_of request.now.op) (completed_of c.now) }
 {
     match refused {
-        Some(errno) => is_error(c, errno),
-        None => (request.is_read() || c.got.is_empty()) && may_answer(&request.op, c),
+        Some(errno) => c.is_error(errno),
+        None => (request.is_read() || c.got.is_empty()) && request.may_answer(c),
     }
 }
 
@@ -50,7 +23,7 @@ fn fits_refusal(refused: Option<Errno>, request: &Request, c: &Completion) -> bo
 fn is_severed(c: &Completion) -> bool
     ensures { result ≡ is_severed (completed_of c.now) }
 {
-    is_error(c, Errno::ENOMEM) || (c.place.member > 1 && is_error(c, Errno::ECANCELED))
+    c.is_error(Errno::ENOMEM) || (c.place.member > 1 && c.is_error(Errno::ECANCELED))
 }
 
 // Checks whether a request of a chain may have an answer, by what it says of itself.

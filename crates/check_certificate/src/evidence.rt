@@ -11,7 +11,7 @@ ghost use Rattle.check_certificate.specs.Evidence.{evidence_of};
 ghost use Rattle.check_certificate.specs.Made as rule;
 ghost use Rattle.check_certificate.specs.Said as said;
 
-use crate::answers::{is_error, is_impossible};
+use crate::answers::is_impossible;
 use crate::beginning::LogBeginning;
 use fx_base::{Closed as File, Errno};
 use fx_chain::{Completion, Intent, Place, Request, intent_of};
@@ -105,7 +105,7 @@ impl LogBeginning<'_> {
         if is_impossible(self.catalogue, self.size, request, c) {
             return Some(Evidence::Never);
         }
-        if is_error(c, Errno::ECANCELED) || is_error(c, Errno::ENOMEM) {
+        if c.is_error(Errno::ECANCELED) || c.is_error(Errno::ENOMEM) {
             return None;
         }
         let intent = self.intended(c.place, request, access)?;

@@ -1,5 +1,6 @@
 -- A completion without its place in memory (io_uring_enter(2), "CQE").
-use Rattle.std.specs.Prelude.{ℕ, ◌+◌, ℤ, pos, neg_ℤ, List, [], map}
+use Rattle.std.specs.Prelude.{ℕ, ◌+◌, ◌==◌, ℤ, pos, neg_ℤ, Bool, ◌&&◌, List, [], length, map}
+use Rattle.std.specs.Ordering.{int_eq}
 use Rattle.fx_base.specs.declared.errno.Errno.{Errno}
 use Rattle.fx_base.specs.Errno.{code_of}
 use Rattle.fx_chain.specs.declared.completion.Place.{Place}
@@ -26,6 +27,10 @@ negated errno = neg_ℤ (pos (code_of errno))
 -- a request that fails
 abbrev pub refusal : Place → Errno → Completed
 refusal place errno = completed place (negated errno) []
+
+-- the answer of a request that fails with this error
+abbrev pub is_error : Completed → Errno → Bool
+is_error c errno = int_eq c.res (negated errno) && (length c.got == 0)
 
 -- the place of the next member of the chain
 abbrev pub next_member : Place → Place

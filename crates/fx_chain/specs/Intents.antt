@@ -3,7 +3,8 @@
 -- answer of the request by what they found.
 use Rattle.std.specs.Prelude.{◌≡◌, ◌≢◌, ℕ, zero, suc, ◌+◌, ◌<◌, ◌≤◌, Bool, true, false, ℤ, pos}
 use Rattle.std.specs.Prelude.{negsuc, int_le, List, [], ◌∷◌, ◌++◌, length, filter, slice_get}
-use Rattle.std.specs.Prelude.{Option, Some, None, MatchOption, if◌then◌else◌}
+use Rattle.std.specs.Prelude.{Option, Some, None, MatchOption, if◌then◌else◌, take, drop}
+use Rattle.std.specs.Str.{bytes_eq}
 use Rattle.fx_base.specs.declared.errno.Errno.{Errno}
 use Rattle.fx_base.specs.declared.errno.Errno.TheVariants.{EBADF, ENFILE}
 use Rattle.fx_base.specs.Identity.{Identity}
@@ -24,6 +25,17 @@ use Rattle.fx_chain.specs.declared.request.Target.TheVariants.{Slot, Any}
 abbrev pub IsOpened : List FileEntry → Operation → ℕ → Type 0
 IsOpened catalogue (Opens name target) entry = name_at catalogue entry ≡ Some name
 IsOpened catalogue operation entry = entry ≡ 0
+
+-- the place, counted from `at` on, of the entry with this name
+abbrev pub entry_named : List ℕ → ℕ → List FileEntry → Option ℕ
+entry_named name at [] = None
+entry_named name at (file ∷ catalogue) =
+    if bytes_eq file.name name then Some at else entry_named name (at + 1) catalogue
+
+-- the entry that a request opens, as it is found, and 0 unless it is an open
+abbrev pub opened_by : List FileEntry → Operation → Option ℕ
+opened_by catalogue (Opens name target) = entry_named name 0 catalogue
+opened_by catalogue operation = Some 0
 
 -- of an open of this file
 abbrev pub open_intent : Target → Identity → Intent
@@ -140,6 +152,11 @@ bytes_asked operation = 0
 abbrev pub bytes_read : List FileEntry → Operation → ℕ → List ℕ
 bytes_read catalogue (Reads slot off len) entry = bytes_at catalogue entry off len
 bytes_read catalogue operation entry = []
+
+-- the part of a file's bytes that a request reads, none unless it is a read
+abbrev pub part_read : Operation → List ℕ → List ℕ
+part_read (Reads slot off len) bytes = take len (drop off bytes)
+part_read operation bytes = []
 
 -- the completion of a read of a file
 abbrev pub completion_of_read : List FileEntry → Place → Identity → ℕ → ℕ → Completed

@@ -9,6 +9,7 @@ pub mod Completed
 pub mod Refusal
 pub mod Answers
 pub mod Intents
+pub mod MayAnswer
 pub mod Explains
 pub mod Performs
 pub mod Removals

@@ -2,7 +2,7 @@
 ghost use Rattle.std.specs.Prelude.{◌≡◌, ◌<◌, ◌^◌, ◌↔◌, IfOk, IsTrue, pos, []};
 ghost use Rattle.fx_base.specs.declared.mark.Mark.TheVariants.{Submitted};
 ghost use Rattle.fx_chain.specs.Answers.{installed};
-ghost use Rattle.fx_chain.specs.Completed.{completed, completed_of, refusal};
+ghost use Rattle.fx_chain.specs.Completed.{completed, completed_of, is_error, refusal};
 
 use fx_base::{Closed, Errno, Mark, NoMemory};
 use std::alloc::Global;
@@ -111,5 +111,13 @@ impl Completion {
         ensures { IsTrue result ↔ (completed_of self.now ≡ refusal place errno) }
     {
         self.is_answer(place, -errno.code(), &[])
+    }
+
+    /// Checks whether this is the answer of a request that fails with this error, wherever the
+    /// request is.
+    pub fn is_error(&self, errno: Errno) -> bool
+        ensures { result ≡ is_error (completed_of self.now) errno }
+    {
+        self.res == -errno.code() && self.got.is_empty()
     }
 }

@@ -1,15 +1,19 @@
 //! Requests, as io_uring_enter(2) describes them: their kinds, the files that each kind may install
 //! and close, and the errors of requests that are refused before they reach the table.
 ghost use Rattle.std.specs.Prelude.{◌≡◌, ◌<◌, None, length, true, ◌+◌, ◌≤◌, false, ℕ, Some};
-ghost use Rattle.std.specs.Prelude.{◌↔◌, IfNone, IfSome, IsTrue, List, Option};
-ghost use Rattle.fx_base.specs.Catalogue.{FileEntry};
+ghost use Rattle.std.specs.Prelude.{◌↔◌, IfNone, IfSome, IsTrue, List, Option, drop, take};
+ghost use Rattle.fx_base.specs.Catalogue.{FileEntry, IsCatalogue};
 ghost use Rattle.fx_base.specs.declared.errno.Errno.TheVariants.{ENOENT};
 ghost use Rattle.fx_chain.specs.Completed.{completed_of};
 ghost use Rattle.fx_chain.specs.Explains.{has_failed, severs};
 ghost use Rattle.fx_chain.specs.Faults.{has_bad_flags, is_long_read, is_long_update};
-ghost use Rattle.fx_chain.specs.Intents.{IsOpened, installs_of, weight_of};
+ghost use Rattle.fx_chain.specs.Intents.{IsOpened, answer_at_table, installs_of, part_read};
+ghost use Rattle.fx_chain.specs.Intents.{opened_by, weight_of};
+ghost use Rattle.fx_chain.specs.MayAnswer.{may_answer};
 ghost use Rattle.fx_chain.specs.Operation.{asked_of, is_fixed, is_link, operation_of};
 ghost use Rattle.fx_chain.specs.Refusal.{refusal_of, slot_refusal, target_refusal, list_refusal};
+ghost use Rattle.fx_chain.specs.declared.completion.Place.{Place};
+ghost use Rattle.fx_chain.specs.declared.intent.Finding.{Finding};
 
 use crate::completion::Completion;
 use crate::entries::{has_bad_entry, installing};
@@ -130,6 +134,27 @@ impl Request {
         }
     }
 
+    /// Checks whether the request may have this answer by its result, whatever it finds at the
+    /// table: unless it is refused or canceled, or finds no memory.
+    pub fn may_answer(&self, c: &Completion) -> bool
+        ensures exact { result ≡ may_answer (operation_of self.now.op) (completed_of c.now) }
+        ensures all { (catalogue : List FileEntry) (place : Place) (found : Option Finding)
+            → completed_of c.now ≡ answer_at_table catalogue place (operation_of self.now.op) found
+            → IsTrue result }
+    {
+        fits(&self.op, c)
+    }
+
+    /// Returns the part of a file's bytes that the request reads, none unless it is a read.
+    pub fn part_read<'b>(&self, bytes: &'b [u8]) -> &'b [u8]
+        ensures { result.now ≡ part_read (operation_of self.now.op) bytes.now }
+    {
+        match self.op {
+            Op::Read { slot: _, off, len } => part(bytes, off as usize, len as usize),
+            _ => &bytes[..0],
+        }
+    }
+
     // Checks whether it is a read without FIXED_FILE, or another request with it.
     pub(crate) fn has_bad_flags(&self) -> bool
         ensures { result ≡ has_bad_flags (operation_of self.now.op) (is_fixed self.now.flags) }
@@ -167,6 +192,8 @@ impl Request {
         ensures some { IfSome result (IsOpened catalogue.now (operation_of self.now.op)) }
         ensures none { IfNone result ((size : ℕ)
             → refusal_of catalogue.now size (operation_of self.now.op) ≡ Some ENOENT) }
+        ensures exact { IsCatalogue catalogue.now
+            → result ≡ opened_by catalogue.now (operation_of self.now.op) }
     {
         match &self.op {
             Op::Open { name, target: _ } => catalogue.find(name),
@@ -185,6 +212,38 @@ impl Request {
             _ => entry == 0,
         }
     }
+}
+
+// Checks whether a request may have this answer at the table, by its result.
+fn fits(op: &Op, c: &Completion) -> bool
+    ensures { result ≡ may_answer (operation_of op.now) (completed_of c.now) }
+{
+    match op {
+        Op::Open {
+            name: _,
+            target: Target::Slot(_),
+        } => c.res == 0,
+        Op::Open {
+            name: _,
+            target: Target::Any,
+        } => c.res >= 0 || c.is_error(Errno::ENFILE),
+        Op::Read { .. } => {
+            (c.res >= 0 && c.res as usize == c.got.len()) || c.is_error(Errno::EBADF)
+        }
+        Op::Close { slot: _ } => c.res == 0 || c.is_error(Errno::EBADF),
+        Op::Update { off: _, list } => c.res >= 0 && c.res as usize == list.len(),
+    }
+}
+
+// Returns the bytes from `off` on, at most `len` of them.
+fn part(bytes: &[u8], off: usize, len: usize) -> &[u8]
+    ensures { result.now ≡ take len (drop off bytes.now) }
+{
+    if off >= bytes.len() {
+        return &bytes[..0];
+    }
+    let rest = &bytes[off..];
+    if len < rest.len() { &rest[..len] } else { rest }
 }
 
 // Returns the error of an open at a slot, or of a close.

@@ -1,8 +1,7 @@
-use Rattle.check_certificate.proofs.Words.{◌≡◌, ◌∙◌, arith, refl, rules, Freed, Bool, true}
+use Rattle.check_certificate.proofs.Words.{◌∙◌, arith, refl, rules, Freed}
 use Rattle.check_certificate.proofs.Forcing.{logged_any}
 use Rattle.check_certificate.specs.Said.{frees_look}
 use Rattle.fx_flight.specs.Events.{happening_of}
-use Rattle.fx_order.proofs.Apart.{file_Decides}
 use Rattle.fx_order.proofs.Words.{Decides-eqb}
 use Rattle.std.proofs.lemmas.Grind.{common_steps}
 use Rattle.check_certificate.proofs.events.was_freed.Goals as goal

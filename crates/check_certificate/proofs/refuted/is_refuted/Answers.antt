@@ -1,4 +1,4 @@
-use Rattle.check_certificate.proofs.Words.{◌≡◌, ◌∙◌, sym, arith, rules, IsTrue}
+use Rattle.check_certificate.proofs.Words.{◌∙◌, sym, arith, rules}
 use Rattle.fx_order.proofs.Words.{nat_tests}
 use Rattle.std.proofs.lemmas.Grind.{common_steps}
 use Rattle.check_certificate.proofs.refuted.is_refuted.Goals as goal

@@ -1,4 +1,4 @@
-use Rattle.check_certificate.proofs.Words.{◌≡◌, ◌∙◌, ◌-◌, ℕ, length, arith, sym, Option}
+use Rattle.check_certificate.proofs.Words.{◌∙◌, arith, sym}
 use Rattle.check_certificate.proofs.Walks.{answer_here, answer_later, answer_none}
 use Rattle.check_certificate.specs.Holds.{answer_of}
 use Rattle.check_certificate.specs.Said.{given_of}

@@ -1,4 +1,4 @@
-use Rattle.check_certificate.proofs.Words.{◌≡◌, ◌∙◌, ◌<◌, ℕ, length, arith, ap, subst, sym, Called, true, false, Bool, Some}
+use Rattle.check_certificate.proofs.Words.{◌≡◌, ◌∙◌, ℕ, length, arith, ap, subst, sym, Called, true, false, Bool, Some}
 use Rattle.check_certificate.specs.Said.{event_at, given_of}
 use Rattle.check_certificate.specs.Walked.{IsCallRuledOut, end_of}
 use Rattle.check_certificate.specs.Walks.{all_below, is_call_ruled_out, is_walked}
