@@ -1,9 +1,9 @@
 -- Chains: each is drawn once, by one pass.
 use Rattle.fx_table.proofs.Words.{◌≡◌, ℕ, ◌≤◌, true, false, cond, List, [], ◌∷◌, map, sym, refl, ap, subst, ◌∙◌, arith, eqb, eq-eqb, ⊎_elim, Contains}
-use Rattle.fx_table.proofs.Words.{dite, ℕ_discrete, ne_eqb, sum_by, count_by, Contains-append_cases, sum_by-cons, Contents, part_of_pass, Event}
+use Rattle.fx_table.proofs.Words.{dite, ℕ_discrete, sum_by, count_by, Contains-append_cases, sum_by-cons, Contents, part_of_pass, Event}
 use Rattle.fx_table.proofs.Words.{Action, Doing, Opening, PassView, event_of, Use, Adds, ClosesTable, times_drawn, suc, ◌+◌, ◌-◌, ◌<◌, ◌++◌, length}
-use Rattle.fx_table.proofs.Words.{take, All, range_with_len, ◌⊎◌, inl, inr, zero, part_of_chain, IsOfDrawnChains, IsIdle, new_pass, new_passes}
-use Rattle.fx_table.proofs.Words.{next_number, length-append, ◌*◌, ◌/◌, ◌%◌, suc-mul, mul-le-mul_right, lt_of_not-le, div-add-mod', mod-lt, map_push}
+use Rattle.fx_table.proofs.Words.{take, All, range_with_len, ◌⊎◌, inl, zero, part_of_chain, IsOfDrawnChains, IsIdle, new_pass, new_passes}
+use Rattle.fx_table.proofs.Words.{next_number, length-append, ◌*◌, ◌/◌, ◌%◌, mul-le-mul_right, lt_of_not-le, div-add-mod', mod-lt, map_push}
 use Rattle.fx_table.proofs.Words.{All-push, All-contains, chains_of_pass, last_chain_of_pass, pass_of_chain, pass_of_number}
 use Rattle.fx_table.proofs.SumLemmas.{contains_none, contains_head, contains_tail, contains_cases, contains_map, bit_here, one_if, bit_else, found_by}
 use Rattle.fx_table.proofs.SumLemmas.{sum_of, sum_le_of}
@@ -53,9 +53,7 @@ chain_in_pass c p (e ∷ h) one =
     let rest = chain_in_pass c p h (λ x i. one x (contains_tail e h x i)) in
     dite (ℕ_discrete e.chain c)
     (λ same. rw (eq-eqb e.pass p (one e (contains_head e h) same), eq-eqb e.chain c same) (ap (λ (l : List Event). e ∷ l) rest))
-    (λ apart. rw (ne_eqb e.chain c apart)
-    (elim (eqb e.pass p) as (λ b. part_of_chain c h ≡ part_of_chain c (cond b (e ∷ part_of_pass p h) (part_of_pass p h)))
-    [ true ↦ rw (ne_eqb e.chain c apart) rest | false ↦ rest ]))
+    (grind arith)
 
 pub part_of_drawn : (o : Opening) (passes : List PassView) (left : Contents) (chain : ℕ) (v : PassView) (closing : ClosesTable o passes left)
     → ((w : PassView) → Contains passes w → IsOfDrawnChains w) → Contains passes v → Contains v.drawn chain
@@ -143,8 +141,7 @@ chain_is_there p n (suc k) i l = dite (ℕ_discrete i k)
 chain_place : (p n count c : ℕ) → Contains (chains_of_pass p n count) c → (i : ℕ) × (i < count) × (c ≡ p + i * n)
 chain_place p n zero c h = absurd (contains_none c h)
 chain_place p n (suc k) c (zero, inside, is) = (k, omega arith, sym is)
-chain_place p n (suc k) c (suc j, inside, is) =
-    let (i, few, at) = chain_place p n k c (j, omega (arith, inside), is) in (i, omega (arith, few), at)
+chain_place p n (suc k) c (suc j, inside, is) = grind (arith, chain_place p n k c (j, omega (arith, inside), is))
 
 -- a chain of the pass is no later than its last
 chain_below : (p n count c : ℕ) → Contains (chains_of_pass p n count) c → c ≤ last_chain_of_pass p n count
@@ -168,23 +165,7 @@ chain_of_its_pass p n i low high = grind arith
 times_cases : (p n count c : ℕ) → 1 ≤ p → p ≤ n
     → (times c p n count ≡ 0) ⊎ ((times c p n count ≡ 1) × (c < p + count * n) × (p ≡ pass_of_chain n c))
 times_cases p n zero c low high = inl refl
-times_cases p n (suc k) c low high =
-    let u : ℕ = k * n in
-    let more : suc k * n ≡ u + n = omega (arith, suc-mul k n) in
-    let step = times_more c p n k in
-    dite (ℕ_discrete (p + k * n) c)
-    (λ e. let own = sym (chain_of_its_pass p n k low high) ∙ ap (pass_of_chain n) e in let b = bit_here c (p + k * n) e in
-    elim (times_cases p n k c low high) [
-      | inl none ↦ inr (omega (arith, step, b, none), omega (arith, more, e, low, high), own)
-      | inr (one, before, is) ↦ absurd (omega (arith, before, e))
-    ])
-    (λ other. let b = bit_else c (p + k * n) other in elim (times_cases p n k c low high) [
-      | inl none ↦ inl (omega (arith, step, b, none))
-      | inr (one, before, is) ↦ inr (omega (arith, step, b, one), omega (arith, more, before), is)
-    ])
-
-times_small : (p n count c : ℕ) → 1 ≤ p → p ≤ n → times c p n count ≤ cond (eqb p (pass_of_chain n c)) 1 0
-times_small p n count c low high = grind (arith, times_cases)
+times_cases p n (suc k) c low high = grind (arith, times_cases p n k c low high, times_more, chain_of_its_pass, bit_here, bit_else)
 
 -- the next number of a pass of n is one of its own
 number_of_its_pass : (n p count : ℕ) → 1 ≤ p → p ≤ n → (left : ℕ) → 1 ≤ left → left ≤ 64
@@ -207,15 +188,12 @@ module _ (o : Opening) (vs : List PassView) (counts : (v : PassView) → Contain
   drawn_inside v h c d =
       let (count, t) = counts v h in
       let there = rw t.drawn at d in
-      let (i, inside, is) = chain_place v.number o.passes count c there in
-      let u : ℕ = i * o.passes in
-      let at : c ≡ v.number + u = is in
-      (omega (arith, at, t.number.0), omega (arith, chain_below v.number o.passes count c there, t.chain, t.reached))
+      let (i, inside, is) = chain_place v.number o.passes count c there in grind (arith, chain_below)
 
   -- no chain is drawn more often than there are passes of its number
   pub drawn_few : (c : ℕ) → sum_by (times_drawn c) vs ≤ count_by (λ v. eqb v.number (pass_of_chain o.passes c)) vs
   drawn_few c = sum_le_of (times_drawn c) (λ v. cond (eqb v.number (pass_of_chain o.passes c)) 1 0) vs (λ v h.
-      let (count, t) = counts v h in rw t.drawn (times_small v.number o.passes count c t.number.0 t.number.1))
+      let (count, t) = counts v h in rw t.drawn (grind (arith, times_cases)))
 
   -- if each number has its pass, and each pass drew all its chains, each chain was drawn
   pub all_are_drawn : 0 < o.passes → ((n : ℕ) → 1 ≤ n → n ≤ o.passes → (v : PassView) × Contains vs v × (v.number ≡ n))

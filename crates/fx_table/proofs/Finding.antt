@@ -1,6 +1,6 @@
 -- The file at a slot after a history: the one that the last change of the slot left there.
 use Rattle.fx_table.proofs.Words.{◌≡◌, ◌⊎◌, ℕ, List, [], ◌∷◌, map, sym, refl, ◌∙◌, subst, inl, inr, ⊎_elim, Option, Some, None, IsSome, Contains, File, Event, Action}
-use Rattle.fx_table.proofs.Words.{State, changed_here, changed_else, ◌▷◌, ◌▷▷◌, Opening, start_of, state_at, action_of, ℕ_discrete, dite, ◌<◌, ◌≤◌, ◌+◌}
+use Rattle.fx_table.proofs.Words.{State, changed_here, changed_else, ◌▷◌, ◌▷▷◌, Opening, start_of, state_at, action_of, ℕ_discrete, dite}
 use Rattle.fx_table.proofs.SumLemmas.{contains_none, contains_head, contains_tail, contains_cases}
 use Rattle.fx_plain.proofs.Leading.{same_shape}
 use Rattle.fx_plain.specs.Step.{Allows, after}
@@ -23,10 +23,6 @@ left_at slot left a st l = grind (arith, changed_here)
 -- every other action leaves the slot as it is
 kept_at : (slot : ℕ) (a : Action) (st : State) → KeepsSlot slot a → (after st a).at slot ≡ st.at slot
 kept_at slot a st l = grind (arith, changed_else)
-
--- an action that changes the slot doesn't keep it
-not_both : (slot : ℕ) (left : Option File) (a : Action) → LeavesAt slot left a → KeepsSlot slot a → ⊥
-not_both slot left a l k = grind arith
 
 kept_by : (slot : ℕ) (h : List Event) → AllKeepSlot slot h → (e : Event) → Contains h e → KeepsSlot slot e.action
 kept_by slot [] all e c = absurd (contains_none e c)
@@ -56,15 +52,14 @@ finds_the_change o before since change look slot left found legal leaves is =
     let st = state_at o (before ▷ change ▷▷ since) in
     let here : found ≡ st.at slot = (subst (Allows st) is legal.leads.0.1).1 in
     ⊎_elim (λ e. inl (here ∙ e))
-    (λ (later : Later o before change slot left leaves since (st.at slot)).
-    inr (later.0, later.1, subst (λ (z : Option File). LeavesAt slot z later.0.action) (sym here) later.2))
+    (grind arith)
     (last_change o before change slot left leaves since)
 
 -- the same, if no action between changes the slot
 pub finds_what_was_left : (o : Opening) (before since : List Event) (change look : Event) (slot : ℕ) (left found : Option File)
     → IsLegalAt o (before ▷ change ▷▷ since ▷ look) → LeavesAt slot left change.action → look.action ≡ Look slot found → AllKeepSlot slot since → found ≡ left
 finds_what_was_left o before since change look slot left found legal leaves is keep =
-    ⊎_elim (λ e. e) (λ later. absurd (not_both slot found later.0.action later.2 (kept_by slot since keep later.0 later.1)))
+    ⊎_elim (λ e. e) (λ later. absurd (grind (arith, later.0.action, later.2, (kept_by slot since keep later.0 later.1))))
     (finds_the_change o before since change look slot left found legal leaves is)
 
 pub finds_the_put : LookUpFindsThePut
@@ -85,9 +80,7 @@ full_follows o before since removal full slot legal inside in_range leaves is =
     let st = state_at o (before ▷ removal ▷▷ since) in
     let shape = same_shape (start_of o) (map action_of (before ▷ removal ▷▷ since)) in
     let allowed : Allows st Full = subst (Allows st) is legal.leads.0.1 in
-    let here : IsSome (st.at slot) = allowed slot (subst (λ (n : ℕ). slot < n) (sym shape.0) inside)
-    (subst (λ (r : ℕ × ℕ). (r.0 ≤ slot) × (slot < r.0 + r.1)) (sym shape.1) in_range) in
+    let here : IsSome (st.at slot) = grind arith in
     ⊎_elim (λ (e : st.at slot ≡ None). absurd (none_is_some (subst IsSome e here)))
-    (λ (later : Later o before removal slot None leaves since (st.at slot)).
-    let file = some_of (st.at slot) here in (later.0, file.0, later.1, subst (λ (z : Option File). LeavesAt slot z later.0.action) file.1 later.2))
+    (grind (arith, some_of))
     (last_change o before removal slot None leaves since)

@@ -13,8 +13,7 @@ module _ (at : ℕ → Option File) (s : ℕ) (new : Option File) where
       → full_in (changed_at at s new) off len + if_full (at s) ≡ full_in at off len + if_full new
   full_here off zero a b = absurd (omega arith)
   full_here off (suc len) a b = dite (ℕ_discrete (off + len) s)
-      (λ here. let e : if_full (at (off + len)) ≡ if_full (at s) = ap (λ (i : ℕ). if_full (at i)) here in
-      rw (full_else off len (λ i l. λ bad. omega arith), changed_here at s new (off + len) here) (omega arith))
+      (grind (arith, full_else, changed_here))
       (λ else. let c = full_here off len a (omega arith) in rw (changed_else at s new (off + len) else) (omega arith))
 
 pub full_one : (found : Option File) → if_full found ≤ 1

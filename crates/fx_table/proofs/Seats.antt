@@ -153,11 +153,8 @@ module _ {V L S : Type 0} (logs : V → List L) (start : V → S) (k : S) (Idle 
         begun = inr begun;
       }
 
-      spent_new : IsAnew views spent
-      spent_new = grind arith
-
       sum_joined : (g : V → ℕ) → g both + g spent ≡ g v + g w → sum_by g (set (set views id both) other spent) ≡ sum_by g views
       sum_joined g whole = omega (arith, sum_set g views id v both at, sum_set g (set views id both) other w spent there, whole)
 
       pub joined : AreReseated views (set (set views id both) other spent)
-      joined = grind (arith, set_here, both, spent_new, set_cases, both_new, set_else, w_at, other_than, sum_joined)
+      joined = grind (arith, set_here, both, set_cases, both_new, set_else, w_at, other_than, sum_joined)

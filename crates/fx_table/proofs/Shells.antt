@@ -120,9 +120,6 @@ module _ (size : ℕ) (place_at : ℕ → Option ℕ) where
       later : {slot : ℕ} → done ≤ slot → place_at slot ≢ place_at done → done + 1 ≤ slot
       later {slot} le other = let ne : slot ≢ done = λ same. other (ap place_at same) in omega (arith, le, ne)
 
-      not_back : file_at xs done ≡ None → IsPartlyBack shell (file_at xs) (done + 1) size st
-      not_back none = grind arith
-
       pub none_named : place_at done ≡ None → AreComing shell xs (done + 1) now st
       none_named none = grind arith
 
@@ -138,7 +135,7 @@ module _ (size : ℕ) (place_at : ℕ → Option ℕ) where
         some_came {st' = st'} is gets = grind (arith, place_left, file_is)
 
         pub none_there : x ≡ None → AreComing shell xs (done + 1) new st
-        none_there is = place_left (not_back (file_is ∙ is))
+        none_there is = place_left (grind (arith, (file_is ∙ is)))
 
 -- the files of a state, each in the place of its number
 module _ (size : ℕ) (place_at : ℕ → Option ℕ) (end : State) (place_of : ℕ → ℕ) (xs : List (Option Closed)) where
@@ -159,10 +156,8 @@ module _ (size : ℕ) (place_at : ℕ → Option ℕ) (end : State) (place_of : 
     at_home = record {
       inside = λ slot place l is. let f = file_there slot place l is in
           (stands_at xs place _ (ap (get_elem? xs) (sym f.2) ∙ s.there slot f.0 l f.1)).0;
-      apart = λ slot other p q l m ne is is' same. let f = file_there slot p l is in let g = file_there other q m is' in
-          ne (s.apart slot other f.0 g.0 l m f.1 g.1 (f.2 ∙ (same ∙ sym g.2)));
-      others = λ place file e. let o = s.others place file e in
-          (o.0, o.2, s.named o.0 o.2 ∙ (ap (λ (x : Option File). option_map place_of (number_of x)) o.3 ∙ ap (λ (n : ℕ). Some n) o.4));
+      apart = grind (arith, file_there);
+      others = grind (arith, number_of);
     }
 
     pub files_are : (slot : ℕ) → file_at size place_at xs slot ≡ identity_of (end.at slot)

@@ -46,9 +46,7 @@ module _ {X : Type 0} (number : X → ℕ) (new : ℕ → X) (its : (p : ℕ) �
   counted_from p zero = let e : p ≡ p + 0 = omega arith in let f = ap (λ m. once m q) e in omega arith
   counted_from p (suc n) =
       let a = sum_by-cons (λ x. one_if (eqb (number x) q)) (new (p + 1)) (map new (range_with_len ((p + 1) + 1) n)) in
-      let b = ap (λ m. one_if (eqb m q)) (its (p + 1)) in
-      let e : (p + 1) + n ≡ p + suc n = omega arith in
-      omega (arith, counted_from (p + 1) n, a, b, once_more p (p + 1) q refl, ap (λ m. once m q) e)
+      grind (arith, counted_from (p + 1) n, once_more, once)
 
   pub counted_once : (n : ℕ) → counted 1 n ≡ once n q
   counted_once n = let e : 0 + n ≡ n = omega arith in omega (arith, counted_from 0 n, ap (λ m. once m q) e, once_is 0 q)
@@ -96,8 +94,7 @@ module _ {X : Type 0} where
 pub contains_map : {X Y : Type 0} (f : X → Y) (xs : List X) (y : Y) → Contains (map f xs) y → (x : X) × Contains xs x × (y ≡ f x)
 contains_map f [] y h = absurd (contains_none y h)
 contains_map f (x ∷ xs) y (zero, inside, is) = (x, contains_head x xs, sym is)
-contains_map f (x ∷ xs) y (suc k, inside, is) =
-    let r = contains_map f xs y (k, omega (arith, inside), is) in (r.0, contains_tail x xs r.0 r.1, r.2)
+contains_map f (x ∷ xs) y (suc k, inside, is) = grind (arith, contains_map f xs y (k, omega (arith, inside), is), contains_tail)
 
 pub contains_mapped : {X Y : Type 0} (f : X → Y) (xs : List X) (x : X) → Contains xs x → Contains (map f xs) (f x)
 contains_mapped f xs x (k, inside, is) = (k, omega (arith, length-map xs f, inside), get_or-map f xs k x (f x) inside ∙ ap f is)
