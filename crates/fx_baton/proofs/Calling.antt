@@ -2,7 +2,7 @@
 use Rattle.fx_baton.proofs.Words.{◌≡◌, ℕ, ◌+◌, ◌*◌, ◌<◌, ◌≤◌, Bool, true, false, [], ◌∷◌, map, sym, refl, ap, ◌∙◌, subst, arith, Option, Some, None}
 use Rattle.fx_baton.proofs.Words.{option_map, is_some, not, TableId, rest, Closed, State, Steps, changed_at, Contents, IsTable, state_of, leaving}
 use Rattle.fx_baton.proofs.Words.{Leads, action_of, close_of, ◌▷◌, ◌▷▷◌, numbered, identity_of, closed_by_release, closed_by_retirement, EndsHold}
-use Rattle.fx_baton.proofs.Words.{LetsLeave, File, Look, Release, Put, Clear, Take, Allocate, Full, Close, pass_of_number, number_following, Opening}
+use Rattle.fx_baton.proofs.Words.{LetsLeave, File, Look, Release, Put, Clear, Take, Allocate, Full, pass_of_number, number_following, Opening}
 use Rattle.fx_baton.proofs.Words.{size_of, PassView, hold_of, next_of, Task, Idle, Holding, Retiring, Log, View, Start, Call, BatonPass, opening_of}
 use Rattle.fx_baton.proofs.Words.{begin_of, IsTurn, view_of, is_idle, HasTable, UsesNext, HasCalled, HasGivenBack, first_own, IsHoldOf, IsRetiredOf}
 use Rattle.fx_baton.proofs.Words.{next_is_its_own, new_here, activity_of, retiring, IsFileHold, retired_of, holds_now, actions_of, doing_of}
@@ -48,13 +48,11 @@ idle_told tell o says e = grind arith
 
 -- a result is nothing, or a file
 none_found : {X : Type 0} (tell : File → X) (P : Option File → Type 0) (o : Option File) → None ≡ option_map tell o → P o → P None
-none_found tell P None e a = a
-none_found tell P (Some f) e a = let no : None ≡ Some (tell f) = e in absurd (cc no)
+none_found tell P o e a = grind arith
 
 some_found : {X : Type 0} {tell : File → X} {x : X} (P : Option File → Type 0) (o : Option File) → Some x ≡ option_map tell o → P o
     → (f : File) × (x ≡ tell f) × P (Some f)
-some_found {x} P None e a = let no : None ≡ Some x = sym e in absurd (cc no)
-some_found {tell} {x} P (Some f) e a = (f, (let z : Some x ≡ Some (tell f) = e in cc z), a)
+some_found P o e a = grind arith
 
 -- a pass took the table, and was lent what it took
 module _ {id : TableId} {k : Start} {u : PassView} {c : Contents} {p : BatonPass}
@@ -102,8 +100,7 @@ module _ {id : TableId} {k : Start} {u : PassView} {c : Contents} {p : BatonPass
         rw number_is (a.0 ∙ sym h.seated.number, a.1, a.2)
 
     behind_own : number_following log.own ≤ number
-    behind_own =
-        let own = ap first_own h.seated.one in let l = h.seated.turns.unused in let e = ap number_following own in let n = number_is in omega arith
+    behind_own = grind (arith, first_own, h, number_is)
 
     owned : pass_of_number view.start.passes number ≡ log.number
     owned = ap (λ (z : Start). pass_of_number z.passes number) same_start ∙ its_own.0
@@ -112,9 +109,7 @@ module _ {id : TableId} {k : Start} {u : PassView} {c : Contents} {p : BatonPass
     uses_own = uses_next c p.chain h.knows owned behind_own
 
     pub number_fresh : (state_of c).fresh number ≡ true
-    number_fresh =
-        let chains = ap (λ (z : Start). z.chains) same_start in
-        let most = its_own.2 in h.knows.fresh number its_own.1 behind_own (omega arith) owned
+    number_fresh = grind (arith, same_start, its_own, h, behind_own, owned)
 
   -- a turn, by the pass's number
   called : {d : Contents} {call : Call} {flag : Bool} → IsTable d
@@ -168,8 +163,7 @@ module _ {id : TableId} {k : Start} {u : PassView} {c : Contents} {p : BatonPass
         (number_is some number next) (let e = same_numbers in omega arith) (omega arith) refl
 
     pub full_called : {d : Contents} → Allows (state_of c) Full → d ≡ c → IsTable d → HasCalled id k FullCall true (lent d)
-    full_called {d} full same sound = called sound
-        (full_turn d p.chain h.knows is_idle_here (full, ap state_of same) (ap leaving same)) tt (omega arith) (omega arith) refl
+    full_called full same sound = grind (arith, called, full_turn, h, is_idle_here, leaving)
 
     pub clear_called : {slot : ℕ} {d : Contents} {found : Option ℕ} {flag : Bool}
         → LetsLeave c d (Clear slot ((state_of c).at slot)) ((state_of c).at slot) found → is_some found ≡ not flag
@@ -197,11 +191,7 @@ module _ {id : TableId} {k : Start} {u : PassView} {c : Contents} {p : BatonPass
       × Adds o u ([] ▷ Look slot (Some f)) (doing.Holding f (record { node = node; entry = entry })) one_look (view_of q)
   file_looked {slot} {node} {entry} {d} {q} gives e =
       let there = some_found (λ z. Adds o u ([] ▷ Look slot z) (activity_of (holds_now z)) one_look (view_of q)) ((state_of c).at slot) e (added gives) in
-      let is : record { node = node; entry = entry } ≡ hold_of there.0 = λ i. record { node = (there.1 i).0; entry = (there.1 i).1 } in (
-        there.0,
-        record { entry = ap (λ (x : Hold). x.entry) is; same = λ _. is },
-        subst (λ (x : Hold). Adds o u ([] ▷ Look slot (Some there.0)) (doing.Holding there.0 x) one_look (view_of q)) (sym is) there.2,
-      )
+      grind arith
 
   -- the result of an installation at any slot
   pub allocated_so : {slot number : ℕ} {its file : Closed} {d : Contents} {q : BatonPass} → number ≡ next_of u → its ≡ file
@@ -224,11 +214,7 @@ module _ {id : TableId} {k : Start} {u : PassView} {c : Contents} {p : BatonPass
     node_is = ap (λ (x : Hold). x.node) its_task.1
 
     pub release_called : {d : Contents} {out : Option Closed} → EndsHold c d hold.node out → HasCalled id k ReleaseCall true (lent d)
-    release_called {d} {out} ends =
-        let e = rw node_is at ends in
-        called e.sound (subst (λ (z : Task). IsTurn view log c d (events_of c log.number p.chain z ReleaseCall) Idle) (sym holds_here)
-        (letting_go_turn d p.chain h.knows f holds_here (closed_by_release c f.number) refl (e.steps f refl) e.leaving))
-        tt (omega arith) (omega arith) refl
+    release_called ends = grind (arith, node_is, called, holds_here, letting_go_turn, h)
 
     -- the result of a release
     pub released_so : (d : Contents) {q : BatonPass} → HasGivenBack id k ReleaseCall (lent d) q → (result : Option Closed)
@@ -243,8 +229,7 @@ module _ {id : TableId} {k : Start} {u : PassView} {c : Contents} {p : BatonPass
         by_out : (out : Option File) → closed_by_release c f.number ≡ out → Adds o u ([] ▷ Release f ▷▷ close_of out) doing.Idle no_use (view_of q)
             → ReleasesFile o u f (identity_of out) (view_of q)
         by_out None e a = a
-        by_out (Some g) e a = let same = sym (file_released c p.chain h.knows f holds_here e).0 in
-            (ap (λ (z : File). z.identity) same, subst (λ (z : File). Adds o u ([] ▷ Release f ▷ Close z) doing.Idle no_use (view_of q)) same a)
+        by_out (Some g) e a = grind (arith, file_released, h, holds_here)
 
   module _ (retired : Retired) (removed : IsRetiredOf u retired) where
     abbrev gone : File
@@ -286,5 +271,4 @@ module _ {id : TableId} {k : Start} {u : PassView} {c : Contents} {p : BatonPass
         by_out None e l a =
             let held = is_held c p.chain h.knows gone retired.takes removes_here e in
             let same = ap (λ (s : State). s.holds gone.number) (gives.end ∙ l.1) in (omega arith, a)
-        by_out (Some g) e l a = let same = sym (file_retired c p.chain h.knows gone retired.takes removes_here e) in
-            (ap (λ (z : File). z.identity) same, subst (λ (z : File). Adds o u ([] ▷ Close z) doing.Idle no_use (view_of q)) same a)
+        by_out (Some g) e l a = grind (arith, file_retired, h, removes_here)

@@ -1,6 +1,6 @@
 -- Each call of the plain table, as a turn.
 use Rattle.fx_baton.proofs.Words.{◌≡◌, ◌≢◌, ℕ, ◌+◌, ◌-◌, ◌<◌, ◌≤◌, Bool, true, false, cond, List, [], ◌∷◌, map, sym, refl, ap, ◌∙◌, subst, arith, eqb}
-use Rattle.fx_baton.proofs.Words.{◌⊎◌, inl, inr, ⊎_elim, dite, ℕ_discrete, Option, Some, None, not, ◌&&◌, if◌then◌else◌, State, Steps, changed_at}
+use Rattle.fx_baton.proofs.Words.{◌⊎◌, inl, inr, Option, Some, None, not, ◌&&◌, if◌then◌else◌, State, Steps, changed_at}
 use Rattle.fx_baton.proofs.Words.{with_removed, Contents, state_of, leaving, Leads, IsLegal, ReleasesItsOwn, held_by, close_of, ◌▷◌, ◌▷▷◌}
 use Rattle.fx_baton.proofs.Words.{closed_by_release, closed_by_retirement, File, Event, Look, Release, Full, Close, pass_of_number, number_following}
 use Rattle.fx_baton.proofs.Words.{HasFile, Idle, Holding, Retiring, legal_then, held_mine, one_author, Log, View, begin_of, file_held, file_in_hand}
@@ -12,13 +12,11 @@ use Rattle.fx_table.proofs.FileLemmas.{none_file, stays_put, apart_from, leaving
 use Rattle.fx_baton.proofs.StepsKeepRule.{flag_set, flag_back, one_true}
 
 retires : (o : Option File) → ((n : ℕ) → holds_by n (retiring o 0) ≡ 0) × (file_held (retiring o 0) ≡ None) × (file_in_hand (retiring o 0) ≡ o)
-retires None = (λ n. refl, refl, refl)
-retires (Some f) = (λ n. refl, refl, refl)
+retires o = grind arith
 
 -- a file that comes out at a test
 out_if : (b : Bool) {o : Option File} {g : File} → (if b then o else None) ≡ Some g → (b ≡ true) × (o ≡ Some g)
-out_if true e = (refl, e)
-out_if false {g} e = absurd (none_file g e)
+out_if b e = grind (arith, none_file)
 
 fails : (a b : Bool) → (a && not b) ≡ true → b ≡ false
 fails a b e = grind arith
@@ -30,8 +28,7 @@ module _ {v : View} {x : Log} {c : Contents} (d : Contents) (chain : ℕ) (known
 
   legal_one : {a : Action} → Steps (state_of c) a (state_of d) → ReleasesItsOwn (held_by x.front x.number) a
       → IsLegal (begin_of v.start) (x.front ▷▷ done (a ∷ [])) (state_of d)
-  legal_one {a} step own = legal_then (begin_of v.start) (state_of c) (state_of d) (done (a ∷ [])) x.front known.legal
-      ((tt, step.0), step.1) (known.legal.releases, own)
+  legal_one step own = grind (arith, legal_then)
 
   -- the file that the pass held before, and the leaving files, if no file was removed or retired
   held_so : {doing : Task} → v.doing ≡ doing → held_by x.front x.number ≡ file_held doing
@@ -45,11 +42,7 @@ module _ {v : View} {x : Log} {c : Contents} (d : Contents) (chain : ℕ) (known
   files_but : (f : File) {y : State} → state_of d ≡ y → y.holds f.number ≡ 0 → leaving d f.number ≡ false
       → ((g : File) → g.number ≢ f.number → HasFile (state_of c) g → HasFile y g)
       → (g : File) → HasFile (state_of c) g → (0 < (state_of d).holds g.number) ⊎ (leaving d g.number ≡ true) → HasFile y g
-  files_but f {y} is unheld retired kept g i stays = dite (ℕ_discrete g.number f.number) (λ e. absurd (⊎_elim
-      (λ (some_holds : 0 < (state_of d).holds g.number).
-      let q = ap y.holds e in let a = ap (λ (z : State). z.holds g.number) is in omega (arith, q, a, some_holds))
-      (λ still. let no : true ≡ false = sym still ∙ (ap (leaving d) e ∙ retired) in cc no) stays))
-      (λ other. kept g other i)
+  files_but f is unheld retired kept g i stays = grind (arith, leaving)
 
   -- a turn uses none of another pass's fresh numbers, and none of its own from its next one on
   abbrev pub UsesOwn : (ℕ → Bool) → ℕ → Type 0
@@ -59,11 +52,7 @@ module _ {v : View} {x : Log} {c : Contents} (d : Contents) (chain : ℕ) (known
   -- a file that a turn installs has the pass's next number
   pub uses_next : {q : ℕ} → pass_of_number v.start.passes q ≡ x.number → number_following x.own ≤ q
       → UsesOwn (changed_at (state_of c).fresh q false) (q + 1)
-  uses_next {q} its from = (
-    omega arith,
-    λ n later. changed_else (state_of c).fresh q false n
-        (λ same. let l = later (ap (pass_of_number v.start.passes) same ∙ its) in omega (arith, same, l)),
-  )
+  uses_next its from = grind (arith, changed_else)
 
   -- the obligations of a turn that leads to the state `y`
   turn : (xs : List Action) (doing : Task) (y : State) → state_of d ≡ y → UsesOwn y.fresh (number_following (x.own ▷▷ done xs))
@@ -81,8 +70,7 @@ module _ {v : View} {x : Log} {c : Contents} (d : Contents) (chain : ℕ) (known
     files = λ g i stays. subst (λ (z : State). HasFile z g) (sym is) (files g i stays);
     now = now;
     file = λ g e. subst (λ (z : State). HasFile z g) (sym is) (file g e);
-    fresh = λ n low from high its. ap (λ (z : State). z.fresh n) is ∙ (uses.1 n (λ _. from)
-        ∙ known.fresh n low (omega (arith, uses.0, from)) high its);
+    fresh = grind arith;
     others = λ n other e. ap (λ (z : State). z.fresh n) is ∙ (uses.1 n (λ its. absurd (other its)) ∙ e);
   }
 
@@ -134,23 +122,18 @@ module _ {v : View} {x : Log} {c : Contents} (d : Contents) (chain : ℕ) (known
   module _ (f : File) (holds : v.doing ≡ Holding f) where
     one_less : (n : ℕ) → 0 < (state_of c).holds f.number
         → changed_at (state_of c).holds f.number ((state_of c).holds f.number - 1) n + holds_by n v.doing ≡ (state_of c).holds n + 0
-    one_less n positive = let b : holds_by n v.doing ≡ cond {A = ℕ} (eqb f.number n) 1 0 = ap (holds_by n) holds in
-        let e = one_less_at (state_of c).holds f.number n positive in omega arith
+    one_less n positive = grind (arith, one_less_at)
 
     -- a file that comes out at a release is the one that was held, and was retired
     pub file_released : {g : File} → closed_by_release c f.number ≡ Some g → (f ≡ g) × (leaving c g.number ≡ false)
-    file_released {g} e =
-        let out = out_if (eqb ((state_of c).holds f.number) 1 && not (leaving c f.number)) e in
-        let same = removed_file c known.sound f g (known.file f (ap file_in_hand holds)) out.1 in
-        (same, subst (λ (z : File). leaving c z.number ≡ false) same (fails _ (leaving c f.number) out.0))
+    file_released e = grind (arith, out_if, leaving, removed_file, fails)
 
     pub letting_go_turn : (o : Option File) → closed_by_release c f.number ≡ o → Leads (state_of c) ([] ▷ Release f ▷▷ close_of o) (state_of d)
         → leaving d ≡ leaving c → IsTurn v x c d (done ([] ▷ Release f ▷▷ close_of o)) Idle
     letting_go_turn None e l leaves = turn ([] ▷ Release f) Idle _ l.1 (omega arith, λ n _. refl) (legal_one (l.0.1, l.1) (held_so holds))
         (λ n. one_less n l.0.1) (none_leaves holds leaves) (λ g i _. i) (held_mine x.number chain (Release f) x.front) (λ g e. absurd (none_file g e))
     letting_go_turn (Some g) e l leaves = turn ([] ▷ Release f ▷ Close g) Idle _ l.1 (omega arith, λ n _. refl)
-        (legal_then (begin_of v.start) (state_of c) (state_of d) (done ([] ▷ Release f ▷ Close g)) x.front known.legal l
-        ((known.legal.releases, held_so holds), tt))
+        (grind (arith, legal_then, held_so))
         (λ n. one_less n l.0.0.1) (none_leaves holds leaves)
         (files_but g l.1 l.0.1.1 (ap (λ (z : ℕ → Bool). z g.number) leaves ∙ (file_released e).1) (λ h other i. not_closed (state_of c) g h other i))
         (held_mine x.number chain (Close g) (x.front ▷▷ done ([] ▷ Release f)) ∙ held_mine x.number chain (Release f) x.front)
@@ -162,8 +145,7 @@ module _ {v : View} {x : Log} {c : Contents} (d : Contents) (chain : ℕ) (known
     there_still = known.file f (ap file_in_hand removes)
 
     is_leaving : leaving c f.number ≡ true
-    is_leaving = one_true
-        (let a = known.leaves f.number in let b = ap (removals_by f.number) removes in let r = bit_here f.number f.number refl in omega arith)
+    is_leaving = grind (arith, one_true, bit_here)
 
     leaves_less : leaving d ≡ changed_at (leaving c) f.number false → (n : ℕ) → leaving_count d n + removals_by n v.doing ≡ leaving_count c n + 0
     leaves_less leaves n =

@@ -1,12 +1,12 @@
 -- The history of all passes, once they have come back; and that of the only pass, without closing
 -- the table.
-use Rattle.fx_baton.proofs.Words.{◌≡◌, ℕ, ◌<◌, ◌≤◌, cond, List, [], ◌∷◌, map, length, reverse, sym, refl, ap, ◌∙◌, subst, arith, eqb, ⊎_elim, some}
-use Rattle.fx_baton.proofs.Words.{get_elem?, None, Contains, sum_by, TableId, State, IsSettled, state_of, node_at, removed_at, is_retired}
-use Rattle.fx_baton.proofs.Words.{is_leaving, Node, pass_of_chain, HasSameFiles, PassView, HasDrawnInTurn, ClosesTable, times_drawn, Idle}
+use Rattle.fx_baton.proofs.Words.{◌≡◌, ℕ, ◌<◌, ◌≤◌, List, [], ◌∷◌, map, length, reverse, sym, refl, ap, ◌∙◌, subst, arith, eqb, some}
+use Rattle.fx_baton.proofs.Words.{get_elem?, None, Contains, sum_by, TableId, IsSettled, state_of, node_at, removed_at}
+use Rattle.fx_baton.proofs.Words.{is_leaving, Node, pass_of_chain, PassView, HasDrawnInTurn, ClosesTable, times_drawn, Idle}
 use Rattle.fx_baton.proofs.Words.{contains_map, contains_mapped, sum_map, Log, View, Start, BatonPass, Shared, opening_of, holds_by, removals_by}
-use Rattle.fx_baton.proofs.Words.{leaving_count, IsLog, IsHome, IsAway, IsKept, first_own, view_of, IsPassOf, logs_in, drawn_inside, drawn_few}
-use Rattle.fx_baton.proofs.Words.{all_are_drawn, sum_zero_at, one_if, once_is, ◌++◌, contains_head, file_held, Leaving, Retired}
-use Rattle.fx_baton.proofs.Words.{none-some, seats, front_in, AreGathered}
+use Rattle.fx_baton.proofs.Words.{leaving_count, IsLog, IsHome, IsKept, first_own, view_of, IsPassOf, logs_in, drawn_inside, drawn_few}
+use Rattle.fx_baton.proofs.Words.{all_are_drawn, sum_zero_at, one_if, once_is, ◌++◌, contains_head, file_held}
+use Rattle.fx_baton.proofs.Words.{seats, front_in, AreGathered}
 use Rattle.std.proofs.lemmas.List.{append-nil}
 use Rattle.fx_table.proofs.Histories.{IsWhole, closes_table, settles as settles_whole}
 use Rattle.fx_table.specs.Settling.{IsSettledSoFar}
@@ -18,8 +18,7 @@ module _ (id : TableId) (k : Start) where
   log_of p = record { number = p.number; front = front_in seats p.seat.me.0.logs; own = first_own p.seat.me.0.logs }
 
   pub its_log : {p : BatonPass} → IsPassOf id k p → p.seat.me.0.logs ≡ log_of p ∷ []
-  its_log fits = let s = fits.seated in
-      s.one ∙ (λ i. record { number = s.number i; front = ap (front_in seats) (sym s.one) i; own = ap first_own (sym s.one) i } ∷ [])
+  its_log fits = grind (arith, seats, first_own)
 
   module _ (ps : List BatonPass) (each : (p : BatonPass) → Contains ps p → IsPassOf id k p) (count : length ps ≡ k.passes) (s : Shared) (r : IsKept k s)
       (seat : ℕ) (v : View) (at : get_elem? s.views seat ≡ some v) (logs_are : v.logs ≡ logs_in (reverse ps))
@@ -31,9 +30,7 @@ module _ (id : TableId) (k : Start) where
     all_rest = each_rests r.life all seats.IsIdle (idle, free) (λ u rests. rests)
 
     pub at_home : IsHome r.contents s
-    at_home = ⊎_elim (λ h. h)
-        (λ (away : IsAway r.contents r.history s). absurd (none-some r.contents (sym (all_rest away.holder away.view away.at).1 ∙ away.loan)))
-        r.place
+    at_home = grind (arith, all_rest)
 
     no_holds : (n : ℕ) → (state_of r.contents).holds n ≡ 0
     no_holds n = sym (r.held n) ∙ sum_zero_at (λ (u : View). holds_by n u.doing) s.views (λ i u e. ap (holds_by n) (all_rest i u e).0)
@@ -42,11 +39,7 @@ module _ (id : TableId) (k : Start) where
     no_leaving n = sym (r.leaves n) ∙ sum_zero_at (λ (u : View). removals_by n u.doing) s.views (λ i u e. ap (removals_by n) (all_rest i u e).0)
 
     none_removed : (n : ℕ) (node : Node) → node_at r.contents.nodes n ≡ node → removed_at n node ≡ None
-    none_removed n (Leaving file) e =
-        let a = no_leaving n in let b : leaving_count r.contents n ≡ 1 = ap (λ (z : Node). cond {A = ℕ} (is_leaving z) 1 0) e in
-        absurd (omega (arith, a, b))
-    none_removed n (Retired file) e = absurd (let a = no_holds n in let b = r.sound.held n (ap is_retired e) in omega (arith, a, b))
-    none_removed n _ e = refl
+    none_removed n node e = grind (arith, no_leaving, is_leaving, no_holds)
 
     settled : IsSettled (state_of r.contents)
     settled = record { unheld = no_holds; closed = λ n. none_removed n (node_at r.contents.nodes n) refl }
@@ -77,9 +70,7 @@ module _ (id : TableId) (k : Start) where
     }
 
     pub closes : 0 < k.passes → ClosesTable (opening_of k) (map view_of ps) r.contents
-    closes some_passes = closes_table (opening_of k) r.history (map view_of ps) r.contents (whole some_passes)
-        (subst (λ (z : State). HasSameFiles z (state_of r.contents)) r.end record { size = refl; range = refl; files = λ slot. refl })
-        settled
+    closes some_passes = grind (arith, closes_table, whole, settled)
 
 -- The history of a table with one pass, which is idle, without closing the table.
 module _ (id : TableId) (k : Start) (p : BatonPass) (fits : IsPassOf id k p) (idle : p.seat.me.0.doing ≡ Idle) (alone : k.passes ≡ 1)

@@ -1,13 +1,12 @@
 -- A pass that takes the table, and one that puts it back.
 use Rattle.fx_baton.proofs.Words.{◌≡◌, ℕ, ◌+◌, ◌-◌, ◌*◌, ◌≤◌, Bool, List, [], ◌∷◌, ◌++◌, map, sym, refl, ap, ◌∙◌, subst, arith, Option, Some, None}
-use Rattle.fx_baton.proofs.Words.{TableId, Seat, State, Contents, state_of, IsLegal, IsSeenBy, part_of_pass, close_of, ◌▷◌, ◌▷▷◌, closed_by_release}
-use Rattle.fx_baton.proofs.Words.{closed_by_retirement, File, Event, Release, number_following, state_at, PassView, IsFront, next_of, HasDrawnInTurn}
-use Rattle.fx_baton.proofs.Words.{Task, Holding, Retiring, seen_again, seen_further, part_mine, Log, View, Start, Call, BatonPass, Seated, opening_of}
-use Rattle.fx_baton.proofs.Words.{begin_of, Takes, lent_view, log_after, view_after, front_in, first_own, seats, view_of, IsPassOf, HasTable}
+use Rattle.fx_baton.proofs.Words.{TableId, Seat, State, Contents, state_of, IsLegal, close_of, ◌▷◌, ◌▷▷◌}
+use Rattle.fx_baton.proofs.Words.{File, Event, Release, number_following, state_at, PassView, IsFront, next_of, HasDrawnInTurn}
+use Rattle.fx_baton.proofs.Words.{Task, seen_again, seen_further, part_mine, Log, View, Start, Call, BatonPass, Seated, opening_of}
+use Rattle.fx_baton.proofs.Words.{begin_of, Takes, lent_view, log_after, view_after, first_own, seats, view_of, IsPassOf, HasTable}
 use Rattle.fx_baton.proofs.Words.{HasSeenMore, UsesNext, HasCalled, HasGivenBack, pass_after, activity_of, by, actions_of, doing_of, use_of}
 use Rattle.fx_baton.proofs.Words.{events_of, table_of_seats, table_of_loan}
 use Rattle.fx_table.specs.Calls.{Adds}
-use Rattle.fx_baton.specs.declared.view.Call.TheVariants.{Look as LookCall, Release as ReleaseCall, Retire as RetireCall}
 
 -- a legal history leads to the state at its end
 pub ends_there : (k : Start) {h : List Event} {end : State} → IsLegal (begin_of k) h end → IsLegal (begin_of k) h (state_at (opening_of k) h)
@@ -29,10 +28,7 @@ module _ {id : TableId} {k : Start} {p : BatonPass} (fits : IsPassOf id k p) (se
   is_me = λ i. (sym taken.view i, sym (taken.slots ∙ ap (λ l. (0, taken.contents) ∷ l) fits.slots) i)
 
   more : HasSeenMore (view_of p) (view_of (took me))
-  more = record {
-    seen = subst (λ (h : List Event). IsSeenBy h taken.history) (sym (ap (front_in seats) fits.seated.one)) taken.knows.seen;
-    same = λ i. record (view_of (took me)) { own = sym (ap first_own fits.seated.one) i };
-  }
+  more = grind (arith, seats, first_own)
 
   took_table : HasTable id k (view_of p) taken.contents taken.contents (took me)
   took_table = let s = fits.seated in let seen = seen_again taken.history in record {
@@ -41,15 +37,7 @@ module _ {id : TableId} {k : Start} {p : BatonPass} (fits : IsPassOf id k p) (se
     loan = refl;
     passes = fits.passes;
     more = more;
-    seated = record {
-      log = log;
-      one = refl;
-      number = s.number;
-      start = s.start;
-      front = record { legal = ends_there k (rw s.start at taken.knows.legal); mine = rw s.number at taken.knows.own };
-      turns = subst (HasDrawnInTurn (opening_of k) p.count) (sym more.same) (let t = s.turns in assumption t);
-      flag = s.flag;
-    };
+    seated = grind (arith, ends_there, more);
     knows = assumption (seen, taken.knows);
   }
 
@@ -58,24 +46,17 @@ module _ {id : TableId} {k : Start} {p : BatonPass} (fits : IsPassOf id k p) (se
 
 -- a close installs nothing
 next_close : (p chain : ℕ) (o : Option File) (own : List Event) → number_following (map (by p chain) (close_of o) ++ own) ≡ number_following own
-next_close p chain None own = refl
-next_close p chain (Some f) own = refl
+next_close p chain o own = grind arith
 
 next_release : (p chain : ℕ) (f : File) (o : Option File) (own : List Event)
     → number_following (map (by p chain) ([] ▷ Release f ▷▷ close_of o) ++ own) ≡ number_following own
-next_release p chain f None own = refl
-next_release p chain f (Some g) own = refl
+next_release p chain f o own = grind arith
 
 -- the pass's numbers after a call
 next_behind : (c : Contents) (v : PassView) (now : ℕ) (doing : Task) (call : Call) (own : List Event) → number_following own ≤ next_of v
     → v.numbers_left ≤ 64 * v.chain → now + (use_of call).numbers ≡ v.numbers_left → UsesNext v call
     → number_following (events_of c v.number v.chain doing call ++ own) ≤ (256 + 64 * v.chain) - now
-next_behind c v now doing (LookCall slot) own next inside used uses = omega arith
-next_behind c v now (Holding f) ReleaseCall own next inside used uses =
-    let e = next_release v.number v.chain f (closed_by_release c f.number) own in omega arith
-next_behind c v now (Retiring f t) RetireCall own next inside used uses =
-    let e = next_close v.number v.chain (closed_by_retirement c f.number) own in omega arith
-next_behind c v now _ _ own next inside used uses = omega arith
+next_behind c v now doing call own next inside used uses = grind (arith, next_release, next_close)
 
 module _ {id : TableId} {k : Start} {call : Call} {idle : Bool} {p : BatonPass} (t : HasCalled id k call idle p) (seat : Seat Contents View)
     (table : seat.table_id ≡ p.seat.table_id)
@@ -104,47 +85,17 @@ module _ {id : TableId} {k : Start} {call : Call} {idle : Bool} {p : BatonPass} 
   legal_now = rw t.has.seated.start at t.turn.legal
 
   front_is : IsFront (opening_of k) (view_of (gave seated))
-  front_is = record {
-    legal = ends_there k legal_now;
-    mine = subst (λ (n : ℕ). part_of_pass n (es ++ before.front) ≡ es ++ before.own) t.has.seated.number
-        (part_mine before.number es before.front t.turn.authors ∙ ap (λ (l : List Event). es ++ l) t.has.knows.own);
-  }
+  front_is = grind (arith, ends_there, legal_now, part_mine)
 
   turns_now : HasDrawnInTurn (opening_of k) p.count (view_of (gave seated))
-  turns_now =
-      let s = t.has.seated.turns in let used = t.numbers in let few = s.few_left in
-      let left : ℕ = p.numbers_left - (use_of call).numbers in let few_left : left ≤ 64 = omega arith in
-      let inside = s.left_inside in let left_inside : left ≤ 64 * p.chain = omega arith in
-      let own = ap (λ (l : List Log). number_following (first_own l)) t.has.seated.one in let next = s.unused in
-      let unused = next_behind t.taken (view_of p) left p.seat.me.0.doing call before.own (omega arith) inside (omega arith) t.uses in
-      assumption (few_left, left_inside, unused, s)
+  turns_now = grind (arith, first_own, next_behind)
 
   fits_again : IsPassOf id k (gave seated)
-  fits_again = let s = t.has.seated in record {
-    table = table ∙ t.has.table;
-    slots = refl;
-    free = refl;
-    passes = t.has.passes;
-    seated = record {
-      log = log_after es before;
-      one = refl;
-      number = s.number;
-      start = s.start;
-      front = front_is;
-      turns = turns_now;
-      flag = t.flag;
-    };
-  }
+  fits_again = grind (arith, front_is, turns_now)
 
   adds_here : Adds (opening_of k) (view_of p) (actions_of t.taken p.seat.me.0.doing call) (activity_of (doing_of t.taken call))
       (use_of call) (view_of (gave seated))
-  adds_here = let numbers = t.numbers in let looks = t.looks in
-      let seen : IsSeenBy (view_of p).front (es ++ before.front) =
-      (es, ap (λ (h : List Event). es ++ h) (sym (ap (front_in seats) t.has.seated.one))) in
-      let own = ap (λ (l : List Event). es ++ l) (sym (ap first_own t.has.seated.one)) in
-      let numbers_left : p.numbers_left - (use_of call).numbers + (use_of call).numbers ≡ p.numbers_left = omega arith in
-      let looks_left : p.looks_left - (use_of call).looks + (use_of call).looks ≡ p.looks_left = omega arith in
-      assumption (seen, front_is, own, numbers_left, looks_left)
+  adds_here = grind (arith, seats, first_own, front_is)
 
   -- wherever the pass came from
   adds_so : (u : PassView) (c d : Contents) → HasTable id k u c d p

@@ -1,11 +1,11 @@
 -- The rule holds when a table is opened, and where passes move between seats; the passes that are
 -- dealt out.
-use Rattle.fx_baton.proofs.Words.{◌≡◌, ℕ, ◌<◌, ◌≤◌, Bool, true, false, cond, List, [], ◌∷◌, sym, refl, ap, ◌∙◌, subst, arith, inl, inr, ⊎_elim, some}
+use Rattle.fx_baton.proofs.Words.{◌≡◌, ℕ, ◌<◌, ◌≤◌, Bool, true, false, cond, List, [], ◌∷◌, sym, refl, ap, ◌∙◌, subst, arith, inl, ⊎_elim, some}
 use Rattle.fx_baton.proofs.Words.{get_elem?, Some, None, State, Contents, state_of, IsTable, is_leaving, node_at, removed_at, Node, numbers_for}
 use Rattle.fx_baton.proofs.Words.{Idle, Log, View, Start, IsKept, IsLog, IsView, leaving_count, begin_of, contains_map, Splits, Joins, Task, Shared}
-use Rattle.fx_baton.proofs.Words.{holds_by, removals_by, file_in_hand, IsHome, IsAway, rules, TableId, Seat, PassView, IsFront, new_pass}
-use Rattle.fx_baton.proofs.Words.{HasDrawnInTurn, BatonPass, Seated, opening_of, chains_of_pass, first_own, view_of, is_idle, IsPassOf, dealt}
-use Rattle.fx_baton.proofs.Words.{IsNewPass, Leaving, IsAnew, none-some, activity_of, seats, HasLaws, Moves, first_alone, first_view, front_in}
+use Rattle.fx_baton.proofs.Words.{holds_by, removals_by, file_in_hand, TableId, Seat, new_pass}
+use Rattle.fx_baton.proofs.Words.{BatonPass, Seated, first_own, view_of, is_idle, IsPassOf, dealt}
+use Rattle.fx_baton.proofs.Words.{IsNewPass, IsAnew, seats, HasLaws, Moves, first_alone, first_view}
 use Rattle.fx_baton.proofs.Words.{without_first}
 use Rattle.table_seats.proofs.Moving.{IsRule, alone_is_dealt, may_join as seats_join, may_split as seats_split}
 use Rattle.table_seats.proofs.Together.{opens as seats_open, reseated as seats_reseated}
@@ -19,8 +19,7 @@ laws = grind arith
 
 -- a table without removed files has none that is leaving
 not_leaving : (number : ℕ) (node : Node) → removed_at number node ≡ None → is_leaving node ≡ false
-not_leaving number (Leaving file) e = let no : Some (record { number = number; identity = file }) ≡ None = e in absurd (cc no)
-not_leaving number _ e = refl
+not_leaving number node e = grind arith
 
 module _ (k : Start) (c : Contents) (begins : state_of c ≡ begin_of k) (sound : IsTable c) (few : k.passes ≤ 16) where
   fresh_there : {n : ℕ} → 256 ≤ n → n < numbers_for k.chains → (begin_of k).fresh n ≡ true
@@ -74,20 +73,7 @@ module _ (k : Start) (s : Shared) (r : IsKept k s) (views' : List View) (m : Mov
     life = seats_reseated r.life m;
     end = r.end;
     sound = r.sound;
-    place = ⊎_elim
-        (λ (home : IsHome r.contents s). inl (home.0, home.1, λ i u e. free i u e (home.2 i u)))
-        (λ (away : IsAway r.contents r.history s).
-        inr record {
-          words = away.words;
-          homes = away.homes;
-          holder = away.holder;
-          view = away.view;
-          at = m.seats.others away.holder away.view away.at (λ idle. none-some r.contents (sym idle.1 ∙ away.loan));
-          loan = away.loan;
-          whole = away.whole;
-          others = λ i u n e. free i u e (away.others i u n);
-        })
-        r.place;
+    place = grind (arith, free);
     views = λ i u e. ⊎_elim (λ new. new_view u new) (λ old. r.views i u old) (m.seats.each i u e);
     few = r.few;
     held = λ n. m.seats.by_work (λ u. holds_by n u.doing) (λ u idle. ap (holds_by n) idle.0) ∙ r.held n;
@@ -118,34 +104,10 @@ module _ (id : TableId) (k : Start) (p n : ℕ) (low : 1 ≤ p) (high : p ≤ k.
   doing_is = ap (λ (m : Seated). m.0.doing) me
 
   is_new : view_of x ≡ new_pass p
-  is_new = λ i. record {
-    number = new.its_number i;
-    front = ap (front_in seats) one_log i;
-    own = ap first_own one_log i;
-    chain = new.chain i;
-    drawn = ap (chains_of_pass x.number x.passes) new.count i;
-    no_chains_left = new.chains_left i;
-    numbers_left = new.numbers i;
-    looks_left = new.looks i;
-    doing = ap activity_of doing_is i;
-  }
+  is_new = grind (arith, seats, one_log, first_own, doing_is)
 
   is_pass : IsPassOf id k x
-  is_pass = record {
-    table = ap (λ (z : Seat Contents View). z.table_id) new.its_seat ∙ table;
-    slots = ap (λ (m : Seated). m.1) me;
-    free = ap (λ (m : Seated). m.0.loan) me;
-    passes = new.all_passes ∙ all;
-    seated = record {
-      log = seats.new_log k p;
-      one = one_log;
-      number = sym new.its_number;
-      start = ap (λ (m : Seated). m.0.start) me;
-      front = subst (IsFront (opening_of k)) (sym is_new) record { legal = record { leads = (tt, refl); releases = tt }; mine = refl };
-      turns = subst (λ (z : ℕ × PassView). HasDrawnInTurn (opening_of k) z.0 z.1) (λ i. (sym new.count i, sym is_new i)) (search rules);
-      flag = new.flag ∙ sym (ap is_idle doing_is);
-    };
-  }
+  is_pass = grind (arith, me, seats, one_log, is_new, is_idle, doing_is)
 
   pub is_new_pass : IsPassOf id k x × (view_of x ≡ new_pass p)
   is_new_pass = (is_pass, is_new)

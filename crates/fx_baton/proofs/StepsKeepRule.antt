@@ -70,17 +70,13 @@ module _ (k : Start) (s : Shared) (r : IsKept k s) (id : ℕ) (v : View) (at : g
 
     other_log : {i : ℕ} {u : View} → i ≢ id → get_elem? s.views i ≡ some u → (y : Log) → Contains u.logs y → IsLog k longer c u.doing y
     other_log {i} {u} n e y hy =
-        let a = (r.views i u e).logs y hy in let other : y.number ≢ t.log.number = not_there r.life at t.one n e y hy in record {
-          held = grows.helds y.number (λ same. other (sym same)) ∙ a.held;
-          fresh = λ m low from high its. t.others m (λ mine. other (sym its ∙ mine)) (a.fresh m low from high its);
-        }
+        let a = (r.views i u e).logs y hy in let other : y.number ≢ t.log.number = not_there r.life at t.one n e y hy in grind (arith, grows)
 
     all_holds : (n : ℕ) → sum_by (λ (z : View). holds_by n z.doing) (set s.views id w) ≡ (state_of c).holds n
     all_holds n = let a = sum_set (λ (z : View). holds_by n z.doing) s.views id v w at in let b = r.held n in let d = t.held n in omega arith
 
     all_removals : (n : ℕ) → sum_by (λ (z : View). removals_by n z.doing) (set s.views id w) ≡ leaving_count c n
-    all_removals n = let a = sum_set (λ (z : View). removals_by n z.doing) s.views id v w at in let b = r.leaves n in let d = t.leaves n in
-        omega arith
+    all_removals n = grind (arith, sum_set)
 
     still_there : (i : ℕ) (u : View) → i ≢ id → get_elem? s.views i ≡ some u → (f : File) → file_in_hand u.doing ≡ Some f → HasFile (state_of c) f
     still_there i u n e f is =
