@@ -2,28 +2,25 @@
 -- shown view. Assumes `Logic`.
 use Rattle.std.proofs.Common.{◌≡◌, ℕ, zero, suc, ◌+◌, List, [], ◌∷◌, ◌++◌, length, set, sym, refl, ap, subst, arith}
 use mathlib.Core.Option.{some-ne-none}
-use mathlib.Core.Option as maybe
 use mathlib.Core.List.{not-mem-nil}
 use lib.ListN.{get_elem?}
 use mathlib.Mathlib.Data.Part.{◌∈◌, mem_unique}
 use seplogic.Ra.Pcs.{OpDef, OpDef-comm}
 use seplogic.Ra.Ura.{Ura}
-use seplogic.Ra.Constructions.Prod
-use seplogic.Ra.Instances.Ag
 use base.Fraction.{full_share}
 use base.Share.{quarter, three_quarters}
 use base.FractionLaws.{not-OpDef-full_share}
-use base.Share
 use base.Stored.{Gv, Coded}
 use base.SetCodes.{coded, SetCoded-set}
 use base.Algebras.{pcs, shares}
-use base.Logic.{SProp, ent, sep, wand, ex, all, guard, upd, id⊢, via, all_e, ex_e, guard_e, guard_i, upd_i}
+use base.Logic.{SProp, ent, sep, wand, ex, all, guard, upd, id⊢, via, all_e, ex_e, guard_e, guard_i, upd_i, emp, apply∗}
 use base.Fml.{Lft, Share, Fml, ftrue, fsep, fex, fbor, flft, fnamed}
 use ghost.Rules.{Halves}
-use types.Logic.{Logic, sem}
-use types.Keyed.{entry, entries_beside, entry_cut, entry_glue}
+use types.Logic.{Logic, sem, lfts}
+use types.Keyed.{entry, entries_beside, entry_cut, entry_glue, entry_keyless}
 use types.Tokens.{bor_new, bor_fracture}
-use types.Kit.{‵, raw, ◌⊛◌, some, given, ◌$◌, ◌∵◌, !, qed, move, keep, drop, split, join, fsplit, fsplit3, fjoin, fjoin3, fpick, fpack, pick, learn, show, check, frame, assume, suffices, settle, done, use1, use2, updating, now, rewrite}
+use types.Kit.{‵, raw, ◌⊛◌, some, given, ◌$◌, ◌∵◌, !, qed, move, keep, drop, split, join, fsplit, fsplit3, fjoin, fjoin3, fpick, fpack, pick, learn}
+use types.Kit.{show, check, frame, assume, suffices, settle, done, use1, use2, updating, now, rewrite, later, await}
 use denote.RattleType.{RattleType}
 use denote.RawPtr.{Ptr}
 use denote.Steps.{nothing}
@@ -31,6 +28,18 @@ use Rattle.atomic_table.specs.Table.{State, Me, Splits}
 use Rattle.atomic_table.specs.Seated.{fact, itself, halved, seen, unused, roster, carried, TableId, age, place, names, standing, inner, common, mine}
 use Rattle.atomic_table.proofs.Roster.{Moved, moves, Joined, joins}
 use Rattle.fx_seen.specs.Kept.{kept, seen_owns, MayLearn}
+use mir.Val.{Val, vstruct, vcons, vnil}
+use base.Shift.{Keyless}
+use denote.Sharing.{said}
+use denote.Struct.Lending.{Lends}
+use denote.Shadow.{makes_shadow}
+use denote.Struct.Struct.{Struct}
+use denote.Struct.Owning.{shape}
+use mathlib.Core.Option as maybe
+use seplogic.Ra.Constructions.Prod
+use seplogic.Ra.Instances.Ag
+use base.Share
+use Rattle.fx_seen.specs.contracts.Seen as seen
 
 module _ {M : Type 1} {𝓤 : Ura M} (𝓛 : Logic 𝓤) where
   open 𝓛 use {H, A}
@@ -169,3 +178,27 @@ module _ {M : Type 1} {𝓤 : Ura M} (𝓛 : Logic 𝓤) where
           use1 𝓛 (raw (Moved 𝓛 cv γ 0 s.views id id u)) (all_e 𝓤 (Moved 𝓛 cv γ 0 s.views id id) u) $ settle 𝓛 Z (‵ (all_of (set s.views id u)) ⊛ ‵ (half id u)) $ split ! $
           suffices ! _ (upd_i 𝓤 Z) $ show ! (Next s ⟦ learned ⟧) (set s.views id u) $ check ! found.1 $ frame ! $ move ! (0 ∷ 2 ∷ []) $ fjoin ! $
           nothing ! $ fpack ! (then u) (λ _. ftrue) found.2 $ move ! (0 ∷ 1 ∷ []) $ fjoin ! $ fpack ! V seated_with u $ done !)))
+
+-- The machine value of a `Seen`, and what it owns. Assumes `Logic`.
+
+abbrev pub token : Val
+token = vstruct (vcons (vstruct vnil) vnil)
+
+module _ (W : RattleType) where
+  abbrev pub Token : RattleType
+  Token = Struct (shape (seen.the_type W))
+
+  pub token_made : {M : Type 1} {𝓤 : Ura M} (𝓛 : Logic 𝓤) → ent 𝓤 (emp 𝓤) (sem 𝓛 (Token.own_val (tt, tt) (token ∷ [])))
+  token_made 𝓛 = makes_shadow 𝓛 (Token.own_val (tt, tt) (token ∷ [])) (λ vss. (tt, ((λ uss. (tt, tt)), tt))) ((vstruct vnil ∷ [], tt), (refl, ((tt, (refl, tt)), tt)))
+
+pub seen_twice : {M : Type 1} {𝓤 : Ura M} (𝓛 : Logic 𝓤) {V : Type 0} (c : V → Gv) (z : TableId) (id : ℕ) (v : V)
+    → ent 𝓤 (sem 𝓛 (seen_owns c z id v)) (sep 𝓤 (sem 𝓛 (seen_owns c z id v)) (sem 𝓛 (seen_owns c z id v)))
+seen_twice 𝓛 c z id v = 𝓛.shr_bors.shr_bor_dup (age z) (kept c z id v)
+
+pub seen_keyless : {V : Type 0} (c : V → Gv) (z : TableId) (id : ℕ) (v : V) → Keyless (seen_owns c z id v)
+seen_keyless c z id v = λ q. entry_keyless halved z.views_name id _
+
+pub lends_twice : {M : Type 1} {𝓤 : Ura M} (𝓛 : Logic 𝓤) (P : Fml) → ent 𝓤 (sem 𝓛 P) (sep 𝓤 (sem 𝓛 P) (sem 𝓛 P)) → (l : Lft) → Lends 𝓛 P (said P) l
+lends_twice {𝓤 = 𝓤} 𝓛 P twice l κ ts inc sp = let Back = 𝓛.H.⇛ (sep 𝓤 (𝓛.A.bor κ P) (lfts 𝓛 ts)) in
+    qed 𝓛 (‵ (fbor κ P) ∷ raw (lfts 𝓛 ts) ∷ []) ∵ updating ! $ use2 𝓛 (later (‵ P ⊛ raw (wand 𝓤 (sem 𝓛 P) Back))) (𝓛.more.bor_acc_by κ ts P sp) $ await ! tt $ split ! $ use1 𝓛 (‵ P ⊛ ‵ P) twice $ split ! $ move ! (0 ∷ 2 ∷ []) $
+    use2 𝓛 (later (‵ (fbor κ P) ⊛ raw (lfts 𝓛 ts))) (apply∗ 𝓤 (sem 𝓛 P) Back) $ await ! tt $ split ! $ drop ! $ move ! (1 ∷ 0 ∷ []) $ now ! $ done !

@@ -1,3 +1,2 @@
 pub mod Ghost
-pub mod Fields
 pub mod Views

@@ -11,8 +11,7 @@ use Rattle.atomic_table.specs.contracts.shared.Seat as seat
 use Rattle.atomic_table.proofs.Fields.{HandData}
 use Rattle.fx_seen.specs.Kept.{seen_owns, MayLearn}
 use Rattle.fx_seen.specs.contracts.Seen as Seen
-use Rattle.fx_seen.proofs.Fields.{Token}
-use Rattle.fx_seen.proofs.Ghost.{view_halves, learned, learns}
+use Rattle.fx_seen.proofs.Ghost.{Token, view_halves, learned, learns}
 use Rattle.fx_seen.specs.contracts.learn.{ended, clauses}
 use Rattle.fx_seen.specs.contracts.learn.Key.{name as #self}
 use Rattle.fx_seen.proofs.learn.Statement.{statement}

@@ -10,8 +10,7 @@ use Rattle.atomic_table.specs.contracts.shared.Seat as seat
 use Rattle.atomic_table.proofs.Fields.{HandData}
 use Rattle.fx_seen.specs.Kept.{seen_owns}
 use Rattle.fx_seen.specs.contracts.Seen as Seen
-use Rattle.fx_seen.proofs.Fields.{token, Token, token_made}
-use Rattle.fx_seen.proofs.Ghost.{shown, shows, lends}
+use Rattle.fx_seen.proofs.Ghost.{token, Token, token_made, shown, shows, lends}
 use Rattle.fx_seen.specs.contracts.show.{ended, clauses}
 use Rattle.fx_seen.specs.contracts.show.Key.{name as #self}
 use Rattle.fx_seen.proofs.show.Statement.{statement}

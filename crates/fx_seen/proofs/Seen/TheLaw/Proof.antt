@@ -10,7 +10,7 @@ use denote.Struct.Lending.{of_Lends}
 use Rattle.core.specs.contracts.marker.PhantomData as marker
 use Rattle.fx_seen.specs.Kept.{seen_owns}
 use Rattle.fx_seen.specs.contracts.Seen as C
-use Rattle.fx_seen.proofs.Fields.{seen_twice, lends_twice}
+use Rattle.fx_seen.proofs.Ghost.{seen_twice, lends_twice}
 use Rattle.fx_seen.proofs.Seen.TheLaw.Statement.{statement}
 
 pub shares : (V : RattleType) (L : Laws V) → statement V L

@@ -3,7 +3,7 @@ use denote.Param.Send.{IsSync, sendable}
 use denote.Struct.Struct.{Struct}
 use denote.Struct.Owning.{shape}
 use Rattle.fx_seen.specs.contracts.Seen.{the_row, the_type}
-use Rattle.fx_seen.proofs.Fields.{seen_keyless}
+use Rattle.fx_seen.proofs.Ghost.{seen_keyless}
 
 pub sync : (V : RattleType) → IsSync (the_row V)
 sync V = let fields : IsSync (Struct (shape (the_type V))) = search sendable depth 20 in

@@ -5,7 +5,7 @@ use Rattle.atomic_table.proofs.Walks.{proved, leaves}
 use Rattle.core.specs.contracts.marker.PhantomData as marker
 use Rattle.fx_seen.specs.Kept.{seen_owns}
 use Rattle.fx_seen.specs.contracts.Seen as Seen
-use Rattle.fx_seen.proofs.Fields.{token, Token, token_made}
+use Rattle.fx_seen.proofs.Ghost.{token, Token, token_made}
 use Rattle.fx_seen.specs.contracts.Seen.again.{ended, clauses}
 use Rattle.fx_seen.specs.contracts.Seen.again.Key.{name as #self}
 use Rattle.fx_seen.proofs.Seen.again.Statement.{statement}
