@@ -216,6 +216,128 @@ static void canceled_zero_copy_send_says_no_more(struct rig *rig) {
 	close(peer);
 }
 
+/* Submits a chain at slot 0: an open of a path, a read and a close, all with this link. */
+static void open_read_close(struct rig *rig, const char *path, char *buffer, unsigned char link) {
+	struct io_uring_sqe *sqe = io_uring_get_sqe(&rig->ring);
+	io_uring_prep_openat_direct(sqe, AT_FDCWD, path, O_RDONLY, 0, 0);
+	sqe->flags |= link, sqe->user_data = FIRST;
+	sqe = io_uring_get_sqe(&rig->ring);
+	io_uring_prep_read(sqe, 0, buffer, BUFFER_BYTES, 0);
+	sqe->flags |= IOSQE_FIXED_FILE | link, sqe->user_data = NEXT;
+	sqe = io_uring_get_sqe(&rig->ring);
+	io_uring_prep_close(sqe, 0);
+	sqe->file_index = 1, sqe->user_data = CLOSES;
+	must(io_uring_submit(&rig->ring) == 3, "io_uring_submit");
+}
+
+static void canceled_close_leaves_the_file(struct rig *rig) {
+	char path[] = "/tmp/traps-XXXXXX", buffer[BUFFER_BYTES];
+	int file = mkstemp(path);
+	must(file >= 0 && write(file, "short", 5) == 5, "a file");
+	open_read_close(rig, path, buffer, IOSQE_IO_LINK);
+	saw("the open answers %d", result_of(rig, FIRST));
+	saw(", the read %d", result_of(rig, NEXT));
+	saw(", the close %d", result_of(rig, CLOSES));
+	close_slot(rig, 0, CLOSES);
+	saw("; another close %d", result_of(rig, CLOSES));
+	close(file);
+	unlink(path);
+}
+
+static void chain_runs_after_a_failed_open(struct rig *rig) {
+	char buffer[BUFFER_BYTES];
+	open_read_close(rig, "/no/such/file", buffer, IOSQE_IO_HARDLINK);
+	saw("by hard links the open answers %d", result_of(rig, FIRST));
+	saw(", the read %d", result_of(rig, NEXT));
+	saw(", the close %d", result_of(rig, CLOSES));
+	open_read_close(rig, "/no/such/file", buffer, IOSQE_IO_LINK);
+	saw("; by soft links %d", result_of(rig, FIRST));
+	saw(", %d", result_of(rig, NEXT));
+	saw(", %d", result_of(rig, CLOSES));
+}
+
+/* An open that fails, a receive at slot 1 and a close, by hard links. Before the receive ends, a
+ * connection is accepted at the slot of the open. */
+static void close_of_a_chain_takes_the_next_file(struct rig *rig) {
+	char buffer[BUFFER_BYTES];
+	int other, waits = dial(rig);
+	accept_at(rig, 1, ACCEPTS);
+	must(result_of(rig, ACCEPTS) == 0, "accept");
+	struct io_uring_sqe *sqe = io_uring_get_sqe(&rig->ring);
+	io_uring_prep_openat_direct(sqe, AT_FDCWD, "/no/such/file", O_RDONLY, 0, 0);
+	sqe->flags |= IOSQE_IO_HARDLINK, sqe->user_data = FIRST;
+	sqe = io_uring_get_sqe(&rig->ring);
+	io_uring_prep_recv(sqe, 1, buffer, BUFFER_BYTES, 0);
+	sqe->flags |= IOSQE_FIXED_FILE | IOSQE_IO_HARDLINK, sqe->user_data = NEXT;
+	sqe = io_uring_get_sqe(&rig->ring);
+	io_uring_prep_close(sqe, 0);
+	sqe->file_index = 1, sqe->user_data = CLOSES;
+	must(io_uring_submit(&rig->ring) == 3, "io_uring_submit");
+	saw("the open answers %d", result_of(rig, FIRST));
+	other = connection(rig);
+	must(write(waits, "end", 3) == 3, "write");
+	saw(", the close %d", result_of(rig, CLOSES));
+	saw("; the peer accepted at the slot sees %s", sees_the_end(other, LONG) ? "the end" : "no end");
+	close(waits);
+	close(other);
+}
+
+/* Sends the file at a slot to slot 0 of another ring. */
+static void send_file(struct rig *rig, const struct rig *target, int slot, unsigned long long data) {
+	enum { SENDS_FILE = 1 };
+	REQUEST(rig, data, io_uring_prep_rw(IORING_OP_MSG_RING, sqe, target->ring.ring_fd, (void *)SENDS_FILE, 0, FIRST), sqe->addr3 = (unsigned)slot,
+		sqe->file_index = 1);
+}
+
+static void message_with_a_file(struct rig *rig) {
+	struct rig target;
+	int peer = connection(rig);
+	open_rig(&target, rig->ring.flags & (IORING_SETUP_SINGLE_ISSUER | IORING_SETUP_DEFER_TASKRUN), 2);
+	send_file(rig, &target, 1, NEXT);
+	saw("of an empty slot it answers %d", result_of(rig, NEXT));
+	saw(", and the target hears %s", next(&target, SHORT).is_there ? "of it" : "nothing");
+	send_file(rig, &target, 0, NEXT);
+	saw("; of a connection %d", result_of(rig, NEXT));
+	saw(", and at the target %d", result_of(&target, FIRST));
+	close_slot(rig, 0, CLOSES);
+	saw("; the source's close %d", result_of(rig, CLOSES));
+	saw(", and the peer sees %s", sees_the_end(peer, SHORT) ? "the end" : "no end");
+	close_rig(&target);
+	close(peer);
+}
+
+static void installed_descriptor_outlives_the_close(struct rig *rig) {
+	enum { FIXED_FD_INSTALL = 54 };
+	int peer = connection(rig);
+	REQUEST(rig, NEXT, io_uring_prep_rw(FIXED_FD_INSTALL, sqe, 0, NULL, 0, 0), sqe->flags |= IOSQE_FIXED_FILE);
+	int file = result_of(rig, NEXT);
+	saw("it answers %s", file >= 0 ? "a descriptor" : "an error");
+	close_slot(rig, 0, CLOSES);
+	saw("; the close %d", result_of(rig, CLOSES));
+	saw(", and the peer sees %s", sees_the_end(peer, SHORT) ? "the end" : "no end");
+	close(file);
+	close(peer);
+}
+
+static void update_as_an_open(struct rig *rig) {
+	int file = open("/dev/null", O_RDONLY), none = 1 << 20;
+	REQUEST(rig, FIRST, io_uring_prep_files_update(sqe, &file, 1, 0));
+	saw("it answers %d", result_of(rig, FIRST));
+	REQUEST(rig, FIRST, io_uring_prep_files_update(sqe, &none, 1, 1));
+	saw("; of a descriptor that isn't open %d", result_of(rig, FIRST));
+	close(file);
+}
+
+static void accept_after_a_shutdown(struct rig *rig) {
+	fcntl(rig->listener, F_SETFL, O_NONBLOCK);
+	accept_at(rig, 0, ACCEPTS);
+	saw("an accept of a non-blocking socket %s", next(rig, SHORT).is_there ? "ends" : "waits");
+	must(!shutdown(rig->listener, SHUT_RDWR), "shutdown");
+	saw("; after its shutdown it answers %d", result_of(rig, ACCEPTS));
+	accept_at(rig, 0, ACCEPTS);
+	saw(", and another at once %d", result_of(rig, ACCEPTS));
+}
+
 /* A trap, and what Linux 6.18 shows: on a ring without flags, and on one with a single issuer if
  * that is something else. */
 struct row {
@@ -244,6 +366,18 @@ static const struct row rows[] = {
 	  "sent: 4 with more, the notification; after a shutdown: -32 with more, the notification", NULL },
 	{ "canceled_zero_copy_send_says_no_more", canceled_zero_copy_send_says_no_more,
 	  "canceled by its link: -125 without more, the notification; refused: -22 without more", NULL },
+	{ "canceled_close_leaves_the_file", canceled_close_leaves_the_file, "the open answers 0, the read 5, the close -125; another close 0", NULL },
+	{ "chain_runs_after_a_failed_open", chain_runs_after_a_failed_open,
+	  "by hard links the open answers -2, the read -9, the close -9; by soft links -2, -125, -125", NULL },
+	{ "close_of_a_chain_takes_the_next_file", close_of_a_chain_takes_the_next_file,
+	  "the open answers -2, the close 0; the peer accepted at the slot sees the end", NULL },
+	{ "message_with_a_file", message_with_a_file,
+	  "of an empty slot it answers -9, and the target hears nothing; of a connection 0, and at the target 0; the source's close 0, and the peer sees no end", NULL },
+	{ "installed_descriptor_outlives_the_close", installed_descriptor_outlives_the_close,
+	  "it answers a descriptor; the close 0, and the peer sees no end", NULL },
+	{ "update_as_an_open", update_as_an_open, "it answers 1; of a descriptor that isn't open -9", NULL },
+	{ "accept_after_a_shutdown", accept_after_a_shutdown,
+	  "an accept of a non-blocking socket waits; after its shutdown it answers -22, and another at once -22", NULL },
 };
 
 /* Plays a trap, prints its line, and returns whether it differs. */
