@@ -12,7 +12,8 @@ from scripts.programs import run
 from scripts.repository import ROOT, read, read_bytes, write
 from model.told_history import complaint_of
 
-TAILS = "docs/pictures/tails.svg"
+# the pictures that a command draws, and what of
+DRAWN = {"docs/pictures/tails.svg": ("draw-tails", "bench/tails.txt"), "docs/pictures/lives.svg": ("draw-lives", "its phases")}
 EXAMPLE, OTHER = "examples/open_read_close", "examples/two_submissions"
 # independent chains, and the pixels that their picture may have each way
 CHAINS, MOST_PIXELS = 12, 1_200
@@ -43,10 +44,11 @@ def pictures(checks, given):
             write(picture, new)
         checks.want(read(picture) == new, f"{picture} isn't what is drawn now; `make pictures` draws it again")
         checks.want("not a trace" in new, f"{picture} doesn't say that it is no trace")
-    new = run([f"{ROOT}/scripts/draw-tails"])[1]
-    if given.draw and new:
-        write(TAILS, new)
-    checks.want(new and read(TAILS) == new, f"{TAILS} isn't what is drawn of bench/tails.txt; `make pictures` draws it again")
+    for picture, (command, source) in DRAWN.items():
+        new = run([f"{ROOT}/scripts/{command}"])[1]
+        if given.draw and new:
+            write(picture, new)
+        checks.want(new and read(picture) == new, f"{picture} isn't what is drawn of {source}; `make pictures` draws it again")
 
 
 def independent_chains(checks, fixcheck):
