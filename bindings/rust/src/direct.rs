@@ -106,9 +106,11 @@ mod bounds;
 mod core;
 mod errors;
 mod key;
+mod lives;
 #[allow(unsafe_code)]
 mod machine;
 mod releases;
+mod ring;
 mod slots;
 #[cfg(yachtbanyan_stand_in)]
 #[allow(unsafe_code)]
@@ -118,7 +120,9 @@ mod tests;
 
 pub use errors::{OpenError, Refusal, ReserveError};
 pub use key::{Key, MOST_KIND};
+pub use lives::{Event, Lives, MOST_OWN_KIND};
 pub use releases::{Releases, User};
+pub use ring::{Completion, Entry, Request, Ring};
 pub use slots::{After, Member, Next, Phase, PhaseName, Slots};
 
 /// The largest number of slots.
