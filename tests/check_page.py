@@ -10,7 +10,7 @@ import tempfile
 from scripts.checks import Counted, arguments
 from scripts.pages import blocks, rows, section
 from scripts.programs import run
-from scripts.repository import ROOT, read, write
+from scripts.repository import ROOT, read, read_bytes, write
 from tests.echo_clients import run_clients
 
 # the numbers of cases that need fixcheck, and mandoc
@@ -220,24 +220,49 @@ def finding(checks):
         checks.want(found[1].split("\n")[:-1] == printed, f"the reproducer of docs/use/BAD_ENTRY.md prints {found!r}")
 
 
-def server_loop(checks):
-    """Checks that docs/use/DIRECT.md shows the loop of bindings/c/echo.c, which serves its clients and stops."""
-    (loop,) = (it for it in blocks(read("docs/use/DIRECT.md")) if it[0].startswith("enum { ACCEPT,"))
-    checks.want("\n".join(loop) in read("bindings/c/echo.c"), "docs/use/DIRECT.md shows another loop than bindings/c/echo.c")
-    library = f"{ROOT}/lib/libyachtdirect.a"
-    if not os.path.exists(library):
-        checks.skip(1, "library of direct descriptors")
-        return
-    with tempfile.TemporaryDirectory() as room:
-        program, flags = os.path.join(room, "echo"), ["-std=c11", "-g", "-Wall", "-Wextra", "-Werror", "-fsanitize=address,undefined"]
-        write(header := os.path.join(room, "liburing.c"), "#include <liburing.h>\n")
-        has_liburing = shutil.which("cc") and run(["cc", "-E", header])[0] == 0
-        built = run(["cc", *flags, f"-I{ROOT}/include", f"{ROOT}/bindings/c/echo.c", library, "-luring", "-o", program]) if has_liburing else ()
-        wrong = [built[2]] if built and built[0] else run_clients(program) if built else None
-    if wrong is None:
-        checks.skip(1, "io_uring for the loop of docs/use/DIRECT.md, or no liburing")
-    else:
-        checks.want(not wrong, f"the loop of docs/use/DIRECT.md: {wrong[:3]}")
+# the programs of docs/use/DIRECT.md: the first words of each, its file, and the name of the program
+DIRECT = (
+    ("enum { SLOTS = 64,", "bindings/c/echo.c", "echo"), ("enum { SLOTS = 4,", "bindings/c/files.c", "files"),
+    ("const SLOTS: u32", "bindings/rust/examples/echo.rs", "debug/examples/echo"),
+)
+
+
+def built(path, program, room):
+    """Builds a program of docs/use/DIRECT.md, with sanitizers if it is in C. Returns what is said if it isn't built, or None if a tool is missing."""
+    if path.endswith(".rs"):
+        command = ["cargo", "build", "--offline", "--quiet", "--example", os.path.basename(program), "--manifest-path", f"{ROOT}/bindings/rust/Cargo.toml"]
+        where = {**os.environ, "CARGO_TARGET_DIR": room, "YACHTBANYAN_LIB_DIR": f"{ROOT}/lib"}
+        return subprocess.run(command, env=where, capture_output=True, text=True).stderr if shutil.which("cargo") else None
+    write(header := os.path.join(room, "liburing.c"), "#include <liburing.h>\n")
+    if not shutil.which("cc") or run(["cc", "-E", header])[0]:
+        return None
+    flags = ["-std=c11", "-g", "-Wall", "-Wextra", "-Werror", "-fsanitize=address,undefined", f"-I{ROOT}/include"]
+    return run(["cc", *flags, f"{ROOT}/{path}", f"{ROOT}/lib/libyachtdirect.a", "-luring", "-o", os.path.join(room, program)])[2]
+
+
+def files_are_printed(program):
+    """Runs the program that prints the first bytes of files. Returns what is wrong, or None if there is no io_uring."""
+    those = [f"{ROOT}/{it}" for it in ("LICENSE", "VERSION", "crates.txt")]
+    status, text, said = run([program, those[0], *those[1:], "/no/such/file"])
+    right = all(read_bytes(it)[:4096].decode() in text for it in those) and len(text) == sum(min(4096, os.path.getsize(it)) for it in those)
+    return None if status == 77 else [] if right and (status, said) == (1, "files: /no/such/file: No such file or directory\n") else [text, said]
+
+
+def direct_programs(checks):
+    """Checks that docs/use/DIRECT.md shows the programs of bindings, which serve their clients and stop, or print files."""
+    page = read("docs/use/DIRECT.md")
+    has_library = os.path.exists(f"{ROOT}/lib/libyachtdirect.a")
+    for first, path, program in DIRECT:
+        (shown,) = (it for it in blocks(page) if it[0].startswith(first))
+        checks.want("\n".join(shown) in read(path), f"docs/use/DIRECT.md shows another program than {path}")
+        with tempfile.TemporaryDirectory() as room:
+            said = built(path, program, room) if has_library else None
+            play = files_are_printed if program == "files" else run_clients
+            wrong = None if said is None else [said] if said else play(os.path.join(room, program))
+        if wrong is None:
+            checks.skip(1, f"io_uring, liburing, cargo or library for {path}")
+        else:
+            checks.want(not wrong, f"{path}: {wrong[:3]}")
 
 
 def recording(checks):
@@ -262,7 +287,7 @@ def command():
     without_library(checks)
     recording(checks)
     finding(checks)
-    server_loop(checks)
+    direct_programs(checks)
     judge_in_c(checks)
     for it, (script, text) in {"README.md": sample_of_readme(), "docs/use/SCRIPT.md": sample_of("docs/use/SCRIPT.md")}.items():
         checks.want(run([program], script) == (0, text, ""), f"the sample of {it} prints another text")

@@ -1,10 +1,11 @@
 /* Lines for workers, and their answers: lists that threads share under a lock. */
 #ifndef DIRECT_JOBS_H
 #define DIRECT_JOBS_H
-#include "client.h"
 #include <pthread.h>
 #include <stdint.h>
 #include <yachtbanyan.h>
+
+enum { LINE = 64 }; /* the longest line, with its newline and a NUL */
 
 /* A line of a connection, which has a name in the table that threads share, and a key of the
  * machine. */

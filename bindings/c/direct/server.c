@@ -1,51 +1,43 @@
-/* An example: a TCP server on io_uring whose connections and files are direct descriptors. A line
- * is answered with the same line, by one of two worker threads; `get N` with the first line of
- * file N.
+/* An example: a TCP server on io_uring whose connections and files are direct descriptors, over
+ * yachtdirect_uring.h. A line is answered with the same line, by one of two worker threads; `get N`
+ * with the first line of file N, which is opened, read and closed by one submission.
  *
- * Each connection and each file has a slot of the ring's table, which yachtdirect reserves before
- * the accept or the open is submitted: so the kernel never lacks a slot. While no slot is free, no
- * accept is submitted, and clients wait in the listening socket's backlog. The ring's thread counts
- * each request from before its submission until its completion. A connection is also a value of a
+ * Each connection and each file has a slot of the ring's table. While no slot is free, no accept is
+ * submitted, and clients wait in the listening socket's backlog. A connection is also a value of a
  * table that threads share (yachtbanyan): workers hold it by the table's key. For the machine the
  * value is one user. Its drop, in whichever thread used it last, posts the machine's key to a
  * queue, and the ring's thread releases it.
  *
- * server [CONNECTIONS]: the connections that its own clients make, 3,000 by default, 200 at a time
- * on 64 slots. It prints what was counted, and ends with status 1 if anything is wrong, or with 77
- * if there is no io_uring. */
+ * server FOLDER: serves the files of a folder. It prints its port, and serves until its standard
+ * input ends. Then it prints what was counted, and ends with status 1 if anything is wrong, or with
+ * 77 if io_uring is refused. */
 #define _GNU_SOURCE
-#include "client.h"
 #include "jobs.h"
 #include <arpa/inet.h>
-#include <errno.h>
 #include <fcntl.h>
-#include <liburing.h>
 #include <pthread.h>
 #include <stdatomic.h>
 #include <stdio.h>
 #include <stdlib.h>
 #include <string.h>
 #include <sys/eventfd.h>
-#include <sys/socket.h>
 #include <unistd.h>
 #include <yachtbanyan.h>
-#include <yachtdirect.h>
+#include <yachtdirect_uring.h>
 
 enum { SLOTS = 64, KEPT_FOR_FILES = 8, ACCEPTS = 4, WORKERS = 2, BACKLOG = 512, ENTRIES = 256 };
 enum { ENDS = 50 }; /* the server ends the connection of each such line, as if it had reasons */
 enum { NO_IO_URING = 77 };
-
-#define NO_SUCH_FILE "no such file\n"
-
-/* the kinds of requests; those of WAKE and CANCEL have the key 0 */
-enum kind { ACCEPT, RECEIVE, SEND, SHUTDOWN, OPEN, READ, CLOSE, WAKE, CANCEL };
+enum { RECEIVE, SEND, READ }; /* the kinds of requests with a key */
+enum { WAKE = 1, INPUT };     /* the data of those without one */
 
 /* a connection: of the ring's thread, but for what workers use */
 struct connection {
     yacht_direct_note note; /* with the machine's key; the drop posts it */
     yacht_key name;         /* of the table */
     int is_ended, is_answering, is_receiving;
-    size_t begin, used; /* of what was received and not yet answered */
+    size_t begin, used;  /* of what was received and not yet answered */
+    size_t sent, length; /* of the answer */
     char in[4 * LINE], out[LINE];
     atomic_uint answers; /* of workers */
 };
@@ -53,33 +45,38 @@ struct connection {
 /* a file that is read for a connection, whose key it has */
 struct file {
     uint64_t reader;
+    int error; /* of its open */
     char path[LINE], bytes[LINE];
 };
 
-static struct io_uring ring;
-static yacht_direct machine;
+static yacht_uring ring;
 static yacht_table *table;
 static yacht_handle *handle;
-static struct connection *connections[SLOTS]; /* by slot; NULL for a file's */
-static struct file files[SLOTS];
-static int listener, event, folder;
-static uint64_t count_of_event, accepting[ACCEPTS]; /* the keys of the accepts in flight, or 0 */
+static struct connection *connections[SLOTS]; /* by slot, as the files; one of both is NULL */
+static struct file *files[SLOTS];
+static int event, folder;
+static uint64_t count_of_event;
 static yacht_direct_queue released;
 static struct jobs asked, answered; /* of workers */
-static atomic_int stops;
-static unsigned opened, closed, lines, ended, refused, no_slot, waits, late, wrong;
+static unsigned opened, closed, lines, ended, waits, late, wrong;
 static atomic_uint stale, elsewhere, held_wrongly;
 static pthread_t ring_thread;
 
 static void must(int holds, const char *what) {
     if (holds) return;
-    fprintf(stderr, "server: %s: %s\n", what, strerror(errno));
+    perror(what);
     exit(2);
 }
 
+static void *allocated(size_t size) {
+    void *it = calloc(1, size);
+    must(!!it, "calloc");
+    return it;
+}
+
 /* counts an answer of the machine that it may not give here */
-static void expect(int answer, int wanted) {
-    if (answer == wanted) return;
+static void expect(int answer, int right) {
+    if (answer == right) return;
     if (!wrong++) fprintf(stderr, "server: %s\n", yacht_direct_strerror(answer));
 }
 
@@ -96,117 +93,78 @@ static void drop(void *value, void *with) {
     if (yacht_direct_post(&released, &it->note)) wake();
 }
 
-static struct io_uring_sqe *request(void) {
-    struct io_uring_sqe *sqe = io_uring_get_sqe(&ring);
-    if (sqe) return sqe;
-    must(io_uring_submit(&ring) >= 0, "io_uring_submit");
-    return io_uring_get_sqe(&ring);
-}
-
-/* names a prepared request */
-static void as(struct io_uring_sqe *sqe, uint64_t key, enum kind kind) { sqe->user_data = key | kind; }
-
-static void close_slot(uint64_t key, uint32_t slot) {
-    struct io_uring_sqe *sqe = request();
-    io_uring_prep_close_direct(sqe, slot);
-    as(sqe, key, CLOSE);
-}
-
-/* takes what finish, release and end answer: if nobody uses the slot any more, it is closed */
-static void settle(int answer, uint64_t key, const uint32_t *slot) {
-    if (answer == YACHT_DIRECT_CLOSE)
-        close_slot(key, *slot);
-    else
-        expect(answer, YACHT_DIRECT_DONE);
-}
-
-static void finish(uint64_t key) {
-    uint32_t slot = 0;
-    settle(yacht_direct_finish(&machine, key, &slot), key, &slot);
-}
-
-/* submits accepts at reserved slots, unless clients have to wait in the backlog */
-static void accept_more(void) {
-    for (int i = 0; i < ACCEPTS && !stops; i++) {
-        uint64_t key;
-        uint32_t slot;
-        if (accepting[i]) continue;
-        if (yacht_direct_len(&machine) >= SLOTS - KEPT_FOR_FILES) {
-            waits++;
-            return;
-        }
-        expect(yacht_direct_reserve(&machine, &key, &slot), YACHT_DIRECT_DONE);
-        struct io_uring_sqe *sqe = request();
-        io_uring_prep_accept_direct(sqe, listener, NULL, NULL, 0, slot);
-        as(sqe, key, ACCEPT);
-        accepting[i] = key;
-    }
+/* returns the connection of a key, or NULL if its life was ended: its slot may have another one */
+static struct connection *connection_of(uint64_t key) {
+    uint32_t requests, users;
+    int phase = yacht_direct_phase(&ring.machine, key, &requests, &users);
+    return phase == YACHT_DIRECT_LIVE ? connections[yacht_direct_slot_of(key)] : NULL;
 }
 
 static void receive(uint64_t key, struct connection *it) {
-    uint32_t slot;
+    struct io_uring_sqe entry;
     if (it->is_receiving || it->is_ended) return;
     /* no request has the buffer */
     memmove(it->in, it->in + it->begin, it->used -= it->begin);
     it->begin = 0;
     if (it->used == sizeof it->in) return;
-    expect(yacht_direct_start(&machine, key, &slot), YACHT_DIRECT_DONE);
-    struct io_uring_sqe *sqe = request();
-    io_uring_prep_recv(sqe, (int)slot, it->in + it->used, sizeof it->in - it->used, 0);
-    sqe->flags |= IOSQE_FIXED_FILE;
-    as(sqe, key, RECEIVE);
+    io_uring_prep_recv(&entry, 0, it->in + it->used, sizeof it->in - it->used, 0);
+    expect(yacht_uring_start(&ring, key, RECEIVE, &entry), YACHT_DIRECT_DONE);
     it->is_receiving = 1;
+}
+
+static void send_rest(uint64_t key, struct connection *it) {
+    struct io_uring_sqe entry;
+    io_uring_prep_send(&entry, 0, it->out + it->sent, it->length - it->sent, MSG_WAITALL | MSG_NOSIGNAL);
+    expect(yacht_uring_start(&ring, key, SEND, &entry), YACHT_DIRECT_DONE);
 }
 
 /* sends an answer, unless its connection has ended meanwhile: then it goes to nobody */
 static void answer(uint64_t key, const char *line) {
-    uint32_t slot;
-    if (yacht_direct_start(&machine, key, &slot) != YACHT_DIRECT_DONE) {
+    struct connection *it = connection_of(key);
+    if (!it) {
         late++;
         return;
     }
-    struct connection *it = connections[slot];
-    strcpy(it->out, line);
-    struct io_uring_sqe *sqe = request();
-    io_uring_prep_send(sqe, (int)slot, it->out, strlen(it->out), MSG_WAITALL | MSG_NOSIGNAL);
-    sqe->flags |= IOSQE_FIXED_FILE;
-    as(sqe, key, SEND);
+    it->sent = 0, it->length = strlen(strcpy(it->out, line));
+    send_rest(key, it);
 }
 
 /* ends a connection. Workers find it no more; what is in flight completes by the shutdown */
-static void end_connection(uint64_t key) {
-    uint32_t slot;
-    struct connection *it = connections[yacht_direct_slot_of(key)];
+static void end_connection(uint64_t key, struct connection *it) {
     if (it->is_ended) return;
     it->is_ended = 1;
-    expect(yacht_direct_start(&machine, key, &slot), YACHT_DIRECT_DONE);
-    struct io_uring_sqe *sqe = request();
-    io_uring_prep_shutdown(sqe, (int)slot, SHUT_RDWR);
-    sqe->flags |= IOSQE_FIXED_FILE;
-    as(sqe, key, SHUTDOWN);
-    settle(yacht_direct_end(&machine, key, &slot), key, &slot);
+    yacht_uring_end(&ring, key);
     if (yacht_remove(handle, it->name) < 0) wrong++;
 }
 
-static void open_file(uint64_t reader, const char *name) {
+/* opens, reads and closes a file by one submission */
+static void read_file(uint64_t reader, const char *name) {
+    struct io_uring_sqe chain[2];
+    struct file *it = allocated(sizeof *it);
     uint64_t key;
-    uint32_t slot;
-    if (yacht_direct_reserve(&machine, &key, &slot) != YACHT_DIRECT_DONE) {
-        no_slot++;
-        answer(reader, "busy\n");
+    it->reader = reader;
+    snprintf(it->path, LINE, "%s", name);
+    io_uring_prep_openat(&chain[0], folder, it->path, O_RDONLY, 0);
+    io_uring_prep_read(&chain[1], 0, it->bytes, LINE - 1, 0);
+    chain[1].user_data = READ;
+    if (yacht_uring_chain(&ring, chain, 2, 1, &key) == YACHT_DIRECT_DONE) {
+        files[yacht_direct_slot_of(key)] = it;
         return;
     }
-    connections[slot] = NULL;
-    files[slot].reader = reader;
-    snprintf(files[slot].path, LINE, "%s", name);
-    struct io_uring_sqe *sqe = request();
-    io_uring_prep_openat_direct(sqe, folder, files[slot].path, O_RDONLY, 0, slot);
-    as(sqe, key, OPEN);
+    free(it);
+    answer(reader, "busy\n");
+}
+
+/* answers with the first line of a file */
+static void file_was_read(struct file *it, int result) {
+    it->bytes[result < 0 ? 0 : result] = 0;
+    it->bytes[strcspn(it->bytes, "\n")] = 0;
+    strcat(it->bytes, "\n");
+    answer(it->reader, it->error == -ENOENT ? "no such file\n" : it->bytes);
 }
 
 static void ask_worker(uint64_t key, struct connection *it, const char *line) {
-    struct job *job = malloc(sizeof *job);
-    must(!!job, "malloc");
+    struct job *job = allocated(sizeof *job);
     job->name = it->name, job->key = key;
     strcpy(job->line, line);
     push_job(&asked, job);
@@ -221,7 +179,7 @@ static void next_line(uint64_t key, struct connection *it) {
     size_t length = newline ? (size_t)(newline + 1 - begin) : it->used - it->begin;
     if (it->is_answering || it->is_ended) return;
     if (length >= LINE) { /* a line that doesn't fit: no more is received of it */
-        end_connection(key);
+        end_connection(key, it);
         return;
     }
     if (!newline) return;
@@ -230,162 +188,94 @@ static void next_line(uint64_t key, struct connection *it) {
     it->is_answering = 1;
     if (!strncmp(line, "get ", 4)) {
         line[length - 1] = 0;
-        if (is_number(line + 4))
-            open_file(key, line + 4);
-        else
-            answer(key, NO_SUCH_FILE);
-    } else
+        if (is_number(line + 4)) read_file(key, line + 4);
+        else answer(key, "no such file\n");
+    } else {
         ask_worker(key, it, line);
-    if (++lines % ENDS == 0) ended++, end_connection(key);
+    }
+    if (++lines % ENDS == 0) ended++, end_connection(key, it);
 }
 
-static void accepted(uint64_t key, int result) {
-    for (int i = 0; i < ACCEPTS; i++)
-        if (accepting[i] == key) accepting[i] = 0;
-    uint32_t slot;
-    int next = yacht_direct_opened(&machine, key, result, &slot);
-    settle(next, key, &slot);
-    if (result < 0) {
-        refused++;
-        return;
-    }
-    opened++;
-    if (next == YACHT_DIRECT_CLOSE) return; /* the server has stopped */
-    struct connection *it = calloc(1, sizeof *it);
-    must(!!it, "calloc");
+static void accepted(uint64_t key) {
+    struct connection *it = connections[yacht_direct_slot_of(key)] = allocated(sizeof *it);
     it->note.key = key;
-    connections[yacht_direct_slot_of(key)] = it;
-    expect(yacht_direct_hold(&machine, key), YACHT_DIRECT_DONE);
-    if (yacht_insert_key(handle, it, &it->name) < 0) wrong++;
+    waits += yacht_direct_len(&ring.machine) + KEPT_FOR_FILES >= SLOTS;
+    /* the server may have been stopped before this event */
+    it->is_ended = yacht_direct_hold(&ring.machine, key) != YACHT_DIRECT_DONE;
+    if (!it->is_ended && yacht_insert_key(handle, it, &it->name) < 0) wrong++;
+    receive(key, it);
+}
+
+static void go_on(uint64_t key, struct connection *it, int result) {
+    if (result <= 0) end_connection(key, it);
+    next_line(key, it);
     receive(key, it);
 }
 
 static void received(uint64_t key, struct connection *it, int result) {
     it->is_receiving = 0;
-    if (result > 0)
-        it->used += (size_t)result;
-    else
-        end_connection(key);
-    next_line(key, it);
-    receive(key, it);
+    if (result > 0) it->used += (size_t)result;
+    go_on(key, it, result);
 }
 
 static void sent(uint64_t key, struct connection *it, int result) {
+    if (result > 0) it->sent += (size_t)result;
+    if (result > 0 && it->sent < it->length && !it->is_ended) {
+        send_rest(key, it);
+        return;
+    }
     it->is_answering = 0;
-    if (result <= 0) end_connection(key);
-    next_line(key, it);
-    receive(key, it);
+    go_on(key, it, result);
 }
 
-static void opened_file(uint64_t key, struct file *it, int result) {
-    uint32_t slot;
-    int next = yacht_direct_opened(&machine, key, result, &slot);
-    if (result < 0) {
-        answer(it->reader, result == -ENOENT ? NO_SUCH_FILE : "busy\n");
-        return;
-    }
-    opened++;
-    settle(next, key, &slot);
-    if (next == YACHT_DIRECT_CLOSE) return; /* the server has stopped */
-    expect(yacht_direct_start(&machine, key, &slot), YACHT_DIRECT_DONE);
-    struct io_uring_sqe *sqe = request();
-    io_uring_prep_read(sqe, (int)slot, it->bytes, LINE - 1, 0);
-    sqe->flags |= IOSQE_FIXED_FILE;
-    as(sqe, key, READ);
+/* frees the memory of a life that is over */
+static void over(uint32_t slot) {
+    closed += !files[slot] || !files[slot]->error;
+    free(connections[slot]), free(files[slot]);
+    connections[slot] = NULL, files[slot] = NULL;
 }
 
-static void read_file(uint64_t key, struct file *it, int result) {
-    uint32_t slot = 0;
-    if (result < 0) result = 0;
-    it->bytes[result] = 0;
-    answer(it->reader, it->bytes);
-    settle(yacht_direct_end(&machine, key, &slot), key, &slot);
-}
-
-static void closed_slot(uint64_t key, int result) {
-    uint32_t slot = yacht_direct_slot_of(key);
-    if (result < 0 && result != -EBADF) { /* -EBADF: the slot is empty */
-        settle(yacht_direct_close_failed(&machine, key, &slot), key, &slot);
-        return;
-    }
-    expect(yacht_direct_closed(&machine, key), YACHT_DIRECT_DONE);
-    closed++;
-    free(connections[slot]);
-    connections[slot] = NULL;
+static void listen_for_wakes(void) {
+    struct io_uring_sqe entry;
+    io_uring_prep_read(&entry, event, &count_of_event, sizeof count_of_event, 0);
+    yacht_uring_push(&ring, &entry, WAKE);
 }
 
 /* what other threads left for the ring's */
 static void woken(void) {
-    uint32_t slot = 0;
     for (yacht_direct_note *next, *note = yacht_direct_collect(&released); note; note = next) {
-        next = note->next;
-        uint64_t key = note->key;
-        settle(yacht_direct_release(&machine, key, &slot), key, &slot);
+        next = note->next; /* the release may end the note's life */
+        yacht_uring_release(&ring, note->key);
     }
     for (struct job *next, *job = take_jobs(&answered); job; job = next) {
         next = job->next;
         answer(job->key, job->line);
         free(job);
     }
-}
-
-static void listen_for_wakes(void) {
-    struct io_uring_sqe *sqe = request();
-    io_uring_prep_read(sqe, event, &count_of_event, sizeof count_of_event, 0);
-    as(sqe, 0, WAKE);
-}
-
-static void completed(uint64_t data, int result) {
-    uint64_t key = data & ~15ull;
-    uint32_t slot = yacht_direct_slot_of(key);
-    struct connection *it = connections[slot];
-    enum kind kind = yacht_direct_kind_of(data);
-    switch (kind) {
-    case ACCEPT: accepted(key, result); break;
-    case RECEIVE: received(key, it, result); break;
-    case SEND: sent(key, it, result); break;
-    case OPEN: opened_file(key, &files[slot], result); break;
-    case READ: read_file(key, &files[slot], result); break;
-    case CLOSE: closed_slot(key, result); break;
-    case WAKE: listen_for_wakes(), woken(); break;
-    case SHUTDOWN:
-    case CANCEL: break;
-    }
-    if (kind == RECEIVE || kind == SEND || kind == READ || kind == SHUTDOWN) finish(key);
-}
-
-/* the orderly end: no accept is left, and each connection is ended */
-static void begin_to_end(void) {
-    uint64_t key;
-    uint32_t from = 0;
-    yacht_direct_stop(&machine);
-    for (int i = 0; i < ACCEPTS; i++) {
-        if (!accepting[i]) continue;
-        struct io_uring_sqe *sqe = request();
-        io_uring_prep_cancel64(sqe, accepting[i] | ACCEPT, 0);
-        as(sqe, 0, CANCEL);
-    }
-    for (; yacht_direct_key_in(&machine, YACHT_DIRECT_LIVE, from, &key) == YACHT_DIRECT_DONE; from++) {
-        from = yacht_direct_slot_of(key);
-        if (connections[from]) end_connection(key);
-    }
-}
-
-static void serve(void) {
-    int is_ending = 0;
     listen_for_wakes();
-    while (!stops || yacht_direct_len(&machine)) {
-        struct io_uring_cqe *cqe;
-        unsigned head, count = 0;
-        if (stops && !is_ending) is_ending = 1, begin_to_end();
-        accept_more();
-        int error = io_uring_submit_and_wait(&ring, 1);
-        must(error >= 0 || error == -EINTR, "io_uring_submit_and_wait");
-        io_uring_for_each_cqe(&ring, head, cqe) {
-            completed(cqe->user_data, cqe->res);
-            count++;
-        }
-        io_uring_cq_advance(&ring, count);
+}
+
+/* the orderly end: each connection is ended, and no accept is left */
+static void stop(void) {
+    for (uint32_t slot = 0; slot < SLOTS; slot++)
+        if (connections[slot]) end_connection(connections[slot]->note.key, connections[slot]);
+    yacht_uring_stop(&ring);
+}
+
+static void take(const yacht_uring_event *it) {
+    uint32_t slot = yacht_direct_slot_of(it->key);
+    switch (it->kind) {
+    case YACHT_URING_OTHER: it->key == WAKE ? woken() : stop(); break;
+    case YACHT_URING_STOPPED: fprintf(stderr, "server: accept: %s\n", strerror(-it->result)), wrong++; break;
+    case YACHT_URING_OPENED:
+        opened += it->result >= 0;
+        if (files[slot]) files[slot]->error = it->result < 0 ? it->result : 0;
+        else accepted(it->key);
+        break;
+    case YACHT_URING_OVER: over(slot); break;
+    case RECEIVE: received(it->key, connections[slot], it->result); break;
+    case SEND: sent(it->key, connections[slot], it->result); break;
+    case READ: file_was_read(files[slot], it->result); break;
     }
 }
 
@@ -411,34 +301,11 @@ static void *work(void *with) {
     return NULL;
 }
 
-static void make_files(char *name) {
-    must(!!mkdtemp(name), "mkdtemp");
-    folder = open(name, O_RDONLY | O_DIRECTORY);
-    for (int i = 0; i < FILES; i++) {
-        char path[16], text[LINE];
-        snprintf(path, sizeof path, "%d", i);
-        int length = snprintf(text, sizeof text, "this is file %d\n", i);
-        int file = openat(folder, path, O_WRONLY | O_CREAT, 0600);
-        must(file >= 0 && write(file, text, (size_t)length) == length && !close(file), "a file");
-    }
-}
-
-static void remove_files(const char *name) {
-    for (int i = 0; i < FILES; i++) {
-        char path[16];
-        snprintf(path, sizeof path, "%d", i);
-        unlinkat(folder, path, 0);
-    }
-    close(folder);
-    rmdir(name);
-}
-
 /* opens the ring, in the thread that uses it */
 static void open_ring(void) {
-    unsigned flags = IORING_SETUP_SINGLE_ISSUER | IORING_SETUP_DEFER_TASKRUN;
-    int error = io_uring_queue_init(ENTRIES, &ring, flags);
-    if (error) error = io_uring_queue_init(ENTRIES, &ring, 0);
-    if (!error) error = io_uring_register_files_sparse(&ring, SLOTS);
+    int error = io_uring_queue_init(ENTRIES, &ring.ring, IORING_SETUP_SINGLE_ISSUER | IORING_SETUP_DEFER_TASKRUN);
+    if (error) error = io_uring_queue_init(ENTRIES, &ring.ring, 0);
+    if (!error) error = yacht_uring_open(&ring, SLOTS);
     if (error) {
         fprintf(stderr, "server: io_uring is refused: %s\n", strerror(-error));
         exit(NO_IO_URING);
@@ -446,62 +313,46 @@ static void open_ring(void) {
     ring_thread = pthread_self();
 }
 
-static void listen_on(struct sockaddr_in *address) {
-    socklen_t size = sizeof *address;
-    *address = (struct sockaddr_in){.sin_family = AF_INET};
-    address->sin_addr.s_addr = htonl(INADDR_LOOPBACK);
-    listener = socket(AF_INET, SOCK_STREAM, 0);
-    must(listener >= 0 && !bind(listener, (void *)address, size), "bind");
-    must(!listen(listener, BACKLOG) && !getsockname(listener, (void *)address, &size), "listen");
-}
-
-static void stop(void) {
-    stops = 1;
-    wake();
-}
-
-static void *connect_clients(void *with) {
-    run_clients(with);
-    return NULL;
-}
-
-/* prints what was counted, and returns whether anything is wrong */
-static int report(const struct clients *all) {
-    printf("%u connections, %u lines, %u of files, %u without a slot; %u to another connection, %u wrong\n",
-           all->made, all->lines, all->files, all->busy, all->to_another, all->wrong);
-    printf("%u opened, %u closed; %u times the backlog waited; %u ended by the server, %u by the client; "
-           "%u of %d at the end\n", opened, closed, waits, ended, all->left_early, all->ended_at_last, LASTING);
-    printf("%u answers were late, %u keys stale, %u last users elsewhere; %u wrong\n",
-           late, (unsigned)stale, (unsigned)elsewhere, wrong + held_wrongly);
-    return all->to_another || all->wrong || wrong || held_wrongly || opened != closed || all->ended_at_last != LASTING;
+/* listens, prints the port, and serves until the standard input ends */
+static void serve(void) {
+    struct sockaddr_in address = {.sin_family = AF_INET, .sin_addr.s_addr = htonl(INADDR_LOOPBACK)};
+    socklen_t size = sizeof address;
+    struct io_uring_sqe entry;
+    yacht_uring_event next;
+    char byte;
+    int more, listener = socket(AF_INET, SOCK_STREAM, 0);
+    must(listener >= 0 && !bind(listener, (void *)&address, size), "bind");
+    must(!listen(listener, BACKLOG) && !getsockname(listener, (void *)&address, &size), "listen");
+    printf("%d\n", ntohs(address.sin_port));
+    fflush(stdout);
+    io_uring_prep_read(&entry, STDIN_FILENO, &byte, 1, 0);
+    yacht_uring_push(&ring, &entry, INPUT);
+    listen_for_wakes();
+    yacht_uring_accept(&ring, listener, ACCEPTS, KEPT_FOR_FILES);
+    while ((more = yacht_uring_next(&ring, &next)) > 0) take(&next);
+    errno = -more;
+    must(!more, "io_uring");
 }
 
 int main(int count, char **words) {
-    struct clients all = {.at_a_time = 200, .stop = stop};
-    char name[] = "/tmp/server.XXXXXX";
-    pthread_t clients, workers[WORKERS];
-    all.connections = count > 1 ? (unsigned)strtoul(words[1], NULL, 10) : 3000;
-    begin_jobs(&asked);
-    begin_jobs(&answered);
+    pthread_t workers[WORKERS];
+    must(count == 2 && (folder = open(words[1], O_RDONLY | O_DIRECTORY)) >= 0, "server FOLDER");
+    begin_jobs(&asked), begin_jobs(&answered);
     open_ring();
-    make_files(name);
-    listen_on(&all.address);
     must((event = eventfd(0, 0)) >= 0, "eventfd");
-    must(yacht_direct_open(&machine, SLOTS) == YACHT_DIRECT_DONE, "yacht_direct_open");
     must(yacht_open(&table, SLOTS, 1, WORKERS, drop, NULL) == YACHT_DONE, "yacht_open");
     handle = yacht_handle_of(table, 0);
     for (uint32_t i = 0; i < WORKERS; i++)
         must(!pthread_create(&workers[i], NULL, work, yacht_reader_of(table, i)), "pthread_create");
-    must(!pthread_create(&clients, NULL, connect_clients, &all), "pthread_create");
     serve();
-    pthread_join(clients, NULL);
     end_jobs(&asked);
     for (int i = 0; i < WORKERS; i++) pthread_join(workers[i], NULL);
     end_jobs(&answered);
-    if (yacht_direct_in_flight(&machine)) wrong++;
+    if (yacht_direct_in_flight(&ring.machine)) wrong++;
     yacht_free(table);
-    yacht_direct_free(machine);
-    io_uring_queue_exit(&ring);
-    remove_files(name);
-    return report(&all);
+    yacht_uring_close(&ring);
+    printf("%u opened, %u closed; %u times the backlog waited; %u ended by the server\n", opened, closed, waits, ended);
+    printf("%u answers were late, %u keys stale, %u last users elsewhere; %u wrong\n", late, (unsigned)stale,
+           (unsigned)elsewhere, wrong + held_wrongly);
+    return wrong || held_wrongly || opened != closed;
 }

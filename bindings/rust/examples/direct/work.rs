@@ -6,7 +6,7 @@ use std::os::fd::{AsRawFd, FromRawFd};
 use std::sync::atomic::{AtomicU32, Ordering};
 use std::sync::mpsc::{Receiver, Sender};
 use std::sync::{Arc, Mutex};
-use std::thread;
+use std::thread::{self, JoinHandle};
 use std::time::Duration;
 use yachtbanyan::direct::{Key, User};
 use yachtbanyan::{Reader, Table};
@@ -56,12 +56,7 @@ impl Bell {
 pub static STALE: AtomicU32 = AtomicU32::new(0);
 
 /// Answers lines until no more come. The connection of each is held meanwhile.
-pub fn work(
-    reader: &Reader<Session>,
-    asked: &Mutex<Receiver<Job>>,
-    answered: &Sender<Job>,
-    bell: &Bell,
-) {
+fn work(reader: &Reader<Session>, asked: &Mutex<Receiver<Job>>, to: &Sender<Job>, bell: &Bell) {
     for nth in 0u32.. {
         let job = asked.lock().unwrap().recv();
         let Ok(job) = job else { return };
@@ -75,28 +70,27 @@ pub fn work(
         assert_eq!(session.user.key(), job.key, "a worker holds another connection");
         session.answers.fetch_add(1, Ordering::Relaxed);
         drop(session);
-        if answered.send(job).is_err() {
+        if to.send(job).is_err() {
             return;
         }
         bell.ring();
     }
 }
 
-/// Starts the threads.
+/// Starts this number of threads.
 pub fn start(
     workers: u32,
     table: &Table<Session>,
     asked: Receiver<Job>,
     answered: &Sender<Job>,
     bell: &Bell,
-) -> Vec<thread::JoinHandle<()>> {
+) -> Vec<JoinHandle<()>> {
     let asked = Arc::new(Mutex::new(asked));
     let one = |_| {
-        let (table, asked, answered, bell) =
+        let (table, asked, to, bell) =
             (table.clone(), asked.clone(), answered.clone(), bell.clone());
         thread::spawn(move || {
-            let reader = table.reader().expect("a reader for each worker");
-            work(&reader, &asked, &answered, &bell);
+            work(&table.reader().expect("a reader for each worker"), &asked, &to, &bell)
         })
     };
     (0..workers).map(one).collect()

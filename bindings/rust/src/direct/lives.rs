@@ -1,9 +1,9 @@
 //! A ring and its slots in one.
-use super::errors::{Full, OpenError, Refusal};
+use super::errors::{OpenError, Refusal, ReserveError};
 use super::key::Key;
 use super::releases::{Releases, User};
 use super::ring::{Completion, Entry, Request, Ring};
-use super::slots::{Chained, Member, Next, Phase, Slots};
+use super::slots::{After, Member, Next, Phase, PhaseName, Slots};
 use std::{fmt, io};
 
 /// The largest kind of the caller's requests on a life.
@@ -228,7 +228,8 @@ impl<T: Default, R: Ring> Lives<T, R> {
     ///
     /// # Errors
     ///
-    /// No slot is free, or [`Lives::stop`] was called. Then the value is returned.
+    /// No slot is free, or [`Lives::stop`] was called, or the ring is of no use any more. The value
+    /// is returned.
     ///
     /// # Panics
     ///
@@ -239,18 +240,18 @@ impl<T: Default, R: Ring> Lives<T, R> {
         open: R::Request,
         requests: Vec<(u8, R::Request)>,
         closes: bool,
-    ) -> Result<Key, (Full, T)> {
+    ) -> Result<Key, (ReserveError, T)> {
         assert!(requests.iter().all(|it| it.0 <= MOST_OWN_KIND), "a kind is at most 11");
         let mut left = requests.len() + usize::from(closes);
         if let Err(error) = self.ring.make_room(left + 1) {
             self.error.get_or_insert(error);
         }
-        if self.is_ending || self.error.is_some() {
-            return Err((Full { slots: self.slots.slots() }, value));
+        if self.error.is_some() {
+            return Err((ReserveError::Stopped, value));
         }
         let mut value = Some(value);
         let reserved = self.slots.reserve_with(|_| value.take().unwrap_or_default());
-        let key = reserved.map_err(|full| (full, value.unwrap_or_default()))?;
+        let key = reserved.map_err(|error| (error, value.unwrap_or_default()))?;
         let counted = self.slots.chain(key, requests.len() as u32, closes);
         debug_assert!(counted.is_ok(), "the life is opening");
         self.push_at(Request::Own(open), key, OPEN, if left > 0 { SOFT_LINK } else { 0 });
@@ -278,14 +279,19 @@ impl<T: Default, R: Ring> Lives<T, R> {
         }
     }
 
-    /// Begins the end of all lives: cancels the accepts, and ends each life. Then the caller takes
-    /// the events until [`Lives::next`] returns `None`.
+    /// Begins the end of all lives: no life begins any more, the accepts are canceled, and each
+    /// life is ended. Then the caller takes the events until [`Lives::next`] returns `None`.
     pub fn stop(&mut self) {
         (self.accepts, self.is_ending) = (0, true);
-        for key in self.slots.keys() {
-            self.end(key); // of an accept, this is refused
-            if self.slots.phase(key) == Some(Phase::Opening) {
-                self.push(Request::Cancel(key.to_bits(ACCEPT)), (-1, 0), 0, CANCEL);
+        self.slots.stop();
+        for phase in [PhaseName::Opening, PhaseName::Chained, PhaseName::Live] {
+            let mut from = 0;
+            while let Some(key) = self.slots.key_in(phase, from) {
+                from = key.slot() + 1;
+                self.end(key); // of an accept, this is refused
+                if phase == PhaseName::Opening {
+                    self.push(Request::Cancel(key.to_bits(ACCEPT)), (-1, 0), 0, CANCEL);
+                }
             }
         }
     }
@@ -302,12 +308,11 @@ impl<T: Default, R: Ring> Lives<T, R> {
 
     fn accepted(&mut self, key: Key, result: i32) -> Option<Event<T>> {
         self.accepting -= 1;
-        let opened = self.slots.opened(key, result);
-        debug_assert!(opened.is_ok(), "the life is opening");
+        // after `stop` its close is due
+        if let Ok(After::Close(slot)) = self.slots.opened(key, result) {
+            self.settle(key, Next::Close(slot));
+        }
         if result >= 0 {
-            if self.is_ending {
-                self.end(key); // it came before its cancel
-            }
             return Some(Event::Opened(key, result));
         }
         if self.accepts == 0 || PASSING.contains(&result) {
@@ -333,9 +338,9 @@ impl<T: Default, R: Ring> Lives<T, R> {
         }
         // without a chain this is `finish`, or `closed` or `close_failed`
         match self.slots.chained(key, member, result) {
-            Ok(Chained::Close(slot)) => self.settle(key, Next::Close(slot)),
-            Ok(Chained::Over(value)) => self.over = Some((key, value)),
-            Ok(Chained::Nothing) | Err(_) => {}
+            Ok(After::Close(slot)) => self.settle(key, Next::Close(slot)),
+            Ok(After::Over(value)) => self.over = Some((key, value)),
+            Ok(After::Nothing) | Err(_) => {}
         }
     }
 

@@ -1,0 +1,49 @@
+/* An example: prints the first bytes of the files with the given paths, each read by one
+ * submission: an open at a slot, a read and a close, linked. No file has a descriptor of the
+ * process. It ends with status 1 if a file can't be read, and with 77 if io_uring is refused. */
+#define _GNU_SOURCE
+#include <fcntl.h>
+#include <stdio.h>
+#include <stdlib.h>
+#include <string.h>
+#include <yachtdirect_uring.h>
+
+enum { SLOTS = 4, BYTES = 4096, ENTRIES = 16, NO_IO_URING = 77 };
+enum { READ }; /* the kind of the request on a file */
+struct file { const char *path; int error, length; char bytes[BYTES]; };
+static int begin(yacht_uring *ring, struct file **files, const char *path) {
+    struct io_uring_sqe chain[2];
+    struct file *file = calloc(1, sizeof *file);
+    uint64_t key;
+    io_uring_prep_openat(&chain[0], AT_FDCWD, path, O_RDONLY, 0);
+    io_uring_prep_read(&chain[1], 0, file->bytes, BYTES, 0);
+    chain[1].user_data = READ;
+    file->path = path;
+    if (yacht_uring_chain(ring, chain, 2, 1, &key) != YACHT_DIRECT_DONE) return free(file), 0; /* no slot */
+    files[yacht_direct_slot_of(key)] = file;
+    return 1;
+}
+int main(int count, char **words) {
+    static yacht_uring ring;
+    struct file *files[SLOTS] = {0};
+    yacht_uring_event event;
+    int next = 1, left = count - 1, status = 0, error = io_uring_queue_init(ENTRIES, &ring.ring, 0);
+    if (!error) error = yacht_uring_open(&ring, SLOTS);
+    if (error) return fprintf(stderr, "files: io_uring is refused: %s\n", strerror(-error)), NO_IO_URING;
+    while (left) {
+        while (next < count && begin(&ring, files, words[next])) next++;
+        if ((error = yacht_uring_next(&ring, &event)) < 0) return fprintf(stderr, "files: %s\n", strerror(-error)), 1;
+        struct file *file = files[yacht_direct_slot_of(event.key)];
+        if (event.kind != YACHT_URING_OVER) {
+            if (event.result < 0 && !file->error) file->error = -event.result;
+            if (event.kind == READ && event.result > 0) file->length = event.result;
+            continue;
+        }
+        left--;
+        if (file->error) status = 1, fprintf(stderr, "files: %s: %s\n", file->path, strerror(file->error));
+        fwrite(file->bytes, 1, (size_t)file->length, stdout);
+        free(file); /* the kernel has it no more */
+    }
+    yacht_uring_close(&ring);
+    return status;
+}
