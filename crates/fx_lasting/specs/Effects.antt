@@ -1,5 +1,5 @@
 -- Each kind of step: its effect on the pass that makes it.
-use Rattle.std.specs.Prelude.{◌≡◌, ◌≢◌, ℕ, ◌+◌, ◌-◌, ◌*◌, ◌/◌, ◌<◌, ◌==◌, ◌⊎◌, nat_lt}
+use Rattle.std.specs.Prelude.{◌≡◌, ◌≢◌, ℕ, ◌+◌, ◌-◌, ◌*◌, ◌/◌, ◌<◌, ◌==◌, ◌⊎◌, ◌↔◌, nat_lt}
 use Rattle.std.specs.Prelude.{if◌then◌else◌, min, ◌≤◌, Bool, true, false, List, [], slice_set, ◌∷◌}
 use Rattle.std.specs.Prelude.{◌++◌, map, count_by, Option, Some, None, IsSome}
 use mathlib.Core.Option.{some}
@@ -24,7 +24,7 @@ use Rattle.table_range.specs.Counts.{account, CountsAll, HasQuestionOf}
 use Rattle.fx_lasting.specs.nodes.Stocks.{IsInStock}
 use Rattle.fx_lasting.specs.slots.Watches.{HasActed}
 use Rattle.fx_lasting.specs.Passes.{Sat, slots_of, nodes_of, range_at_start, word_of, IsHistory}
-use Rattle.fx_lasting.specs.Passes.{node_of_number, first_log, state_after_all}
+use Rattle.fx_lasting.specs.Passes.{node_of_number, first_log, state_after_all, HoldsAlone}
 use Rattle.table_range.specs.declared.groups.TheConstants.{RANGE_END}
 use Rattle.table_range.specs.declared.views.Survey.{Survey}
 use Rattle.table_range.specs.declared.views.Survey.TheVariants.{None as NotAsked, Covered}
@@ -508,6 +508,10 @@ pub record Sees (st : At) (m : Sat) (found : ℕ) (m' : Sat) : Type 0 where
   pub watches : IsWatching (slot_of st.word) found m'
   pub overtaken : (pass_in m).watch.slot ≡ slot_of st.word → found ≢ (pass_in m).watch.word
       → IsOvertaken (slot_of st.word) m m'
+  -- the word names the node of the file that the pass holds if and only if the slot has this file
+  pub current : (f : File) (node : ℕ) → HoldsAlone m.0.work f node
+      → (full_name_in found ≡ node + 1)
+      ↔ ((state_after_all m.0.start (pass_in m').front).at (slot_of st.word) ≡ Some f)
 
 -- Exchange: the file that the pass places is at the slot, which was empty; or nothing changed
 pub record Exchanges (st : At) (m : Sat) (found : ℕ) (m' : Sat) : Type 0 where

@@ -2,6 +2,7 @@
 pub mod AtEmpty
 pub mod ByKey
 pub mod ByNode
+pub mod Current
 pub mod Deeds
 pub mod PutSteps
 pub mod RemoveByKey

@@ -5,6 +5,7 @@ ghost use Rattle.fx_words.specs.Words.{last_node};
 ghost use Rattle.fx_lasting.specs.Bounds.{WordsAreBounded};
 ghost use Rattle.fx_lasting.specs.holds.Holds.{NodesAreOfOneFile, HeldNodesNameFiles};
 ghost use Rattle.fx_lasting.specs.slots.ByKey.{KeysAreOfOneFile, KeysComeBack};
+ghost use Rattle.fx_lasting.specs.slots.Current.{CurrentFileFollowsTheChange, OldFileWasReplaced};
 ghost use Rattle.fx_lasting.specs.life.Layout.{PlacesAreInside, PlacesAreApart, LabelsAreApart, NodesAreInOneLine};
 ghost use Rattle.fx_lasting.specs.life.Opens.{OpeningKeeps};
 ghost use Rattle.fx_lasting.specs.WholeHistory.{HasOneHistory, RemovedFilesHaveUsers};
@@ -357,6 +358,15 @@ pub fn held_nodes_name_files()
 pub fn keys_are_of_one_file()
     ensures files { KeysAreOfOneFile }
     ensures bits { KeysComeBack }
+{}
+
+/// If a check finds the held file current (`LastingTable::is_current`) after a change of the slot
+/// that the pass had seen, or had learned of, then this change left the file there, or a later one
+/// did. If a check doesn't find it current, though it was at the slot when the pass had seen it
+/// there, a later event changed the slot.
+pub fn current_files_follow_changes()
+    ensures current { CurrentFileFollowsTheChange }
+    ensures old { OldFileWasReplaced }
 {}
 
 /// While the rule holds, one legal history is that of all passes: what a pass has seen is a

@@ -1,6 +1,7 @@
 -- The records that the exports ensure: what each number that C gets means, and what is written to
 -- `out`. The worker stays in its table.
-use Rattle.std.specs.Prelude.{◌≡◌, ◌⊎◌, ℕ, ℤ, pos, Option, Some, None, Result, Ok, Err}
+use Rattle.std.specs.Prelude.{◌≡◌, ◌⊎◌, ℕ, ℤ, pos, Bool, true, false, Option, Some, None, Result}
+use Rattle.std.specs.Prelude.{Ok, Err}
 use Rattle.fx_base.specs.Identity.{Identity}
 use Rattle.fx_table.specs.Calls.{LookedUp, Placed, Released, Taken}
 use Rattle.fx_table.specs.Opening.{Opening}
@@ -19,6 +20,7 @@ use Rattle.fx_lasting.specs.declared.tried.TriedPut.{TriedPut}
 use Rattle.fx_lasting.specs.declared.tried.TriedPut.TheVariants as tried
 use Rattle.fx_lasting.specs.range.Tries.{TriedSo}
 use Rattle.fx_lasting.specs.slots.AtEmpty.{GivesUpFor, HasPutEmpty, HasSearched}
+use Rattle.fx_lasting.specs.slots.Current.{ChecksCurrent}
 use Rattle.fx_server.specs.FileNumbers.{after_keep, without_kept}
 use Rattle.fx_server.specs.Files.{file_with}
 use Rattle.fx_server.specs.Outcomes.{LastUses, dropped_or, tag_of}
@@ -59,6 +61,28 @@ pub record ReleasesAs (w : TableWorker) (answer : ℤ) (dropped : ℕ) (w' : Tab
       × (w'.held ≡ None) × (answer ≡ dropped_or DONE file) × (dropped ≡ tag_of file)
       × Released (its_opening w) (its_pass w) (hold_in held) file (its_pass w'))
       ⊎ ((answer ≡ IDLE) × (dropped ≡ 0) × (w.held ≡ None) × (w' ≡ w))
+
+-- the number of a check: 1 if the slot has the file that the worker holds, and else 0
+abbrev pub current_code : Bool → ℤ
+current_code true = pos 1
+current_code false = pos 0
+
+-- the pass checked whether the slot has the file that it holds
+pub record ChecksItsFile (w : TableWorker) (slot : ℕ) (answer : ℤ) (w' : TableWorker)
+    : Type 0 where
+  pub current : Bool
+  pub its_answer : answer ≡ current_code current
+  pub checks : ChecksCurrent (its_opening w) (its_pass w) slot current (its_pass w')
+
+-- a check whether a slot has the file that the worker holds
+pub record ChecksCurrentAs (w : TableWorker) (slot : ℕ) (answer : ℤ) (w' : TableWorker)
+    : Type 0 where
+  pub table : w'.shared ≡ w.shared
+  pub numbers : DrawsNone w w'
+  pub held : w'.held ≡ w.held
+  pub checked : ((held : Held) × (w.held ≡ Some held)
+      × (ChecksItsFile w slot answer w' ⊎ ((w' ≡ w) × HasNoSlot w slot answer)))
+      ⊎ ((w' ≡ w) × (answer ≡ IDLE) × (w.held ≡ None))
 
 -- a file that was at a slot is retired, if there was one
 abbrev pub RetiresAny : Opening → PassView → Option Retired → (answer : ℤ) → (tag : ℕ) → PassView

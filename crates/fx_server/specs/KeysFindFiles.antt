@@ -12,7 +12,7 @@ use Rattle.fx_lasting.specs.WholeHistory.{IsPartOf}
 use Rattle.fx_lasting.specs.declared.key.Key.{Key}
 use Rattle.fx_lasting.specs.declared.life.layout.TheConstants.{MOST_INSTALLING}
 use Rattle.fx_server.specs.Answers.{FindsAs, GetsAtAs, InsertsAs, PutsEmptyAs, ReleasesAs}
-use Rattle.fx_server.specs.Answers.{RemovesAtAs, ReplacesAtAs}
+use Rattle.fx_server.specs.Answers.{RemovesAtAs, ReplacesAtAs, ChecksCurrentAs}
 use Rattle.fx_server.specs.ByKey.{GetsAs, RemovesAs, ReplacesAs, key_of}
 use Rattle.fx_server.specs.EndsOfKeys.{HaveTheirOwnKeys}
 use Rattle.fx_server.specs.FilesNumbers.{KeepsItsNumbers}
@@ -30,6 +30,7 @@ pub data IsExportCall (w w' : TableWorker) : Type 0 where
   get : (key : Key) (answer : ℤ) (out : CoreOutcome) → GetsAs w key answer out w'
       → IsExportCall w w'
   release : (answer : ℤ) (dropped : ℕ) → ReleasesAs w answer dropped w' → IsExportCall w w'
+  is_current : (slot : ℕ) (answer : ℤ) → ChecksCurrentAs w slot answer w' → IsExportCall w w'
   insert : (tag : ℕ) (answer : ℤ) (number : ℕ) → InsertsAs w tag answer number w'
       → IsExportCall w w'
   replace_at : (slot tag : ℕ) (answer : ℤ) (out : CoreOutcome)

@@ -2,7 +2,7 @@
 ghost use Rattle.std.specs.Prelude.{◌≡◌, Some};
 ghost use Rattle.fx_table.specs.Pass.{IsHoldOf};
 ghost use Rattle.fx_lasting.specs.Tables.{view_of, IsPassOfTable};
-ghost use Rattle.fx_server.specs.Answers.{GetsAtAs, ReleasesAs, RemovesAtAs};
+ghost use Rattle.fx_server.specs.Answers.{GetsAtAs, ReleasesAs, RemovesAtAs, ChecksCurrentAs};
 ghost use Rattle.fx_server.specs.Workers.{HasLabel, HasNumber};
 
 use crate::answers::{CoreOutcome, NO_OUTCOME, consume};
@@ -99,6 +99,26 @@ impl TableWorker {
             DONE,
             dropped,
         )
+    }
+
+    /// Checks whether a slot has the file that the worker holds, as `yacht_core_is_current` says.
+    /// The worker holds the file still.
+    #[inline(always)]
+    pub fn is_current(&mut self, slot: u32) -> i64
+        ensures checked { ChecksCurrentAs self.old slot result self.new }
+    {
+        let Some(Held { node, entry: _ }) = self.held else {
+            return IDLE;
+        };
+        let table = &self.shared.table;
+        if slot >= table.size() {
+            return NO_SLOT;
+        }
+        if table.is_current(&mut self.pass, slot, node) {
+            1
+        } else {
+            0
+        }
     }
 
     /// Empties a slot, as `yacht_core_remove_at` says.

@@ -2,7 +2,7 @@
 //! worker, and calls the worker.
 ghost use Rattle.std.specs.Prelude.{◌≡◌, ◌≢◌, ◌⊎◌, length};
 ghost use Rattle.fx_server.specs.Answers.{FindsAs, GetsAtAs, InsertsAs, PutsEmptyAs, ReleasesAs};
-ghost use Rattle.fx_server.specs.Answers.{RemovesAtAs, ReplacesAtAs};
+ghost use Rattle.fx_server.specs.Answers.{RemovesAtAs, ReplacesAtAs, ChecksCurrentAs};
 ghost use Rattle.fx_server.specs.ByKey.{GetsAs, RemovesAs, ReplacesAs, key_of};
 ghost use Rattle.fx_server.specs.Places.{OpensAs};
 ghost use Rattle.fx_server.specs.Workers.{IsInRange};
@@ -67,6 +67,16 @@ pub extern "C" fn yacht_core_release(worker: &mut Handle, dropped: &mut u64) -> 
     ensures released { ReleasesAs worker.old.worker result dropped.new worker.new.worker }
 {
     worker.as_mut().release(dropped)
+}
+
+/// Checks whether a slot has the file that the worker holds, by one load. It returns 1 if the slot
+/// has this file at that moment, and 0 if it has another one or none; or `IDLE` or `NO_SLOT`, the
+/// first that applies. The worker holds the file still.
+#[unsafe(no_mangle)]
+pub extern "C" fn yacht_core_is_current(worker: &mut Handle, slot: u32) -> i64
+    ensures checked { ChecksCurrentAs worker.old.worker slot result worker.new.worker }
+{
+    worker.as_mut().is_current(slot)
 }
 
 /// Makes one round to install a file with this tag and the worker's next number at a free slot. It
