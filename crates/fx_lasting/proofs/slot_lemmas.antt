@@ -16,6 +16,7 @@ pub mod Removals
 pub mod Overtaking
 pub mod OvertakenCalls
 pub mod ByNode
+pub mod Current
 pub mod HeldTries
 pub mod RenewalTries
 pub mod RenewalEnds

@@ -22,7 +22,7 @@ use Rattle.fx_lasting.specs.declared.view.Start.{Start}
 use Rattle.fx_lasting.specs.range.Tries.{TriedSo}
 use Rattle.fx_lasting.specs.slots.RemoveByKey.{TakesAlone}
 use Rattle.fx_lasting.specs.slots.AtEmpty.{HasPutEmpty, HasSearched}
-use Rattle.fx_server.specs.Answers.{GetsAtAs, KeepsIfFound, PutsAt, ReleasesAs, RemovesAtAs, RetiresAny, UsesIfTried}
+use Rattle.fx_server.specs.Answers.{GetsAtAs, KeepsIfFound, PutsAt, ReleasesAs, RemovesAtAs, RetiresAny, ChecksCurrentAs, UsesIfTried}
 use Rattle.fx_server.specs.ByKey.{GetsAs, RemovesAs, RemovesByOne, ReplacesByOne}
 use Rattle.fx_server.specs.FileNumbers.{after_draw, after_keep, without_kept}
 use Rattle.fx_server.specs.FilesNumbers.{KeepsItsNumbers}
@@ -30,7 +30,7 @@ use Rattle.fx_server.specs.Workers.{hold_in, its_opening, its_pass, its_start}
 use Rattle.fx_server.specs.declared.answers.CoreOutcome.{CoreOutcome}
 use Rattle.fx_server.specs.Worker.{TableWorker}
 use Rattle.fx_server.specs.Files.{file_with}
-use Rattle.fx_server.specs.KeysFindFiles.{ExportsKeepNumbers, IsExportCall, get_at, get, release, insert, replace_at, replace, remove_at, remove, find, put_empty}
+use Rattle.fx_server.specs.KeysFindFiles.{ExportsKeepNumbers, IsExportCall, get_at, get, release, is_current, insert, replace_at, replace, remove_at, remove, find, put_empty}
 use Rattle.fx_server.proofs.DrawnByCalls.{AddsNone, AddsOne, Grows, added_after, added_none, added_one, none_then, both_none, held_none, installs, installs_kept, keeps, key_none, looked_none, number_of_new, one_then, released_none, retired_none, same_none, spends, stays}
 
 same : (w w' : TableWorker) → w' ≡ w → AddsNone (its_pass w) (its_pass w')
@@ -56,6 +56,13 @@ release_none : (w w' : TableWorker) (answer : ℤ) (dropped : ℕ) → ReleasesA
 release_none w w' answer dropped it = elim it.released [
   | inl out ↦ released_none (its_opening w) (its_pass w) out.6.0 out.1 (its_pass w') out.6.2
   | inr idle ↦ same w w' idle.3
+]
+
+is_current_none : (w w' : TableWorker) (slot : ℕ) (answer : ℤ) → ChecksCurrentAs w slot answer w' → AddsNone (its_pass w) (its_pass w')
+is_current_none w w' slot answer it = elim it.checked [
+  | inl (_, _, inl one) ↦ added_none (its_opening w) (its_pass w) _ _ _ (its_pass w') one.checks.adds tt
+  | inl (_, _, inr none) ↦ same w w' none.0
+  | inr idle ↦ same w w' idle.0
 ]
 
 remove_at_none : (w w' : TableWorker) (slot : ℕ) (answer : ℤ) (out : CoreOutcome) → RemovesAtAs w slot answer out w' → AddsNone (its_pass w) (its_pass w')
@@ -164,6 +171,7 @@ changes : (w w' : TableWorker) → IsExportCall w w' → Changes w w'
 changes w w' (get_at slot answer out it) = adds_none (get_at_none w w' slot answer out it) it.numbers
 changes w w' (get key answer out it) = adds_none (get_none w w' key answer out it) it.numbers
 changes w w' (release answer dropped it) = adds_none (release_none w w' answer dropped it) it.numbers
+changes w w' (is_current slot answer it) = adds_none (is_current_none w w' slot answer it) it.numbers
 changes w w' (remove_at slot answer out it) = adds_none (remove_at_none w w' slot answer out it) it.numbers
 changes w w' (remove key answer out it) = adds_none (remove_none w w' key answer out it) it.numbers
 changes w w' (insert tag answer number it) = elim it.allocated [

@@ -2,7 +2,10 @@
 use Rattle.fx_lasting.proofs.Words.{◌≡◌, ◌≢◌, ℕ, ◌+◌, ◌<◌, ◌≤◌, ◌⊎◌, [], sym, refl, ap, ◌∙◌, none, step, inl, inr, dite, File, Sees, Log, Sat, some, eqb}
 use Rattle.fx_lasting.proofs.Words.{List, subst, arith, Option, ⊎_elim, Closed, Names, Agrees, Watch, HasActed, keeps, Start, Shared, HasPass, Allows, either}
 use Rattle.fx_lasting.proofs.Words.{ℕ_discrete, slots_of, slot_place, state_after_all, node_of_number, IsOvertaken, changes_in, first_log, get_elem?, exchanged}
+use Rattle.fx_lasting.proofs.Words.{HoldsAlone, doing_in, full_name_in, hold_at, None, Some, ◌↔◌}
 use Rattle.fx_lasting.specs.Laws.{Kind}
+use Rattle.fx_lasting.specs.holds.Holds.{HoldsNameFiles, IsHeldBy}
+use Rattle.fx_lasting.proofs.hold_lemmas.Holds.{nodes_are_of_one_file}
 use Rattle.fx_lasting.proofs.Histories.{grows_none}
 use Rattle.fx_lasting.proofs.Keeping.{end_read, Turn, turn_of, Made, by_turn, word_at, slot_word, w, After, its_log, tells, found_same}
 use Rattle.fx_lasting.proofs.Calm.{read_finding, read_finding_kept}
@@ -96,6 +99,25 @@ module _ (turn : Turn) (s : ℕ) where
       pub named : Names (node_of_number v.start) found there
       named = by_number there (r.slots s inside).names
 
+      -- the word names the node of a file that the pass holds, or another file is at the slot
+      module _ (f : File) (n : ℕ) (holds : HoldsAlone v.work f n) where
+        held_here : IsHeldBy st f (hold_at f n)
+        held_here = (id, v, here, ⊎_elim (λ is. ap doing_in is) (λ is. ap doing_in is) holds)
+
+        its_node : HoldsNameFiles v.start st r
+        its_node = nodes_are_of_one_file v.start st r
+
+        tells_of : (o : Option File) → there ≡ o → Names (node_of_number v.start) found o → (full_name_in found ≡ n + 1) ↔ (o ≡ Some f)
+        tells_of None at names = (λ is. absurd (omega (arith, is, names)), λ is. absurd (cc is))
+        tells_of (Some g) at names = (
+          λ is. ap Some (sym (its_node.there f g (hold_at f n) s held_here inside is at)),
+          λ is. let same : g ≡ f = cc is in names.0 ∙ ap (λ (i : ℕ). i + 1)
+              (ap (λ (h : File). node_of_number v.start h.number) same ∙ sym (its_node.its_number f (hold_at f n) held_here)),
+        )
+
+        current_now : (full_name_in found ≡ n + 1) ↔ (there ≡ Some f)
+        current_now = tells_of there refl named
+
       changed_now : (first_log v.logs).watch.slot ≡ s → found ≢ (first_log v.logs).watch.word → IsOvertaken s (v, carried) (w turn sees_after, carried)
       changed_now = grind (arith, sight)
 
@@ -110,6 +132,8 @@ module _ (turn : Turn) (s : ℕ) where
         watches = record { its_slot = sym (slot_back s); word = refl; front = refl };
         overtaken = λ same lost. subst (λ (i : ℕ). IsOvertaken i (v, carried) (w turn sees_after, carried)) (sym (slot_back s))
             (changed_now (same ∙ slot_back s) lost);
+        current = λ f n holds. subst (λ (i : ℕ). (full_name_in found ≡ n + 1) ↔ ((state_after_all v.start r.history).at i ≡ Some f)) (sym (slot_back s))
+            (current_now f n holds);
       }
 
       -- an exchange of another word leaves this one, and the pass sees it
