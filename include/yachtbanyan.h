@@ -132,6 +132,13 @@ int yacht_get(yacht_handle *handle, yacht_key key, void **value);
  * Returns YACHT_DONE; or YACHT_IDLE, and writes nothing. */
 int yacht_key_of(yacht_handle *handle, yacht_key *key);
 
+/* Checks whether a slot has the value that the handle holds, by one load. The answer is right at a
+ * moment of the call, and follows all that is ordered before the call, as yacht_get_at does. The
+ * handle still holds the value.
+ * Returns 1 if the slot has this value, and 0 if it has another one or none; or YACHT_IDLE or
+ * YACHT_NO_SLOT, the first that applies. */
+int yacht_is_current(yacht_handle *handle, uint32_t slot);
+
 /* Releases the value that the handle holds. Drops it if it was replaced or removed and has no other
  * user.
  * Returns YACHT_DONE, or YACHT_IDLE. */

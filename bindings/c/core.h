@@ -30,6 +30,7 @@ void yacht_core_close(yacht_core worker);
 int64_t yacht_core_get_at(yacht_core *worker, uint32_t slot, yacht_outcome *out);
 int64_t yacht_core_get(yacht_core *worker, uint32_t slot, uint64_t number, yacht_outcome *out);
 int64_t yacht_core_release(yacht_core *worker, uint64_t *dropped);
+int64_t yacht_core_is_current(yacht_core *worker, uint32_t slot);
 int64_t yacht_core_insert(yacht_core *worker, uint64_t tag, uint64_t *number);
 int64_t yacht_core_replace_at(yacht_core *worker, uint32_t slot, uint64_t tag, yacht_outcome *out);
 int64_t yacht_core_replace(yacht_core *worker, uint32_t slot, uint64_t number, uint64_t tag,

@@ -144,6 +144,10 @@ int yacht_release(yacht_handle *handle) {
     return YACHT_DONE;
 }
 
+int yacht_is_current(yacht_handle *handle, uint32_t slot) {
+    return (int)yacht_core_is_current(&handle->core, slot);
+}
+
 int yacht_key_of(yacht_handle *handle, yacht_key *key) {
     if (!handle->held) return YACHT_IDLE;
     *key = (yacht_key){handle->number, handle->slot};

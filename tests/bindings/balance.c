@@ -23,7 +23,7 @@ enum { EMPTY, FULL, HELD };
 enum { IDLE, BUSY, READER };
 /* the calls, up to INSERT_WITH those that insert, up to REPLACE those that install */
 enum {
-    GET_AT, GET, KEY_OF, REMOVE_AT, REMOVE, RELEASE, INSERT, TRY_INSERT, INSERT_KEY, TRY_INSERT_KEY, INSERT_WITH,
+    GET_AT, GET, KEY_OF, IS_CURRENT, REMOVE_AT, REMOVE, RELEASE, INSERT, TRY_INSERT, INSERT_KEY, TRY_INSERT_KEY, INSERT_WITH,
     REPLACE_AT, REPLACE_AT_KEY, REPLACE, CALLS
 };
 
@@ -124,6 +124,7 @@ static int answer_of(call *it, int which) {
     case GET_AT: return yacht_get_at(handle, it->key.slot, &it->found);
     case GET: return yacht_get(handle, it->key, &it->found);
     case KEY_OF: return yacht_key_of(handle, &it->written);
+    case IS_CURRENT: return yacht_is_current(handle, it->key.slot);
     case REMOVE_AT: return yacht_remove_at(handle, it->key.slot);
     case REMOVE: return yacht_remove(handle, it->key);
     case RELEASE: return yacht_release(handle);
@@ -143,6 +144,7 @@ static int expected(int which, int nth, uint32_t slot, int state, int use, int r
     int is_keyed = which == GET || which == REMOVE || which == REPLACE, looks = which == GET_AT || which == GET;
     int is_empty = slot == 1 && state == EMPTY, inserts = RELEASE < which && which <= INSERT_WITH;
     if (which == KEY_OF || which == RELEASE) return use == BUSY ? YACHT_DONE : YACHT_IDLE;
+    if (which == IS_CURRENT) return use != BUSY ? YACHT_IDLE : slot == FAR ? YACHT_NO_SLOT : slot == 0;
     if (use == BUSY) return YACHT_BUSY;
     if (use == READER && (inserts || which == REMOVE || which == REPLACE)) return YACHT_READER;
     if (refused && (which == TRY_INSERT || which == TRY_INSERT_KEY)) return YACHT_AGAIN;
@@ -175,7 +177,7 @@ static void check_call(const call *it, int which, int answer) {
         if (it->value) drop(it->value, &alive);
     } else if (which == GET_AT || which == GET) {
         WANT(it->found == at[it->key.slot]);
-    } else if (which != KEY_OF && which != RELEASE) {
+    } else if (which != KEY_OF && which != IS_CURRENT && which != RELEASE) {
         at[RELEASE < which && which <= INSERT_WITH ? (uint32_t)answer : it->key.slot] = it->value;
     }
 }
@@ -199,6 +201,7 @@ static void balance(int which, int nth, int state, int use, int is_raced) {
     const yacht_key keys[KEYS] = {right, stale, {0, 0}, {1, FAR}};
     call it = {.handle = use == READER ? reader : a, .key = keys[nth], .written = untouched, .found = (void *)&other};
     if (use == BUSY) WANT(yacht_get_at(a, 0, &value) == YACHT_DONE);
+    void *held = at[1];
     raced = is_raced ? &it : NULL, before = refusals = is_raced && use == IDLE ? 2 : 0;
     int answer = answer_of(&it, which);
     raced = NULL;
@@ -207,7 +210,7 @@ static void balance(int which, int nth, int state, int use, int is_raced) {
     /* the handle holds a value if it did before, or if this call found one */
     int holds = (answer >= 0 && which <= GET) || (use == BUSY && which != RELEASE);
     WANT(yacht_release(it.handle) == (holds ? YACHT_DONE : YACHT_IDLE) && yacht_release(it.handle) == YACHT_IDLE);
-    if (state == HELD) WANT(yacht_release(b) == YACHT_DONE);
+    if (state == HELD) WANT(yacht_is_current(b, 1) == (at[1] == held) && yacht_release(b) == YACHT_DONE);
     WANT(yacht_release(b) == YACHT_IDLE && alive == (at[0] != NULL) + (at[1] != NULL));
     check_slots(&it, which, answer);
     yacht_free(table);

@@ -9,14 +9,17 @@
 //! (`fx_server_c`, and the records of `specs/Answers.antt` in `fx_server`): `found` (the worker
 //! holds the file that was found, and the tag and the number are that file's), `released`,
 //! `placed`, `allocated` and `removed` (which file is returned to be closed, by its tag, and that a
-//! call by key changes the slot only if it has the key's file). Each says that the worker stays in
+//! call by key changes the slot only if it has the key's file), and `checked` (whether a slot has
+//! the file that the worker holds). Each says that the worker stays in
 //! its table (`StaysInTable`). So laws of every history (`fx_plain::laws`: `no_close_while_held`,
 //! `closed_at_most_once`) and of every state of the table (`fx_lasting::laws`: `has_one_history`,
 //! `removed_files_have_users`) hold of what all workers of a table do together.
 //!
 //! One rule of this crate is cited as well. *One user*: a seat (`seats.rs`) is used by one thread
 //! at a time. Its number is claimed by an exchange that acquires, and returned by an operation that
-//! releases. In between, one value has it: a reader, a handle, a guard, or a call of the table.
+//! releases. In between, one value has it: a reader, a handle, a guard, a cached slot, or a call of
+//! the table.
+mod cached;
 mod core;
 mod exports;
 mod guard;
@@ -38,6 +41,7 @@ mod turns;
 mod values;
 mod with;
 
+pub use self::cached::{Cached, OwnedCached};
 pub(crate) use self::core::{MOST_INSTALLING, MOST_SLOTS, MOST_WORKERS};
 pub use self::guard::{Guard, OwnedGuard};
 pub use self::handle::Handle;

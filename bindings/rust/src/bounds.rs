@@ -7,13 +7,15 @@
 //! | `Reader<T>` | `T: Send + Sync` | never | no | invariant | | `T` is, in both ways |
 //! | `Guard<'r, T>` | never | `T: Sync` | no | invariant | covariant | `T` is, in both ways |
 //! | `OwnedGuard<T>` | `T: Send + Sync` | `T: Sync` | no | invariant | | `T` is, in both ways |
+//! | `Cached<'r, T>` | never | never | no | invariant | covariant | `T` is, in both ways |
+//! | `OwnedCached<T>` | `T: Send + Sync` | never | no | invariant | | `T` is, in both ways |
 //! | `Iter<'r, T>` | never | never | no | invariant | covariant | `T` is, in both ways |
 //! | `Old<T>`, `Refused<T>` | `T: Send` | `T: Sync` | as `T` | covariant | | as `T` |
 //! | `Key`, `Options`, errors | always | always | yes | | | always |
 //!
 //! "In both ways" is `T: UnwindSafe + RefUnwindSafe`, and then the type is both too. No guard gives
-//! a `&mut T`. The drop of a table, a handle, a reader or a guard may drop values, so it uses what
-//! they borrow (drop check). Each type is `Unpin`.
+//! a `&mut T`. The drop of a table, a handle, a reader, a guard or a cached slot may drop values,
+//! so it uses what they borrow (drop check). Each type is `Unpin`.
 //!
 //! Each pair of programs below differs by one token ([`pair`]).
 //!
@@ -22,7 +24,7 @@
 //! ```
 //! use std::panic::{RefUnwindSafe, UnwindSafe};
 //! use yachtbanyan::{GetError, Key, NoSeat, NoSlot, OpenError, Options, Reason, RemoveError};
-//! use yachtbanyan::{Guard, Handle, Iter, OwnedGuard, Reader, Table};
+//! use yachtbanyan::{Cached, Guard, Handle, Iter, OwnedCached, OwnedGuard, Reader, Table};
 //! fn plain<T: Copy + Send + Sync + UnwindSafe + RefUnwindSafe + Unpin + 'static>() {}
 //! fn error<T: std::error::Error>() {}
 //! fn moves<T: Unpin>() {}
@@ -31,6 +33,7 @@
 //! error::<yachtbanyan::Refused<Pinned>>();
 //! moves::<(Table<Pinned>, Handle<Pinned>, Reader<Pinned>, OwnedGuard<Pinned>)>();
 //! moves::<(Guard<'static, Pinned>, Iter<'static, Pinned>)>();
+//! moves::<(Cached<'static, Pinned>, OwnedCached<Pinned>)>();
 //! ```
 include!("pairs.rs");
 
@@ -56,14 +59,18 @@ type Changing = &'static mut u8;"
     Send: Handle<{Unshared u8} {Staying u8}>;
     Send: Reader<{Unshared u8} {Staying u8}>;
     Send: OwnedGuard<{Unshared u8} {Staying u8}>;
+    Send: OwnedCached<{Unshared u8} {Staying u8}>;
     Sync: Table<{Unshared u8} {Staying u8}>;
     // a guard is `Sync` if the value is, also if that isn't `Send`
     Sync: Guard<'static, {Unshared Staying}>;
     Sync: OwnedGuard<{Unshared Staying}>;
-    // one thread at a time has a handle, a reader, a guard or an iterator
+    // one thread at a time has a handle, a reader, a guard, a cached slot or an iterator
     {Sync Send}: Handle<u8>;
     {Sync Send}: Reader<u8>;
     {Send Sync}: Guard<'static, u8>;
+    {Sync Send}: OwnedCached<u8>;
+    {Send Sized}: Cached<'static, u8>;
+    {Sync Sized}: Cached<'static, u8>;
     {Send Sized}: Iter<'static, u8>;
     {Sync Sized}: Iter<'static, u8>;
     Send: Old<{Staying Unshared}>;
@@ -74,6 +81,8 @@ type Changing = &'static mut u8;"
     Clone: {Handle Table}<u8>;
     Clone: {Reader Table}<u8>;
     Clone: {OwnedGuard Table}<u8>;
+    Clone: {OwnedCached Table}<u8>;
+    {Clone Sized}: Cached<'static, u8>;
     {Clone Sync}: Guard<'static, u8>;
     {Clone Sized}: Iter<'static, u8>;
     // a value that others use isn't changed
@@ -90,6 +99,10 @@ type Changing = &'static mut u8;"
     RefUnwindSafe: OwnedGuard<{Unshared u8} {Changing u8}>;
     UnwindSafe: Guard<'static, {Unshared u8} {Changing u8}>;
     RefUnwindSafe: Guard<'static, {Unshared u8} {Changing u8}>;
+    UnwindSafe: OwnedCached<{Unshared u8} {Changing u8}>;
+    RefUnwindSafe: OwnedCached<{Unshared u8} {Changing u8}>;
+    UnwindSafe: Cached<'static, {Unshared u8} {Changing u8}>;
+    RefUnwindSafe: Cached<'static, {Unshared u8} {Changing u8}>;
     UnwindSafe: Iter<'static, {Unshared u8} {Changing u8}>;
     RefUnwindSafe: Iter<'static, {Unshared u8} {Changing u8}>;
     UnwindSafe: Old<{Changing Unshared}>;
@@ -113,7 +126,9 @@ invariant! {
     "Handle<", "'a", 'static;
     "Reader<", "'a", 'static;
     "OwnedGuard<", "'a", 'static;
+    "OwnedCached<", "'a", 'static;
     "Guard<'a, ", "'a, 'b: 'a", 'b;
+    "Cached<'a, ", "'a, 'b: 'a", 'b;
     "Iter<'a, ", "'a, 'b: 'a", 'b;
 }
 
@@ -134,6 +149,7 @@ covariant! {
     "Old<&", "str>";
     "Refused<&", "str>";
     "Guard<", ", u8>";
+    "Cached<", ", u8>";
     "Iter<", ", u8>";
 }
 
@@ -160,8 +176,8 @@ let lent = it.", $call, ";\ndrop(") {it other} (");\ndrop(lent);"));)* };
 }
 
 lends! {
-    handle "get_at(0)"; handle "get(key)"; handle "iter()";
-    reader "get_at(0)"; reader "get(key)"; reader "iter()";
+    handle "get_at(0)"; handle "get(key)"; handle "iter()"; handle "cached(0)";
+    reader "get_at(0)"; reader "get(key)"; reader "iter()"; reader "cached(0)";
 }
 
 of_table! {
@@ -173,6 +189,20 @@ let (guard, other) = (handle.get(key).unwrap(), handle.get(key).unwrap());
 let value: &u8 = &guard;
 drop(" {guard other} ");\nprintln!(\"{value}\");";
     "compile_fail,E0505" guards "" {guard other} ".remove().unwrap();\nprintln!(\"{value}\");";
+    // a check uses the guard's seat, which others don't while this thread alone has the guard
+    "compile_fail,E0596" bytes "table.insert(1).unwrap();
+let it = table.handle().unwrap();
+let (mut first, mut second) = (it.get_at(0).unwrap(), it.get_at(0).unwrap());
+let (shared, own) = (&first, &mut second);
+" {shared own} ".is_current();";
+    "compile_fail,E0596" bytes "table.insert(1).unwrap();
+let (mut first, mut second) = (table.get_owned_at(0).unwrap(), table.get_owned_at(0).unwrap());
+let (shared, own) = (&first, &mut second);
+" {shared own} ".is_current();";
+    // a value of a cached slot is there until the next look
+    "compile_fail,E0499" bytes "let (mut it, mut other) = (table.cached(0).unwrap(), table.cached(0).unwrap());
+let value = it.get();
+" {it other} ".get();\nprintln!(\"{value:?}\");";
     // what values borrow lives as long as what may drop them
     "compile_fail,E0505" text "drop(" {text table} ");";
     "compile_fail,E0505" text "let it = table.handle().unwrap();
@@ -182,6 +212,9 @@ drop(" {text it} ");";
 drop(table);
 drop(" {text it} ");";
     "compile_fail,E0505" text "let it = table.get_owned_at(0).unwrap();
+drop(table);
+drop(" {text it} ");";
+    "compile_fail,E0505" text "let it = table.cached(0).unwrap();
 drop(table);
 drop(" {text it} ");";
 }

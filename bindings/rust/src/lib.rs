@@ -14,7 +14,7 @@ mod old;
 mod options;
 mod unwind;
 
-pub use access::{Guard, Handle, OwnedGuard, Reader, Table};
+pub use access::{Cached, Guard, Handle, OwnedCached, OwnedGuard, Reader, Table};
 pub use errors::{GetError, NoSeat, NoSlot, OpenError, Reason, Refused, RemoveError};
 pub use iter::Iter;
 pub use key::Key;
@@ -26,5 +26,5 @@ pub const MOST_SLOTS: u32 = access::MOST_SLOTS;
 /// The largest number of handles of a table.
 pub const MOST_HANDLES: u32 = access::MOST_INSTALLING;
 /// The largest number of seats of a table: two for each handle, one for each reader, and one for
-/// each further living guard.
+/// each further living guard and cached slot.
 pub const MOST_SEATS: u32 = access::MOST_WORKERS;

@@ -14,7 +14,7 @@ mod sync;
 
 use self::core::{
     yacht_core_close, yacht_core_find, yacht_core_get, yacht_core_get_at, yacht_core_insert,
-    yacht_core_open, yacht_core_put_empty, yacht_core_release, yacht_core_remove,
+    yacht_core_is_current, yacht_core_open, yacht_core_put_empty, yacht_core_release, yacht_core_remove,
     yacht_core_remove_at, yacht_core_replace, yacht_core_replace_at, Core, Outcome, DONE,
 };
 use std::cell::Cell;
@@ -54,6 +54,7 @@ enum Call {
     GetAt(u32),
     Get(u32, u64),
     Release,
+    IsCurrent(u32),
     Insert(u64),
     ReplaceAt(u32, u64),
     Replace(u32, u64, u64),
@@ -73,6 +74,7 @@ macro_rules! call {
                 Call::GetAt(slot) => $($by::)?yacht_core_get_at(worker, slot, &mut out),
                 Call::Get(slot, its) => $($by::)?yacht_core_get(worker, slot, its, &mut out),
                 Call::Release => $($by::)?yacht_core_release(worker, &mut number),
+                Call::IsCurrent(slot) => $($by::)?yacht_core_is_current(worker, slot),
                 Call::Insert(tag) => $($by::)?yacht_core_insert(worker, tag, &mut number),
                 Call::ReplaceAt(slot, tag) => {
                     $($by::)?yacht_core_replace_at(worker, slot, tag, &mut out)
@@ -148,7 +150,7 @@ impl Pair {
         let few = (self.numbers.len() as u64).min(1 + self.random(40));
         let back = 1 + self.random(few) as usize;
         let number = self.numbers[self.numbers.len() - back];
-        match self.random(21) {
+        match self.random(23) {
             0..=5 => Call::GetAt(slot),
             6..=7 => Call::Get(slot, number),
             8..=12 => Call::Release,
@@ -158,6 +160,7 @@ impl Pair {
             17 => Call::RemoveAt(slot),
             18 => Call::Remove(slot, number),
             19 => Call::Find,
+            20..=21 => Call::IsCurrent(slot),
             _ => Call::PutEmpty(slot, self.tag()),
         }
     }

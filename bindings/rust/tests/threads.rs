@@ -152,7 +152,12 @@ fn serve_by_table(table: &Table<Value>, mut seed: u64, rounds: u64) {
         let random = next(&mut seed);
         let (slot, what) = ((random % slots) as u32, (random >> 7) % 16);
         match what {
-            0..=9 => drop(table.get_owned_at(slot).map(|guard| guard.check())),
+            0..=8 => drop(table.get_owned_at(slot).map(|guard| guard.check())),
+            9 => {
+                if let Ok(mut cached) = table.cached(slot) {
+                    (0..4).for_each(|_| cached.get().into_iter().for_each(Value::check));
+                }
+            }
             10..=12 => drop(table.replace_at(slot, Value::new(round)).unwrap()),
             13..=14 => {
                 // it waits for a seat

@@ -63,6 +63,7 @@ unsafe extern "C" {
         out: *mut Outcome,
     ) -> i64;
     pub(crate) fn yacht_core_release(worker: *mut Core, dropped: *mut u64) -> i64;
+    pub(crate) fn yacht_core_is_current(worker: *mut Core, slot: u32) -> i64;
     pub(crate) fn yacht_core_insert(worker: *mut Core, tag: u64, number: *mut u64) -> i64;
     pub(crate) fn yacht_core_replace_at(
         worker: *mut Core,

@@ -2,7 +2,7 @@
 use super::reader::Reader;
 use super::seats::Place;
 use super::table::Table;
-use super::values::{drop_last, Held};
+use super::values::{drop_last, Held, Values};
 use crate::key::Key;
 use std::fmt;
 use std::mem::ManuallyDrop;
@@ -40,7 +40,7 @@ pub struct Guard<'r, T> {
     slot: u32,
 }
 
-// SAFETY: a shared guard gives references to the value, its slot and its key alone.
+// SAFETY: a shared guard gives references to the value, its slot and its key. It uses no seat.
 unsafe impl<T: Sync> Sync for Guard<'_, T> {}
 
 impl<'r, T> Guard<'r, T> {
@@ -63,6 +63,11 @@ impl<'r, T> Guard<'r, T> {
         Guard { value, number, reader, place, slot }
     }
 
+    #[inline]
+    fn values(&self) -> &Values<T> {
+        self.reader.values()
+    }
+
     /// Ends the hold, and gives its seat back. Returns the value if this closed it.
     #[inline]
     pub(super) fn end(self) -> Option<Box<T>> {
@@ -78,7 +83,7 @@ impl<'r, T> Guard<'r, T> {
     unsafe fn release(&self) -> Option<Box<T>> {
         // SAFETY: the seat is the reader's (one user), on whose thread the guard is. It holds the
         // guard's value, and every reference to the value borrowed the guard.
-        let freed = unsafe { self.reader.table().values().release(self.place.core, self.value) };
+        let freed = unsafe { self.values().release(self.place.core, self.value) };
         self.reader.give_back(self.place.number);
         freed
     }
@@ -115,7 +120,7 @@ pub struct OwnedGuard<T> {
 // SAFETY: another thread may read the value (`T: Sync`) and end the hold, which may give it the
 // value to drop (`T: Send`). It has the guard's seat alone (one user).
 unsafe impl<T: Send + Sync> Send for OwnedGuard<T> {}
-// SAFETY: a shared guard gives references to the value, its slot and its key alone.
+// SAFETY: a shared guard gives references to the value, its slot and its key. It uses no seat.
 unsafe impl<T: Sync> Sync for OwnedGuard<T> {}
 
 impl<T> OwnedGuard<T> {
@@ -134,12 +139,17 @@ impl<T> OwnedGuard<T> {
         freed
     }
 
+    #[inline]
+    fn values(&self) -> &Values<T> {
+        self.table.values()
+    }
+
     // Ends the hold, and gives its seat back.
     //
     // SAFETY of a call: the guard is used no more, but for its table.
     #[inline]
     unsafe fn release(&self) -> Option<Box<T>> {
-        let values = self.table.values();
+        let values = self.values();
         // SAFETY: the seat is this guard's (one user). It holds this guard's value, and every
         // reference to the value borrowed the guard.
         let freed = unsafe { values.release(self.place.core, self.value) };
@@ -156,6 +166,28 @@ macro_rules! guards {
             #[inline]
             pub fn slot(&self) -> u32 {
                 self.slot
+            }
+
+            /// Checks whether the slot still has this value, by one load. The answer is right at a
+            /// moment of the call, and follows what is ordered before the call, as a look-up does.
+            /// It takes `&mut self`, since it uses the guard's seat, which one thread may use.
+            ///
+            /// ```
+            /// let table = yachtbanyan::Table::<&str>::with_slots(1)?;
+            /// let handle = table.handle()?;
+            /// handle.insert("first")?;
+            /// let (mut guard, mut own) = (handle.get_at(0)?, table.get_owned_at(0)?);
+            /// assert!(guard.is_current() && own.is_current());
+            /// handle.replace_at(0, "second")?;
+            /// assert!(!guard.is_current() && !own.is_current());
+            /// # Ok::<(), Box<dyn std::error::Error>>(())
+            /// ```
+            #[inline]
+            pub fn is_current(&mut self) -> bool {
+                let (core, slot) = (self.place.core, self.slot);
+                // SAFETY: the seat is this guard's, and holds its value. `&mut self` is the only
+                // reference to the guard, so no other thread uses the seat (one user).
+                unsafe { self.values().is_current(core, slot) }
             }
 
             /// Returns the key of the value, by which others find it while it is at its slot.

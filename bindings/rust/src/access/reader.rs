@@ -3,8 +3,8 @@ use super::core::{self, Outcome};
 use super::guard::Guard;
 use super::seats::{Installer, Place};
 use super::table::Table;
-use super::values::{add_unused, drop_unused, frees, At, Held, Wanted};
-use crate::errors::GetError;
+use super::values::{add_unused, drop_unused, frees, At, Held, Values, Wanted};
+use crate::errors::{GetError, NoSeat};
 use crate::iter::Iter;
 use crate::key::Key;
 use std::cell::Cell;
@@ -79,7 +79,7 @@ impl<T> Reader<T> {
         if self.is_busy.get() {
             return Ok(self.find_by_another(wanted)?.moved());
         }
-        let (values, mut out) = (self.table.values(), Outcome::default());
+        let (values, mut out) = (self.values(), Outcome::default());
         // SAFETY: the seat is this reader's (one user), and no guard uses it.
         let answer = unsafe { values.look(self.own.core, wanted, &mut out) };
         if answer != core::DONE || frees(&out) {
@@ -92,7 +92,7 @@ impl<T> Reader<T> {
     // Looks up by a seat of the table.
     #[inline(never)]
     fn find_by_another(&self, wanted: impl Wanted) -> Result<Guard<'_, T>, GetError> {
-        let (values, mut out) = (self.table.values(), Outcome::default());
+        let (values, mut out) = (self.values(), Outcome::default());
         let place = values.seats.claim_guard().map_err(GetError::NoSeat)?;
         // SAFETY: the seat is this call's (one user).
         let answer = unsafe { values.look(place.core, wanted, &mut out) };
@@ -117,7 +117,7 @@ impl<T> Reader<T> {
             Ok(Guard::new(self, Held::of(out), place, slot))
         } else {
             self.end(place.number);
-            Err(self.table.values().get_error(answer, slot))
+            Err(self.values().get_error(answer, slot))
         };
         drop_unused(unused);
         guard
@@ -151,13 +151,28 @@ impl<T> Reader<T> {
         &self.table
     }
 
-    /// Notes that a guard has a seat.
+    #[inline]
+    pub(super) fn values(&self) -> &Values<T> {
+        self.table.values()
+    }
+
+    /// Takes the reader's own seat if it is free, or else a guard's seat of the table.
+    pub(super) fn take_seat(&self) -> Result<Place, NoSeat> {
+        let place = match self.is_busy.get() {
+            true => self.values().seats.claim_guard()?,
+            false => self.own,
+        };
+        self.note(place.number);
+        Ok(place)
+    }
+
+    /// Notes that a guard or a cached slot has a seat.
     fn note(&self, number: u32) {
         if number == self.own.number {
             self.is_busy.set(true);
             return;
         }
-        let seats = &self.table.values().seats.looking;
+        let seats = &self.values().seats.looking;
         let first = self.others.replace(Some(number));
         seats[number as usize].next.set(first);
         if let Some(first) = first {
@@ -168,11 +183,11 @@ impl<T> Reader<T> {
     /// Gives a seat back that no guard has got.
     fn end(&self, number: u32) {
         if number != self.own.number {
-            self.table.values().seats.give_back(number);
+            self.values().seats.give_back(number);
         }
     }
 
-    /// Gives the seat of a guard back, which holds no value any more.
+    /// Gives the seat of a guard or a cached slot back, which holds no value any more.
     #[inline]
     pub(super) fn give_back(&self, number: u32) {
         if number == self.own.number {
@@ -185,7 +200,7 @@ impl<T> Reader<T> {
     // Gives the seat of a guard back, which isn't the reader's own.
     #[inline(never)]
     fn give_other_back(&self, number: u32) {
-        let seats = &self.table.values().seats;
+        let seats = &self.values().seats;
         let looking = &seats.looking;
         let seat = &looking[number as usize];
         let (next, previous) = (seat.next.take(), seat.previous.take());
@@ -201,10 +216,10 @@ impl<T> Reader<T> {
 
     /// Ends the hold of a seat whose guard was forgotten. Returns the value if this closed it.
     fn end_forgotten(&self, number: u32) -> Option<Box<T>> {
-        let values = self.table.values();
+        let values = self.values();
         let core = values.seats.looking[number as usize].core();
-        // SAFETY: a guard borrows the reader, so none is alive: this seat's guard was forgotten,
-        // and nobody has a reference to its value by this hold.
+        // SAFETY: guards and cached slots borrow the reader, so none is alive: that of this seat
+        // was forgotten, and nobody has a reference to its value, if it holds one.
         let freed = unsafe { values.release(core, std::ptr::null()) };
         self.give_back(number);
         freed
@@ -220,7 +235,7 @@ impl<T> Drop for Reader<T> {
         if self.is_busy.get() {
             freed.extend(self.end_forgotten(self.own.number));
         }
-        self.table.values().seats.give_back(self.own.number);
+        self.values().seats.give_back(self.own.number);
         // The seats are back. The values are dropped with the list, one after another, even if the
         // drop of one panics.
     }

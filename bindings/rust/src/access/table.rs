@@ -61,6 +61,12 @@ impl<T> Table<T> {
         &self.values
     }
 
+    /// Gives a guard's seat back.
+    #[inline]
+    pub(super) fn give_back(&self, number: u32) {
+        self.values.seats.give_back(number);
+    }
+
     /// Returns the number of slots. They are numbered from 0.
     pub fn slots(&self) -> u32 {
         self.values.slots()

@@ -157,6 +157,14 @@ impl<T> Values<T> {
         NoSlot { slot, slots }
     }
 
+    /// Checks that there is such a slot.
+    pub(super) fn check(&self, slot: u32) -> Result<(), GetError> {
+        match slot < self.slots {
+            true => Ok(()),
+            false => Err(GetError::NoSlot(self.no_slot(slot))),
+        }
+    }
+
     /// Returns the reason why a value isn't installed if every slot has one.
     pub(super) fn full(&self) -> Reason {
         let slots = self.slots;
@@ -193,12 +201,22 @@ impl<T> Values<T> {
         }
     }
 
+    /// Checks whether a slot has the value that a seat holds, by one load.
+    ///
+    /// # Safety
+    /// The core's worker is of a seat that the caller has (one user). It holds a value.
+    #[inline(always)]
+    pub(super) unsafe fn is_current(&self, core: *mut Core, slot: u32) -> bool {
+        // SAFETY: no other call uses the core's worker meanwhile.
+        unsafe { core::yacht_core_is_current(core, slot) == 1 }
+    }
+
     /// Ends the hold of a seat. Returns its value if this call closed it. `value` is its address,
     /// for a sanitizer alone; it is null if the caller doesn't know it.
     ///
     /// # Safety
-    /// The core's worker is of a seat that the caller has (one user). It holds a value, to which no
-    /// reference by this hold is left.
+    /// The core's worker is of a seat that the caller has (one user). If it holds a value, no
+    /// reference to that by this hold is left.
     #[inline]
     pub(super) unsafe fn release(&self, core: *mut Core, value: *const T) -> Option<Box<T>> {
         order::release(value as usize as u64);

@@ -85,3 +85,13 @@ pub(crate) unsafe fn is_every_slot_full(core: *mut Core) -> bool {
     let worker: &Worker = unsafe { &*(*core).worker().cast() };
     (0..worker.table.size).all(|it| node_in(worker.table.slot(it).peek()).is_some())
 }
+
+/// Returns the tag of the file at a slot, or 0 if it has none.
+///
+/// # Safety
+/// As of the core's functions.
+pub(crate) unsafe fn tag_at(core: *mut Core, slot: usize) -> u64 {
+    let worker: &Worker = unsafe { &*(*core).worker().cast() };
+    let table = &worker.table;
+    node_in(table.slot(slot).peek()).map_or(0, |node| table.tag(node).peek())
+}

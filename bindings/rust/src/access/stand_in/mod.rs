@@ -21,7 +21,7 @@ use super::sync::{self, Turn};
 use std::sync::Arc;
 
 #[cfg(all(test, yachtbanyan_stand_in))]
-pub(crate) use idle::{check_idle, is_every_slot_full};
+pub(crate) use idle::{check_idle, is_every_slot_full, tag_at};
 pub(crate) use pass::{Looked, Miss, Pass};
 pub(crate) use range::Found;
 pub(crate) use words::{node_in, Config, Table};
@@ -296,6 +296,15 @@ pub(crate) unsafe fn yacht_core_release(handle: *mut Core, dropped: *mut u64) ->
     };
     let Worker { table, pass, .. } = &mut *it;
     answer(table.release(pass, node), DONE, dropped)
+}
+
+pub(crate) unsafe fn yacht_core_is_current(handle: *mut Core, slot: u32) -> i64 {
+    let it = unsafe { worker(handle) };
+    match it.held {
+        None => IDLE,
+        Some(_) if slot as usize >= it.table.size => NO_SLOT,
+        Some(node) => it.table.is_current(slot as usize, node).into(),
+    }
 }
 
 pub(crate) unsafe fn yacht_core_put_empty(handle: *mut Core, slot: u32, tag: u64) -> i64 {

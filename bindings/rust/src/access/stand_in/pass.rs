@@ -167,6 +167,12 @@ impl Table {
         self.let_go(node)
     }
 
+    /// Checks whether the slot has the file of a node that a pass holds.
+    #[inline(always)]
+    pub(crate) fn is_current(&self, slot: usize, node: usize) -> bool {
+        node_in(self.slot(slot).load(SeqCst)) == Some(node)
+    }
+
     // Finds a free node of the pass's stock, from the entry on that it found last.
     fn seek(&self, pass: &mut Pass) -> usize {
         for _ in 0..pass.stock.len() {

@@ -1,6 +1,7 @@
 //! Each call with its answer in words, and the answers that it may have at a moment of the table.
 use super::balance::{Before, Beside, Case, Scene, Value, GUARDS, HANDLES};
-use crate::{Guard, Key, Old, OwnedGuard, Reason, Refused, RemoveError};
+use crate::{Cached, GetError, Guard, Key, Old, OwnedCached, OwnedGuard};
+use crate::{Reason, Refused, RemoveError};
 use std::fmt::Debug;
 
 /// An answer in words, and the key of a value that the call installed.
@@ -22,6 +23,20 @@ fn insert_with(it: &Scene) -> Result<Key, Reason> {
     assert!(answer.is_err() || answer.ok() == given, "another key");
     answer
 }
+
+/// Looks a cached slot up twice.
+macro_rules! look_twice {
+    ($($name:ident($cached:ty);)*) => { $(
+        fn $name(cached: Result<$cached, GetError>) -> Result<(), GetError> {
+            let mut cached = cached?;
+            let (slot, sees) = (cached.slot(), cached.get().is_some());
+            cached.get();
+            sees.then_some(()).ok_or(GetError::Empty { slot })
+        }
+    )* };
+}
+
+look_twice! { cached(Cached<'_, Value>); owned_cached(OwnedCached<Value>); }
 
 /// Returns the answer of a call that is done as `done` says.
 fn said<R, E: Debug>(answer: Result<R, E>, done: impl FnOnce(R) -> Answer) -> Answer {
@@ -67,6 +82,8 @@ calls! {
     "Reader::get" |it, key| it.reader.get(key) => found;
     "Table::get_owned_at" |it, key| it.table.get_owned_at(key.slot()) => found;
     "Table::get_owned" |it, key| it.table.get_owned(key) => found;
+    "Reader::cached, get_at" |it, key| cached(it.reader.cached(key.slot())) => found;
+    "Table::cached, get_at" |it, key| owned_cached(it.table.cached(key.slot())) => found;
     "Handle::insert" |it, _key| it.handle.insert(it.value()).map_err(reason) => inserted;
     "Handle::try_insert" |it, _key| it.handle.try_insert(it.value()).map_err(reason) => inserted;
     "Handle::insert_with" |it, _key| insert_with(it) => inserted;

@@ -168,6 +168,28 @@ const TAKE: Part = |it, _| {
 
 const REPLACE: Part = |it, _| assert!(it.table.replace_at(0, it.value()).is_ok());
 
+const CACHE: Part = |it, _| {
+    if let Ok(mut cached) = it.table.cached(0) {
+        (0..2).for_each(|_| cached.get().into_iter().for_each(Value::check));
+    }
+};
+
+const PUBLISH: Part = |it, key| {
+    REPLACE(it, key);
+    it.given.0.store(1, Release);
+};
+
+// It looks again after the replacement, if it sees the flag.
+const FOLLOW: Part = |it, _| {
+    let mut cached = it.table.cached(0).unwrap();
+    cached.get().unwrap().check();
+    if it.given.0.load(Acquire) == 1 {
+        let (value, places) = (cached.get().unwrap(), it.places.borrow());
+        value.check();
+        assert!(!Rc::ptr_eq(&value.place, &places[0]), "an old value is found");
+    }
+};
+
 const READ: Part = |it, key| match it.table.reader() {
     Ok(reader) => _ = reader.get(key).map(|it| it.check()),
     Err(error) => assert_eq!(error, NoSeat::Reader { in_use: 1 }),
@@ -210,6 +232,14 @@ fn no_order_at_the_seats_is_wrong() {
 fn no_order_of_guards_is_wrong() {
     Family::seats(16, [1, 1, 0, 2], &[LOOK_OWNED, LOOK_OWNED, REPLACE]).has(1827);
     Family::seats(0, [1, 1, 0, 2], &[LOOK_OWNED, LOOK_OWNED, REPLACE]).has(1659);
+}
+
+#[test]
+fn no_order_of_cached_slots_is_wrong() {
+    Family::seats(16, [1, 1, 0, 1], &[FOLLOW, PUBLISH]).has(50);
+    Family::seats(0, [1, 1, 0, 1], &[FOLLOW, PUBLISH]).has(50);
+    Family::seats(16, [1, 1, 0, 2], &[CACHE, CACHE, REPLACE]).has(7431);
+    Family::seats(0, [1, 1, 0, 2], &[CACHE, CACHE, REPLACE]).has(5931);
 }
 
 /// A thread's steps at an atomic and a place of memory.

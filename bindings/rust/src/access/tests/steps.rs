@@ -156,6 +156,14 @@ fn steps_at_a_slot() {
 }
 
 #[test]
+fn steps_of_a_check() {
+    HOT.has_all(4694, &[&[&[LOOK_CURRENT]], &[REQUESTS; 2]]);
+    COLD.has_all(1543, &[&[&[LOOK_CURRENT]], &[REQUESTS; 2]]);
+    WARM.has_all(4406, &[&[&[LOOK_CURRENT]], &[REQUESTS; 2]]);
+    HOT.has(853, &[&[LOOK_CURRENT], &[REMOVE, PUT, REMOVE]]);
+}
+
+#[test]
 fn steps_by_key() {
     HOT.has_all(2546, &[&[BY_KEY], &[BY_KEY]]);
     COLD.has_all(2213, &[&[BY_KEY], &[BY_KEY]]);

@@ -150,6 +150,18 @@ pub(super) const LOOK: Call = |it, who| {
     it.use_found(who, found, &out);
 };
 
+/// A look-up, and a check whether the slot still has the file.
+pub(super) const LOOK_CURRENT: Call = |it, who| {
+    let mut out = Outcome::default();
+    let found = unsafe { yacht_core_get_at(it.core(who), 0, &mut out) };
+    if found == DONE {
+        let told = unsafe { yacht_core_is_current(it.core(who), 0) };
+        let is_there = unsafe { tag_at(it.core(who), 0) } == out.tag;
+        assert!(told == i64::from(is_there), "a check of a held file is wrong");
+    }
+    it.use_found(who, found, &out);
+};
+
 pub(super) const LOOK_KEY: Call = |it, who| {
     let (mut out, number) = (Outcome::default(), it.number.get());
     let found = unsafe { yacht_core_get(it.core(who), 0, number, &mut out) };
