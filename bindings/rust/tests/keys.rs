@@ -137,3 +137,50 @@ fn a_function_that_makes_a_value_inserts_none_by_the_handle() {
     assert_eq!((handle.len(), calls, *handle.get(key.unwrap()).unwrap()), (1, 1, 9));
     assert!(handle.insert(7).is_ok());
 }
+
+#[test]
+fn no_update_is_lost() {
+    let table = Options::new(1).handles(4).open::<usize>().unwrap();
+    table.insert(0).unwrap();
+    let update = || {
+        let handle = table.handle().unwrap();
+        let each = |_| handle.update_at(0, |it| it + 1).unwrap();
+        (0..2_000).map(each).map(|(key, _, runs)| (key, runs)).collect::<Vec<_>>()
+    };
+    let updates: Vec<_> = std::thread::scope(|scope| {
+        let threads: Vec<_> = (0..4).map(|_| scope.spawn(update)).collect();
+        threads.into_iter().flat_map(|it| it.join().unwrap()).collect()
+    });
+    let keys: HashSet<_> = updates.iter().map(|it| it.0).collect();
+    assert_eq!((keys.len(), *table.get_owned_at(0).unwrap()), (8_000, 8_000));
+    assert!(updates.iter().all(|it| it.1 >= 1));
+    // a value that others replace while it is read is read again
+    let (handle, mut seen) = (table.handle().unwrap(), Vec::new());
+    let (_, old, runs) = handle
+        .update_at(0, |&it| {
+            if seen.is_empty() {
+                table.replace_at(0, 7).unwrap();
+            }
+            seen.push(it);
+            it + 1
+        })
+        .unwrap();
+    assert_eq!((seen, old, runs), (vec![8_000, 7], Old::Unused(7), 2));
+    let empties = |_: &usize| table.remove_at(0).map_or(0, |_| 9);
+    assert_eq!(handle.update_at(0, empties).unwrap_err(), GetError::Empty { slot: 0 });
+    assert!(handle.is_empty() && handle.update_at(1, |&it| it).is_err());
+}
+
+#[test]
+fn a_key_is_contained_while_its_value_is_there() {
+    let table = Table::with_slots(2).unwrap();
+    let handle = table.handle().unwrap();
+    let first = handle.insert("first").unwrap();
+    let both = |key| (handle.contains_key(key), table.contains_key(key).unwrap());
+    assert_eq!(both(first), (true, true));
+    let (second, _) = handle.replace(first, "second").unwrap();
+    assert_eq!((both(first), both(second)), ((false, false), (true, true)));
+    handle.remove(second).unwrap();
+    handle.insert("third").unwrap();
+    assert_eq!(both(second), (false, false));
+}

@@ -5,7 +5,7 @@ use super::reader::Reader;
 use super::seats::{Installer, Place};
 use super::storage::{self, Spare};
 use super::table::Table;
-use super::values::{Round, Values};
+use super::values::{At, Round, Values, Wanted};
 use crate::errors::{GetError, NoSlot, Reason, Refused};
 use crate::iter::Iter;
 use crate::key::Key;
@@ -235,9 +235,13 @@ impl<T> Handle<T> {
     /// Checks whether a slot has a value. A slot that the table hasn't has none. It is a look-up,
     /// and may drop values that others replaced or removed while it ran.
     pub fn contains(&self, slot: u32) -> bool {
+        self.sees(At(slot))
+    }
+
+    pub(super) fn sees(&self, wanted: impl Wanted) -> bool {
         let (values, core) = self.parts();
         // SAFETY: the seat is this handle's (one user), and holds nothing between two calls.
-        let (sees, unused) = unsafe { values.sees(core, slot) };
+        let (sees, unused) = unsafe { values.sees(core, wanted) };
         drop(unused);
         sees
     }

@@ -4,7 +4,7 @@ use super::guard::{Guard, OwnedGuard};
 use super::handle::Handle;
 use super::storage;
 use super::values::{drop_last, drop_unused, Unused, Values};
-use crate::errors::{GetError, NoSeat, Refused, RemoveError};
+use crate::errors::{GetError, NoSeat, Reason, Refused, RemoveError};
 use crate::key::Key;
 use crate::old::Old;
 
@@ -153,6 +153,49 @@ impl<T> Handle<T> {
         };
         drop_unused(unused);
         replaced
+    }
+
+    /// Installs what `f` makes of the value at a slot, in place of that value and no other: if
+    /// others replaced it meanwhile, `f` is called again with the value that is there then. Returns
+    /// the new key, what became of the old value, and how often `f` was called.
+    ///
+    /// # Errors
+    /// `Empty` if the slot has no value, `NoSlot` and `NoSeat` as of [`Handle::get_at`], `Stale` if
+    /// the value has no number ([`Key`]).
+    ///
+    /// ```
+    /// let table = yachtbanyan::Table::<u32>::with_slots(1)?;
+    /// let handle = table.handle()?;
+    /// handle.insert(6)?;
+    /// let (key, _, runs) = handle.update_at(0, |it| it + 1)?;
+    /// assert_eq!((*handle.get(key)?, runs), (7, 1));
+    /// # Ok::<(), Box<dyn std::error::Error>>(())
+    /// ```
+    pub fn update_at(
+        &self,
+        slot: u32,
+        mut f: impl FnMut(&T) -> T,
+    ) -> Result<(Key, Old<T>, u32), GetError> {
+        let mut runs = 0;
+        loop {
+            let guard = self.get_at(slot)?;
+            let (key, made) = (guard.key(), f(&guard));
+            drop(guard);
+            runs += 1;
+            match self.replace(key, made).map_err(|refused| refused.reason) {
+                Ok((key, old)) => return Ok((key, old, runs)),
+                // a value that has no number is never replaced by key
+                Err(_) if key.bits_of_number() == 0 => return Err(GetError::Stale { slot }),
+                Err(Reason::Empty { slot }) => return Err(GetError::Empty { slot }),
+                Err(_) => {}
+            }
+        }
+    }
+
+    /// Checks whether the slot of a key has the key's value. It is a look-up, as
+    /// [`Handle::contains`].
+    pub fn contains_key(&self, key: Key) -> bool {
+        self.sees(key)
     }
 
     /// Removes the value with this key. Returns what became of it. A value that is in use is

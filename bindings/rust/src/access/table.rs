@@ -231,9 +231,13 @@ impl<T> Table<T> {
     /// # Errors
     /// [`NoSeat::Handle`] if all seats that install have handles.
     pub fn contains(&self, slot: u32) -> Result<bool, NoSeat> {
+        self.sees(At(slot))
+    }
+
+    pub(super) fn sees(&self, wanted: impl Wanted) -> Result<bool, NoSeat> {
         let call = self.values.seats.claim_call()?;
         // SAFETY: the seat is this call's (one user).
-        let (sees, unused) = unsafe { self.values.sees(call.core(), slot) };
+        let (sees, unused) = unsafe { self.values.sees(call.core(), wanted) };
         drop(call);
         drop_unused(unused);
         Ok(sees)

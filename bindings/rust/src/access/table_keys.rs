@@ -3,7 +3,7 @@ use super::guard::OwnedGuard;
 use super::keys::remove_by_call;
 use super::table::Table;
 use super::values::drop_unused;
-use crate::errors::{GetError, Reason, Refused, RemoveError};
+use crate::errors::{GetError, NoSeat, Reason, Refused, RemoveError};
 use crate::key::Key;
 use crate::old::Old;
 
@@ -15,6 +15,14 @@ impl<T> Table<T> {
     /// `Stale` if the slot has another value, and as of [`Table::get_owned_at`].
     pub fn get_owned(&self, key: Key) -> Result<OwnedGuard<T>, GetError> {
         self.find_owned(key)
+    }
+
+    /// Checks whether the slot of a key has the key's value, as [`Table::contains`].
+    ///
+    /// # Errors
+    /// [`NoSeat::Handle`] if all seats that install have handles.
+    pub fn contains_key(&self, key: Key) -> Result<bool, NoSeat> {
+        self.sees(key)
     }
 
     /// Installs a value in place of the one with this key, by a seat for this call, as

@@ -227,15 +227,15 @@ impl<T> Values<T> {
         (answer == core::DROPPED).then(|| unsafe { value_of(closed) })
     }
 
-    /// Looks a slot up and releases what is there. Returns whether there was a value, and the
-    /// values that these calls were the last to use.
+    /// Looks a slot or a key up and releases what is found. Returns whether there was a value, and
+    /// the values that these calls were the last to use.
     ///
     /// # Safety
     /// As of `look`.
-    pub(super) unsafe fn sees(&self, core: *mut Core, slot: u32) -> (bool, Unused<T>) {
+    pub(super) unsafe fn sees(&self, core: *mut Core, wanted: impl Wanted) -> (bool, Unused<T>) {
         let (mut out, mut unused) = (Outcome::default(), Vec::new());
         // SAFETY: as the caller ensures.
-        let sees = unsafe { self.look(core, At(slot), &mut out) } == core::DONE;
+        let sees = unsafe { self.look(core, wanted, &mut out) } == core::DONE;
         // SAFETY: the core closed these files in the look-up (`found`).
         unsafe { add_unused(&mut unused, &out) };
         if sees {
