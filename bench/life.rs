@@ -1,5 +1,6 @@
-// Instructions of a life (reserve, opened, start, finish, end, closed) of a direct descriptor:
-// the machine of libyachtdirect, and a slab with a generation and a count in plain Rust, each
+// Instructions of a life of a direct descriptor: in the machine of libyachtdirect by requests
+// (reserve, opened, start, finish, end, closed) and by a chain (reserve, chain, and chained for the
+// open, a read and the close), and in a slab with a generation and a count in plain Rust, each
 // called by functions with the C calling convention that are not inlined.
 use std::hint::black_box;
 
@@ -15,6 +16,20 @@ mod machine {
         pub fn yacht_direct_opened(
             machine: *mut Direct,
             key: u64,
+            result: i32,
+            slot: *mut u32,
+        ) -> i32;
+        pub fn yacht_direct_chain(
+            machine: *mut Direct,
+            key: u64,
+            requests: u32,
+            closes: u32,
+            slot: *mut u32,
+        ) -> i32;
+        pub fn yacht_direct_chained(
+            machine: *mut Direct,
+            key: u64,
+            member: u32,
             result: i32,
             slot: *mut u32,
         ) -> i32;
@@ -157,7 +172,26 @@ fn main() {
     let words: Vec<String> = std::env::args().collect();
     let (kind, lives): (&str, u64) = (&words[1], words[2].parse().unwrap());
     let (mut key, mut slot, mut closes) = (0u64, 0u32, 0u64);
-    if kind == "machine" {
+    if kind == "chain" {
+        unsafe {
+            use machine::*;
+            let mut it = Direct {
+                slots: std::ptr::null_mut(),
+            };
+            assert_eq!(yacht_direct_open_6(&mut it, 1024), 0);
+            for _ in 0..lives {
+                assert!(yacht_direct_reserve(&mut it, &mut key, &mut slot) == 0);
+                let closing = black_box(1);
+                assert!(yacht_direct_chain(&mut it, black_box(key), 1, closing, &mut slot) == 0);
+                for member in 0..3 {
+                    let (key, result) = (black_box(key), black_box(0));
+                    assert!(yacht_direct_chained(&mut it, key, member, result, &mut slot) == 0);
+                }
+                closes += 1;
+            }
+            yacht_direct_free(it);
+        }
+    } else if kind == "machine" {
         unsafe {
             use machine::*;
             let mut it = Direct {

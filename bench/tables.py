@@ -182,7 +182,9 @@ def of_judge():
 
 def of_lives():
     machine, slab, other = found("bench/direct.txt", r"^machine (.*), slab (.*), ratio (.*)$")[0]
-    return lines([("libyachtdirect", "slab in plain Rust", "ratio"), (f"{machine} instructions", slab, other)])
+    chain, of_chain = found("bench/direct.txt", r"^chain (.*), ratio (.*)$")[0]
+    rows = [("a life by requests", f"{machine} instructions", slab, other), ("a life by a chain of three", f"{chain} instructions", slab, of_chain)]
+    return lines([("", "libyachtdirect", "slab in plain Rust", "ratio"), *rows])
 
 
 def of_descriptors():
