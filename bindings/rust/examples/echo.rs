@@ -3,6 +3,9 @@
 //! Then it ends each connection, and prints how many it opened and closed. It ends with status 77
 //! if `io_uring` is refused.
 #[allow(dead_code)]
+#[path = "direct/log.rs"]
+mod log;
+#[allow(dead_code)]
 #[path = "direct/ring.rs"]
 mod ring;
 
@@ -66,7 +69,7 @@ fn serve(mut lives: Lines, listener: &TcpListener) -> Result<(), Box<dyn Error>>
 fn main() -> Result<ExitCode, Box<dyn Error>> {
     let listener = TcpListener::bind(("127.0.0.1", 0))?;
     ring::set_backlog(&listener, 512)?;
-    let Ok(ring) = Ring::new(128, SLOTS) else {
+    let Ok(ring) = Ring::new(128, SLOTS, None) else {
         eprintln!("io_uring is refused");
         return Ok(ExitCode::from(77));
     };

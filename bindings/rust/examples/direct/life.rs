@@ -31,6 +31,7 @@ impl Connection {
     }
 
     pub fn received(&mut self, count: usize) {
+        self.is_receiving = false;
         // SAFETY: the receive has written these bytes of the room.
         unsafe { self.input.set_len(self.input.len() + count) };
     }

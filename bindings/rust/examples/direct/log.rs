@@ -1,35 +1,29 @@
-//! A ring that writes the calls on its table, and what was seen of them, as a log of calls in
-//! flight (docs/inside/FLIGHT.md), which a judge compares with the rules of the table.
+//! Writes the calls on the ring's table, and what was seen of them, as a log of calls in flight
+//! (docs/inside/FLIGHT.md), which a judge compares with the rules of the table.
 //!
 //! An accept is an open of the file `c`. A receive is a look, and the file that it found is that
 //! of the connection whose number the line has: so a line that reached another connection shows. A
 //! line without a number, and the end of a connection, don't show which file they found: there the
 //! log has the one of the receive's own key. Sends and shutdowns are left out: they change
 //! nothing.
-use crate::ring::{Ring, Sqe};
+use crate::ring::Sqe;
 use std::collections::HashMap;
-use std::ffi::{c_char, CStr};
 use std::fs::{self, File};
 use std::io::{LineWriter, Result, Write};
 use std::path::Path;
-use std::slice;
-use yachtbanyan::direct::{self, Completion, Entry, Key, Request};
+use yachtbanyan::direct::{Completion, Entry, Key, Request};
 
-const FIXED_FILE: u8 = 1;
-const SOFT_LINK: u8 = 4;
 const EMPTY_SLOT: i32 = -9;
 const CANCELED: i32 = -125;
-
-/// A request in flight: its name in the log, the first word of its line, and its bytes.
-type Member = (String, &'static str, u64);
 
 pub struct Log {
     out: LineWriter<File>,
     calls: u32,
-    // the chain that is queued: its requests' words, and its members with their user data
+    // the words of the chain that is queued
     words: Vec<String>,
-    members: Vec<(u64, Member)>,
-    in_flight: HashMap<u64, Member>,
+    // of each request, by its user data: its name in the log, the first letter of its words, and
+    // its entry
+    in_flight: HashMap<u64, (String, u8, Option<Sqe>)>,
     // the open of each life, and that of the life at which a client's number was seen first
     opens: HashMap<Key, String>,
     owners: HashMap<u32, String>,
@@ -37,13 +31,6 @@ pub struct Log {
 
 fn hex(bytes: &[u8]) -> String {
     bytes.iter().map(|it| format!("{it:02x}")).collect()
-}
-
-/// Returns the name of the file of a path.
-fn name_at(path: u64) -> String {
-    // SAFETY: the path of an open that is queued.
-    let path = unsafe { CStr::from_ptr(path as *const c_char) }.to_string_lossy();
-    path.rsplit('/').next().unwrap_or_default().to_string()
 }
 
 /// Returns the number of the client whose line is among these bytes.
@@ -64,103 +51,61 @@ impl Log {
             }
         }
         writeln!(out, "call 1 sparse {slots}\ndone 1.1 0")?;
-        let (words, members) = (Vec::new(), Vec::new());
         let (in_flight, opens, owners) = (HashMap::new(), HashMap::new(), HashMap::new());
-        Ok(Log { out, calls: 1, words, members, in_flight, opens, owners })
+        Ok(Log { out, calls: 1, words: Vec::new(), in_flight, opens, owners })
     }
 
-    fn queued(&mut self, it: &Entry<Sqe>) -> Result<()> {
+    /// Appends a call, once the last entry of a chain is queued.
+    pub fn queued(&mut self, it: &Entry<Sqe>) -> Result<()> {
+        const LINKS: [&str; 3] = ["", " link", " hardlink"];
         let (to, slot) = (it.file_index.wrapping_sub(1), it.fd);
-        let (word, words, at) = match it.request {
-            Request::Accept(_) => ("open", format!("open c at {to}"), 0),
-            Request::Close => ("close", format!("close {to}"), 0),
-            Request::Own(own) => match own.opcode {
-                Sqe::OPEN => ("open", format!("open f{} at {to}", name_at(own.address)), 0),
-                Sqe::READ if it.flags > 0 => {
-                    ("read", format!("read {slot} 0 {}", own.len), own.address)
-                }
-                Sqe::RECEIVE => ("look", format!("look {slot}"), own.address),
-                _ => return Ok(()),
-            },
-            _ => return Ok(()),
+        let (words, own) = match it.request {
+            Request::Accept(_) => (format!("open c at {to}"), None),
+            Request::Close => (format!("close {to}"), None),
+            Request::Own(own) => (own.words(slot, to), Some(own)),
+            _ => (String::new(), None),
         };
-        let link = match it.flags & !FIXED_FILE {
-            SOFT_LINK => " link",
-            0 => "",
-            _ => " hardlink",
+        let Some(letter) = words.bytes().next() else {
+            return Ok(());
         };
+        let link = LINKS[usize::from(it.flags / 4)];
         self.words.push(words + link);
         let name = format!("{}.{}", self.calls + 1, self.words.len());
-        self.members.push((it.user_data, (name, word, at)));
+        self.in_flight.insert(it.user_data, (name, letter, own));
         if link.is_empty() {
             self.calls += 1;
-            self.in_flight.extend(self.members.drain(..));
             writeln!(self.out, "call {} {}", self.calls, self.words.join(" ; "))?;
             self.words.clear();
         }
         Ok(())
     }
 
-    fn completed(&mut self, it: Completion) -> Result<()> {
+    /// Appends an answer.
+    pub fn completed(&mut self, it: Completion) -> Result<()> {
         let Completion { user_data, result, .. } = it;
-        let Some((name, word, at)) = self.in_flight.remove(&user_data) else {
+        let Some((name, letter, own)) = self.in_flight.remove(&user_data) else {
             return Ok(());
         };
+        let bytes = own.map(|it| it.written(result)).unwrap_or_default();
         let key = Key::from_bits(user_data).0;
-        let bytes = match at {
-            0 => &[],
-            // SAFETY: the request has written these bytes, and the caller hasn't seen this as yet.
-            _ => unsafe { slice::from_raw_parts(at as *const u8, result.max(0) as usize) },
-        };
-        match word {
-            "open" if result >= 0 => {
-                writeln!(self.out, "done {name} 0")?;
-                self.opens.insert(key, name);
+        match letter {
+            // an accept that was canceled has no answer
+            b'o' if own.is_none() && result == CANCELED => Ok(()),
+            b'o' if result >= 0 => {
+                self.opens.insert(key, name.clone());
+                writeln!(self.out, "done {name} 0")
             }
-            "look" if result != EMPTY_SLOT => {
+            b'l' if result != EMPTY_SLOT => {
                 let own = self.opens.get(&key).cloned().unwrap_or_default();
-                let owner = match number_in(bytes) {
+                let owner = match number_in(&bytes) {
                     Some(number) => self.owners.entry(number).or_insert(own),
                     None => &own,
                 };
                 let call = name.trim_end_matches(".1");
-                writeln!(self.out, "done {name} 0 {owner}.0\nfree {call}")?;
+                writeln!(self.out, "done {name} 0 {owner}.0\nfree {call}")
             }
-            "read" if result > 0 => writeln!(self.out, "done {name} {result} {}", hex(bytes))?,
-            // an accept that was canceled has no answer
-            "open" if result == CANCELED => {}
-            _ => writeln!(self.out, "done {name} {result}")?,
+            b'r' if result > 0 => writeln!(self.out, "done {name} {result} {}", hex(&bytes)),
+            _ => writeln!(self.out, "done {name} {result}"),
         }
-        Ok(())
-    }
-}
-
-/// A ring, with a log of its calls if it has one.
-pub struct Logged(pub Ring, pub Option<Log>);
-
-impl direct::Ring for Logged {
-    type Request = Sqe;
-
-    fn push(&mut self, entry: Entry<Sqe>) -> Result<()> {
-        if let Some(log) = &mut self.1 {
-            log.queued(&entry)?;
-        }
-        self.0.push(entry)
-    }
-
-    fn make_room(&mut self, entries: usize) -> Result<()> {
-        self.0.make_room(entries)
-    }
-
-    fn completion(&mut self) -> Option<Completion> {
-        let it = self.0.completion()?;
-        if let Some(log) = &mut self.1 {
-            log.completed(it).expect("the log is written");
-        }
-        Some(it)
-    }
-
-    fn wait(&mut self) -> Result<()> {
-        self.0.wait()
     }
 }

@@ -19,7 +19,7 @@ mod ring;
 mod server;
 mod work;
 
-use log::{Log, Logged};
+use log::Log;
 use ring::Ring;
 use server::{Counts, Server};
 use std::env;
@@ -38,7 +38,7 @@ const ENTRIES: u32 = 256;
 const BACKLOG: i32 = 512;
 const NO_IO_URING: u8 = 77;
 
-fn serve(ring: Logged, slots: u32, folder: PathBuf) -> Result<Counts, Box<dyn Error>> {
+fn serve(ring: Ring, slots: u32, folder: PathBuf) -> Result<Counts, Box<dyn Error>> {
     let listener = TcpListener::bind(("127.0.0.1", 0))?;
     ring::set_backlog(&listener, BACKLOG)?;
     println!("{}", listener.local_addr()?.port());
@@ -51,9 +51,10 @@ fn serve(ring: Logged, slots: u32, folder: PathBuf) -> Result<Counts, Box<dyn Er
         let bell = bell.clone();
         move || bell.ring()
     });
-    let (lives, handle, counts) = (Lives::new(ring, slots)?, table.handle()?, Counts::default());
+    let (lives, handle) = (Lives::new(ring, slots)?, table.handle()?);
+    let (counts, unread) = (Counts::default(), Box::default());
     let server =
-        Server { lives, handle, releases, asked, answered, listener, folder, bell, counts };
+        Server { lives, handle, releases, asked, answered, listener, folder, bell, unread, counts };
     let counts = server.serve()?;
     for worker in workers {
         worker.join().expect("a worker ends");
@@ -64,16 +65,15 @@ fn serve(ring: Logged, slots: u32, folder: PathBuf) -> Result<Counts, Box<dyn Er
 fn main() -> Result<ExitCode, Box<dyn Error>> {
     let folder = PathBuf::from(env::args().nth(1).ok_or("direct FOLDER [SLOTS [LOG]]")?);
     let slots = env::args().nth(2).map_or(Ok(64), |it| it.parse())?;
-    let ring = match Ring::new(ENTRIES, slots) {
+    let log = env::args().nth(3).map(|it| Log::new(Path::new(&it), &folder, slots)).transpose()?;
+    let ring = match Ring::new(ENTRIES, slots, log) {
         Ok(ring) => ring,
         Err(error) => {
             eprintln!("io_uring is refused: {error}");
             return Ok(ExitCode::from(NO_IO_URING));
         }
     };
-    let log = env::args().nth(3).map(|it| Log::new(Path::new(&it), &folder, slots)).transpose()?;
-    let Counts { opened, closed, waits, ended, late, .. } =
-        serve(Logged(ring, log), slots, folder)?;
+    let Counts { opened, closed, waits, ended, late, .. } = serve(ring, slots, folder)?;
     println!(
         "{opened} opened, {closed} closed; {waits} times the backlog waited; {ended} ended by the \
          server"

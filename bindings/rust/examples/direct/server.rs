@@ -1,13 +1,12 @@
 //! The ring's thread: lives of connections and files, and the requests on them.
 use crate::life::{Connection, Life, Reading};
-use crate::log::Logged;
-use crate::ring::Sqe;
+use crate::ring::{Ring, Sqe};
 use crate::work::{Bell, Job, Session};
 use std::cell::UnsafeCell;
 use std::error::Error;
 use std::ffi::CString;
 use std::net::TcpListener;
-use std::os::fd::AsRawFd;
+use std::os::fd::{AsRawFd, RawFd};
 use std::path::PathBuf;
 use std::sync::atomic::AtomicU32;
 use std::sync::mpsc::{Receiver, Sender};
@@ -42,13 +41,13 @@ pub struct Counts {
     pub closed: u32,
     pub ended: u32,
     pub late: u32,
-    /// How often clients had to wait in the backlog, since no slot was free.
+    /// How often no slot was free for an accept.
     pub waits: u32,
     lines: u32,
 }
 
 pub struct Server {
-    pub lives: Lives<Life, Logged>,
+    pub lives: Lives<Life, Ring>,
     pub handle: Handle<Session>,
     pub releases: Releases,
     pub asked: Sender<Job>,
@@ -56,42 +55,39 @@ pub struct Server {
     pub listener: TcpListener,
     pub folder: PathBuf,
     pub bell: Bell,
+    /// The bytes of the input and of the bell.
+    pub unread: Box<[UnsafeCell<u64>; 2]>,
     pub counts: Counts,
 }
 
 impl Server {
     /// Serves until the standard input ends, and then until each connection has ended.
     pub fn serve(mut self) -> Done<Counts> {
-        // how often the bell was rung; the byte is of the input
-        let (rings, byte) = (Box::new(UnsafeCell::new(0u64)), Box::new(UnsafeCell::new(0u8)));
         // an eighth of the slots is left for files
         let kept = self.lives.slots().slots().div_ceil(8);
         self.lives.accept(self.listener.as_raw_fd(), ACCEPTS, kept);
-        self.lives.push_other(Sqe::read_of(0, byte.get(), 1), INPUT);
-        self.listen_for(&rings);
+        self.listen_for(0, INPUT);
+        self.listen_for(self.bell.fd(), WAKE);
         while let Some(event) = self.lives.next()? {
             match event {
                 Event::Opened(key, result) => self.opened(key, result)?,
-                Event::Completed { key, kind: RECEIVE, result, .. } => {
-                    self.received(key, result)?
-                }
-                Event::Completed { key, kind: SEND, result, .. } => self.sent(key, result)?,
-                Event::Completed { key, result, .. } => self.read(key, result)?,
-                Event::Over(_, life) => self.over(life),
+                Event::Completed { key, kind: READ, result, .. } => self.read(key, result)?,
+                Event::Completed { key, kind, result, .. } => self.go_on(key, kind, result)?,
+                Event::Over(_, Life::File(Reading { error: Some(_), .. })) => {}
+                Event::Over(..) => self.counts.closed += 1,
                 Event::Stopped(error) => return Err(format!("accept: {error}").into()),
                 Event::Other(it) if it.user_data == INPUT => self.stop()?,
-                Event::Other(_) => {
-                    self.listen_for(&rings);
-                    self.woken()?;
-                }
+                Event::Other(_) => self.woken()?,
             }
         }
         assert_eq!(self.lives.slots().in_flight(), 0);
         Ok(self.counts)
     }
 
-    fn listen_for(&mut self, rings: &UnsafeCell<u64>) {
-        self.lives.push_other(Sqe::read_of(self.bell.fd(), rings.get().cast(), 8), WAKE);
+    // Reads what nobody looks at.
+    fn listen_for(&mut self, fd: RawFd, data: u64) {
+        let at = self.unread[data as usize - 1].get();
+        self.lives.push_other(Sqe::read_of(fd, at.cast(), 8), data);
     }
 
     fn connection(&mut self, key: Key) -> &mut Connection {
@@ -120,14 +116,14 @@ impl Server {
 
     fn receive(&mut self, key: Key) -> Done {
         let it = self.connection(key);
-        if it.is_receiving || it.name.is_none() {
-            return Ok(());
+        if !it.is_receiving && it.name.is_some() {
+            let room = it.room();
+            it.is_receiving = room.is_some();
+            if let Some((at, len)) = room {
+                self.lives.start(key, RECEIVE, Sqe::receive(at, len))?;
+            }
         }
-        let Some((at, len)) = it.room() else {
-            return Ok(());
-        };
-        it.is_receiving = true;
-        Ok(self.lives.start(key, RECEIVE, Sqe::receive(at, len))?)
+        Ok(())
     }
 
     // Sends an answer, unless its connection has ended meanwhile: then it goes to nobody.
@@ -202,38 +198,28 @@ impl Server {
         Ok(())
     }
 
-    fn received(&mut self, key: Key, result: i32) -> Done {
-        let it = self.connection(key);
-        it.is_receiving = false;
-        it.received(result.max(0) as usize);
-        self.go_on(key, result)
-    }
-
-    fn sent(&mut self, key: Key, result: i32) -> Done {
-        let it = self.connection(key);
-        it.sent += result.max(0) as usize;
-        if result > 0 && it.sent < it.output.len() && it.name.is_some() {
-            return self.send_rest(key);
+    // Goes on after a receive or a send.
+    fn go_on(&mut self, key: Key, kind: u8, result: i32) -> Done {
+        let (it, count) = (self.connection(key), result.max(0) as usize);
+        if kind == RECEIVE {
+            it.received(count);
+        } else {
+            it.sent += count;
+            if count > 0 && it.sent < it.output.len() && it.name.is_some() {
+                return self.send_rest(key);
+            }
+            it.is_answering = false;
         }
-        it.is_answering = false;
-        self.go_on(key, result)
-    }
-
-    fn go_on(&mut self, key: Key, result: i32) -> Done {
-        if result <= 0 {
+        if count == 0 {
             self.end(key)?;
         }
         self.next_line(key)?;
         self.receive(key)
     }
 
-    fn over(&mut self, life: Life) {
-        let was_open = !matches!(life, Life::File(Reading { error: Some(_), .. }));
-        self.counts.closed += u32::from(was_open);
-    }
-
     // Takes what other threads left: users that are gone, and answers.
     fn woken(&mut self) -> Done {
+        self.listen_for(self.bell.fd(), WAKE);
         for key in self.releases.collect() {
             self.lives.release(key)?;
         }

@@ -1,8 +1,7 @@
 //! The threads that work on connections, and what they share with the ring's thread.
-use std::ffi::{c_int, c_uint};
-use std::fs::File;
-use std::io::{Error, Result, Write};
-use std::os::fd::{AsRawFd, FromRawFd};
+use std::io::{Result, Write};
+use std::os::fd::{AsRawFd, RawFd};
+use std::os::unix::net::UnixStream;
 use std::sync::atomic::{AtomicU32, Ordering};
 use std::sync::mpsc::{Receiver, Sender};
 use std::sync::{Arc, Mutex};
@@ -10,10 +9,6 @@ use std::thread::{self, JoinHandle};
 use std::time::Duration;
 use yachtbanyan::direct::{Key, User};
 use yachtbanyan::{Reader, Table};
-
-unsafe extern "C" {
-    fn eventfd(first: c_uint, flags: c_int) -> c_int;
-}
 
 /// A line of a connection, and then its answer: with the connection's key, and its name in the
 /// table.
@@ -30,25 +25,23 @@ pub struct Session {
     pub answers: AtomicU32,
 }
 
-/// What wakes the ring's thread: it reads this eventfd by its ring.
+/// What wakes the ring's thread, which reads the other end by its ring.
 #[derive(Clone)]
-pub struct Bell(Arc<File>);
+pub struct Bell(Arc<(UnixStream, UnixStream)>);
 
 impl Bell {
     pub fn new() -> Result<Bell> {
-        // SAFETY: a new descriptor, which the file owns.
-        match unsafe { eventfd(0, 0) } {
-            fd if fd < 0 => Err(Error::last_os_error()),
-            fd => Ok(Bell(Arc::new(unsafe { File::from_raw_fd(fd) }))),
-        }
+        let both = UnixStream::pair()?;
+        both.0.set_nonblocking(true)?; // a full one is loud enough
+        Ok(Bell(Arc::new(both)))
     }
 
     pub fn ring(&self) {
-        let _full_is_loud_enough = (&*self.0).write_all(&1u64.to_ne_bytes());
+        let _is_heard = (&self.0 .0).write(&[1]);
     }
 
-    pub fn fd(&self) -> c_int {
-        self.0.as_raw_fd()
+    pub fn fd(&self) -> RawFd {
+        self.0 .1.as_raw_fd()
     }
 }
 
@@ -57,9 +50,8 @@ pub static STALE: AtomicU32 = AtomicU32::new(0);
 
 /// Answers lines until no more come. The connection of each is held meanwhile.
 fn work(reader: &Reader<Session>, asked: &Mutex<Receiver<Job>>, to: &Sender<Job>, bell: &Bell) {
-    for nth in 0u32.. {
-        let job = asked.lock().unwrap().recv();
-        let Ok(job) = job else { return };
+    let next = || asked.lock().unwrap().recv().ok();
+    for (nth, job) in std::iter::from_fn(next).enumerate() {
         let Ok(session) = reader.get(job.name) else {
             STALE.fetch_add(1, Ordering::Relaxed);
             continue;
@@ -70,9 +62,7 @@ fn work(reader: &Reader<Session>, asked: &Mutex<Receiver<Job>>, to: &Sender<Job>
         assert_eq!(session.user.key(), job.key, "a worker holds another connection");
         session.answers.fetch_add(1, Ordering::Relaxed);
         drop(session);
-        if to.send(job).is_err() {
-            return;
-        }
+        let _is_taken = to.send(job);
         bell.ring();
     }
 }
@@ -87,11 +77,9 @@ pub fn start(
 ) -> Vec<JoinHandle<()>> {
     let asked = Arc::new(Mutex::new(asked));
     let one = |_| {
-        let (table, asked, to, bell) =
-            (table.clone(), asked.clone(), answered.clone(), bell.clone());
-        thread::spawn(move || {
-            work(&table.reader().expect("a reader for each worker"), &asked, &to, &bell)
-        })
+        let reader = table.reader().expect("a reader for each worker");
+        let (asked, to, bell) = (asked.clone(), answered.clone(), bell.clone());
+        thread::spawn(move || work(&reader, &asked, &to, &bell))
     };
     (0..workers).map(one).collect()
 }
