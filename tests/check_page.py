@@ -251,7 +251,7 @@ def files_are_printed(program):
 def direct_programs(checks):
     """Checks that docs/use/DIRECT.md shows the programs of bindings, which serve their clients and stop, or print files."""
     page = read("docs/use/DIRECT.md")
-    has_library = os.path.exists(f"{ROOT}/lib/libyachtdirect.a")
+    has_library = all(os.path.exists(f"{ROOT}/lib/libyacht{it}.a") for it in ("banyan", "direct"))
     for first, path, program in DIRECT:
         (shown,) = (it for it in blocks(page) if it[0].startswith(first))
         checks.want("\n".join(shown) in read(path), f"docs/use/DIRECT.md shows another program than {path}")

@@ -107,6 +107,8 @@ mod core;
 mod errors;
 mod key;
 mod lives;
+#[cfg(test)]
+mod lives_tests;
 #[allow(unsafe_code)]
 mod machine;
 mod releases;

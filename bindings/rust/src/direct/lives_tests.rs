@@ -1,0 +1,197 @@
+//! The layer over a ring of the test's own: what it queues, and what each completion leads to.
+use super::*;
+use std::collections::VecDeque;
+use std::io;
+
+/// What was queued, and the completions to come. A wait without one is an error.
+#[derive(Default)]
+struct Script {
+    queued: Vec<Entry<&'static str>>,
+    completions: VecDeque<Completion>,
+}
+
+impl Ring for Script {
+    type Request = &'static str;
+
+    fn push(&mut self, entry: Entry<&'static str>) -> io::Result<()> {
+        self.queued.push(entry);
+        Ok(())
+    }
+
+    fn make_room(&mut self, entries: usize) -> io::Result<()> {
+        if entries > 8 {
+            return Err(io::ErrorKind::InvalidInput.into());
+        }
+        Ok(())
+    }
+
+    fn completion(&mut self) -> Option<Completion> {
+        self.completions.pop_front()
+    }
+
+    fn wait(&mut self) -> io::Result<()> {
+        Err(io::ErrorKind::WouldBlock.into())
+    }
+}
+
+type Tested = Lives<u32, Script>;
+
+fn lives(slots: u32) -> Tested {
+    Lives::new(Script::default(), slots).unwrap()
+}
+
+/// Lets a request be completed, and returns the events until the layer waits.
+fn complete(lives: &mut Tested, user_data: u64, result: i32, flags: u32) -> Vec<Event<u32>> {
+    lives.ring().completions.push_back(Completion { user_data, result, flags });
+    std::iter::from_fn(|| lives.next().ok().flatten()).collect()
+}
+
+/// Returns what was queued since the last call.
+fn queued(lives: &mut Tested) -> Vec<Entry<&'static str>> {
+    std::mem::take(&mut lives.ring().queued)
+}
+
+/// Accepts a connection, and returns its key.
+fn accepted(lives: &mut Tested) -> Key {
+    lives.accept(5, 1, 0);
+    assert!(lives.next().is_err());
+    let data = queued(lives)[0].user_data;
+    let key = Key::from_bits(data).0;
+    lives.accept(5, 0, 0);
+    assert_eq!(complete(lives, data, 0, 0), [Event::Opened(key, 0)]);
+    key
+}
+
+#[test]
+fn accepts_are_kept_in_flight() {
+    let mut it = lives(8);
+    it.accept(5, 3, 4);
+    assert!(it.next().is_err());
+    let first = queued(&mut it);
+    assert_eq!(first.len(), 3);
+    for (nth, entry) in first.iter().enumerate() {
+        assert_eq!((entry.request, entry.flags), (Request::Accept(5), 0));
+        assert_eq!(entry.file_index, nth as u32 + 1);
+    }
+    // a slot more for accepts, and four for chains
+    assert_eq!(complete(&mut it, first[0].user_data, 0, 0).len(), 1);
+    assert_eq!(queued(&mut it).len(), 1);
+    assert_eq!(complete(&mut it, first[1].user_data, 0, 0).len(), 1);
+    assert_eq!(queued(&mut it).len(), 0);
+    // the connection was reset: another accept; then the listening socket is shut down: none
+    assert_eq!(complete(&mut it, first[2].user_data, -103, 0), []);
+    let again = queued(&mut it);
+    assert_eq!(again.len(), 1);
+    assert_eq!(complete(&mut it, again[0].user_data, -22, 0), [Event::Stopped(-22)]);
+    assert_eq!(queued(&mut it).len(), 0);
+}
+
+#[test]
+fn last_completions_are_known() {
+    const MORE: u32 = 2;
+    const NOTIF: u32 = 8;
+    // of a kind of zero-copy sends or of another: the completions, each with its result and flags
+    let rows: [(u8, &[(i32, u32)]); 8] = [
+        (0, &[(4, 0)]),
+        (0, &[(-125, 0)]),
+        (0, &[(4, MORE), (0, 0)]),
+        (1, &[(4, MORE), (0, NOTIF)]),
+        (1, &[(-32, MORE), (0, NOTIF)]),
+        (1, &[(-125, 0), (0, NOTIF)]),
+        (1, &[(-22, 0)]),
+        (1, &[(-95, 0)]),
+    ];
+    for (kind, completions) in rows {
+        let mut it = lives(1);
+        let key = accepted(&mut it);
+        it.set_zero_copy(&[1]);
+        it.start(key, kind, "send").unwrap();
+        for (nth, (result, flags)) in completions.iter().enumerate() {
+            let found = complete(&mut it, key.to_bits(kind), *result, *flags);
+            let last = nth + 1 == completions.len();
+            assert!(
+                matches!(found[..], [Event::Completed { is_last, .. }] if is_last == last),
+                "{kind}, {completions:?}: {found:?}"
+            );
+            assert_eq!(it.slots().in_flight(), u64::from(!last));
+        }
+    }
+}
+
+#[test]
+fn a_life_ends_by_a_shutdown_and_a_close() {
+    let mut it = lives(1);
+    let key = accepted(&mut it);
+    it.start(key, 2, "receive").unwrap();
+    it.end(key);
+    assert!(it.start(key, 2, "receive").is_err());
+    let entries = queued(&mut it);
+    let all: Vec<_> = entries.iter().map(|it| (it.request, it.fd, it.flags)).collect();
+    assert_eq!(all, [(Request::Own("receive"), 0, 1), (Request::Shutdown, 0, 1)]);
+    assert_eq!(complete(&mut it, entries[1].user_data, 0, 0), []);
+    assert_eq!(complete(&mut it, entries[0].user_data, 0, 0).len(), 1);
+    // the close is canceled once, and then another has emptied the slot
+    for result in [-125, -9] {
+        let close = queued(&mut it);
+        assert_eq!((close.len(), close[0].request), (1, Request::Close));
+        assert_eq!((close[0].file_index, close[0].flags), (1, 0));
+        let over = complete(&mut it, close[0].user_data, result, 0);
+        assert_eq!(over.len(), usize::from(result == -9));
+    }
+    assert!(it.slots().is_empty());
+}
+
+#[test]
+fn a_chain_is_linked() {
+    let mut it = lives(1);
+    let key = it.chain(7, "open", vec![(0, "read"), (3, "send")], true).unwrap();
+    assert_eq!(it.chain(8, "open", vec![], true).unwrap_err().1, 8);
+    let entries = queued(&mut it);
+    let all: Vec<_> = entries.iter().map(|it| (it.request, it.file_index, it.flags)).collect();
+    let own = Request::Own;
+    // IOSQE_IO_LINK is 4, IOSQE_IO_HARDLINK 8, IOSQE_FIXED_FILE 1
+    let wanted = [(own("open"), 1, 4), (own("read"), 0, 9), (own("send"), 0, 9)];
+    assert_eq!(all, [&wanted[..], &[(Request::Close, 1, 0)]].concat());
+    // the close is canceled, and its file left: it is asked for again
+    for (entry, result) in entries.iter().zip([0, 5, 5, -125]) {
+        assert!(!complete(&mut it, entry.user_data, result, 0).contains(&Event::Over(key, 7)));
+    }
+    let close = queued(&mut it);
+    assert_eq!((close.len(), close[0].request), (1, Request::Close));
+    assert_eq!(complete(&mut it, close[0].user_data, 0, 0), [Event::Over(key, 7)]);
+    // a chain without a close is a life like others; one that is too long is refused
+    let key = it.chain(9, "open", vec![(0, "read")], false).unwrap();
+    let flags: Vec<_> = queued(&mut it).iter().map(|it| it.flags).collect();
+    assert_eq!(flags, [4, 1]);
+    assert_eq!(complete(&mut it, key.to_bits(14), 0, 0), [Event::Opened(key, 0)]);
+    assert_eq!(complete(&mut it, key.to_bits(0), 5, 0).len(), 1);
+    assert_eq!(it.live(key), Some(&mut 9));
+}
+
+#[test]
+fn nothing_is_left_after_a_stop() {
+    let mut it = lives(4);
+    let key = accepted(&mut it);
+    let chain = it.chain(7, "open", vec![], true).unwrap();
+    it.accept(5, 1, 0);
+    assert!(it.next().is_err());
+    let accept = queued(&mut it).pop().unwrap();
+    it.stop();
+    assert!(it.chain(8, "open", vec![], true).is_err());
+    let entries = queued(&mut it);
+    assert_eq!(entries[0].request, Request::Cancel(accept.user_data));
+    assert_eq!((entries[1].request, entries.len()), (Request::Shutdown, 2));
+    assert_eq!(complete(&mut it, entries[0].user_data, 0, 0), []);
+    // the accept came before its cancel: its close is due
+    let late = Key::from_bits(accept.user_data).0;
+    assert_eq!(complete(&mut it, accept.user_data, 0, 0), [Event::Opened(late, 0)]);
+    assert_eq!(complete(&mut it, entries[1].user_data, 0, 0), []);
+    let closes = queued(&mut it);
+    assert_eq!(closes.len(), 2);
+    for (close, of) in closes.iter().zip([late, key]) {
+        assert_eq!(complete(&mut it, close.user_data, 0, 0), [Event::Over(of, 0)]);
+    }
+    assert_eq!(complete(&mut it, chain.to_bits(14), -2, 0), [Event::Opened(chain, -2)]);
+    assert_eq!(complete(&mut it, chain.to_bits(13), -125, 0), [Event::Over(chain, 7)]);
+    assert!(matches!(it.next(), Ok(None)));
+}
