@@ -18,7 +18,7 @@ OF_FIXCHECK, OF_MANDOC = 13, 3
 # the first lines of README.md that name its readers, and its largest number of bytes
 HEAD, MOST_BYTES = 30, 8_200
 # cases of the tutorial; logs, of which one shows the bug, a short one's lines; legal logs
-OF_TUTORIAL, LOGS, MOST_LINES, LEGAL_LOGS = 6, 20, 15, 3
+OF_TUTORIAL, LOGS, MOST_LINES, LEGAL_LOGS = 7, 20, 15, 3
 
 
 def texts_of(page):
@@ -165,11 +165,11 @@ def without_library(checks):
 
 def tutorial(page, room):
     """Follows the tutorial by its commands, with a log in a folder. Yields what is looked at, and whether it holds."""
-    (with_bug, without), (judge, shorten) = (commands_of(page, it) for it in ("cargo run --release --no-default", "YACHTBANYAN_LIB_DIR"))
+    (with_bug, without), (judge, shorten, draw) = (commands_of(page, it) for it in ("cargo run --release --no-default", "YACHTBANYAN_LIB_DIR"))
     path, where = os.path.join(room, "log"), {**os.environ, "CARGO_TARGET_DIR": f"{ROOT}/build/page", "PWD": ROOT}
 
     def said(command, seed=""):
-        command = re.sub(r"\blog$", path, re.sub(r"(?<= cached )\d+", str(seed), command))
+        command = re.sub(r"\blog(?=(\.svg)?( |$))", path, re.sub(r"(?<= cached )\d+", str(seed), command))
         return subprocess.run(command, shell=True, cwd=ROOT, env=where, capture_output=True, text=True).stdout
 
     for log, wants in zip((it for it in texts_of("docs/use/RECORDING.md") if it.startswith("file v -")), ("legal", "not legal: line 9: "), strict=True):
@@ -185,6 +185,8 @@ def tutorial(page, room):
     short = said(shorten).splitlines()
     yield f"one of {LOGS} logs of the table with a bug", found
     yield f"the shortened log {short},", found and len(short) <= MOST_LINES and short[-1:] == [found[1]]
+    said(draw)
+    yield "the picture of the shortened log", found and os.path.exists(f"{path}.svg") and f": {found[1]}<" in read_bytes(f"{path}.svg").decode()
     legal = [said(without, seed) + said(judge) == f"{path}: legal\n" for seed in range(1, LEGAL_LOGS + 1)]
     yield "a log of the table without the bug", all(legal)
 
@@ -272,6 +274,11 @@ def recording(checks):
     for block in blocks(page):
         if block[0].startswith("fn "):
             checks.want("\n".join(it.strip() for it in block) in lines, f"docs/use/RECORDING.md has other lines than cached.rs: {block[0]}")
+    code = next(it for it in blocks(page, spans_gaps=True) if it[0].startswith("void *enter"))
+    at = next(nth for nth, it in enumerate(code) if it.startswith("yacht_calls"))
+    program = "\n".join(["#include <yachtrecord.h>", *code[:at], "int main(void) {", "void *table = NULL;", *code[at:], "}", ""])
+    compiled = run(["gcc", "-std=c11", "-Wall", "-Wextra", "-Werror", f"-I{ROOT}/include", "-fsyntax-only", "-xc", "-"], program)
+    checks.want(compiled == (0, "", ""), f"the recorder of C on docs/use/RECORDING.md: {compiled[2]}")
     if not (shutil.which("cargo") and os.path.exists(f"{ROOT}/lib/libyachtjudge.so")):
         checks.skip(OF_TUTORIAL, "cargo, or no library")
         return

@@ -1,5 +1,6 @@
-"""check-pictures FIXCHECK [--draw]: compares the pictures of docs/pictures with those of the histories that FIXCHECK prints; with --draw
-it keeps the new ones. Checks what draw-history refuses, says and places side by side."""
+"""check-pictures FIXCHECK [--draw]: compares the pictures of docs/pictures with those of the histories that FIXCHECK prints, and of the logs that
+yachtlog draws; with --draw it keeps the new ones. Checks what draw-history refuses, says and places side by side, and that the picture of the
+layers has each crate of the product."""
 import glob
 import os
 import re
@@ -14,6 +15,9 @@ from model.told_history import complaint_of
 
 # the pictures that a command draws, and what of
 DRAWN = {"docs/pictures/tails.svg": ("draw-tails", "bench/tails.txt"), "docs/pictures/lives.svg": ("draw-lives", "its phases")}
+LAYERS = "docs/pictures/layers.svg"
+# the number of cases that need the judge, and the most lines of a picture
+OF_LOGS, MOST_LINES = 5, 120
 EXAMPLE, OTHER = "examples/open_read_close", "examples/two_submissions"
 # independent chains, and the pixels that their picture may have each way
 CHAINS, MOST_PIXELS = 12, 1_200
@@ -49,6 +53,38 @@ def pictures(checks, given):
         if given.draw and new:
             write(picture, new)
         checks.want(new and read(picture) == new, f"{picture} isn't what is drawn of {source}; `make pictures` draws it again")
+    product = re.findall(r"^(\w+)[^:\n]*:", read("crates.txt").split("# Not the product")[0], re.MULTILINE)
+    lacking = [it for it in product if not re.search(rf"\b{it}\b", read(LAYERS))]
+    checks.want(len(product) > 30 and not lacking, f"{LAYERS} lacks the crates {lacking}")
+
+
+def drawn_log(path, words=()):
+    """Returns the picture of a log, and what yachtlog prints."""
+    with tempfile.TemporaryDirectory() as room:
+        picture, module = os.path.join(room, "log.svg"), f"{ROOT}/bindings/python/yachtlog.py"
+        status, said, fault = run(["python3", "-B", module, *words, "--draw", picture, path], env={**os.environ, "YACHTBANYAN_LIB_DIR": f"{ROOT}/lib"})
+        return read_bytes(picture).decode() if os.path.exists(picture) else "", status, said + fault
+
+
+def logs(checks, given):
+    """Checks the pictures of the logs, and that a log which is too long isn't drawn unless it is shortened."""
+    if not os.path.exists(f"{ROOT}/lib/libyachtjudge.so"):
+        checks.skip(OF_LOGS, "library")
+        return
+    for path in sorted(glob.glob("docs/pictures/*.log", root_dir=ROOT)):
+        picture, (new, _, said) = path.replace(".log", ".svg"), drawn_log(f"{ROOT}/{path}")
+        if given.draw and new:
+            write(picture, new)
+        last = re.search(r": (not legal: line \d+: .*)\n", said)
+        # a bar for each call but the registration, and the last line in words
+        holds = last and f">{last[1]}<" in new and new.count('rx="3"') == read(path).count("\ncall ") - 1 and read(picture) == new
+        checks.want(holds, f"{picture} isn't what is drawn now; `make pictures` draws it again: {said}")
+    with tempfile.NamedTemporaryFile("w", suffix=".log") as file:
+        file.write(read("docs/pictures/removed_twice.log").replace("call 2 ", "".join(f"call {it} look 2\ndone {it}.1 -9\n" for it in range(10, 10 + MOST_LINES // 2)) + "call 2 "))
+        file.flush()
+        for words, status, is_drawn in ((), 4, False), (("--shorten",), 1, True):
+            new, found, said = drawn_log(file.name, words)
+            checks.want((found, new != "") == (status, is_drawn) and ("lines are more than" in said) != is_drawn, f"a log of many lines, {words}: {said}")
 
 
 def independent_chains(checks, fixcheck):
@@ -78,6 +114,7 @@ def command():
     given = arguments(__doc__, "fixcheck", "draw")
     checks = Counted("pictures")
     pictures(checks, given)
+    logs(checks, given)
     independent_chains(checks, given.fixcheck)
     refused_texts(checks, given.fixcheck)
     shown = history_of(given.fixcheck, EXAMPLE).splitlines()

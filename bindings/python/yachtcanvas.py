@@ -39,8 +39,13 @@ class Canvas:
     def circle(self, x: float, y: float, radius: float = 4, stroke: str = GREY) -> None:
         self.parts.append(f'<circle cx="{x:g}" cy="{y:g}" r="{radius:g}" fill="#FFFFFF" stroke="{stroke}" stroke-width="1.4"/>')
 
-    def arrow(self, ends: tuple[Point, Point], bend: float, stroke: str, words: str) -> None:
-        """Draws a bent arrow, with words in a ring at its middle. `bend` is how far the middle is from the straight line, in pixels."""
+    def ring(self, place: Point, stroke: str, words: str) -> None:
+        """Draws words in a ring."""
+        self.circle(*place, 4 + 3.2 * len(words), stroke)
+        self.text(place[0], place[1] + 3.6, words, 10, stroke, ' text-anchor="middle" font-weight="bold"')
+
+    def arrow(self, ends: tuple[Point, Point], bend: float, stroke: str) -> Point:
+        """Draws a bent arrow. `bend` is how far its middle is from the straight line, in pixels. Returns the middle."""
         (x, y), (to_x, to_y) = ends
         along, down = to_x - x, to_y - y
         length = max((along**2 + down**2) ** 0.5, 1)
@@ -52,9 +57,7 @@ class Canvas:
         head = " ".join(f"{to_x - end_x + side * end_y:.1f},{to_y - end_y - side * end_x:.1f}" for side in (-0.45, 0.45))
         self.parts.append(f'<path d="M {x:.1f} {y:.1f} Q {turn_x:.1f} {turn_y:.1f} {to_x:.1f} {to_y:.1f}" fill="none" stroke="{stroke}" stroke-width="1.6"/>')
         self.parts.append(f'<polygon points="{to_x:.1f},{to_y:.1f} {head}" fill="{stroke}"/>')
-        middle_x, middle_y = round((x + 2 * turn_x + to_x) / 4, 1), round((y + 2 * turn_y + to_y) / 4, 1)
-        self.circle(middle_x, middle_y, 4 + 3.2 * len(words), stroke)
-        self.text(middle_x, middle_y + 3.6, words, 10, stroke, ' text-anchor="middle" font-weight="bold"')
+        return round((x + 2 * turn_x + to_x) / 4, 1), round((y + 2 * turn_y + to_y) / 4, 1)
 
     def place(self, other: Canvas, x: float, y: float) -> None:
         """Draws another canvas at a point."""

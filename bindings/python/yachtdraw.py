@@ -16,9 +16,10 @@ if TYPE_CHECKING:
 
 ERRORS = {-2: "ENOENT", -6: "ENXIO", -9: "EBADF", -12: "ENOMEM", -22: "EINVAL", -23: "ENFILE", -125: "ECANCELED"}
 # pixels; and the largest number of lines that are drawn
-LETTER, ROW, HEAD, LEFT, LEAST, MOST_LINES = 6.4, 62, 104, 92, 34, 120
-NOTES = ("A bar is a call, from its line to that of its answer; a thin one is a hold. Calls of one row don't overlap.",
-         "A call takes effect at a point somewhere in its bar, which is not shown. A log doesn't name threads.")
+LETTER, ROW, HEAD, LEFT, LEAST, MOST_LINES = 6.4, 62, 118, 92, 34, 120
+NOTES = ("A bar is a call, from its line to that of its answer; a thin one is a hold.",
+         "A call takes effect at a point somewhere in its bar, which is not shown.",
+         "Calls of one row don't overlap; a log doesn't name threads.")
 HALO = f' paint-order="stroke" stroke="{PALE}" stroke-width="3"'
 
 
@@ -153,7 +154,7 @@ class Drawing(Canvas):
         event = next(its for its in self.events if its.line == it.line)
         if it.kind == "access":
             return self.middle(event.call)
-        return (self.x(it.line), self.y(event.call) + 14 if event.call else self.bottom - 34)
+        return (self.x(it.line), self.y(event.call) + 14 if event.call else self.bottom - 46)
 
     def draw_files(self, orders: Sequence[Step]) -> None:
         """Draws a line for each file whose end at a slot is a point of an order, up to the first point that is known to come after its end."""
@@ -168,17 +169,20 @@ class Drawing(Canvas):
             self.text(MARGIN, self.bottom + 12, f"{name_of(file)} at {slot}", 10, GREY)
             self.bottom += 30
 
-    def draw_reason(self, orders: Sequence[Step]) -> None:
-        """Draws an arrow from the earlier point to the later one of each order, with the number of its sentence."""
+    def draw_reason(self, orders: Sequence[Step]) -> list[Point]:
+        """Draws an arrow from the earlier point to the later one of each order. Returns the place of the number of each sentence."""
         self.draw_files(orders)
-        for nth, it in enumerate(orders, 1):
-            ends, colour = [its for its in map(self.point, (it.before, it.after)) if its], RED if nth == len(orders) else INK
-            if len(ends) == 2 and ends[0] != ends[1]:
-                # it bends downwards
-                self.arrow((ends[0], ends[1]), (14 + nth % 3 * 8) * (1 if ends[1][0] >= ends[0][0] else -1), colour, str(nth))
-            elif ends:
-                self.circle(*ends[0], 4 + 3.2 * len(str(nth)), colour)
-                self.text(ends[0][0], ends[0][1] + 3.6, str(nth), 10, colour, ' text-anchor="middle" font-weight="bold"')
+        places: list[Point] = []
+        for nth, it in enumerate(orders):
+            # arrows at one bar are beside each other, and bend to the left and to the right
+            aside = min(12, self.step / len(orders)) * (nth - (len(orders) - 1) / 2)
+            ends = [(x + (aside if its.kind in ("access", "put") else 0), y) for its in (it.before, it.after) if (at := self.point(its)) for x, y in [at]]
+            if len(ends) == 2 and self.point(it.before) != self.point(it.after):
+                bend = (16 + 6 * nth) * (1 if (ends[1][0] >= ends[0][0]) == (nth % 2 == 0 or nth == len(orders) - 1) else -1)
+                places.append(self.arrow((ends[0], ends[1]), bend, RED if nth == len(orders) - 1 else INK))
+            else:
+                places.append(ends[0] if ends else (LEFT, self.bottom))
+        return places
 
 
 def picture(log: Lines, verdict: LogVerdict, most: int) -> str:
@@ -192,16 +196,18 @@ def picture(log: Lines, verdict: LogVerdict, most: int) -> str:
     drawing.draw_lines()
     for it in drawing.bars:
         drawing.draw_bar(it)
-    drawing.draw_reason(orders)
+    places = drawing.draw_reason(orders)
     for it in drawing.bars:
         drawing.draw_words(it)
+    for nth, place in enumerate(places, 1):
+        drawing.ring(place, RED if nth == len(places) else INK, str(nth))
     title = f"{verdict.word}: line {verdict.line}: {log.line(verdict.line)}" if verdict.line else verdict.word
     drawing.text(MARGIN, 22, title, 13, RED if verdict.word == "not legal" else INK, ' font-weight="bold"')
     for nth, note in enumerate(NOTES):
         drawing.text(MARGIN, 40 + 14 * nth, note, 10.5, GREY)
     for nth, (slot, colour) in enumerate(drawing.colours.items()):
-        drawing.rect(LEFT + 64 * nth, 64, 10, 10, f' fill="{colour}"')
-        drawing.text(LEFT + 64 * nth + 14, 73, f"slot {slot}", 10, GREY)
+        drawing.rect(LEFT + 64 * nth, 78, 10, 10, f' fill="{colour}"')
+        drawing.text(LEFT + 64 * nth + 14, 87, f"slot {slot}", 10, GREY)
     drawing.text(MARGIN, HEAD - 12, "line", 9, GREY)
     y = drawing.bottom + 12
     for nth, sentence in enumerate(sentences, 1):
