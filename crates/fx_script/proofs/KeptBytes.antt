@@ -1,14 +1,14 @@
 -- The kept bytes of an input, read turn by turn, and its meaning.
 use Rattle.fx_script.proofs.Words.{◌≡◌, ℕ, ◌+◌, ◌<◌, true, nat_lt, List, length, take, refl, sym, ap, ◌∙◌, inl, inr, arith, Option, Some, None}
 use Rattle.fx_script.proofs.Words.{IfSome, Err, length-take, take_all, IsInput, IsInputFault, LONGEST_SCRIPT, zero, suc, ◌-◌, ◌≤◌, [], ◌∷◌, ◌++◌}
-use Rattle.fx_script.proofs.Words.{append_assoc, length-append, Consumes, IsAtEnd, append-nil}
+use Rattle.fx_script.proofs.Words.{length-append, Consumes, IsAtEnd, append-nil}
+use Rattle.std.proofs.KnownBytes.{Consumes-trans}
 use Rattle.std.proofs.lemmas.Bool.{cases_lt}
 use Rattle.std.proofs.lemmas.Bool.Decides.{nat_tests}
 use Rattle.fx_script.specs.RunView.{play_fault}
 use Rattle.fx_language.specs.Script.{Meaning, LineFault, IsScript, reading_of}
 use Rattle.fx_language.specs.ScriptError.{IsFaultOf}
 use Rattle.fx_language.specs.declared.fault.ScriptError.{ScriptError}
-use Rattle.fx_language.specs.declared.fault.ScriptError.TheVariants.{Fault, NoMemory}
 use Rattle.fx_language.specs.declared.fault.ScriptFault.TheVariants.{LongScript}
 
 abbrev too_long : LineFault
@@ -29,14 +29,11 @@ abbrev pub IsKept : Option (List ℕ) → List ℕ → Type 0
 IsKept input kept = IfSome input (λ bytes. kept ≡ take (LONGEST_SCRIPT + 1) bytes)
 
 pub script_kept : (input : Option (List ℕ)) (kept : List ℕ) {meaning : Meaning} → IsKept input kept → IsScript kept meaning → IsInput input meaning
-script_kept None kept is script = tt
-script_kept (Some bytes) kept is script = sym (reading_of-take bytes) ∙ (sym (ap reading_of is) ∙ script)
+script_kept input kept is script = grind (arith, reading_of-take)
 
 pub fault_kept : (input : Option (List ℕ)) (kept : List ℕ) (error : ScriptError)
     → IsKept input kept → IsFaultOf kept error → IsInputFault input (play_fault error)
-fault_kept None kept (Fault line kind) is has = tt
-fault_kept (Some bytes) kept (Fault line kind) is has = sym (reading_of-take bytes) ∙ (sym (ap reading_of is) ∙ has)
-fault_kept input kept NoMemory is has = tt
+fault_kept input kept error is has = grind (arith, reading_of-take)
 
 -- The bytes that were read and kept, turn by turn.
 
@@ -49,24 +46,12 @@ pub record Kept (n : ℕ) (old now : Option (List ℕ)) (input : List ℕ) : Typ
 pub take_append : (n : ℕ) (xs ys : List ℕ) → take n xs ++ take (n - length (take n xs)) ys ≡ take n (xs ++ ys)
 take_append zero xs ys = refl
 take_append (suc n) [] ys = let same : suc n - 0 ≡ suc n = omega arith in ap (λ (k : ℕ). take k ys) same
-take_append (suc n) (x ∷ xs) ys =
-    let less : suc n - suc (length (take n xs)) ≡ n - length (take n xs) = omega arith in
-    ap (λ zs. x ∷ zs) (ap (λ (k : ℕ). take n xs ++ take k ys) less ∙ take_append n xs ys)
-
-pub both_consumed : (a b c : Option (List ℕ)) (x y : List ℕ) → Consumes a b x → Consumes b c y → Consumes a c (x ++ y)
-both_consumed None b c x y first second = tt
-both_consumed (Some xs) None c x y first second = absurd first
-both_consumed (Some xs) (Some ys) None x y first second = absurd second
-both_consumed (Some xs) (Some ys) (Some zs) x y first second = first ∙ (ap (λ (l : List ℕ). x ++ l) second ∙ sym (append_assoc x y zs))
+take_append (suc n) (x ∷ xs) ys = grind (arith, take_append n xs ys)
 
 -- one more read
 pub one_read : {n : ℕ} (count : ℕ) {old now next : Option (List ℕ)} {input more : List ℕ} (buffer : List ℕ) → Kept n old now input
     → Consumes now next (take count buffer) → more ≡ input ++ take (n - length input) (take count buffer) → Kept n old next more
-one_read {n} count {old} {now} {next} buffer kept gone grown = record {
-  read = kept.read ++ take count buffer;
-  gone = both_consumed old now next kept.read (take count buffer) kept.gone gone;
-  kept = grown ∙ (ap (λ (xs : List ℕ). xs ++ take (n - length xs) (take count buffer)) kept.kept ∙ take_append n kept.read (take count buffer));
-}
+one_read count buffer kept gone grown = grind (arith, Consumes-trans, take_append)
 
 pub few_kept : {n : ℕ} (input : List ℕ) {more : List ℕ} (part : List ℕ) → length input ≤ n → more ≡ input ++ take (n - length input) part
     → length more ≤ n

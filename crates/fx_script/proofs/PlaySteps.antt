@@ -1,27 +1,22 @@
 -- A play goes on by some commands.
-use Rattle.fx_script.proofs.Words.{◌≡◌, ℕ, pos, List, length, sym, subst, Option, Some, None, Bool, true, false, nat_le, codes, Asked, RingContents}
-use Rattle.fx_script.proofs.Words.{RingState, files_of_ring, ring_of, without_table, Instruction, MakesSparse, RegistersList, Unregisters, SetsRange}
-use Rattle.fx_script.proofs.Words.{UpdatesRing, SubmitsAll, CallAnswers, IsCallRefused, Prints, PrintsClosed, PrintsReport, ◌+◌, ◌<◌, ◌≤◌, [], ◌∷◌}
+use Rattle.fx_script.proofs.Words.{◌≡◌, ℕ, List, length, sym, subst, Option, Bool, Asked, RingContents}
+use Rattle.fx_script.proofs.Words.{RingState, ring_of, Instruction, MakesSparse, RegistersList, Unregisters, SetsRange}
+use Rattle.fx_script.proofs.Words.{UpdatesRing, SubmitsAll, Prints, PrintsReport, ◌+◌, ◌<◌, ◌≤◌, [], ◌∷◌}
 use Rattle.fx_script.proofs.Words.{◌++◌, refl, ap, ◌∙◌, append_assoc, drop, take, slice_index_or, inl, inr, arith, append-nil, map-append}
 use Rattle.fx_script.proofs.Words.{take-append-drop, take_all, IfErr-weaker, Appends, IfErr, Result, ring_files_in_order, instruction_of}
-use Rattle.fx_script.proofs.Words.{instructions_of, PrintsAll, PrintsEnd, PrintsFirst, IsPlayFault, Writes, PlayFault, Ok, Err, IfOk}
+use Rattle.fx_script.proofs.Words.{instructions_of, PrintsAll, PrintsEnd, PrintsFirst, IsPlayFault, Writes, PlayFault, IfOk}
+use Rattle.std.proofs.KnownBytes.{Appends-nil, Appends-trans}
 use Rattle.std.specs.Bool.{MatchBool}
 use Rattle.std.specs.Option.{MatchOption}
-use Rattle.fx_chain.specs.Faults.{fault_of}
 use Rattle.fx_chain.specs.declared.fault.CutFault.{CutFault}
 use Rattle.fx_ring.proofs.Rings.{same_history}
-use Rattle.fx_ring.specs.Registration.{range_refusal, register_refusal, registered, registered_sparse, removed_from, sparse_refusal}
-use Rattle.fx_ring.specs.Registration.{unregister_refusal, update_refusal, updated}
-use Rattle.fx_ring.specs.Tags.{tags_given}
-use Rattle.fx_ring.specs.declared.ring.TheConstants.{MOST_SUBMISSIONS}
-use Rattle.fx_print.specs.Text.{result_line, refused_line, too_many_line}
-use Rattle.fx_script.specs.Text.{report_text}
+use Rattle.fx_ring.specs.Registration.{removed_from}
+use Rattle.fx_print.specs.Text.{refused_line, too_many_line}
 use Rattle.std.specs.Prelude.{IsOkAnd, OnOk}
 use Rattle.std.proofs.lemmas.List.Sorted.{IsPermutation-refl}
 use Rattle.std.proofs.Math.Seq.{drop-cons, take-add}
 use Rattle.std.specs.List.Sorted.{IsPermutation}
 use Rattle.fx_language.specs.declared.command.Command.{Command}
-use Rattle.fx_script.specs.declared.runner.PlayFault.TheVariants.{Read, Script, Write, NoMemory}
 
 module _ (old same next : RingContents) (line : List ℕ) (is : ring_of same ≡ ring_of old) where
   -- the output of a submission, with this property of its report
@@ -31,52 +26,24 @@ module _ (old same next : RingContents) (line : List ℕ) (is : ring_of same ≡
 
   reports : (fault : Option CutFault) (many : Bool) (ring : RingState) {one other : Type 0} → (one → other)
       → OnSubmit fault many ring one → OnSubmit fault many ring other
-  reports None true ring f p = p
-  reports None false ring f p = f p
-  reports (Some fault) many ring f p = p
+  reports fault many ring f p = grind arith
 
   report_same : {asked : List Asked} → PrintsReport old asked next line → PrintsReport same asked next line
-  report_same {asked} (report, one, text) =
-      (report, same_history old same next asked report is one, subst (λ (r : RingState). line ≡ report_text r.catalogue report) (sym is) text)
+  report_same h1 = grind (arith, same_history)
 
   pub prints_same : (command : Instruction) → Prints old command next line → Prints same command next line
-  prints_same (MakesSparse n) p = subst (λ (r : RingState). CallAnswers (sparse_refusal r n)
-      ((ring_of next ≡ registered_sparse r n) × (line ≡ result_line (codes "sparse") (pos 0)))
-      (IsCallRefused r (ring_of next) (codes "sparse") line)) (sym is) p
-  prints_same (RegistersList list tags) p = subst (λ (r : RingState). CallAnswers (register_refusal r list (tags_given list tags))
-      ((ring_of next ≡ registered r list (tags_given list tags)) × (line ≡ result_line (codes "register") (pos 0)))
-      (IsCallRefused r (ring_of next) (codes "register") line)) (sym is) p
-  prints_same Unregisters p = subst (λ (r : RingState). CallAnswers (unregister_refusal r)
-      ((ring_of next ≡ without_table r) × PrintsClosed r (files_of_ring r) (result_line (codes "unregister") (pos 0)) line)
-      (IsCallRefused r (ring_of next) (codes "unregister") line)) (sym is) p
-  prints_same (SetsRange off len) p = subst (λ (r : RingState). MatchOption (range_refusal r off len)
-      ((ring_of next ≡ record r { range = (off, len) }) × (line ≡ result_line (codes "range") (pos 0)))
-      (IsCallRefused r (ring_of next) (codes "range") line)) (sym is) p
-  prints_same (UpdatesRing off list tags) p = subst (λ (r : RingState). CallAnswers (update_refusal r off list (tags_given list tags))
-      ((ring_of next ≡ updated r off list (tags_given list tags))
-      × PrintsClosed r (removed_from r.at off list) (result_line (codes "regupdate") (pos (length list))) line)
-      (IsCallRefused r (ring_of next) (codes "regupdate") line)) (sym is) p
-  prints_same (SubmitsAll asked) p = subst (λ (r : RingState). OnSubmit (fault_of asked) (nat_le MOST_SUBMISSIONS r.submissions) r
-      (PrintsReport same asked next line)) (sym is) (reports (fault_of asked) (nat_le MOST_SUBMISSIONS old.submissions) (ring_of old) (report_same) p)
+  prints_same (MakesSparse n) p = grind arith
+  prints_same (RegistersList list tags) p = grind arith
+  prints_same Unregisters p = grind arith
+  prints_same (SetsRange off len) p = grind arith
+  prints_same (UpdatesRing off list tags) p = grind (arith, removed_from)
+  prints_same (SubmitsAll asked) p = grind (arith, reports, report_same)
 
 -- A play goes on by some commands.
 
-Appends-nothing : (known : Option (List ℕ)) → Appends known known []
-Appends-nothing None = tt
-Appends-nothing (Some xs) = sym (append-nil xs)
-
-pub Appends-append : (a b c : Option (List ℕ)) (xs ys : List ℕ) → Appends a b xs → Appends b c ys → Appends a c (xs ++ ys)
-Appends-append None b c xs ys first second = tt
-Appends-append (Some a) None c xs ys first second = absurd first
-Appends-append (Some a) (Some b) None xs ys first second = absurd second
-Appends-append (Some a) (Some b) (Some c) xs ys first second = second ∙ ap (λ (k : List ℕ). k ++ ys) first ∙ append_assoc a xs ys
-
 -- the known output of a play that ran out of memory, in other words
 fault_maps : (fault : PlayFault) {one other : Type 0} → (one → other) → IsPlayFault fault one → IsPlayFault fault other
-fault_maps Read f known = known
-fault_maps (Script line kind) f known = known
-fault_maps Write f known = known
-fault_maps NoMemory f known = f known
+fault_maps fault f known = grind arith
 
 -- the commands lead from one ring to another, and print this, one after another
 abbrev pub PrintsUpTo : RingContents → List Instruction → RingContents → List ℕ → Type 0
@@ -120,8 +87,7 @@ module _ {ring now : RingContents} {commands : List Command} {i : ℕ} {before k
   -- with what was written since
   since : {P Q : List ℕ → Type 0} (written : Option (List ℕ)) → ((line : List ℕ) → P line → Q (text ++ line))
       → Writes P known written → Writes Q before written
-  since written goes (line, prints, appended) =
-      (text ++ line, goes line prints, Appends-append before known written text line played.written.2 appended)
+  since written goes h3 = grind (arith, Appends-trans)
 
   -- and one more
   pub one_more : {next : RingContents} {written : Option (List ℕ)} {command : Command} → i < length commands
@@ -154,17 +120,15 @@ module _ {ring now : RingContents} {commands : List Command} {i : ℕ} {before k
       (sym (map-append instruction_of (take i commands) (drop i commands)) ∙ ap instructions_of (take-append-drop i commands))
       (behind now line PrintsFirst (λ r then command l line rest prints more. inr (then, line, rest, prints, refl, more)) front back ring text
       played.written.1 (subst (PrintsFirst now back) (sym none) (prints_nothing now back))))
-      ([], refl, subst (λ (w : Option (List ℕ)). Appends known w []) (sym same) (Appends-nothing known)))
+      ([], refl, subst (λ (w : Option (List ℕ)). Appends known w []) (sym same) (Appends-nil known)))
 
 -- a text that was written
 pub text_written : {S E : Type 0} (bytes : S → List ℕ) (P : List ℕ → Type 0) (before written : Option (List ℕ)) (text : Result S E)
     → IfOk text (λ t. P (bytes t)) → IsOkAnd text (λ t. Appends before written (bytes t)) → Writes P before written
-text_written bytes P before written (Ok t) is appended = (bytes t, is, appended)
-text_written bytes P before written (Err e) is appended = absurd appended
+text_written bytes P before written text is appended = grind arith
 
 pub known_ok : {S E A : Type 0} (P : S → Type 0) (text : Result S E) → IsOkAnd text P → OnOk text A → A
-known_ok P (Ok t) is known = known
-known_ok P (Err e) is known = absurd is
+known_ok P text is known = grind arith
 
 -- the output is a text of another kind, too
 pub written_as : {P Q : List ℕ → Type 0} (before written : Option (List ℕ)) → ((text : List ℕ) → P text → Q text)
