@@ -1,5 +1,5 @@
-"""measure-contending [SCRIPTS [TIMES]]: plays SCRIPTS (200) scripts whose chains contend on this machine's io_uring, each TIMES (10)
-times as it is, and as often with IOSQE_ASYNC. Prints how many texts there were, and how many bin/fixcheck calls legal."""
+"""measure-contending [SCRIPTS [TIMES]]: counts the texts, and the legal ones, of scripts whose chains contend on this machine's
+io_uring."""
 import collections
 import os
 import platform

@@ -1,5 +1,4 @@
-"""measure-recording [LOGS]: prints how many of LOGS recorded logs (10) are not legal, for each table of which one call of N is wrong and
-each size of the log. It needs cargo, and the library yachtjudge in lib (scripts/build-libraries yachtjudge)."""
+"""measure-recording [LOGS]: counts recorded logs (10) that are not legal, of tables of which one call of N is wrong. Needs cargo, lib/."""
 import itertools
 import os
 import subprocess

@@ -80,8 +80,7 @@ RULES = {
 
 
 class Outcome:
-    """The outcome of a script or a rule: its name, whether it passed, the differences that explain a failure, why it was skipped,
-    comments."""
+    """The outcome of a script or a rule: its name, whether it passed, the differences that explain a failure, why it was skipped."""
 
     def __init__(self, name, is_ok=True, known=frozenset(), skipped="", comments=()):
         self.name, self.is_ok, self.known, self.skipped, self.comments = name, is_ok, known, skipped, comments

@@ -1,5 +1,4 @@
-"""Records calls in flight on this machine's kernel (kernel/flight), and has the verified judge decide on the logs
-(bindings/python/yachtlog.py), for kernel/conform. Whole updates are Linux's and no rule of MODEL.md: the judge has an option for them."""
+"""Records calls in flight on this machine's kernel (kernel/flight), and has the verified judge decide on the logs, for kernel/conform."""
 import glob
 import os
 import re

@@ -99,8 +99,7 @@ def differences_in(script, text, splits):
 
 
 def refused_opens(script, lines):
-    """The places of the `closed` lines of opens that were refused for their slot, each with that of the open's own line. The closed
-    files of a submission must be in order of their marks."""
+    """The places of the `closed` lines of opens that were refused for their slot, each with that of the open's own line."""
     opens = {place: request[1].decode() for place, request, _ in requests_of(script) if request[0] == "open"}
     found, results, block = {}, {}, []
     for nth, line in enumerate([*lines, ""]):

@@ -35,8 +35,7 @@ class Replayed(Player):
         self.orders, self.results = orders, results
 
     def chain(self, place, members):
-        """A chain that waits for its turns: each step must be that of its next request at the table, or of the next entry.
-        Returns its lines."""
+        """A chain that waits for its turns: each step must be that of its next request at the table, or of the next entry."""
         is_severed, lines = False, []
         for nth, (request, linked_by) in enumerate(members, 1):
             at, (kind, *words) = (*place, nth), request

@@ -31,8 +31,7 @@ class Table(Player):
         return [(after, at + 1, str(len(entries)) if len(left) == 1 else None)]
 
     def ways(self, words, place, done):
-        """Returns the ways of a request's next access: the table, the entries that are done, and the answer, or None before the
-        last."""
+        """Returns the ways of a request's next access: the table, the entries that are done, and the last one's answer."""
         kind, numbers = words[0], [int(it) for it in words[1:] if it.isdigit()]
         if kind in ("update", "regupdate"):
             return self.next_entry(place, int(words[1]), list(map(int, words[2].split(","))), done)

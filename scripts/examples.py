@@ -1,5 +1,5 @@
-"""examples FOLDER: writes the scripts of examples/faults.txt into a folder, each row with its text, and its fault if it is invalid:
-NAME.script, NAME.text, NAME.fault. For modules it reads these rows, and the examples that are files, with the texts beside them."""
+"""examples FOLDER: writes the rows of examples/faults.txt into a folder: NAME.script, NAME.text, NAME.fault. Modules read examples by
+it."""
 import os
 import re
 import sys

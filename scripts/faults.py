@@ -1,5 +1,4 @@
-"""faults SCRIPT: reads a script as model/model.py does. If it is invalid, prints on standard error the fault, its line and column, and
-what is expected there, and exits with status 3, as fixfiles does."""
+"""faults SCRIPT: if a script is invalid, prints the fault, its line and column and what is expected there, and exits with status 3."""
 import re
 import sys
 

@@ -1,5 +1,4 @@
-"""manual: converts docs/use/SCRIPT.md to the manual page fixfiles-script(5), in mdoc, and writes it. What the page says about the program
-fixfiles is left to fixfiles(1)."""
+"""manual: writes fixfiles-script(5), made of docs/use/SCRIPT.md. What the page says about the program is left to fixfiles(1)."""
 import re
 import sys
 import textwrap

@@ -78,8 +78,7 @@ def paragraphs(page):
 
 
 def long_sentences(page):
-    """Yields each sentence with too many words: the line, the number of words, and the sentence. A part before a colon or a
-    semicolon counts by itself; a name in backticks is a word."""
+    """Yields each sentence, or part of one, with too many words: the line, the number of words, and the sentence."""
     for number, text in paragraphs(page):
         plain = re.sub(r"`[^`]*`", "Code", re.sub(r"\]\([^)]*\)", "]", text))
         for sentence in END.split(plain):

@@ -85,8 +85,7 @@ def take_back(room, name):
 
 
 def mark_libraries(room, gate):
-    """Gives the gate's libraries the mark of their sources that `rt lib` leaves beside one and the gate doesn't, so that `rt`
-    doesn't prove them again. A kit that has no such marks proves them."""
+    """Gives the gate's libraries the mark of their sources that `rt lib` leaves, so that `rt` doesn't prove them again."""
     sys.path.insert(0, os.path.dirname(os.path.realpath(shutil.which("rt"))))
     try:
         import rtlib

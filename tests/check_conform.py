@@ -257,8 +257,8 @@ def check_kernel(checks, room):
 
 
 def litmus_rows():
-    """Yields what a row is of, its script, the list, the plays of the kernel and of 16 workers, what is in every text, the lines of the
-    texts, the sums of both players, and whether it is wrong."""
+    """Yields rows: the script, the list, the plays of both players, the lines of every text, of each, the sums, and whether it is
+    wrong."""
     question = read_bytes(f"{QUESTION}.script")
     yield "a text that nobody gave", question, BOTH, {FREE: 10}, {FREE: 10}, SHARED, [
         f"   1           -           -   {ANSWERS[0]}",
@@ -295,8 +295,7 @@ def litmus_rows():
 
 
 def complaints_of_players(litmus):
-    """Yields whether a play in turns is one of the numbers of workers and turns by its number, whether players that can't play are
-    named as left out, and whether each plays as often as is asked; each with a complaint."""
+    """Yields whether plays in turns differ by their number, missing players are named, and each plays as often as is asked."""
     asked = []
     kept = litmus.programs.in_turns, litmus.programs.built, litmus.kernels.built_player
     litmus.programs.in_turns = lambda fixfiles, script, seed, turn, *words: asked.append((seed, turn, *words)) or (0, "", "")

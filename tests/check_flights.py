@@ -139,8 +139,7 @@ def complaint_of_reason(lines, line, facts):
 
 
 def at_equal_times(lines, words):
-    """Returns a log by a clock that moves on after each fourth line, and around `settled` lines. Lines with the same time are in the order of
-    their first words."""
+    """Returns a log by a clock that moves on after each fourth line, and around `settled`. Equal times are in order of words."""
     def key(nth):
         line = lines[nth]
         return lines[: nth + 1].count("settled"), line != "settled", nth // 4, words.index(line.split()[0]) if nth > 1 else -1

@@ -1,6 +1,5 @@
-"""check-pictures FIXCHECK [--draw]: compares the pictures of docs/pictures with those of the histories that FIXCHECK prints, and of the logs that
-yachtlog draws; with --draw it keeps the new ones. Checks what draw-history refuses, says and places side by side, and that the picture of the
-layers has each crate of the product."""
+"""check-pictures FIXCHECK [--draw]: compares docs/pictures with what is drawn of the histories that FIXCHECK prints, and of logs, or keeps that.
+Checks what draw-history refuses and says, and that the picture of the layers has each crate of the product."""
 import glob
 import os
 import re

@@ -31,8 +31,7 @@ def full_table():
 
 
 def heaviest_submission():
-    """1,023 chains of 16 updates of 16 entries: each chain installs 64 files, the most that one may, and removes them
-    again. So all 65,728 file numbers are given, and 65,472 files are closed."""
+    """1,023 chains of 16 updates of 16 entries: all 65,728 file numbers are given, and 65,472 files are closed."""
     install, empty, keep = (",".join([it] * ENTRIES) for it in ("0", "-1", "-2"))
     chain = linked(
         *(f"update {at} {install}" for at in (0, 16, 32, 240)),
@@ -65,8 +64,7 @@ def large_text(members):
 
 
 def large_submission(chains):
-    """A script of so many chains of 16 members: five times an open at slot 0, a read of its file and a close, and then an open that
-    the next chain replaces."""
+    """Full chains: five times an open at slot 0, a read of its file and a close, and an open that the next chain replaces."""
     chain = linked(*["open a.txt at 0", "read 0 0 5", "close 0"] * 5, "open a.txt at 0")
     return lines("file a.txt 68656c6c6f", "sparse 1", *chain * chains, "submit")
 
@@ -83,8 +81,7 @@ def too_many_submissions():
 
 
 def open_after_open(count, update_behind):
-    """So many submissions of one open each at one slot: more than a table that stays open plays, or installs. Behind some of
-    them the ring's table is updated."""
+    """So many submissions of one open at one slot: more than a table that stays open plays. After one the ring's table is updated."""
     script, text, last = ["file a.txt 68656c6c6f", "sparse 1"], ["sparse 0"], None
     for s in range(1, count + 1):
         script += ["open a.txt at 0", "submit"]

@@ -1,5 +1,5 @@
-"""players KIND [--async]: plays the script of standard input as a player that tests/check-conform has judged: as the model does, or
-with a fault. A play is a start of this program, so it imports little."""
+"""players KIND [--async]: plays a script as the model does, or with a fault, for tests/check-conform. It imports little, to start
+quickly."""
 import re
 import sys
 import time

@@ -229,8 +229,7 @@ def try_crate(room, gate, crate, edits):
 
 
 class Turns:
-    """The crates whose edits are left, which are handed out once the gate has proved the crates below: first what has the most
-    edits."""
+    """The crates whose edits are left, first those with most, handed out once the gate has proved the crates below."""
 
     def __init__(self, edits, gate):
         self.left = sorted({it.crate for it in edits}, key=lambda name: -sum(it.crate == name for it in edits))
@@ -270,8 +269,7 @@ def edits_of(kind):
 
 
 def named():
-    """The edits of wrong-bodies.txt that the prover alone refuses, by the first table of crates/WRONG_BODIES.md: in a row first the
-    edits, and last the folders that have them, with nothing else."""
+    """The edits that the prover alone refuses, by the first table of crates/WRONG_BODIES.md."""
     page = read(f"{ROOT}/crates/WRONG_BODIES.md").split("\n## Edits tried by `make wrong-bodies` alone\n")[0]
     rows = (line.strip("| ").split(" | ") for line in page.split("\n") if line.startswith("| `"))
     pairs = ((re.findall(r"`(\w+)`", row[0]), re.findall(r"`([^`]*)`", row[-1])) for row in rows)
