@@ -33,14 +33,6 @@ NUMBER, COLUMN, GAP = 4, 12, "   "
 orders.LARGEST_SEARCH = 20_000
 
 
-class Allowed:
-    """The texts that the rules allow: their number and a list with their orders, each None if it isn't known or is too long."""
-
-    def __init__(self, found):
-        self.count = found.count if found.are_all else None
-        self.texts = found.texts if found.are_all and found.count == len(found.texts) else None
-
-
 class Failed(Exception):
     """A play that gave no text."""
 
@@ -125,9 +117,9 @@ class Judge:
 
     def rows(self, found, given):
         """Yields the allowed texts, which are the listed ones or else those of `given` that are legal, and then the others."""
-        listed = dict(found.texts or ())
+        listed = dict(found.texts if found.is_whole() else ())
         statuses = self.statuses([*listed, *(it for it in given if it not in listed)])
-        allowed = list(listed) if found.texts is not None else [it for it in given if statuses[it] == LEGAL]
+        allowed = list(listed) if found.is_whole() else [it for it in given if statuses[it] == LEGAL]
         for number, text in enumerate(allowed, 1):
             is_wrong = statuses[text] not in (LEGAL, UNDECIDED)
             remark = f"LISTED, BUT fixcheck ENDS WITH STATUS {statuses[text]}: " if is_wrong else ""
@@ -222,16 +214,16 @@ def sums(counts, found, rows):
         seen = sum(it.number > 0 and those[it.text] > 0 for it in rows)
         others = sum(those[it.text] for it in rows if not it.number)
         shown = ", ".join(never[:SHOWN_NEVER]) + (" .." if len(never) > SHOWN_NEVER else "")
-        yield (f"{name} gave {seen} of {found.count or 'them'}" + (f", never {shown}" if never and found.texts else "")
+        yield (f"{name} gave {seen} of {found.count if found.are_all else 'them'}" + (f", never {shown}" if never and found.is_whole() else "")
                + (f"; {others:,} play{'s' * (others > 1)} gave a text that isn't listed" if others else ""))
 
 
 def head(found):
     """Returns how many texts there are, and on which condition."""
-    if found.count is None:
+    if not found.are_all:
         return "the rules allow more texts than fixcheck lists; the rows are those that were given"
     number = f"the rules allow {found.count:,} text{'s' if found.count > 1 else ''} if no allocation fails"
-    return number if found.texts is not None else f"{number}; the rows are those that were given"
+    return number if found.is_whole() else f"{number}; the rows are those that were given"
 
 
 def report(judge, found, counts):
@@ -252,7 +244,7 @@ def count_texts(path, plays, fixfiles, fixcheck):
     """Prints the report of a script. Returns the exit status."""
     script = read_bytes(path)
     try:
-        found = Allowed(listing.asked(fixcheck, script))
+        found = listing.asked(fixcheck, script)
     except (listing.Failed, ValueError) as failed:
         print(f"litmus: {failed}")
         return 1

@@ -58,10 +58,6 @@ def steps_of(requests, submission, lines, splits):
     return chains if at == len(lines) else None
 
 
-def state_of(player):
-    return tuple(player.slots), player.range, player.submissions, player.registrations
-
-
 def reached(first, moves):
     """Each player with its place that moves lead to, once; what a move leads to comes before what the next one leads to."""
     seen, stack = set(), [iter([first])]
@@ -71,7 +67,7 @@ def reached(first, moves):
             stack.pop()
             continue
         player, at = found
-        key = state_of(player), at
+        key = tuple(player.slots), player.range, player.submissions, player.registrations, at
         if key not in seen:
             seen.add(key)
             yield found

@@ -61,10 +61,11 @@ def last_line(key, seen, wrong, what="looked at", left_out=()):
 
 
 class Counted:
-    """The number of cases of a check and of wrong ones, which are printed under its name."""
+    """The number of cases of a check and of wrong ones, which are printed under its name; and what else is given, as attributes."""
 
-    def __init__(self, name):
+    def __init__(self, name, **given):
         self.name, self.seen, self.wrong, self.left_out = name, 0, 0, []
+        vars(self).update(given)
 
     def want(self, holds, what):
         self.seen += 1

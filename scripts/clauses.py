@@ -3,8 +3,10 @@ definition of specs/ with those of a revision. It prints what is gone, new or di
 new. OLD=NEW names a word that was renamed. A function is public if it is `pub`, or of a `pub trait`, or of an `impl` of a trait with
 clauses. Order and layout make no difference."""
 import argparse
+import io
 import re
 import subprocess
+import tarfile
 
 from scripts.repository import ROOT, files_of, read
 
@@ -103,18 +105,10 @@ def items(crates, read_file, paths):
 
 
 def of_revision(revision, crates):
-    command = ["git", "-C", ROOT, "ls-tree", "-r", "--name-only", revision, "crates"]
-    paths = [it for it in subprocess.run(command, capture_output=True, text=True, check=True).stdout.split("\n") if it.endswith((".rt", ".antt"))]
-    paths = [it for it in paths if it.count("/") > 2 and it.split("/")[2] in ("src", "specs")]
-    command = ["git", "-C", ROOT, "cat-file", "--batch"]
-    asked = "".join(f"{revision}:{it}\n" for it in paths).encode()
-    said = subprocess.run(command, input=asked, capture_output=True, check=True).stdout
-    texts = {}
-    for path in paths:
-        head, _, said = said.partition(b"\n")
-        size = int(head.split()[-1])
-        texts[path], said = said[:size].decode(), said[size + 1 :]
-    return items(crates, texts.get, paths)
+    packed = subprocess.run(["git", "-C", ROOT, "archive", revision, "crates"], capture_output=True, check=True).stdout
+    with tarfile.open(fileobj=io.BytesIO(packed)) as tar:
+        texts = {it.name: tar.extractfile(it).read().decode() for it in tar if it.name.endswith((".rt", ".antt"))}
+    return items(crates, texts.get, texts)
 
 
 def renamed(found, names):

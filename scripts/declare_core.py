@@ -15,7 +15,7 @@ WIDTH = 100
 SOURCE = "crates/fx_server_c/src/exports.rt"
 CODES = "crates/fx_server/src/codes.rt"
 LIMITS = "docs/use/LIMITS.md"
-# each type of a parameter for C and Rust; `Global` has no bytes, and a slice is two parameters
+# each type of a parameter for C and Rust
 TYPES = {
     "u32": ("uint32_t ", "u32"),
     "u64": ("uint64_t ", "u64"),
@@ -23,22 +23,17 @@ TYPES = {
     "&mut Handle": ("yacht_core *", "*mut Core"),
     "&mut u64": ("uint64_t *", "*mut u64"),
     "&mut CoreOutcome": ("yacht_outcome *", "*mut Outcome"),
+    "usize": ("size_t ", "usize"),
 }
 
 
 class Export:
-    def __init__(self, name, given, result):
-        self.name, self.result, self.parameters = name, result, []
-        for it in re.findall(r"(\w+): ([^,\n]+)", given):
-            self.add(*it)
+    """An export of the core. Of its parameters `Global` has no bytes, and a slice is two."""
 
-    def add(self, name, kind):
-        if kind == "Global":
-            return
-        if kind == "&mut [WorkerPlace]":
-            self.parameters += [(name, "yacht_core *", "*mut Core"), ("count", "size_t ", "usize")]
-        else:
-            self.parameters.append((name, *TYPES[kind]))
+    def __init__(self, name, given, result):
+        pairs = re.findall(r"(\w+): ([^,\n]+)", given.replace("&mut [WorkerPlace]", "&mut Handle, count: usize"))
+        self.name, self.result = name, result
+        self.parameters = [(it, *TYPES[kind]) for it, kind in pairs if kind != "Global"]
 
     def for_c(self):
         """Returns its declaration in lines of at most 100 columns."""
@@ -49,14 +44,9 @@ class Export:
     def for_rust(self):
         """Returns its declaration as rustfmt lays it out."""
         given = [f"{name}: {kind}" for name, _, kind in self.parameters]
-        broken = "".join(f"\n        {it}," for it in given)
         head, end = f"    pub(crate) fn {self.name}(", f"){' -> i64' if self.result else ''};"
-        return fitting(f"{head}{', '.join(given)}{end}", f"{head}{broken}\n    {end}")
-
-
-def fitting(line, broken):
-    """Returns a line, or its other layout if it is too long."""
-    return line if len(line) <= WIDTH else broken
+        line = f"{head}{', '.join(given)}{end}"
+        return line if len(line) <= WIDTH else "\n".join([head, *(f"        {it}," for it in given), f"    {end}"])
 
 
 def exports():

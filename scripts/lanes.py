@@ -205,12 +205,8 @@ class Lanes:
 
 def build(roots):
     lanes = Lanes(roots)
-
-    def interrupt(*_):
-        lanes.is_interrupted = True
-
     for number in (signal.SIGINT, signal.SIGTERM, signal.SIGHUP):
-        signal.signal(number, interrupt)
+        signal.signal(number, lambda *_: setattr(lanes, "is_interrupted", True))
     with open(LOG, "w", encoding="utf-8"):
         pass
     if lanes.prove():

@@ -17,6 +17,9 @@ class Listing(NamedTuple):
     are_all: bool
     texts: list
 
+    def is_whole(self):
+        return self.are_all and self.count == len(self.texts)
+
     def alone(self):
         return [text for text, _ in self.texts]
 
@@ -70,11 +73,3 @@ def asked(fixcheck, script, most=MOST, *options):
     if found.are_all != (status == 0):
         raise Failed(f"fixcheck --all ended with status {status} after {said[:80]!r}")
     return found
-
-
-def asked_or_failed(fixcheck, script, most=MOST, *options):
-    """The same; if it prints no list, one whose text is its message."""
-    try:
-        return asked(fixcheck, script, most, *options)
-    except (Failed, ValueError) as failed:
-        return Listing(-1, False, [(str(failed), [])])

@@ -17,15 +17,10 @@ UNPROVED = ("not proved", "no proof")
 GOAL = re.compile(r"note: (src/\S+?:\d+):\d+: it is not proved that (.*?) \(`([^`]*)`\)")
 
 
-def is_refusal(said):
-    """Returns whether the words after `fn NAME: ` say that this function itself is refused."""
-    return said.startswith(UNPROVED) and not OF_ANOTHER.search(said)
-
-
 def refused_functions(lines):
     """The functions that are themselves not proved. One that is known by an error in its files alone is named without its crate."""
     said = ((line, LINE.match(line)) for line in lines if line.startswith("fn "))
-    names = [at[1] for _, at in said if at and is_refusal(at[2])]
+    names = [at[1] for _, at in said if at and at[2].startswith(UNPROVED) and not OF_ANOTHER.search(at[2])]
     wrong = {it[1].replace("/", "::") for it in map(ERROR.match, lines) if it}
     called = {at[1] for at in map(LINE.match, lines) if at}
     for error in sorted(wrong):

@@ -262,7 +262,7 @@ def check_verdict(checks, fixcheck, name, options, is_whole):
 
 def command():
     given = arguments(__doc__, "program fixcheck? calls?", "few")
-    checks, open_read_close = Failures(NAME, MOST), read("examples/open_read_close.script")
+    checks, open_read_close = Failures(NAME, most=MOST), read("examples/open_read_close.script")
     if not checks.can_fail():
         return 1
     for name, script in [("open_read_close", open_read_close)] if given.few else scripts(open_read_close):

@@ -33,10 +33,6 @@ WORKS = ("look", 16, 200_000), ("mix", 16, 150_000), ("outside", 256, 45_000), (
 
 
 class Checks(Counted):
-    def __init__(self, given):
-        super().__init__("allocations")
-        self.fixfiles, self.bench_tables = given.fixfiles, given.bench_tables
-
     def in_play(self, options, *script):
         """Returns the number of allocations of a play, without those of the reading."""
         whole, read = (counted([self.fixfiles, *options], lines(*it)) for it in (script, (*script, "no command")))
@@ -75,7 +71,7 @@ class Checks(Counted):
 def command():
     given = arguments(__doc__, "fixfiles bench_tables")
     built("watch.c")
-    checks = Checks(given)
+    checks = Checks("allocations", fixfiles=given.fixfiles, bench_tables=given.bench_tables)
     for table in TABLES:
         for workers in WORKERS:
             checks.chains(table, workers)

@@ -107,10 +107,6 @@ class Report:
 
 
 class Checks(Counted):
-    def __init__(self, fixcheck):
-        super().__init__("conform")
-        self.fixcheck = fixcheck
-
     def rules(self):
         """Checks that docs/inside/MODEL.md has the words of each rule in its section."""
         page = read("docs/inside/MODEL.md")
@@ -204,14 +200,6 @@ def check_differences(checks):
         checks.want(missing == wanted, f"of kernel {release} {sorted(missing)} are missed, and not {sorted(wanted)}")
 
 
-def wrapper(room, name, *words):
-    """Makes a program that calls another one with arguments before its own. Returns its path."""
-    path = os.path.join(room, name)
-    write(path, "#!/bin/sh\nexec " + " ".join(f"'{it}'" for it in words) + ' "$@"\n')
-    os.chmod(path, 0o755)
-    return path
-
-
 def changed_player(room, name, change):
     """Builds kernel/*.c with a change. Returns the program's path."""
     sources = os.path.join(room, f"{name}.sources")
@@ -230,7 +218,11 @@ def check_arguments(checks):
 
 def check_players(checks, room):
     def player(name):
-        return wrapper(room, name, "python3", "-S", "-X", f"pycache_prefix={room}", f"{ROOT}/scripts/run", "tests.players", name)
+        """Makes a program that plays as tests/players.py does by this name. Returns its path."""
+        path = os.path.join(room, name)
+        write(path, f"#!/bin/sh\nexec python3 -S -X 'pycache_prefix={room}' '{ROOT}/scripts/run' tests.players {name} \"$@\"\n")
+        os.chmod(path, 0o755)
+        return path
 
     checks.passes(player("model"), "prints what the model prints", False)
     checks.passes(player("concurrent"), "holds what it reads", False)
@@ -318,14 +310,14 @@ def complaints_of_litmus(fixcheck):
     for what, script, found, kernel, workers, shared, texts, sums, is_wrong in litmus_rows():
         counts = {"kernel": Counter(kernel), "16 workers": Counter(workers)}
         wanted = [f"in every text: {shared}", "", LITMUS_HEAD, *texts, "", *(f"{name} gave {it}" for name, it in zip(counts, sums))]
-        lines, *told = litmus.report(litmus.Judge(fixcheck, script), litmus.Allowed(found), counts)
+        lines, *told = litmus.report(litmus.Judge(fixcheck, script), found, counts)
         differs = [f"{one!r}, not {other!r}" for one, other in zip([*lines, ""], [*wanted, ""]) if one != other]
         yield (lines, told) == (wanted, [is_wrong]), f"litmus reports {what} otherwise: {differs or told}"
 
 
 def command():
     fixcheck = os.path.abspath(sys.argv[1])
-    checks = Checks(fixcheck)
+    checks = Checks("conform", fixcheck=fixcheck)
     checks.rules()
     check_differences(checks)
     check_arguments(checks)

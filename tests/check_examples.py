@@ -38,10 +38,6 @@ REFUSED = ("--workers 0", "--workers=0", "--workers=-1", "--workers 17", "--work
 
 
 class Examples(Counted):
-    def __init__(self, program):
-        super().__init__("examples")
-        self.program = program
-
     def compare(self, what, found, wanted):
         differs = difference(found, wanted)
         self.want(not differs, f"{what} {differs}")
@@ -148,7 +144,7 @@ class Examples(Counted):
 
 def command():
     given = arguments(__doc__, "program", "few")
-    examples = Examples(given.program)
+    examples = Examples("examples", program=given.program)
     examples.examples(given.few)
     if not given.few:
         examples.streams()

@@ -55,10 +55,6 @@ class Counts(Counted):
     they are and the kind of that line: LEGAL or NOT_LEGAL; or of some `refused` ones those where the line is `named`, or a `later`
     command."""
 
-    def __init__(self):
-        super().__init__("fixcheck")
-        self.of = collections.Counter()
-
     def add(self, other):
         self.seen, self.wrong, self.of = self.seen + other.seen, self.wrong + other.wrong, self.of + other.of
 
@@ -224,7 +220,7 @@ def check_breaks(fixcheck, counts, script, text):
 
 
 def counts_of(fixcheck, fixfiles, script):
-    counts, texts = Counts(), texts_of(fixfiles, script)
+    counts, texts = Counts("fixcheck", of=collections.Counter()), texts_of(fixfiles, script)
     counts.of["texts"] = len(texts)
     for text in texts:
         is_legal(fixcheck, counts, script, text, "a text of fixfiles")
@@ -309,7 +305,7 @@ def command():
     given = arguments(__doc__, "program fixfiles", "few", {"count": 500, "seed": 1})
     orders.LARGEST_SEARCH = LARGEST_SEARCH
     fixcheck, fixfiles, count, is_few = given.program, given.fixfiles, given.count, given.few
-    counts = Counts()
+    counts = Counts("fixcheck", of=collections.Counter())
     check_parts(fixcheck, counts)
     check_examples(fixcheck, counts, is_few)
     if not is_few:

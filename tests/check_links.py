@@ -38,10 +38,6 @@ def kept_under(crate):
 
 
 class Links(Counted):
-    def __init__(self, root):
-        super().__init__("links")
-        self.root = root
-
     def want_on(self, page, holds, what):
         self.want(holds, f"{page} {what}")
 
@@ -107,7 +103,7 @@ class Links(Counted):
 
 def command():
     root = os.path.abspath(sys.argv[1]) if sys.argv[1:] else ROOT
-    links = Links(root)
+    links = Links("links", root=root)
     for page in pages(root):
         links.page(page)
     rules, told = targets_of_make()

@@ -41,7 +41,11 @@ NO_PLACES = ("", "1", "1.1", "1.1.1.1", "1.1.x", "-1.1.1", "1..1")
 
 
 def list_of(fixcheck, script, *options):
-    return listing.asked_or_failed(fixcheck, script, TEXTS, *options)
+    """The list that fixcheck prints, or one whose text is its message."""
+    try:
+        return listing.asked(fixcheck, script, TEXTS, *options)
+    except (listing.Failed, ValueError) as failed:
+        return listing.Listing(-1, False, [(str(failed), [])])
 
 
 def complaint_of_orders(script, those):
@@ -134,10 +138,6 @@ def complaint_of_answers(script, said, wanted, texts):
 
 
 class Checks(Counted):
-    def __init__(self, fixcheck):
-        super().__init__("outcomes")
-        self.fixcheck = fixcheck
-
     def tiny(self, count, seed):
         cases = random_scripts("tiny", seed, count + count * LEFT_OUT_OF_100 // 100)
         done = [it for it in in_processes(functools.partial(compared, self.fixcheck), cases, 20) if it is not None][:count]
@@ -236,7 +236,7 @@ class Checks(Counted):
 
 def command():
     given = arguments(__doc__, "fixcheck", "few", {"count": 2000, "seed": 1})
-    checks, seed = Checks(given.fixcheck), given.seed
+    checks, seed = Checks("outcomes", fixcheck=given.fixcheck), given.seed
     checks.tiny(given.count, seed)
     checks.limits()
     checks.examples()

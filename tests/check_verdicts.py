@@ -79,10 +79,6 @@ def verdicts_of(path):
 
 
 class Verdicts(Counted):
-    def __init__(self, program, folder):
-        super().__init__("verdicts")
-        self.program, self.folder = program, folder
-
     def path(self, name, contents):
         path = os.path.join(self.folder, name)
         write(path, contents)
@@ -327,7 +323,7 @@ class Verdicts(Counted):
 def command():
     given = arguments(__doc__, "program", "few")
     with tempfile.TemporaryDirectory() as folder:
-        verdicts = Verdicts(given.program, folder)
+        verdicts = Verdicts("verdicts", program=given.program, folder=folder)
         verdicts.files()
         verdicts.odd_lines()
         verdicts.arguments()

@@ -28,11 +28,6 @@ def is_within(least, found, most):
     return least <= found <= most
 
 
-def chains_around(workers):
-    """Returns numbers of chains that distinguish workers from chains: none, one, those around the number of workers, and many."""
-    return sorted({0, 1, workers - 1, workers, workers + 1, 2 * workers, 2 * MOST_WORKERS + 1})
-
-
 def commands_and_texts():
     """A script, and the text of each of its commands that prints one."""
     reads = [line for chains in READS for line in (*[f"read 0 0 {BYTES}"] * chains, "submit")]
@@ -41,10 +36,6 @@ def commands_and_texts():
 
 
 class Workers(Counted):
-    def __init__(self, program):
-        super().__init__("workers")
-        self.program = program
-
     def counts(self, script, *options):
         return counted([self.program, *options], script)
 
@@ -123,12 +114,13 @@ class Workers(Counted):
 def command():
     given = arguments(__doc__, "program", "few")
     built("watch.c")
-    checks = Workers(given.program)
+    checks = Workers("workers", program=given.program)
     checks.want([is_within(2, it, 3) for it in (1, 2, 3, 4)] == [False, True, True, False], "a number past a bound is allowed")
     for table in TABLES:
         for workers in FEW if given.few else range(1, MOST_WORKERS + 1):
             options = "--table", table, "--workers", str(workers)
-            for chains in chains_around(workers):
+            # numbers that distinguish workers from chains
+            for chains in sorted({0, 1, workers - 1, workers, workers + 1, 2 * workers, 2 * MOST_WORKERS + 1}):
                 checks.check_threads(table, workers, chains, options)
             checks.check_table(table, workers, options)
         for workers in (2, MOST_WORKERS):

@@ -48,10 +48,6 @@ def spread(count, most):
 class Failures(Counted):
     """The number of allocations that failed, at most `most` of each run, and the number of wrong outcomes."""
 
-    def __init__(self, name, most):
-        super().__init__(name)
-        self.most = most
-
     def can_fail(self):
         """Builds the library that fails allocations. Returns whether it could."""
         if shutil.which("cc") is None:

@@ -94,11 +94,6 @@ def open_after_open(count, update_behind):
     return lines(*script), lines(*text, "teardown", f"closed {last} a.txt")
 
 
-def submissions_1024():
-    """One more than a table has chains, with an update of the ring between two of them."""
-    return open_after_open(1_024, 512)
-
-
 def submissions_65535():
     """As many as a ring accepts, and one more."""
     script, text = open_after_open(65_535, 0)
@@ -119,9 +114,11 @@ def all_updates():
 
 def limits():
     """Each script at a limit: its name, the script, the text, and the line and the fault of a bad one."""
-    for whole in (full_table, heaviest_submission, full_catalogue, too_many_submissions, submissions_1024, submissions_65535,
-                  too_many_registrations, all_updates, longest_script):
+    for whole in (full_table, heaviest_submission, full_catalogue, too_many_submissions, submissions_65535, too_many_registrations,
+                  all_updates, longest_script):
         yield whole.__name__, *whole(), ""
+    # one more than a table has chains, with an update of the ring between two of them
+    yield "submissions_1024", *open_after_open(1_024, 512), ""
     yield "text_of_8_megabytes", *large_text(1), ""
     yield "text_of_134_megabytes", *large_text(MEMBERS), ""
     yield "bad_list_in_a_line_too_long", f"update 10 {','.join(['0'] * 4996)}\nsubmit\n", "", "line 1: long-line"
