@@ -11,7 +11,6 @@ from scripts.checks import Counted, arguments
 from scripts.pages import blocks, rows, section
 from scripts.programs import run
 from scripts.repository import ROOT, read, read_bytes, write
-from tests.echo_clients import run_clients
 
 # the numbers of cases that need fixcheck, and mandoc
 OF_FIXCHECK, OF_MANDOC = 13, 3
@@ -242,6 +241,15 @@ def built(path, program, room):
     return run(["cc", *flags, f"{ROOT}/{path}", f"{ROOT}/lib/libyachtdirect.a", "-luring", "-o", os.path.join(room, program)])[2]
 
 
+def clients_are_served(program):
+    """Runs the clients of an echo server. Returns what is wrong, or None if there is no io_uring."""
+    clients = f"{program}.clients"
+    status, text, said = run(["cc", f"{ROOT}/tests/clients.c", "-o", clients])
+    if status == 0:
+        status, text, said = run([clients, "echo", "600", "10", "20000", program])
+    return None if status == 77 else [text, said] if status else []
+
+
 def files_are_printed(program):
     """Runs the program that prints the first bytes of files. Returns what is wrong, or None if there is no io_uring."""
     those = [f"{ROOT}/{it}" for it in ("LICENSE", "VERSION", "crates.txt")]
@@ -259,7 +267,7 @@ def direct_programs(checks):
         checks.want("\n".join(shown) in read(path), f"docs/use/DIRECT.md shows another program than {path}")
         with tempfile.TemporaryDirectory() as room:
             said = built(path, program, room) if has_library else None
-            play = files_are_printed if program == "files" else run_clients
+            play = files_are_printed if program == "files" else clients_are_served
             wrong = None if said is None else [said] if said else play(os.path.join(room, program))
         if wrong is None:
             checks.skip(1, f"io_uring, liburing, cargo or library for {path}")

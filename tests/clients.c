@@ -1,11 +1,11 @@
-/* clients CONNECTIONS LASTING MILLISECONDS COMMAND..: starts a server of lines and files
- * (bindings/c/direct, the example `direct` of the Rust crate), by COMMAND and a folder of files.
- * The server prints its port, and serves until its standard input ends. The clients are 200 at a
- * time. Each connection has a number, and its lines have it too, so that an answer to another
- * connection is noticed. Some reset, close one half, or send and read a byte at a time; some send
- * a line that is too long; some leave while a file is read that has no bytes yet. The server is
- * stopped and continued meanwhile. Then its table must have no file, and at its end LASTING
- * connections more must see theirs.
+/* clients lines|echo CONNECTIONS LASTING MILLISECONDS COMMAND..: starts a server by COMMAND and a
+ * folder of files: one of lines and files (bindings/c/direct, the example `direct` of the Rust
+ * crate), or one that echoes all (the programs of docs/use/DIRECT.md). It prints its port, and
+ * serves until its standard input ends. The clients are 200 at a time. Each connection has a number,
+ * and its lines have it too, so that an answer to another connection is noticed. Some reset, close
+ * one half, or send and read a byte at a time; some send a line that is too long; some leave while
+ * a file is read that has no bytes yet. The server is stopped and continued meanwhile. Then its
+ * table must have no file. At its end LASTING connections see theirs, and some that it hasn't seen.
  *
  * It prints what was counted, and the server's lines. It ends with status 1 if anything is wrong,
  * or if a client waits for longer than MILLISECONDS, and with 77 if the server does. */
@@ -26,7 +26,7 @@
 
 /* the longest line, the lines of a connection, those before their answers; the files, of which a
  * third are shorter than the server's buffer; the name of the pipe */
-enum { LINE = 64, LINES = 30, AHEAD = 4, FILES = 6, PIPE = 6, AT_A_TIME = 200, LONG_LINE = 2000 };
+enum { LINE = 64, LINES = 30, AHEAD = 4, FILES = 6, PIPE = 6, AT_A_TIME = 200, LATE = 3, LONG_LINE = 2000 };
 enum mode { PLAIN, LEAVES, RESETS, CLOSES_HALF, IS_SLOW, TOO_LONG, LEAVES_FILE };
 
 struct client {
@@ -40,7 +40,7 @@ struct client {
 static struct client clients[AT_A_TIME];
 static struct sockaddr_in address = {.sin_family = AF_INET};
 static char folder[] = "/tmp/clients.XXXXXX";
-static int patience, pipe_of_file, input, output;
+static int echoes, patience, pipe_of_file, input, output;
 static unsigned connections, lasting, made, lines, files, busy, to_another, wrong, ended, left, owed;
 static pid_t server;
 
@@ -104,7 +104,7 @@ static void line_of(const struct client *it, unsigned nth, char *line, char *ans
     if (it->mode == LEAVES_FILE && nth) file = PIPE;
     else if (file >= PIPE) file++; /* there is no such file */
     strcpy(answer, "no such file\n");
-    if (nth % 8 != 5 && !(it->mode == LEAVES_FILE && nth)) {
+    if (echoes || (nth % 8 != 5 && !(it->mode == LEAVES_FILE && nth))) {
         snprintf(line, LINE, "%u %u\n", it->number, nth);
         strcpy(answer, line);
     } else if (file > PIPE + 1) {
@@ -121,8 +121,10 @@ static int dial(struct client *it) {
     if (it->socket < 0 || connect(it->socket, (void *)&address, sizeof address)) return 0;
     fcntl(it->socket, F_SETFL, O_NONBLOCK);
     it->number = ++made;
-    it->mode = connections > 500 && it->number % 50 == 25 ? LEAVES_FILE : it->number % 64 == 7 ? TOO_LONG : it->number % 8 == 3 ? LEAVES :
-        it->number % 8 == 5 ? RESETS : it->number % 16 == 9 ? CLOSES_HALF : it->number % 64 == 1 ? IS_SLOW : PLAIN;
+    it->mode = it->number % 8 == 3 ? LEAVES : it->number % 8 == 5 ? RESETS : it->number % 16 == 9 ? CLOSES_HALF :
+        it->number % 64 == 1 ? IS_SLOW : PLAIN;
+    if (!echoes && it->number % 64 == 7) it->mode = TOO_LONG;
+    if (!echoes && connections > 500 && it->number % 50 == 25) it->mode = LEAVES_FILE;
     return 1;
 }
 
@@ -182,7 +184,7 @@ static int goes_on(struct client *it) {
     struct linger reset = {1, 0};
     unsigned last = it->mode == LEAVES_FILE ? 1 : it->mode == IS_SLOW ? 3 :
         it->mode == LEAVES || it->mode == RESETS ? 1 + it->number % LINES : LINES;
-    if (!read_answers(it) || !send_lines(it)) return ended++, 0;
+    if (!read_answers(it) || !send_lines(it)) return ended++, wrong += echoes, 0;
     if (it->answered < last) return 1;
     if (it->mode == LEAVES_FILE && it->turns++ < 3) return 1; /* the server reads the pipe now */
     left += last < LINES;
@@ -251,7 +253,8 @@ static int files_in_table(void) {
     return count;
 }
 
-/* Opens connections, each of which gets one answer, and then ends the server. */
+/* Opens connections, each of which gets one answer, and then ends the server. As it goes on after it
+ * was stopped, it finds the end of its input, and connections that it hasn't seen. */
 static unsigned end_server(char *text, size_t size) {
     struct pollfd polled[AT_A_TIME];
     unsigned count = 0, saw_the_end = 0;
@@ -262,7 +265,9 @@ static unsigned end_server(char *text, size_t size) {
         clients[count].mode = PLAIN, send_lines(&clients[count]);
     for (unsigned i = 0; i < count; i++)
         while (!clients[i].answered && poll(&(struct pollfd){clients[i].socket, POLLIN, 0}, 1, patience) > 0 && read_answers(&clients[i])) continue;
-    close(input);
+    kill(server, SIGSTOP), close(input);
+    for (int i = 0; i < LATE && dial(&clients[count]); i++) count++;
+    kill(server, SIGCONT);
     for (unsigned i = 0; i < count; i++) {
         int is_open = 1;
         polled[i] = (struct pollfd){clients[i].socket, POLLIN, 0};
@@ -281,15 +286,15 @@ static unsigned end_server(char *text, size_t size) {
 int main(int count, char **words) {
     char text[4096] = "";
     unsigned opened = 0, closed = 1;
-    must(count > 4 && atoi(words[2]) <= AT_A_TIME, "CONNECTIONS LASTING MILLISECONDS COMMAND");
-    connections = (unsigned)atoi(words[1]), lasting = (unsigned)atoi(words[2]), patience = atoi(words[3]);
+    must(count > 5 && atoi(words[3]) + LATE <= AT_A_TIME, "lines|echo CONNECTIONS LASTING MILLISECONDS COMMAND");
+    echoes = !strcmp(words[1], "echo"), connections = (unsigned)atoi(words[2]), lasting = (unsigned)atoi(words[3]), patience = atoi(words[4]);
     make_files();
-    start_server(count - 4, words + 4);
+    start_server(count - 5, words + 5);
     run_clients();
     unsigned last = end_server(text, sizeof text);
     remove_files();
     sscanf(text, "%u opened, %u closed", &opened, &closed);
     printf("%u connections, %u lines, %u of files, %u without a slot; %u to another connection, %u wrong\n", made, lines, files, busy, to_another, wrong);
-    printf("%u ended by the server, %u by the client, %u of %u at the end\n%s", ended, left, last, lasting, text);
-    return to_another || wrong || opened != closed || last != lasting;
+    printf("%u ended by the server, %u by the client, %u of %u at the end\n%s", ended, left, last, lasting + LATE, text);
+    return to_another || wrong || opened != closed || last != lasting + LATE;
 }
