@@ -1,12 +1,11 @@
-use Rattle.std.proofs.Common.{rules}
 -- Several steps in a row, the pass after them, and the conditions of a call's steps.
 use Rattle.fx_counted.proofs.Words.{◌≡◌, ◌≤◌, ℕ, ◌+◌, ◌*◌, List, [], sym, ap, ◌∙◌, subst, arith, Some, TableId, ◌▷◌, Action, Close, Use, no_use, Adds}
-use Rattle.fx_counted.proofs.Words.{File, Goes, HasPlace, HasPass, Sat, opening_of, pass_of, doing_in, view_of, is_idle, IsPassOf, Stepped}
-use Rattle.fx_counted.proofs.Words.{TakesOut, LetsGo, CountedPass, Change, Outside, Log, Start, Work, Idle, Holding, Retiring, activity_of}
-use Rattle.fx_counted.proofs.Words.{◌▷▷◌, both_uses, IsBetweenCalls, Between, steps_of, true, ◌<◌, range_of, full_word_of, InRange, HasNode}
-use Rattle.fx_counted.proofs.Words.{chain_numbers, slot_of, slot_place, node_place, IsNumber, opening_of_table, CountedTable, size_of, Option, None}
-use Rattle.fx_counted.proofs.Words.{number_of, name_in, node_in, Names, named, named_suc, Bool, none, Closed, retiring, IsPassOfTable, Removes, begun}
-use Rattle.fx_counted.proofs.Words.{Seat, View, Agrees, IsIdle, step, Allows, adds_then, hold_of, retired_of, Hold, Retired}
+use Rattle.fx_counted.proofs.Words.{File, Goes, HasPlace, HasPass, Sat, opening_of, pass_of, doing_in, view_of, is_idle, IsPassOf, Stepped, TakesOut}
+use Rattle.fx_counted.proofs.Words.{LetsGo, CountedPass, Change, Outside, Log, Start, Work, Idle, Holding, Retiring, activity_of, ◌▷▷◌, both_uses}
+use Rattle.fx_counted.proofs.Words.{IsBetweenCalls, Between, steps_of, true, ◌<◌, range_of, full_word_of, InRange, HasNode, chain_numbers, slot_of}
+use Rattle.fx_counted.proofs.Words.{slot_place, node_place, IsNumber, opening_of_table, CountedTable, size_of, Option, None, number_of, name_in, Bool}
+use Rattle.fx_counted.proofs.Words.{node_in, Names, named, named_suc, none, Closed, retiring, IsPassOfTable, Removes, begun, Seat, View, Agrees, step}
+use Rattle.fx_counted.proofs.Words.{IsIdle, Allows, adds_then, hold_of, retired_of, Hold, Retired, rules}
 use Rattle.fx_table.proofs.FileLemmas.{idle_task}
 use Rattle.fx_table.specs.declared.values.Task.{Task}
 use Rattle.fx_counted.proofs.Places.{few_numbers, inside, apart}

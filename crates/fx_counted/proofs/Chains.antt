@@ -1,14 +1,13 @@
 -- A draw keeps the rule.
 use Rattle.fx_counted.proofs.Words.{sum_by, ◌≡◌, ◌≢◌, ℕ, ◌+◌, ◌*◌, ◌%◌, ◌^◌, ◌<◌, ◌≤◌, Bool, true, false, cond, nat_lt, List, [], ◌∷◌, set, length}
-use Rattle.fx_counted.proofs.Words.{sym, refl, ap, ◌∙◌, subst, arith, eqb, lt-ltb, le-ltb, get_or-set_other, get_or-set_same, Option, ◌⊎◌, inl}
-use Rattle.fx_counted.proofs.Words.{⊎_elim, dite, none, ℕ_discrete, dec_le, keeps, step, Closed, numbers_up_to, sum_by-cons, sum_set, sum_at}
-use Rattle.fx_counted.proofs.Words.{sum_le_at, WorkAgrees, DrawsCount, control_place, draw_place}
-use Rattle.fx_counted.proofs.Words.{opening_of, chain_in, shown, first_log, drawn_of, ended_of, once, placing, Phase, unborn, spare, file_in}
-use Rattle.fx_counted.proofs.Words.{Log, View, Idle, mul-add, mul-le-mul_left, Draws, DrawsKeep, first_or, DrawsChain, next_in, end_in, chain_given}
-use Rattle.fx_counted.proofs.Words.{Between, one_if, times, bit_here, once_is, once_more, length-set, count_by-le-length, bit_else, of_one}
+use Rattle.fx_counted.proofs.Words.{sym, refl, ap, ◌∙◌, subst, arith, eqb, lt-ltb, le-ltb, get_or-set_other, get_or-set_same, Option, ◌⊎◌, inl, dite}
+use Rattle.fx_counted.proofs.Words.{⊎_elim, none, ℕ_discrete, dec_le, keeps, step, Closed, numbers_up_to, sum_by-cons, sum_set, sum_at, sum_le_at}
+use Rattle.fx_counted.proofs.Words.{WorkAgrees, DrawsCount, control_place, draw_place, opening_of, chain_in, shown, first_log, drawn_of, ended_of}
+use Rattle.fx_counted.proofs.Words.{once, placing, Phase, unborn, spare, file_in, Log, View, Idle, mul-add, mul-le-mul_left, Draws, DrawsKeep, end_in}
+use Rattle.fx_counted.proofs.Words.{first_or, DrawsChain, next_in, chain_given, Between, one_if, times, bit_here, once_is, once_more, length-set}
+use Rattle.fx_counted.proofs.Words.{count_by-le-length, bit_else, of_one, total_of_seat}
 use Rattle.fx_counted.proofs.Steps.{passed, owner_same, grows_none, Turn, turn_of, word_at, now, its_log, step_kept, by_turn, Made, near, far}
 use Rattle.fx_counted.proofs.Steps.{slot_same, control_same}
-use Rattle.table_seats.proofs.Gathered.{total_of_seat}
 
 -- the phases, where the numbers from lo to below hi are the pass's
 abbrev given_out : ℕ → ℕ → ℕ → (ℕ → Phase) → ℕ → Phase

@@ -1,14 +1,13 @@
-use Rattle.std.proofs.Common.{rules}
 -- The control word: its count of full slots, and the steps that change no slot and no number.
-use Rattle.fx_counted.proofs.Words.{seats, full_all, full_else, full_few, full_here, ◌≡◌, ◌≢◌, ℕ, zero, suc, ◌+◌, ◌<◌, ◌≤◌, List, set, sym, refl, ap, ◌⊎◌}
-use Rattle.fx_counted.proofs.Words.{arith, Option, IsSome, dite, some, ℕ_discrete, get_elem?, changed_at, File, sum_set, in_change}
-use Rattle.fx_counted.proofs.Words.{added, removed_by, changes_of, added_of, removed_of, if_full, full_in, ControlCounts, turned, Change, Outside}
-use Rattle.fx_counted.proofs.Words.{Same, View, length, ◌∙◌, held_by, State, Event, range_of, Agrees, looks, all_looks, word_of, control_place}
-use Rattle.fx_counted.proofs.Words.{draw_place, slot_place, opening_of, IsNumber, state_after_all, Log, Start, Work, sum_by, ◌-◌, ◌/◌, ◌%◌, ◌^◌, []}
-use Rattle.fx_counted.proofs.Words.{◌∷◌, get_or-set_other, none, some-injective, some-ne-none, keeps, step, sum_by-cons, Closed}
-use Rattle.fx_counted.proofs.Words.{Full, no_use, event_of, sum_at, sum_le_at, one_change, full_word_of, WorkAgrees, lengths, shown, IsInside}
-use Rattle.fx_counted.proofs.Words.{Stepped, GoesOn, SaysFull, Phase, Shared, BeginsKeep, EndsKeep, AnswersKeep, Bool}
-use Rattle.fx_counted.proofs.Words.{true, end_amount_of, InRange, HasToReport, HasPass, MayChange, Sat, ℤ, begun, difference, Allows}
+use Rattle.fx_counted.proofs.Words.{seats, full_all, full_else, full_few, full_here, ◌≡◌, ◌≢◌, ℕ, zero, suc, ◌+◌, ◌<◌, ◌≤◌, List, set, sym, refl, ap}
+use Rattle.fx_counted.proofs.Words.{◌⊎◌, arith, Option, IsSome, dite, some, ℕ_discrete, get_elem?, changed_at, File, sum_set, in_change, added, Same}
+use Rattle.fx_counted.proofs.Words.{removed_by, changes_of, added_of, removed_of, if_full, full_in, ControlCounts, turned, Change, Outside, View, ◌∙◌}
+use Rattle.fx_counted.proofs.Words.{length, held_by, State, Event, range_of, Agrees, looks, all_looks, word_of, control_place, draw_place, slot_place}
+use Rattle.fx_counted.proofs.Words.{opening_of, IsNumber, state_after_all, Log, Start, Work, sum_by, ◌-◌, ◌/◌, ◌%◌, ◌^◌, [], ◌∷◌, get_or-set_other, ℤ}
+use Rattle.fx_counted.proofs.Words.{none, some-injective, some-ne-none, keeps, step, sum_by-cons, Closed, Full, no_use, event_of, sum_at, sum_le_at}
+use Rattle.fx_counted.proofs.Words.{one_change, full_word_of, WorkAgrees, lengths, shown, IsInside, Stepped, GoesOn, SaysFull, Phase, Shared, Bool}
+use Rattle.fx_counted.proofs.Words.{BeginsKeep, EndsKeep, AnswersKeep, true, end_amount_of, InRange, HasToReport, HasPass, MayChange, Sat, begun}
+use Rattle.fx_counted.proofs.Words.{difference, Allows, rules}
 use Rattle.fx_counted.proofs.Steps.{sees_now, stays_same, owner_same, Grows, grows_none, IsHistory, Turn, word_at, now, logged, its_log, its_work, step_kept}
 use Rattle.fx_counted.proofs.Steps.{log_now, slot_same, draws_same, grows_one, legal_more, held_mine, same_shape, turn_of, by_turn, went, tells_none}
 use Rattle.fx_counted.proofs.Steps.{tells_one, near, far}

@@ -3,9 +3,9 @@ use Rattle.fx_counted.proofs.Words.{◌≡◌, ◌≢◌, ℕ, ◌+◌, ◌≤�
 use Rattle.fx_counted.proofs.Words.{Action, Look, start_of, range_of, looks, all_looks, opening_of, slots_of, state_after_all, Start, ReleasesItsOwn}
 use Rattle.fx_counted.proofs.Words.{IsLegal, looks_after, look_in, map, action_of, next_in, end_in, placing, ◌<◌, Contains, sum_by, set, subst, some}
 use Rattle.fx_counted.proofs.Words.{some-injective, get_elem?, set_here, set_else, File, numbered, sum_set, Does, OwnerAgrees, WorkAgrees, ViewAgrees}
-use Rattle.fx_counted.proofs.Words.{Phase, spare, owner, file_in, Log, View, Work, Placing, Holding, Retiring}
-use Rattle.fx_counted.proofs.Words.{Emptying, Between, stands_at, one_if, Option, Closed, State, SlotAgrees, Home, NodeAgrees, full_in, ControlCounts}
-use Rattle.fx_counted.proofs.Words.{DrawsCount, ended_of, unborn, seated, IsGone, times, Grows, seats, total_same}
+use Rattle.fx_counted.proofs.Words.{Phase, spare, owner, file_in, Log, View, Work, Placing, Holding, Retiring, Emptying, Between, stands_at, one_if}
+use Rattle.fx_counted.proofs.Words.{Option, Closed, State, SlotAgrees, Home, NodeAgrees, full_in, ControlCounts, DrawsCount, ended_of, unborn, seated}
+use Rattle.fx_counted.proofs.Words.{IsGone, times, Grows, seats, total_same}
 use Rattle.fx_plain.specs.Step.{Allows}
 use Rattle.fx_plain.proofs.Leading.{same_shape as shape_of_state}
 

@@ -1,19 +1,17 @@
-use Rattle.std.proofs.Common.{rules}
 -- A step of a seat with one pass keeps the rule, if it keeps what the step changes.
 use Rattle.fx_counted.proofs.Words.{Contains, contains_head, contains_only, ◌≡◌, ℕ, ◌+◌, ◌<◌, ◌≤◌, List, [], ◌∷◌, ◌++◌, map, set, length, sym, refl}
 use Rattle.fx_counted.proofs.Words.{ap, ◌∙◌, subst, arith, get_or, Option, None, Some, File, some, get_elem?, Closed, part_of_pass, Event, Action}
 use Rattle.fx_counted.proofs.Words.{Use, range_of, event_of, sum_set, SlotAgrees, NodeAgrees, OwnerAgrees, WorkAgrees, LogAgrees, ViewAgrees, Agrees}
-use Rattle.fx_counted.proofs.Words.{ControlCounts, looks, all_looks, DrawsCount, control_place, draw_place, slot_place, node_place, home_place}
-use Rattle.fx_counted.proofs.Words.{Shared, opening_of, slots_of, IsNumber, state_after_all, Sat, shown, held_of, Phase, IsInside, Stepped}
-use Rattle.fx_counted.proofs.Words.{Change, Log, View, Work, stepped, Act, Valid, carried_after, HasPass, held_by, held_in, PlacesNext, placing}
-use Rattle.fx_counted.proofs.Words.{next_in, end_in, spare, HasShape, Start, no_use, ◌▷◌, Allows, IsSeated, ◌≢◌, Between, Holding, file_in, at_set}
-use Rattle.fx_counted.proofs.Words.{⊎_elim, get_or-set_other, get_or-set_same, Bool, changed_at, full_in, PlacesAreInside, PlacesAreApart}
-use Rattle.fx_counted.proofs.Words.{chain_numbers, owner, retired, ◌⊎◌, length-set, unborn, Grows, grows_none, grows_one, part_mine, each_changed}
-use Rattle.fx_counted.proofs.Words.{HasSeen, its_pass, not_there, of_one, seats}
+use Rattle.fx_counted.proofs.Words.{ControlCounts, looks, all_looks, DrawsCount, control_place, draw_place, slot_place, node_place, home_place, Sat}
+use Rattle.fx_counted.proofs.Words.{Shared, opening_of, slots_of, IsNumber, state_after_all, shown, held_of, Phase, IsInside, Stepped, Change, Log}
+use Rattle.fx_counted.proofs.Words.{View, Work, stepped, Act, Valid, carried_after, HasPass, held_by, held_in, PlacesNext, placing, next_in, end_in}
+use Rattle.fx_counted.proofs.Words.{spare, HasShape, Start, no_use, ◌▷◌, Allows, IsSeated, ◌≢◌, Between, Holding, file_in, at_set, ⊎_elim, Bool, ◌⊎◌}
+use Rattle.fx_counted.proofs.Words.{get_or-set_other, get_or-set_same, changed_at, full_in, PlacesAreInside, PlacesAreApart, chain_numbers, owner}
+use Rattle.fx_counted.proofs.Words.{retired, length-set, unborn, Grows, grows_none, grows_one, part_mine, each_changed, HasSeen, its_pass, not_there}
+use Rattle.fx_counted.proofs.Words.{of_one, seats, rules, seen_again}
 use Rattle.fx_counted.proofs.Frames.{IsHistory, Stays, view_stays, busy, owner_stays, slot_same, node_same, control_same, draws_same, SameFile}
 use Rattle.fx_counted.proofs.Places.{inside, apart}
 use mathlib.Core.Option as maybe
-use Rattle.fx_table.proofs.Calls.{seen_again}
 use Rattle.table_seats.proofs.Together.{stepped as seats_step}
 
 abbrev pub Homes : Type 0

@@ -3,7 +3,6 @@ pub mod Places
 pub mod Frames
 pub mod Keeping
 pub mod Steps
-pub mod Births
 pub mod LettingGo
 pub mod LookUps
 pub mod Swaps
@@ -12,7 +11,6 @@ pub mod SlotLaws
 pub mod Chains
 pub mod Calling
 pub mod Openings
-pub mod Searching
 pub mod Ending
 pub mod Seats
 pub mod HomeComing

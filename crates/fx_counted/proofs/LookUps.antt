@@ -1,10 +1,9 @@
-use Rattle.std.proofs.Common.{rules}
 -- A look-up keeps the rule.
-use Rattle.fx_counted.proofs.Words.{◌≡◌, ◌≢◌, ℕ, ◌+◌, ◌-◌, ◌%◌, ◌^◌, ◌<◌, List, [], ◌∷◌, sym, refl, ap, ◌∙◌, subst, arith, Option, none}
-use Rattle.fx_counted.proofs.Words.{keeps, step, Closed, ◌▷◌, State, File, Event, Look, range_of, event_of, takes_in, Names}
-use Rattle.fx_counted.proofs.Words.{SlotAgrees, PlacesNext, WorkAgrees, looks, full_in, slot_place, opening_of, slots_of, IsNumber, state_after_all}
-use Rattle.fx_counted.proofs.Words.{shown, held_in, placing, held_of, holding, Phase, seated, IsInside, Log, View, Idle, one_look, name_more}
-use Rattle.fx_counted.proofs.Words.{entry_more, takes_more, LooksKeep, Looks, holds_now, Between, one_more_at, length-set, IsSeated}
+use Rattle.fx_counted.proofs.Words.{◌≡◌, ◌≢◌, ℕ, ◌+◌, ◌-◌, ◌%◌, ◌^◌, ◌<◌, List, [], ◌∷◌, sym, refl, ap, ◌∙◌, subst, arith, Option, none, keeps, step}
+use Rattle.fx_counted.proofs.Words.{Closed, ◌▷◌, State, File, Event, Look, range_of, event_of, takes_in, Names, SlotAgrees, PlacesNext, WorkAgrees}
+use Rattle.fx_counted.proofs.Words.{looks, full_in, slot_place, opening_of, slots_of, IsNumber, state_after_all, shown, held_in, placing, held_of}
+use Rattle.fx_counted.proofs.Words.{holding, Phase, seated, IsInside, Log, View, Idle, one_look, name_more, entry_more, takes_more, LooksKeep, Looks}
+use Rattle.fx_counted.proofs.Words.{holds_now, Between, one_more_at, length-set, IsSeated, rules}
 use Rattle.fx_counted.proofs.Steps.{sees_now, busy, stays_same, owner_stays, IsHistory, grows_one, legal_more, held_mine, part_mine, same_shape, step_kept}
 use Rattle.fx_counted.proofs.Steps.{Turn, turn_of, word_at, now, logged, its_log, tells, by_turn, Made, log_now, far, control_same, NodeIn, seat_in}
 use Rattle.fx_counted.proofs.Steps.{slots_now, node_now, control_now, draws_now, words_now}

@@ -1,15 +1,14 @@
-use Rattle.std.proofs.Common.{rules}
 -- The opening of a table: its words and places, and the rule with them.
-use Rattle.fx_counted.proofs.Words.{count_by-le-length, sum_by, ◌≡◌, ℕ, ◌+◌, ◌≤◌, Option, Some, None, sym, ◌∙◌, subst, arith, File, sum_le_at}
-use Rattle.fx_counted.proofs.Words.{node_in, Agrees, Names, WorkAgrees, lengths, changes_of, looks, all_looks, Shared, looks_of, Start, Retiring}
-use Rattle.fx_counted.proofs.Words.{Between, IsSeated, mul-le-mul_right, zero, suc, ◌*◌, ◌<◌, List, length, refl, ap, slice_index, State}
-use Rattle.fx_counted.proofs.Words.{file_numbered, full_in, first_at, control_place, draw_place, slot_place, words_for, word_for, node_for}
-use Rattle.fx_counted.proofs.Words.{control_word_of, [], ◌∷◌, some, get_elem?, Closed, state_of, identity_of, MAX_CHAINS, chain_numbers}
-use Rattle.fx_counted.proofs.Words.{AreFirstWords, AreFirstHomes, homes_for, home_for, OpensWith, MAX_PASSES, first_file, Bool, nat_lt, cond, map}
-use Rattle.fx_counted.proofs.Words.{eqb, lt-ltb, le-ltb, ⊎_elim, count_by, sum_by-cons, numbered, numbers_for, born, SlotAgrees, NodeAgrees}
-use Rattle.fx_counted.proofs.Words.{OwnerAgrees, HasLaws, LogAgrees, ViewAgrees, new_logs, word_of, place_of, opening_of, slots_of, IsNumber}
-use Rattle.fx_counted.proofs.Words.{state_after_all, new_log, Phase, unborn, seated, closed, Log, View, Idle, ◌&&◌, length-map, at_map, first_view}
-use Rattle.fx_counted.proofs.Words.{contains_map, sum_zero, one_if, once_is, range_with_len, full_few, not, numbered_anew, seats}
+use Rattle.fx_counted.proofs.Words.{count_by-le-length, sum_by, ◌≡◌, ℕ, ◌+◌, ◌≤◌, Option, Some, None, sym, ◌∙◌, subst, arith, File, sum_le_at, Agrees}
+use Rattle.fx_counted.proofs.Words.{node_in, Names, WorkAgrees, lengths, changes_of, looks, all_looks, Shared, looks_of, Start, Retiring, Between, ap}
+use Rattle.fx_counted.proofs.Words.{IsSeated, mul-le-mul_right, zero, suc, ◌*◌, ◌<◌, List, length, refl, slice_index, State, file_numbered, full_in}
+use Rattle.fx_counted.proofs.Words.{first_at, control_place, draw_place, slot_place, words_for, word_for, node_for, control_word_of, [], ◌∷◌, some}
+use Rattle.fx_counted.proofs.Words.{get_elem?, Closed, state_of, identity_of, MAX_CHAINS, chain_numbers, AreFirstWords, AreFirstHomes, homes_for, map}
+use Rattle.fx_counted.proofs.Words.{home_for, OpensWith, MAX_PASSES, first_file, Bool, nat_lt, cond, eqb, lt-ltb, le-ltb, ⊎_elim, count_by, numbered}
+use Rattle.fx_counted.proofs.Words.{sum_by-cons, numbers_for, born, SlotAgrees, NodeAgrees, OwnerAgrees, HasLaws, LogAgrees, ViewAgrees, new_logs}
+use Rattle.fx_counted.proofs.Words.{word_of, place_of, opening_of, slots_of, IsNumber, state_after_all, new_log, Phase, unborn, seated, closed, Log}
+use Rattle.fx_counted.proofs.Words.{View, Idle, ◌&&◌, length-map, at_map, first_view, contains_map, sum_zero, one_if, once_is, range_with_len, not}
+use Rattle.fx_counted.proofs.Words.{full_few, numbered_anew, seats, rules}
 use Rattle.fx_counted.specs.Bounds.{AreBounded, slot_word_in, node_word_in}
 use Rattle.fx_counted.proofs.ControlSteps.{few_changes, few_full, few_added, few_removed}
 use Rattle.fx_counted.proofs.Frames.{looks_few}

@@ -1,11 +1,10 @@
-use Rattle.std.proofs.Common.{rules}
 -- Swaps, loads and exchanges keep the rule.
 use Rattle.fx_counted.proofs.Words.{◌≡◌, ◌≢◌, ℕ, ◌-◌, ◌<◌, ◌^◌, Bool, List, [], ◌∷◌, false, sym, refl, ap, ◌∙◌, subst, arith, eqb, Option, Some, None}
 use Rattle.fx_counted.proofs.Words.{inl, none, keeps, gives, rest, stepped, step, Closed, ◌▷◌, changed_at, numbered, File, Action, Put, Clear, Take}
 use Rattle.fx_counted.proofs.Words.{Allocate, one_number, name_in, slot_word_of, WorkAgrees, Agrees, HasPass, MayChange, place_of, slot_place, Sat}
 use Rattle.fx_counted.proofs.Words.{slots_of, state_after_all, Stepped, Exchanges, GoesOn, turned, Change, Same, Log, Start, View, Idle, Placing}
 use Rattle.fx_counted.proofs.Words.{event_of, shown, set-get_or, exchanged, ClearsKeep, TakesKeep, InstallsKeep, LoadsKeep, ExchangesKeep, Installs}
-use Rattle.fx_counted.proofs.Words.{Removes, Between, Allows, IsInRange}
+use Rattle.fx_counted.proofs.Words.{Removes, Between, Allows, IsInRange, rules}
 use Rattle.fx_counted.proofs.Steps.{in_phase, legal_more, same_shape, Turn, turn_of, word_at, now, logged, its_work, by_turn, went, Made, far}
 use Rattle.fx_counted.proofs.Steps.{control_same}
 use prog.Atomic.{either}

@@ -10,7 +10,7 @@ use Rattle.fx_counted.proofs.Words.{Work, Idle, Placing, Retiring, Between, keep
 use Rattle.fx_counted.proofs.Steps.{sees_now, in_phase, seat_in, busy, owner_stays, does_now, IsHistory, grows_one, part_mine, held_mine, each_changed}
 use Rattle.fx_counted.proofs.Steps.{same_shape, Turn, Homes, word_at, now, logged, its_log, its_work, log_now, tells, went, tells_one, node_same}
 use Rattle.fx_counted.proofs.Steps.{NodeIn, step_kept, slots_now, node_now, control_now, draws_now, words_now}
-use Rattle.fx_counted.proofs.Births.{else_place, unheld}
+use Rattle.fx_counted.proofs.LettingGo.{else_place, unheld}
 use Rattle.fx_counted.proofs.ControlSteps.{Stands, control_swap}
 
 -- the phases after a file has left its slot for the seat id

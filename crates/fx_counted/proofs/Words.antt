@@ -1,7 +1,7 @@
 -- The names that these proofs cite, passed on from one place. Declares nothing.
 pub use Rattle.atomic_table.proofs.Lists.{at_map, at_set, exchanged, set_else, set_here}
 pub use Rattle.atomic_table.specs.Seated.{TableId}
-pub use Rattle.atomic_table.specs.Table.{Act, Allows, Final, Seen, Valid, carried_after, gives, keeps, rest, step, stepped, takes}
+pub use Rattle.atomic_table.specs.Table.{Act, Allows, Final, Seen, Valid, carried_after, gives, keeps, rest, step, stepped, takes, Splits}
 pub use Rattle.atomic_table.specs.declared.shared.Seat.{Seat}
 pub use Rattle.fx_base.specs.declared.open_file.Closed.{Closed}
 pub use Rattle.fx_counted.specs.Agrees.{Agrees, Does, HasShape, Home, IsGone, IsSeated, LogAgrees, Names, NodeAgrees, OwnerAgrees, PlacesNext}
@@ -82,13 +82,14 @@ pub use lib.ListN.{get_elem?}
 pub use mathlib.Core.Logic.{dite}
 pub use mathlib.Core.Option.{none, some, some-injective, some-ne-none}
 pub use native.Mathlib.Decide.{dec_le, ℕ_discrete}
-pub use Rattle.fx_table.proofs.Calls.{adds_then, cleared_so, placed_so, new_here, taken_so}
+pub use Rattle.fx_table.proofs.Calls.{adds_then, cleared_so, placed_so, new_here, taken_so, seen_again, learned_so}
 pub use Rattle.fx_table.specs.declared.values.Hold.{Hold}
 pub use Rattle.fx_plain.proofs.Prepared.{inside_behind, opens_inside, numbered_anew}
 pub use Rattle.fx_table.proofs.Seats.{gathered, last_of}
-pub use Rattle.table_seats.proofs.Gathered.{AreGathered}
+pub use Rattle.table_seats.proofs.Gathered.{AreGathered, total_of_seat}
 pub use Rattle.table_seats.proofs.Together.{HasLaws, Moves, its_pass, not_there, of_one, total_same}
 pub use Rattle.table_seats.specs.Seats.{dealt, first_alone, first_view, new_logs, shown_view, without_first}
 pub use Rattle.table_seats.specs.Together.{HasSeen, lengths}
 pub use Rattle.fx_table.proofs.Growing.{Grows, grows_none, grows_one, part_mine, each_changed}
 pub use Rattle.fx_table.proofs.Chains.{some_there, some_times, IsReady, fits, one_dealt, all_dealt}
+pub use Rattle.table_seats.proofs.Moving.{may_observe, IsDealing, IsGathering}

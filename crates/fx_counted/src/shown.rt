@@ -1,8 +1,5 @@
 //! The order between the calls of two threads: a pass shows what it has seen, and another pass
 //! learns it. Neither call makes an atomic step.
-ghost use Rattle.std.specs.Prelude.{◌≡◌};
-ghost use Rattle.fx_table.specs.Showing.{Learns};
-ghost use Rattle.fx_counted.specs.Tables.{view_of, opening_of_table, IsPassOfTable, steps_taken};
 ghost use Rattle.fx_counted.specs.Showing.{shown_of, IsSeenOf};
 
 use crate::pass::CountedPass;

@@ -1,6 +1,5 @@
-use Rattle.fx_counted.proofs.Words.{arith}
+use Rattle.fx_counted.proofs.Words.{arith, may_observe}
 use Rattle.fx_counted.proofs.Seats.{settles}
-use Rattle.table_seats.proofs.Moving.{may_observe}
 use Rattle.fx_counted.proofs.file_table.CountedTableFileTable.settle.Goals as goal
 
 pub load-requires : goal.load-requires

@@ -1,5 +1,4 @@
-use Rattle.fx_counted.proofs.Words.{sym, subst, Start}
-use Rattle.fx_counted.specs.Effects.{IsInside}
+use Rattle.fx_counted.proofs.Words.{sym, subst, Start, IsInside}
 use Rattle.fx_counted.proofs.Showing.{may_learn, learned_pass}
 use Rattle.fx_counted.proofs.shown.CountedTableRealTime.learn.Goals as goal
 

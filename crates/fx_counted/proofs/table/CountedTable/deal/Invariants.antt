@@ -1,5 +1,4 @@
-use Rattle.fx_counted.proofs.Words.{◌-◌, vec_capacity, seats, view_of, IsPassOf}
-use Rattle.table_seats.proofs.Moving.{IsDealing}
+use Rattle.fx_counted.proofs.Words.{◌-◌, vec_capacity, seats, view_of, IsPassOf, IsDealing}
 use Rattle.fx_counted.proofs.table.CountedTable.deal.Given as goal
 
 abbrev pub invariant-loop-number : goal.invariant-loop-number

@@ -1,5 +1,4 @@
-use Rattle.fx_counted.proofs.Words.{length, seats, IsIdleSeatOf}
-use Rattle.table_seats.proofs.Moving.{IsGathering}
+use Rattle.fx_counted.proofs.Words.{length, seats, IsIdleSeatOf, IsGathering}
 use Rattle.fx_counted.proofs.table.CountedTable.gather.Given as goal
 
 abbrev pub invariant-loop-pass : goal.invariant-loop-pass

@@ -1,5 +1,5 @@
 use Rattle.fx_counted.proofs.Words.{ap, ◌∙◌, word_of}
-use Rattle.fx_counted.proofs.Births.{births_keep}
+use Rattle.fx_counted.proofs.LettingGo.{births_keep}
 use Rattle.fx_counted.proofs.Calling.{node_inside}
 use Rattle.fx_counted.proofs.table.CountedTable.put_in.Goals as goal
 

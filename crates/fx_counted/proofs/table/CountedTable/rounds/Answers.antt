@@ -1,5 +1,5 @@
 use Rattle.fx_counted.proofs.Words.{◌∙◌}
-use Rattle.fx_counted.proofs.Searching.{still_then, allocated_then, full_then}
+use Rattle.fx_counted.proofs.Showing.{still_then, allocated_then, full_then}
 use Rattle.fx_counted.proofs.table.CountedTable.rounds.Goals as goal
 
 pub returns-in-At-clause-found : goal.returns-in-At-clause-found

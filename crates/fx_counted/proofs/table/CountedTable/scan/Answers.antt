@@ -1,5 +1,5 @@
 use Rattle.fx_counted.proofs.Words.{◌∙◌}
-use Rattle.fx_counted.proofs.Searching.{still_then, allocated_then}
+use Rattle.fx_counted.proofs.Showing.{still_then, allocated_then}
 use Rattle.fx_counted.proofs.table.CountedTable.scan.Goals as goal
 
 pub returns-then-try_slot-clause-found : goal.returns-then-try_slot-clause-found

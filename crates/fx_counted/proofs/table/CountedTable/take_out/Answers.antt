@@ -1,5 +1,5 @@
 use Rattle.fx_counted.proofs.Words.{sym, ap, ◌∙◌, ◌∷◌, Some, None, rest, Sat}
-use Rattle.fx_counted.proofs.Births.{rests_keep}
+use Rattle.fx_counted.proofs.LettingGo.{rests_keep}
 use Rattle.fx_counted.proofs.Calling.{node_inside}
 use Rattle.fx_counted.proofs.table.CountedTable.take_out.Goals as goal
 

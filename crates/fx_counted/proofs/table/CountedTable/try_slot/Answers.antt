@@ -1,6 +1,6 @@
 use Rattle.fx_counted.proofs.Words.{arith, rules, ◌≡◌, ◌<◌, ◌^◌, ◌∙◌, None, node_in}
 use Rattle.fx_counted.proofs.Calling.{in_size, slot_inside, slot_at, no_name}
-use Rattle.fx_counted.proofs.Searching.{exchange_tried}
+use Rattle.fx_counted.proofs.Showing.{exchange_tried}
 use Rattle.fx_counted.proofs.SlotLaws.{loads_keep, exchanges_keep}
 use Rattle.fx_counted.proofs.table.CountedTable.try_slot.Goals as goal
 
