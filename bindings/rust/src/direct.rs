@@ -1,8 +1,7 @@
 //! The life of a direct descriptor: when a slot of a ring's table is free, when it may be closed,
 //! and whose a completion is. For a server on `io_uring` with direct descriptors (fixed files).
 //!
-//! Nothing here makes a system call: [`Slots`] says what to submit, and takes the completions. So
-//! it works with any crate for rings.
+//! Nothing here makes a system call: [`Slots`] says what to submit, and takes the completions.
 //!
 //! ```text
 //! free -> opening -> live -> ending -> closing -> free
@@ -15,66 +14,8 @@
 //! none is left, a call returns [`Next::Close`]: now the slot is to be closed. An open, requests
 //! and a close may also be submitted at once, linked: [`Slots::chain`].
 //!
-//! ```
-//! use yachtbanyan::direct::{After, Key, Next, Slots};
-//! # struct Ring;
-//! # impl Ring {
-//! #     fn accept(&mut self, _slot: u32, _data: u64) {}
-//! #     fn receive(&mut self, _slot: u32, _data: u64) {}
-//! #     fn shutdown(&mut self, _slot: u32, _data: u64) {}
-//! #     fn close(&mut self, _slot: u32, _data: u64) {}
-//! # }
-//!
-//! const ACCEPT: u8 = 0;
-//! const RECEIVE: u8 = 1;
-//! const SHUTDOWN: u8 = 2;
-//! const CLOSE: u8 = 3;
-//! const EBADF: i32 = 9; // the answer of a close of an empty slot
-//!
-//! /// Takes a completion of the ring.
-//! fn completed(
-//!     slots: &mut Slots,
-//!     ring: &mut Ring,
-//!     user_data: u64,
-//!     result: i32,
-//! ) -> Result<(), Box<dyn std::error::Error>> {
-//!     let (key, kind) = Key::from_bits(user_data);
-//!     let next = match kind {
-//!         ACCEPT => match slots.opened(key, result)? {
-//!             After::Close(slot) => Next::Close(slot), // after a stop
-//!             After::Over(()) => Next::Nothing,        // the slot is free again
-//!             After::Nothing => {
-//!                 ring.receive(slots.start(key)?, key.to_bits(RECEIVE));
-//!                 Next::Nothing
-//!             }
-//!         },
-//!         CLOSE if result >= 0 || result == -EBADF => return Ok(slots.closed(key)?),
-//!         CLOSE => Next::Close(slots.close_failed(key)?),
-//!         // the end of what the peer sends, or a reset
-//!         RECEIVE if result <= 0 => {
-//!             ring.shutdown(slots.start(key)?, key.to_bits(SHUTDOWN));
-//!             let _waits_for_the_shutdown = slots.end(key)?;
-//!             slots.finish(key)?
-//!         }
-//!         _ => slots.finish(key)?,
-//!     };
-//!     if let Next::Close(slot) = next {
-//!         ring.close(slot, key.to_bits(CLOSE));
-//!     }
-//!     Ok(())
-//! }
-//!
-//! let (mut slots, mut ring) = (Slots::new(64)?, Ring);
-//! let key = slots.reserve()?;
-//! ring.accept(key.slot(), key.to_bits(ACCEPT));
-//! // what the kernel would post
-//! completed(&mut slots, &mut ring, key.to_bits(ACCEPT), 0)?;
-//! completed(&mut slots, &mut ring, key.to_bits(RECEIVE), -104)?;
-//! completed(&mut slots, &mut ring, key.to_bits(SHUTDOWN), -107)?;
-//! completed(&mut slots, &mut ring, key.to_bits(CLOSE), 0)?;
-//! assert!(slots.is_empty() && slots.in_flight() == 0);
-//! # Ok::<(), Box<dyn std::error::Error>>(())
-//! ```
+//! [`Lives`] does all that around a ring: a server takes its events, as `examples/echo.rs` does. It
+//! works over any crate for rings, by the trait [`Ring`]. Nothing of it is proved.
 //!
 //! # Promise
 //!

@@ -6,6 +6,8 @@ use yachtbanyan::direct::Key;
 /// The bytes of a connection's buffer, and the longest line.
 const BUFFER: usize = 256;
 const LONGEST: usize = 64;
+const NO_SUCH_FILE: i32 = -2;
+pub const NO_FILE: &[u8] = b"no such file\n";
 
 #[derive(Default)]
 pub struct Connection {
@@ -22,11 +24,15 @@ pub struct Connection {
 }
 
 impl Connection {
-    /// Returns the room for what is received next, if there is some. No request has the buffer.
+    /// Returns the room for a receive, if one may begin.
     pub fn room(&mut self) -> Option<(*mut u8, usize)> {
+        if self.is_receiving || self.name.is_none() {
+            return None;
+        }
         self.input.reserve_exact(BUFFER - self.input.len());
         self.input.drain(..std::mem::take(&mut self.begin));
         let room = self.input.spare_capacity_mut();
+        self.is_receiving = !room.is_empty();
         Some((room.as_mut_ptr().cast(), room.len())).filter(|it| it.1 > 0)
     }
 
@@ -64,8 +70,11 @@ impl Reading {
         Reading { reader, path, error: None, bytes: Vec::with_capacity(LONGEST - 1) }
     }
 
-    /// Returns the first line of this number of bytes, which were read.
+    /// Returns the answer: the first line of this number of bytes, which were read.
     pub fn line(&mut self, count: usize) -> Vec<u8> {
+        if self.error == Some(NO_SUCH_FILE) {
+            return NO_FILE.to_vec();
+        }
         // SAFETY: the read has written these bytes.
         unsafe { self.bytes.set_len(count) };
         let line = self.bytes.split(|it| *it == b'\n').next().unwrap_or_default();

@@ -66,12 +66,9 @@ fn main() -> Result<ExitCode, Box<dyn Error>> {
     let folder = PathBuf::from(env::args().nth(1).ok_or("direct FOLDER [SLOTS [LOG]]")?);
     let slots = env::args().nth(2).map_or(Ok(64), |it| it.parse())?;
     let log = env::args().nth(3).map(|it| Log::new(Path::new(&it), &folder, slots)).transpose()?;
-    let ring = match Ring::new(ENTRIES, slots, log) {
-        Ok(ring) => ring,
-        Err(error) => {
-            eprintln!("io_uring is refused: {error}");
-            return Ok(ExitCode::from(NO_IO_URING));
-        }
+    let Ok(ring) = Ring::new(ENTRIES, slots, log) else {
+        eprintln!("io_uring is refused");
+        return Ok(ExitCode::from(NO_IO_URING));
     };
     let Counts { opened, closed, waits, ended, late, .. } = serve(ring, slots, folder)?;
     println!(

@@ -20,7 +20,6 @@ unsafe extern "C" {
         fd: c_int,
         from: i64,
     ) -> *mut c_void;
-    fn munmap(at: *mut c_void, len: usize) -> c_int;
     fn listen(fd: c_int, backlog: c_int) -> c_int;
 }
 
@@ -148,9 +147,8 @@ type Offsets = [u32; 10];
 
 pub struct Ring {
     fd: OwnedFd,
-    // both queues, and the entries of the first one
+    // both queues, and the entries of the first one: mapped until the program ends
     queues: *mut u8,
-    queues_len: usize,
     sqes: *mut Sqe,
     entries: u32,
     submission: Offsets,
@@ -180,7 +178,7 @@ impl Ring {
         let table = [slots, SPARSE, 0, 0, 0, 0, 0, 0];
         // SAFETY: the kernel reads the 32 bytes of the table.
         checked(unsafe { syscall(REGISTER, fd.as_raw_fd(), REGISTER_FILES2, table.as_ptr(), 32) })?;
-        Ok(Ring { fd, queues, queues_len, sqes, entries, submission, completion, queued: 0, log })
+        Ok(Ring { fd, queues, sqes, entries, submission, completion, queued: 0, log })
     }
 
     fn word(&self, offset: u32) -> &AtomicU32 {
@@ -255,17 +253,7 @@ impl direct::Ring for Ring {
 
 fn map(fd: &OwnedFd, len: usize, from: i64) -> Result<*mut c_void> {
     let (how, flags) = (READ_AND_WRITE, SHARED_AND_POPULATED);
-    // SAFETY: new memory, which is unmapped when the ring is dropped.
+    // SAFETY: new memory, which stays until the program ends.
     let at = unsafe { mmap(null_mut(), len, how, flags, fd.as_raw_fd(), from) };
     checked(at as c_long).map(|_| at)
-}
-
-impl Drop for Ring {
-    fn drop(&mut self) {
-        // SAFETY: what is mapped is this ring's.
-        unsafe {
-            munmap(self.queues.cast(), self.queues_len);
-            munmap(self.sqes.cast(), self.entries as usize * size_of::<Sqe>());
-        }
-    }
 }

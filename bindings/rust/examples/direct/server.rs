@@ -1,5 +1,5 @@
 //! The ring's thread: lives of connections and files, and the requests on them.
-use crate::life::{Connection, Life, Reading};
+use crate::life::{Connection, Life, Reading, NO_FILE};
 use crate::ring::{Ring, Sqe};
 use crate::work::{Bell, Job, Session};
 use std::cell::UnsafeCell;
@@ -19,8 +19,6 @@ type Done<T = ()> = Result<T, Box<dyn Error>>;
 const ACCEPTS: u32 = 4;
 /// The server ends the connection of each such line, as if it had reasons.
 const ENDS: u32 = 50;
-const NO_SUCH_FILE: i32 = -2;
-const NO_FILE: &[u8] = b"no such file\n";
 
 /// The kinds of requests with a key, and the user data of those without one.
 const RECEIVE: u8 = 0;
@@ -115,13 +113,8 @@ impl Server {
     }
 
     fn receive(&mut self, key: Key) -> Done {
-        let it = self.connection(key);
-        if !it.is_receiving && it.name.is_some() {
-            let room = it.room();
-            it.is_receiving = room.is_some();
-            if let Some((at, len)) = room {
-                self.lives.start(key, RECEIVE, Sqe::receive(at, len))?;
-            }
+        if let Some((at, len)) = self.connection(key).room() {
+            self.lives.start(key, RECEIVE, Sqe::receive(at, len))?;
         }
         Ok(())
     }
@@ -168,9 +161,8 @@ impl Server {
         let Some(Life::File(it)) = self.lives.get_mut(key) else {
             panic!("{key} is not a file");
         };
-        let (reader, error) = (it.reader, it.error);
-        let line = it.line(result.max(0) as usize);
-        self.answer(reader, if error == Some(NO_SUCH_FILE) { NO_FILE } else { &line })
+        let (reader, line) = (it.reader, it.line(result.max(0) as usize));
+        self.answer(reader, &line)
     }
 
     // Takes the next line of a connection, unless one is being answered.
