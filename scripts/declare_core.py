@@ -217,7 +217,7 @@ VERSIONED = {
     **{f"bindings/rust_judge/src/{it}.rs": count for it, count in (("core", 4), ("log", 2), ("script", 2))},
     "crates/fx_arguments/src/fixcheck.rt": 1, "crates/fx_judge_c/src/exports.rt": 4,
     "include/yachtbanyan.h": 5, "include/yachtdirect.h": 5, "include/yachtjudge.h": 8,
-    "crates/fx_direct_c/src/exports.rt": 1, "bench/life.rs": 2, **{f"bindings/rust/src/direct/{it}.rs": 1 for it in ("core", "machine", "stand_in")},
+    "crates/fx_direct_c/src/exports.rt": 1, "bench/life.rs": 3, **{f"bindings/rust/src/direct/{it}.rs": 1 for it in ("core", "machine", "stand_in")},
 }
 DATED = [*sorted(glob.glob("man/*.1", root_dir=ROOT)), "man/yachtrecord.3"]
 FILES = {

@@ -1,11 +1,12 @@
 /* clients lines|echo CONNECTIONS LASTING MILLISECONDS COMMAND..: starts a server by COMMAND and a
  * folder of files: one of lines and files (bindings/c/direct, the example `direct` of the Rust
  * crate), or one that echoes all (the programs of docs/use/DIRECT.md). It prints its port, and
- * serves until its standard input ends. The clients are 200 at a time. Each connection has a number,
- * and its lines have it too, so that an answer to another connection is noticed. Some reset, close
- * one half, or send and read a byte at a time; some send a line that is too long; some leave while
- * a file is read that has no bytes yet. The server is stopped and continued meanwhile. Then its
- * table must have no file. At its end LASTING connections see theirs, and some that it hasn't seen.
+ * serves until its standard input ends. The clients are 200 at a time. Each connection has a
+ * number, and its lines have it too, so that an answer to another connection is noticed. Some
+ * reset, close one half, or send and read a byte at a time; some send a line that is too long; some
+ * leave while a file is read that has no bytes yet. The server is stopped and continued meanwhile.
+ * Then its table must have no file. At its end LASTING connections see theirs, and a few that it
+ * hasn't seen.
  *
  * It prints what was counted, and the server's lines. It ends with status 1 if anything is wrong,
  * or if a client waits for longer than MILLISECONDS, and with 77 if the server does. */
@@ -253,8 +254,8 @@ static int files_in_table(void) {
     return count;
 }
 
-/* Opens connections, each of which gets one answer, and then ends the server. As it goes on after it
- * was stopped, it finds the end of its input, and connections that it hasn't seen. */
+/* Opens connections, each of which gets one answer, and then ends the server. As that goes on after
+ * it was stopped, it finds the end of its input, and connections that it hasn't seen. */
 static unsigned end_server(char *text, size_t size) {
     struct pollfd polled[AT_A_TIME];
     unsigned count = 0, saw_the_end = 0;
