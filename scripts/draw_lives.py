@@ -20,8 +20,9 @@ WAYS = (
     ([(910, 130), (910, 92), (960, 92), (960, 140), (934, 146)], MAIN, [(884, 86, "close_failed: CLOSE")]),
     ([(880, 130), (880, 34), (60, 34), (60, 126)], OVER, [(420, 28, "closed")]),
     ([(260, 130), (260, 60), (100, 60), (100, 126)], OVER, [(130, 54, "opened: negative")]),
-    ([(280, 170), (280, 310), (428, 310)], CHAIN, [(288, 302, "chain")]),
-    ([(480, 290), (480, 176)], CHAIN, [(488, 226, "chained: the open succeeded,"), (488, 242, "and the chain has no close")]),
+    ([(304, 170), (304, 204), (856, 204), (856, 176)], MAIN, [(560, 198, "opened: 0 or more, after stop: CLOSE")]),
+    ([(268, 170), (268, 310), (428, 310)], CHAIN, [(276, 302, "chain")]),
+    ([(480, 290), (480, 176)], CHAIN, [(488, 240, "chained: the open succeeded,"), (488, 256, "and the chain has no close")]),
     ([(532, 310), (880, 310), (880, 176)], CHAIN, [(560, 302, "chained, the last one: the close left the file: CLOSE")]),
     ([(480, 330), (480, 366), (80, 366), (80, 176)], OVER, [(96, 358, "chained, the last one: the open failed, or the close took the file")]),
 )
