@@ -101,7 +101,7 @@ impl<T: Default, R: Ring> Lives<T, R> {
         })
     }
 
-    /// Says of which kinds the requests are zero-copy sends, which have two completions.
+    /// Sets the kinds whose requests are zero-copy sends, which have two completions.
     ///
     /// # Panics
     ///
@@ -233,7 +233,7 @@ impl<T: Default, R: Ring> Lives<T, R> {
     ///
     /// # Panics
     ///
-    /// If a kind is above [`MOST_OWN_KIND`].
+    /// If a kind is above [`MOST_OWN_KIND`], or the ring's queue is shorter than the chain.
     pub fn chain(
         &mut self,
         value: T,
@@ -244,9 +244,8 @@ impl<T: Default, R: Ring> Lives<T, R> {
         assert!(requests.iter().all(|it| it.0 <= MOST_OWN_KIND), "a kind is at most 11");
         let mut left = requests.len() + usize::from(closes);
         if let Err(error) = self.ring.make_room(left + 1) {
+            assert!(error.kind() != io::ErrorKind::InvalidInput, "the queue is too short");
             self.error.get_or_insert(error);
-        }
-        if self.error.is_some() {
             return Err((ReserveError::Stopped, value));
         }
         let mut value = Some(value);

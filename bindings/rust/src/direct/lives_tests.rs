@@ -159,13 +159,19 @@ fn a_chain_is_linked() {
     let close = queued(&mut it);
     assert_eq!((close.len(), close[0].request), (1, Request::Close));
     assert_eq!(complete(&mut it, close[0].user_data, 0, 0), [Event::Over(key, 7)]);
-    // a chain without a close is a life like others; one that is too long is refused
+    // a chain without a close is a life like others
     let key = it.chain(9, "open", vec![(0, "read")], false).unwrap();
     let flags: Vec<_> = queued(&mut it).iter().map(|it| it.flags).collect();
     assert_eq!(flags, [4, 1]);
     assert_eq!(complete(&mut it, key.to_bits(14), 0, 0), [Event::Opened(key, 0)]);
     assert_eq!(complete(&mut it, key.to_bits(0), 5, 0).len(), 1);
     assert_eq!(it.live(key), Some(&mut 9));
+}
+
+#[test]
+#[should_panic(expected = "the queue is too short")]
+fn a_chain_longer_than_the_queue_is_refused() {
+    let _ = lives(1).chain(7, "open", vec![(0, "read"); 8], false);
 }
 
 #[test]

@@ -60,7 +60,7 @@ pub trait Ring {
     ///
     /// # Errors
     ///
-    /// As of [`Ring::push`]; or the queue is shorter.
+    /// As of [`Ring::push`]; or the queue is shorter, of the kind [`io::ErrorKind::InvalidInput`].
     fn make_room(&mut self, entries: usize) -> io::Result<()>;
 
     /// Returns the next completion, or `None` if no completion is there.
