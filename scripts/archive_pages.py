@@ -67,16 +67,19 @@ def is_kept(path, anchor, is_arm):
 
 
 def with_links(text, source, page, is_arm=False):
-    """Turns each link of a page to a file that the archive doesn't have into its words. The others lead from the page's new place."""
+    """Turns each link of a page to a file that the archive doesn't have into its words, and leaves such a picture out. The others lead from
+    the page's new place."""
     def replaced(found):
-        words, target = found.groups()
+        mark, words, target = found.groups()
         path, hash_, anchor = target.partition("#")
         if re.match(r"\w+:", target) or not path and anchor in anchors(text):
             return found[0]
         path = os.path.normpath(os.path.join(os.path.dirname(source), path))
-        return f"[{words}]({os.path.relpath(path, os.path.dirname(page) or '.')}{hash_}{anchor})" if is_kept(path, anchor, is_arm) else words
+        if not is_kept(path, anchor, is_arm):
+            return "" if mark else words
+        return f"{mark}[{words}]({os.path.relpath(path, os.path.dirname(page) or '.')}{hash_}{anchor})"
 
-    return re.sub(r"\[([^][]*)\]\(([^)\s]+)\)", replaced, text)
+    return re.sub(r"(!?)\[([^][]*)\]\(([^)\s]+)\)", replaced, text)
 
 
 def command():
