@@ -296,6 +296,9 @@ static void message_with_a_file(struct rig *rig) {
 	send_file(rig, &target, 1, NEXT);
 	saw("of an empty slot it answers %d", result_of(rig, NEXT));
 	saw(", and the target hears %s", next(&target, SHORT).is_there ? "of it" : "nothing");
+	REQUEST(rig, NEXT, io_uring_prep_msg_ring(sqe, target.ring.ring_fd, (unsigned)-EBADF, FIRST, 0));
+	must(result_of(rig, NEXT) == 0, "a message");
+	saw("; after a message with the error it hears %d", result_of(&target, FIRST));
 	send_file(rig, &target, 0, NEXT);
 	saw("; of a connection %d", result_of(rig, NEXT));
 	saw(", and at the target %d", result_of(&target, FIRST));
@@ -372,7 +375,7 @@ static const struct row rows[] = {
 	{ "close_of_a_chain_takes_the_next_file", close_of_a_chain_takes_the_next_file,
 	  "the open answers -2, the close 0; the peer accepted at the slot sees the end", NULL },
 	{ "message_with_a_file", message_with_a_file,
-	  "of an empty slot it answers -9, and the target hears nothing; of a connection 0, and at the target 0; the source's close 0, and the peer sees no end", NULL },
+	  "of an empty slot it answers -9, and the target hears nothing; after a message with the error it hears -9; of a connection 0, and at the target 0; the source's close 0, and the peer sees no end", NULL },
 	{ "installed_descriptor_outlives_the_close", installed_descriptor_outlives_the_close,
 	  "it answers a descriptor; the close 0, and the peer sees no end", NULL },
 	{ "update_as_an_open", update_as_an_open, "it answers 1; of a descriptor that isn't open -9", NULL },
