@@ -5,7 +5,8 @@ use Rattle.fx_direct.specs.Living.{same_key}
 use Rattle.fx_direct.specs.Phases.{Chained, Free, Installed, Later, Due, AllFree, bit}
 use Rattle.fx_direct.specs.Phases.{slot_numbered, phase_at, requests_in, users_in, is_installed}
 use Rattle.fx_direct.specs.Phases.{is_closing, is_live, is_opening}
-use Rattle.fx_direct.specs.Transitions.{Reserves, Chains, Opens, Starts, Finishes, Holds, Releases}
+use Rattle.fx_direct.specs.Transitions.{Reserves, Adopts, Chains, Opens, Starts, Finishes, Holds}
+use Rattle.fx_direct.specs.Transitions.{Releases}
 use Rattle.fx_direct.specs.Transitions.{Ends, Asks, Closes, FailsToClose, IsEnabled, AreEnabled}
 use Rattle.fx_direct.specs.Transitions.{slots_left_by}
 use Rattle.fx_direct.specs.declared.chain.ChainEnd.{ChainEnd}
@@ -24,17 +25,20 @@ times each (t ∷ h) = times each h + each t
 abbrev pub of_key : LifeKey → LifeKey → ℕ → ℕ
 of_key j k n = if same_key j k then n else 0
 
+-- a life that begins, by a reservation or an adoption
 abbrev pub reserves : LifeKey → Transition → ℕ
 reserves k (Reserves j) = of_key j k 1
+reserves k (Adopts j) = of_key j k 1
 reserves k t = 0
 
 abbrev pub chains : LifeKey → Transition → ℕ
 chains k (Chains j requests closes) = of_key j k 1
 chains k t = 0
 
--- an open that installed a file
+-- an open that installed a file, or an adoption
 abbrev pub opens : LifeKey → Transition → ℕ
 opens k (Opens j true) = of_key j k 1
+opens k (Adopts j) = of_key j k 1
 opens k t = 0
 
 -- a request, or those of a chain

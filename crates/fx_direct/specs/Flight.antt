@@ -1,9 +1,9 @@
 -- Flights: the transitions of the machine, and between them the accesses that the kernel makes for
 -- its calls. The table is the one of the model. A flight has its newest moment first.
 use Rattle.std.specs.Prelude.{◌≡◌, ℕ, zero, suc, ◌≤◌, ◌||◌, Bool, true, false, List, [], ◌∷◌}
-use Rattle.std.specs.Prelude.{◌++◌, length, None, if◌then◌else◌}
+use Rattle.std.specs.Prelude.{◌+◌, ◌<◌, ◌++◌, length, Some, None, if◌then◌else◌}
 use Rattle.std.specs.List.{AllByRecursion}
-use Rattle.fx_plain.specs.State.{State}
+use Rattle.fx_plain.specs.State.{State, IsInRange}
 use Rattle.fx_plain.specs.Step.{Allows}
 use Rattle.fx_plain.specs.Step.{after as table_after}
 use Rattle.fx_plain.specs.declared.event.Action.{Action}
@@ -11,7 +11,9 @@ use Rattle.fx_plain.specs.declared.event.Action.TheVariants.{Look, Release, Put,
 use Rattle.fx_plain.specs.declared.event.Action.TheVariants.{Allocate}
 use Rattle.fx_plain.specs.declared.event.File.{File}
 use Rattle.fx_direct.specs.Living.{same_key}
-use Rattle.fx_direct.specs.Transitions.{Reserves, Chains, Opens, Starts, Finishes, Asks, Closes}
+use Rattle.fx_direct.specs.Phases.{slot_numbered}
+use Rattle.fx_direct.specs.Transitions.{Reserves, Adopts, Chains, Opens, Starts, Finishes, Asks}
+use Rattle.fx_direct.specs.Transitions.{Closes}
 use Rattle.fx_direct.specs.Transitions.{FailsToClose, IsEnabled, slots_with}
 use Rattle.fx_direct.specs.declared.key.LifeKey.{LifeKey}
 use Rattle.fx_direct.specs.declared.phase.Slot.{Slot}
@@ -52,12 +54,14 @@ pub record World : Type 0 where
   pub calls : List Pending
 
 -- what happens: a transition of the machine, with which calls begin or the completion of one is
--- seen; an access that the kernel makes for a call; the end of a call's accesses; or an action of
--- others
+-- seen; an access that the kernel makes for a call; the end of a call's accesses; the access of an
+-- open without a key, which puts a file at a slot that the kernel chooses, and is named here by the
+-- key of the slot's next life; or an action of others
 pub data DirectMoment : Type 0 where
   Does : Transition → DirectMoment
   Accesses : DirectCall → Action → DirectMoment
   Quits : DirectCall → DirectMoment
+  Chooses : LifeKey → File → DirectMoment
   Others : Action → DirectMoment
 
 -- one call in flight is over
@@ -151,10 +155,21 @@ IsElsewhere size (Take slot found) = size ≤ slot
 IsElsewhere size (Allocate slot f) = size ≤ slot
 IsElsewhere size action = Unit {0}
 
+-- a life is reserved outside the ring's allocation range. A slot of the range is adopted where the
+-- kernel has put a file
+abbrev pub FitsRange : State → Transition → Type 0
+FitsRange table (Reserves k) = IsInRange table k.slot → ⊥
+FitsRange table (Adopts k) = IsInRange table k.slot × (f : File) × (table.at k.slot ≡ Some f)
+FitsRange table t = Unit {0}
+
+-- the condition of the machine's transitions
+abbrev pub CanDo : World → Transition → Type 0
+CanDo w t = IsEnabled w.slots t × FitsRange w.table t
+
 -- a moment leads from one world to another, under a condition of the machine's transitions
-abbrev pub ComesBy : (List Slot → Transition → Type 0) → World → DirectMoment → World → Type 0
+abbrev pub ComesBy : (World → Transition → Type 0) → World → DirectMoment → World → Type 0
 ComesBy enabled w (Does t) v =
-    enabled w.slots t × TurnsCalls t w.calls v.calls
+    enabled w t × TurnsCalls t w.calls v.calls
     × (v ≡ record { slots = slots_with w.slots t; table = w.table; calls = v.calls })
 ComesBy enabled w (Accesses call a) v =
     Allows w.table a × Makes call a w.calls v.calls
@@ -162,11 +177,15 @@ ComesBy enabled w (Accesses call a) v =
 ComesBy enabled w (Quits call) v =
     Stops call w.calls v.calls
     × (v ≡ record { slots = w.slots; table = w.table; calls = v.calls })
+ComesBy enabled w (Chooses k f) v =
+    Allows w.table (Allocate k.slot f)
+    × (k.slot < length w.slots) × (k.number ≡ (slot_numbered w.slots k.slot).number + 1)
+    × (v ≡ record w { table = table_after w.table (Allocate k.slot f) })
 ComesBy enabled w (Others a) v =
     Allows w.table a × IsElsewhere (length w.slots) a
     × (v ≡ record { slots = w.slots; table = table_after w.table a; calls = w.calls })
 
-abbrev pub IsDirectFlightBy : (List Slot → Transition → Type 0) → World → List DirectMoment → World
+abbrev pub IsDirectFlightBy : (World → Transition → Type 0) → World → List DirectMoment → World
     → Type 0
 IsDirectFlightBy enabled start [] end = end ≡ start
 IsDirectFlightBy enabled start (m ∷ h) end =
@@ -174,15 +193,18 @@ IsDirectFlightBy enabled start (m ∷ h) end =
 
 -- the same under the machine's own condition
 abbrev pub Comes : World → DirectMoment → World → Type 0
-Comes w m v = ComesBy IsEnabled w m v
+Comes w m v = ComesBy CanDo w m v
 
 -- the flight leads from one world to another
 abbrev pub IsDirectFlight : World → List DirectMoment → World → Type 0
-IsDirectFlight start h end = IsDirectFlightBy IsEnabled start h end
+IsDirectFlight start h end = IsDirectFlightBy CanDo start h end
 
 -- the files that the open of a key installed, the oldest first
+abbrev pub file_of_key : LifeKey → LifeKey → File → List File
+file_of_key j k f = if same_key j k then f ∷ [] else []
+
 abbrev pub files_put_by : LifeKey → DirectCall → Action → List File
-files_put_by k (OpenAt j) (Put slot f replaced) = if same_key j k then f ∷ [] else []
+files_put_by k (OpenAt j) (Put slot f replaced) = file_of_key j k f
 files_put_by k call action = []
 
 abbrev pub files_under : LifeKey → List DirectMoment → List File
@@ -190,6 +212,7 @@ files_under k [] = []
 files_under k (Does t ∷ h) = files_under k h
 files_under k (Accesses call a ∷ h) = files_under k h ++ files_put_by k call a
 files_under k (Quits call ∷ h) = files_under k h
+files_under k (Chooses j f ∷ h) = files_under k h ++ file_of_key j k f
 files_under k (Others a ∷ h) = files_under k h
 
 -- a chain was submitted under the key

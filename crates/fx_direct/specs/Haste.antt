@@ -1,4 +1,5 @@
--- Two flights that go wrong: a close doesn't wait, and a slot is free before its chain is over.
+-- Three flights that go wrong: a close doesn't wait, a slot is free before its chain is over, and a
+-- life is reserved where the kernel chooses slots.
 use Rattle.std.specs.Prelude.{◌≡◌, ℕ, ◌+◌, ◌<◌, ◌≤◌, Bool, true, false, List, [], length}
 use Rattle.std.specs.Prelude.{Some, None}
 use Rattle.fx_plain.specs.History.{◌▷◌}
@@ -12,16 +13,16 @@ use Rattle.fx_direct.specs.declared.phase.Phase.{Phase}
 use Rattle.fx_direct.specs.declared.phase.Slot.{Slot}
 use Rattle.fx_direct.specs.declared.transition.Transition.{Transition}
 use Rattle.fx_direct.specs.Flight.{World, OpenAt, UseOf, CloseOf, DirectMoment, Does, Accesses}
-use Rattle.fx_direct.specs.Flight.{Quits}
-use Rattle.fx_direct.specs.Flight.{IsDirectFlightBy}
-use Rattle.fx_direct.specs.Round.{one_slot, some_file, next_file, first_key, second_key}
+use Rattle.fx_direct.specs.Flight.{Quits, Chooses, CanDo, FitsRange, IsDirectFlightBy}
+use Rattle.fx_direct.specs.Round.{two_slots, some_file, next_file, first_key, second_key}
+use Rattle.fx_direct.specs.Round.{adopted_key, later_key}
 
 -- the machine's condition, but a close may be asked for while requests and users are left
-abbrev pub IsEnabledInHaste : List Slot → Transition → Type 0
-IsEnabledInHaste slots (Asks k) =
-    NamesLastLife slots k × (requests : ℕ) × (users : ℕ)
-    × (phase_at slots k.slot ≡ Ending requests users)
-IsEnabledInHaste slots t = IsEnabled slots t
+abbrev pub IsEnabledInHaste : World → Transition → Type 0
+IsEnabledInHaste w (Asks k) =
+    NamesLastLife w.slots k × (requests : ℕ) × (users : ℕ)
+    × (phase_at w.slots k.slot ≡ Ending requests users)
+IsEnabledInHaste w t = CanDo w t
 
 -- a request of the first key finds the file of the second one
 abbrev pub mistake : List DirectMoment
@@ -35,7 +36,7 @@ mistake =
 
 -- under that condition it happens
 abbrev pub HasteIsWrong : Type 0
-HasteIsWrong = (end : World) × IsDirectFlightBy IsEnabledInHaste one_slot mistake end
+HasteIsWrong = (end : World) × IsDirectFlightBy IsEnabledInHaste two_slots mistake end
 
 abbrev pub is_failed : ChainOpen → Bool
 is_failed Failed = true
@@ -47,11 +48,12 @@ is_free_early Free = true
 is_free_early (Chained c) = is_failed c.opened
 is_free_early p = false
 
-abbrev pub IsEnabledEarly : List Slot → Transition → Type 0
-IsEnabledEarly slots (Reserves k) =
-    (k.slot < length slots) × (k.number ≡ (slot_numbered slots k.slot).number + 1)
-    × (is_free_early (phase_at slots k.slot) ≡ true) × (k.number ≤ MOST_LIVES)
-IsEnabledEarly slots t = IsEnabled slots t
+abbrev pub IsEnabledEarly : World → Transition → Type 0
+IsEnabledEarly w (Reserves k) =
+    (k.slot < length w.slots) × (k.number ≡ (slot_numbered w.slots k.slot).number + 1)
+    × (is_free_early (phase_at w.slots k.slot) ≡ true) × (k.number ≤ MOST_LIVES)
+    × FitsRange w.table (Reserves k)
+IsEnabledEarly w t = CanDo w t
 
 -- the close of a chain whose open failed takes the file of another key
 abbrev pub chain_mistake : List DirectMoment
@@ -63,4 +65,19 @@ chain_mistake =
 
 -- under that condition it happens
 abbrev pub ChainIsNotAnOpen : Type 0
-ChainIsNotAnOpen = (end : World) × IsDirectFlightBy IsEnabledEarly one_slot chain_mistake end
+ChainIsNotAnOpen = (end : World) × IsDirectFlightBy IsEnabledEarly two_slots chain_mistake end
+
+-- the machine's condition, but a life may be reserved in the ring's allocation range
+abbrev pub IsEnabledInRange : World → Transition → Type 0
+IsEnabledInRange w (Reserves k) = IsEnabled w.slots (Reserves k)
+IsEnabledInRange w t = CanDo w t
+
+-- the open of a reserved life finds the file of an open without a key
+abbrev pub choice_mistake : List DirectMoment
+choice_mistake =
+    [] ▷ Does (Reserves adopted_key) ▷ Chooses later_key some_file
+    ▷ Accesses (OpenAt adopted_key) (Put 1 next_file (Some some_file))
+
+-- under that condition it happens
+abbrev pub RangeIsTheKernels : Type 0
+RangeIsTheKernels = (end : World) × IsDirectFlightBy IsEnabledInRange two_slots choice_mistake end

@@ -10,7 +10,7 @@ use Rattle.fx_direct.specs.declared.key.LifeKey.{LifeKey}
 use Rattle.fx_direct.specs.Phases.{AllFree}
 use Rattle.fx_direct.specs.Transitions.{Reserves, Asks, IsEnabled}
 use Rattle.fx_direct.specs.Flight.{World, DirectCall, OpenAt, UseOf, CloseOf, DirectMoment}
-use Rattle.fx_direct.specs.Flight.{Accesses}
+use Rattle.fx_direct.specs.Flight.{Accesses, CanDo}
 use Rattle.fx_direct.specs.Flight.{IsDirectFlight, files_under, has_chain, key_of_call}
 
 -- no slot has begun a life that isn't over, the machine's slots are in the table, those are empty,
@@ -56,5 +56,5 @@ NothingIsLeft =
     (start w : World) (h : List DirectMoment) (k : LifeKey)
     → IsEmptyStart start
     → IsDirectFlight start h w
-    → (IsEnabled w.slots (Reserves k) → NothingIsAt k.slot w × (w.table.at k.slot ≡ None))
+    → (CanDo w (Reserves k) → NothingIsAt k.slot w × (w.table.at k.slot ≡ None))
     × (IsEnabled w.slots (Asks k) → NothingIsAt k.slot w)

@@ -72,7 +72,7 @@ AStopLeavesNothing =
     (start stops end : DirectMachine) (earlier later : List Transition)
     → AllFree start.list
     → IsMachineRun start earlier stops
-    → IsMachineRun (machine_with stops.list true) later end
+    → IsMachineRun (machine_with stops.list stops.range true) later end
     → ((k : LifeKey) → is_live (phase_of stops.list k) ≡ true → 0 < times (ends k) later)
     → calls_in_flight end.list ≡ 0
     → ((slot : ℕ) → users_in (phase_at end.list slot) ≡ 0)

@@ -16,10 +16,6 @@ use Rattle.fx_direct.specs.declared.phase.Slot.{Slot}
 abbrev pub same_key : LifeKey → LifeKey → Bool
 same_key j k = (j.slot == k.slot) && (j.number == k.number)
 
--- the key of the slot's last life
-abbrev pub life_at : List Slot → ℕ → LifeKey
-life_at slots slot = record { slot = slot; number = (slot_numbered slots slot).number }
-
 -- the name of a phase. A free slot has none
 abbrev pub phase_name : Phase → Option PhaseName
 phase_name Free = None

@@ -1,7 +1,7 @@
 -- The invariants of the machine's fields.
 use Rattle.std.specs.Prelude.{◌≡◌, ℕ, ◌+◌, ◌<◌, ◌≤◌, ◌&&◌, ◌^◌, Bool, nat_lt, List, length}
-use Rattle.std.specs.Prelude.{Option, Some, None}
-use Rattle.fx_direct.specs.Order.{Order, is_among_vacant}
+use Rattle.std.specs.Prelude.{Option, Some, None, not}
+use Rattle.fx_direct.specs.Order.{Order, is_among_vacant, is_ranged}
 use Rattle.fx_direct.specs.Phases.{Ending, Closing, slot_numbered, phase_at, is_free, calls_in}
 use Rattle.fx_direct.specs.Phases.{calls_in_flight}
 use Rattle.fx_direct.specs.Phases.{lives_of}
@@ -23,12 +23,14 @@ pub record AreCounted (slots : List Slot) (lives calls : ℕ) : Type 0 where
 abbrev pub is_vacant : Slot → Bool
 is_vacant slot = is_free slot.phase && nat_lt slot.number MOST_LIVES
 
--- the order has exactly the vacant slots as its first ones, and each number fits a key's bits
+-- the order has exactly the vacant slots outside the range as its first ones, and each number fits a
+-- key's bits
 pub record IsMachine (slots : List Slot) (order : Order) : Type 0 where
   pub few : length slots ≤ MOST_SLOTS
   pub same : length order.place ≡ length slots
   pub ordered : (slot : ℕ) → slot < length slots
-      → is_among_vacant order slot ≡ is_vacant (slot_numbered slots slot)
+      → is_among_vacant order slot
+      ≡ is_vacant (slot_numbered slots slot) && not (is_ranged order.range slot)
   pub numbers : (slot : ℕ) → (slot_numbered slots slot).number ≤ MOST_LIVES
 
 -- the phase is written. If it leaves no request and no user of an ending slot, its close is asked

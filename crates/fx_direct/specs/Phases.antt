@@ -77,6 +77,12 @@ abbrev pub is_free : Phase → Bool
 is_free Free = true
 is_free phase = false
 
+-- the kernel may have put a file at the slot in this phase
+abbrev pub is_adoptable : Phase → Bool
+is_adoptable Free = true
+is_adoptable Closing = true
+is_adoptable phase = false
+
 -- an open is in flight
 abbrev pub is_opening : Phase → Bool
 is_opening Opening = true

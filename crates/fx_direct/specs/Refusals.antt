@@ -1,10 +1,16 @@
 -- Why the machine refuses a transition.
-use Rattle.std.specs.Prelude.{◌≡◌, ◌-◌, ◌^◌, true, false, List}
-use Rattle.fx_direct.specs.Phases.{phase_at, requests_in, users_in, is_chained, ends_anyway}
+use Rattle.std.specs.Prelude.{◌≡◌, ℕ, ◌-◌, ◌^◌, ◌<◌, ◌≤◌, true, false, List, length}
+use Rattle.fx_direct.specs.Order.{is_ranged}
+use Rattle.fx_direct.specs.Phases.{slot_numbered, phase_at, requests_in, users_in, is_adoptable}
+use Rattle.fx_direct.specs.Phases.{is_chained, ends_anyway}
 use Rattle.fx_direct.specs.Transitions.{Reserves, Starts, Holds, Ends, HasLife, IsEnabled}
 use Rattle.fx_direct.specs.Transitions.{DirectMachine, key_concerned}
 use Rattle.fx_direct.specs.declared.key.LifeKey.{LifeKey}
+use Rattle.fx_direct.specs.declared.key.TheConstants.{MOST_LIVES}
 use Rattle.fx_direct.specs.declared.phase.Slot.{Slot}
+use Rattle.fx_direct.specs.declared.refusal.AdoptRefusal.{AdoptRefusal}
+use Rattle.fx_direct.specs.declared.refusal.AdoptRefusal.TheVariants.{OutOfRange, NotFree}
+use Rattle.fx_direct.specs.declared.refusal.AdoptRefusal.TheVariants.{NoMoreLives}
 use Rattle.fx_direct.specs.declared.refusal.LifeRefusal.{LifeRefusal}
 use Rattle.fx_direct.specs.declared.refusal.LifeRefusal.TheVariants.{Stale, Is, TooManyRequests}
 use Rattle.fx_direct.specs.declared.refusal.LifeRefusal.TheVariants.{TooManyUsers}
@@ -33,10 +39,19 @@ RefusesUnchained slots t (Is phase) =
     × (IsEnabled slots t → is_chained phase ≡ true)
 RefusesUnchained slots t why = RefusesTransition slots t why
 
--- no slot begins a life: the machine was stopped, or no slot may
+-- no slot begins a life: the machine was stopped, or no slot outside the range may
 abbrev pub RefusesReserve : DirectMachine → ReserveRefusal → Type 0
 RefusesReserve m Stopped = m.stopped ≡ true
-RefusesReserve m Full = (m.stopped ≡ false) × ((k : LifeKey) → IsEnabled m.list (Reserves k) → ⊥)
+RefusesReserve m Full =
+    (m.stopped ≡ false)
+    × ((k : LifeKey) → is_ranged m.range k.slot ≡ false → IsEnabled m.list (Reserves k) → ⊥)
+
+-- the file isn't adopted: no slot of the range has this number; or its life needs the slot, which
+-- has a file of it; or the slot has had its last life
+abbrev pub RefusesAdopt : DirectMachine → ℕ → AdoptRefusal → Type 0
+RefusesAdopt m slot OutOfRange = slot < length m.list → is_ranged m.range slot ≡ true → ⊥
+RefusesAdopt m slot NotFree = is_adoptable (phase_at m.list slot) ≡ false
+RefusesAdopt m slot NoMoreLives = MOST_LIVES ≤ (slot_numbered m.list slot).number
 
 -- the life of the key isn't under way, or it can't be ended and no chain ends it
 abbrev pub RefusesEnd : List Slot → LifeKey → LifeRefusal → Type 0

@@ -6,20 +6,20 @@ use Rattle.fx_plain.specs.declared.event.Action.TheVariants.{Look, Release, Put,
 use Rattle.fx_plain.specs.declared.event.File.{File}
 use Rattle.fx_direct.specs.declared.key.LifeKey.{LifeKey}
 use Rattle.fx_direct.specs.Phases.{unused}
-use Rattle.fx_direct.specs.Transitions.{Reserves, Chains, Opens, Starts, Finishes, Holds, Releases}
+use Rattle.fx_direct.specs.Transitions.{Reserves, Adopts, Chains, Opens, Starts, Finishes, Holds, Releases}
 use Rattle.fx_direct.specs.Transitions.{Ends, Asks, Closes, FailsToClose}
 use Rattle.fx_direct.specs.Flight.{World, OpenAt, UseOf, CloseOf, DirectMoment, Does, Accesses}
-use Rattle.fx_direct.specs.Flight.{Quits, Others}
+use Rattle.fx_direct.specs.Flight.{Quits, Chooses, Others}
 use Rattle.fx_direct.specs.Flight.{IsDirectFlight}
 use Rattle.fx_direct.specs.Laws.{IsEmptyStart}
 
--- one empty slot
-abbrev pub one_slot : World
-one_slot = record {
-  slots = unused ∷ [];
+-- two empty slots, of which the kernel may choose the second one
+abbrev pub two_slots : World
+two_slots = record {
+  slots = unused ∷ unused ∷ [];
   table = record {
-    size = 1;
-    range = (0, 1);
+    size = 2;
+    range = (1, 1);
     at = λ _. None;
     removed = λ _. None;
     holds = λ _. 0;
@@ -49,9 +49,29 @@ next_file = record {
   identity = record { mark = Registered 1 1; entry = 1; tag = 0 };
 }
 
+abbrev pub third_file : File
+third_file = record {
+  number = 9;
+  identity = record { mark = Registered 1 2; entry = 2; tag = 0 };
+}
+
+abbrev pub fourth_file : File
+fourth_file = record {
+  number = 10;
+  identity = record { mark = Registered 1 3; entry = 3; tag = 0 };
+}
+
+-- the keys of the slot that the kernel chooses
+abbrev pub adopted_key : LifeKey
+adopted_key = record { slot = 1; number = 1 }
+
+abbrev pub later_key : LifeKey
+later_key = record { slot = 1; number = 2 }
+
 -- a life with a request and a user, whose first close fails; a chain, which opens a file, reads it
 -- and closes it, whose close is seen first; and a chain whose open fails, after which its close
--- finds no file
+-- finds no file;
+-- and a life that is adopted, and another one at its slot before its close is seen
 abbrev pub round : List DirectMoment
 round =
     [] ▷ Does (Reserves first_key) ▷ Accesses (OpenAt first_key) (Put 0 some_file None)
@@ -71,7 +91,10 @@ round =
     ▷ Does (Reserves third_key) ▷ Does (Chains third_key 0 true) ▷ Quits (OpenAt third_key)
     ▷ Accesses (CloseOf third_key) (Take 0 None) ▷ Does (Opens third_key false)
     ▷ Does (FailsToClose third_key)
+    ▷ Chooses adopted_key third_file ▷ Does (Adopts adopted_key) ▷ Does (Ends adopted_key)
+    ▷ Does (Asks adopted_key) ▷ Accesses (CloseOf adopted_key) (Take 1 (Some third_file))
+    ▷ Chooses later_key fourth_file ▷ Does (Closes adopted_key) ▷ Does (Adopts later_key)
 
 -- there is a flight with these moments, from a start
 abbrev pub GoesRound : Type 0
-GoesRound = IsEmptyStart one_slot × (end : World) × IsDirectFlight one_slot round end
+GoesRound = IsEmptyStart two_slots × (end : World) × IsDirectFlight two_slots round end

@@ -13,9 +13,10 @@ use Rattle.fx_direct.specs.declared.key.LifeKey.{LifeKey}
 use Rattle.fx_direct.specs.declared.key.TheConstants.{MOST_LIVES}
 use Rattle.fx_direct.specs.declared.phase.Phase.{Phase}
 use Rattle.fx_direct.specs.declared.phase.Slot.{Slot}
+use Rattle.fx_direct.specs.declared.slot_order.SlotRange.{SlotRange}
 use Rattle.fx_direct.specs.declared.transition.Transition.{Transition}
 pub use Rattle.fx_direct.specs.declared.transition.Transition.TheVariants.{Reserves, Chains, Opens}
-pub use Rattle.fx_direct.specs.declared.transition.Transition.TheVariants.{Starts}
+pub use Rattle.fx_direct.specs.declared.transition.Transition.TheVariants.{Starts, Adopts}
 pub use Rattle.fx_direct.specs.declared.transition.Transition.TheVariants.{Finishes, Holds}
 pub use Rattle.fx_direct.specs.declared.transition.Transition.TheVariants.{Releases, Ends, Asks}
 pub use Rattle.fx_direct.specs.declared.transition.Transition.TheVariants.{Closes, FailsToClose}
@@ -23,6 +24,7 @@ pub use Rattle.fx_direct.specs.declared.transition.Transition.TheVariants.{Close
 -- the key that the transition is about
 abbrev pub key_concerned : Transition → LifeKey
 key_concerned (Reserves k) = k
+key_concerned (Adopts k) = k
 key_concerned (Chains k requests closes) = k
 key_concerned (Opens k installed) = k
 key_concerned (Starts k) = k
@@ -37,6 +39,10 @@ key_concerned (FailsToClose k) = k
 -- the key is that of the slot's last life
 abbrev pub NamesLastLife : List Slot → LifeKey → Type 0
 NamesLastLife slots k = (k.slot < length slots) × ((slot_numbered slots k.slot).number ≡ k.number)
+
+-- the key of the slot's last life
+abbrev pub life_at : List Slot → ℕ → LifeKey
+life_at slots slot = record { slot = slot; number = (slot_numbered slots slot).number }
 
 -- the life of the key is under way
 abbrev pub HasLife : List Slot → LifeKey → Type 0
@@ -76,6 +82,7 @@ may_close p = false
 -- the condition of a transition on its slot's phase
 abbrev pub FitsPhase : Transition → Phase → Type 0
 FitsPhase (Reserves k) p = p ≡ Free
+FitsPhase (Adopts k) p = p ≡ Free
 FitsPhase (Chains k requests closes) p = p ≡ Opening
 FitsPhase (Opens k installed) p = may_open installed p ≡ true
 FitsPhase (Starts k) p = is_live p ≡ true
@@ -87,11 +94,16 @@ FitsPhase (Asks k) p = p ≡ Ending 0 0
 FitsPhase (Closes k) p = may_close p ≡ true
 FitsPhase (FailsToClose k) p = is_closing p ≡ true
 
--- the condition of a transition, in the slots before it
-abbrev pub IsEnabled : List Slot → Transition → Type 0
-IsEnabled slots (Reserves k) =
+-- the slot is free, and may begin one more life, of this key
+abbrev pub MayBegin : List Slot → LifeKey → Type 0
+MayBegin slots k =
     (k.slot < length slots) × (k.number ≡ (slot_numbered slots k.slot).number + 1)
     × (phase_at slots k.slot ≡ Free) × (k.number ≤ MOST_LIVES)
+
+-- the condition of a transition, in the slots before it
+abbrev pub IsEnabled : List Slot → Transition → Type 0
+IsEnabled slots (Reserves k) = MayBegin slots k
+IsEnabled slots (Adopts k) = MayBegin slots k
 IsEnabled slots t =
     NamesLastLife slots (key_concerned t) × FitsPhase t (phase_at slots (key_concerned t).slot)
 
@@ -135,6 +147,7 @@ when_left p = Ending 0 0
 -- the phase of the transition's slot after it
 abbrev pub phase_after : Transition → Phase → Phase
 phase_after (Reserves k) p = Opening
+phase_after (Adopts k) p = Live 0 0
 phase_after (Chains k requests closes) p = Chained (chain_of requests closes)
 phase_after (Opens k installed) p = when_opened installed p
 phase_after (Starts k) p = with_counts p (requests_in p + 1) (users_in p)
@@ -165,13 +178,14 @@ abbrev pub AreEnabled : List Slot → List Transition → Type 0
 AreEnabled slots [] = Unit {0}
 AreEnabled slots (t ∷ h) = AreEnabled slots h × IsEnabled (slots_left_by slots h) t
 
--- a machine: its slots, and whether it was stopped
+-- a machine: its slots, the ring's allocation range, and whether the machine was stopped
 pub record DirectMachine : Type 0 where
   pub list : List Slot
+  pub range : SlotRange
   pub stopped : Bool
 
-abbrev pub machine_with : List Slot → Bool → DirectMachine
-machine_with list stopped = record { list = list; stopped = stopped }
+abbrev pub machine_with : List Slot → SlotRange → Bool → DirectMachine
+machine_with list range stopped = record { list = list; range = range; stopped = stopped }
 
 -- a life in this phase becomes live by the transition
 abbrev pub becomes_live : Transition → Phase → Bool
@@ -195,11 +209,12 @@ call_makes m t =
 -- these transitions are made, and nothing else
 abbrev pub AdvancesBy : DirectMachine → List Transition → DirectMachine → Type 0
 AdvancesBy old h new =
-    AreEnabled old.list h × (new ≡ machine_with (slots_left_by old.list h) old.stopped)
+    AreEnabled old.list h × (new ≡ machine_with (slots_left_by old.list h) old.range old.stopped)
 
 -- the transition is made, and nothing else
 abbrev pub Advances : DirectMachine → Transition → DirectMachine → Type 0
-Advances old t new = IsEnabled old.list t × (new ≡ machine_with (slots_with old.list t) old.stopped)
+Advances old t new =
+    IsEnabled old.list t × (new ≡ machine_with (slots_with old.list t) old.range old.stopped)
 
 -- a call makes the transition. If this leaves an ending slot with no request and no user, the close
 -- of that slot is asked for, else no close is
@@ -216,3 +231,10 @@ EndsLife old k ask new =
     AdvancesAndAsks old (Ends k) ask new
     ⊎ (HasLife old.list k × (ends_anyway (phase_at old.list k.slot) ≡ true) × (ask ≡ None)
     × (new ≡ old))
+
+-- the file that the kernel put at the key's slot is adopted. If the slot's earlier life was closing,
+-- its close succeeded
+abbrev pub AdoptsFile : DirectMachine → LifeKey → Option ℕ → DirectMachine → Type 0
+AdoptsFile old k ask new =
+    (m : DirectMachine) × ((m ≡ old) ⊎ Advances old (Closes (life_at old.list k.slot)) m)
+    × AdvancesAndAsks m (Adopts k) ask new

@@ -1,8 +1,8 @@
 //! The last step of a call: its slot becomes free, its close is asked for, or its phase is written.
-ghost use Rattle.std.specs.Prelude.{◌≡◌, ℕ, ◌&&◌, ◌<◌, ◌==◌, false, nat_lt, length};
+ghost use Rattle.std.specs.Prelude.{◌≡◌, ℕ, ◌&&◌, ◌<◌, ◌==◌, not, false, nat_lt, length};
 ghost use Rattle.std.specs.Prelude.{if◌then◌else◌};
 ghost use Rattle.fx_direct.specs.Machine.{WritesPhase};
-ghost use Rattle.fx_direct.specs.Order.{is_among_vacant};
+ghost use Rattle.fx_direct.specs.Order.{is_among_vacant, is_ranged};
 ghost use Rattle.fx_direct.specs.Phases.{Closing, Ending, Free, is_free};
 ghost use Rattle.fx_direct.specs.Transitions.{with_phase};
 ghost use Rattle.fx_direct.specs.declared.key.TheConstants.{MOST_LIVES};
@@ -12,7 +12,8 @@ use crate::phase::Phase;
 use crate::slot_list::SlotList;
 use crate::slot_order::SlotOrder;
 
-// Frees the slot of a key. Unless that was its last life, it is vacant again.
+// Frees the slot of a key. Unless that was its last life, or the slot is in the range, it is vacant
+// again.
 #[inline(always)]
 pub(crate) fn free(list: &mut SlotList, order: &mut SlotOrder, key: LifeKey)
     requires inside { key.slot < length list.old }
@@ -20,9 +21,11 @@ pub(crate) fn free(list: &mut SlotList, order: &mut SlotOrder, key: LifeKey)
     requires out { is_among_vacant order.old key.slot ≡ false }
     ensures list { list.new ≡ with_phase list.old key Free }
     ensures same { length order.new.place ≡ length order.old.place }
+    ensures range { order.new.range ≡ order.old.range }
     ensures order { (other : ℕ) → other < length order.old.place → is_among_vacant order.new other
         ≡
-        (if other == key.slot then nat_lt key.number MOST_LIVES
+        (if other == key.slot
+        then nat_lt key.number MOST_LIVES && not (is_ranged order.old.range key.slot)
         else is_among_vacant order.old other) }
 {
     list.set(key, Phase::Free);
@@ -74,9 +77,12 @@ pub(crate) fn write(
     requires out { is_among_vacant order.old key.slot ≡ false }
     ensures list { WritesPhase list.old key phase result list.new }
     ensures same { length order.new.place ≡ length order.old.place }
+    ensures range { order.new.range ≡ order.old.range }
     ensures order { (other : ℕ) → other < length order.old.place → is_among_vacant order.new other
         ≡
-        (if other == key.slot then is_free phase && nat_lt key.number MOST_LIVES
+        (if other == key.slot
+        then (is_free phase && nat_lt key.number MOST_LIVES)
+        && not (is_ranged order.old.range key.slot)
         else is_among_vacant order.old other) }
 {
     match phase {

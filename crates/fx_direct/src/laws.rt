@@ -7,7 +7,7 @@
 //! predecessor, or makes none; and nobody else writes these slots.
 ghost use Rattle.std.specs.Prelude.{◌≡◌, ◌-◌, ◌^◌};
 ghost use Rattle.fx_direct.specs.Counts.{EachKeyIsBalanced, NothingIsLeftOfALife, KeysAreGivenOnce};
-ghost use Rattle.fx_direct.specs.Haste.{ChainIsNotAnOpen, HasteIsWrong};
+ghost use Rattle.fx_direct.specs.Haste.{ChainIsNotAnOpen, HasteIsWrong, RangeIsTheKernels};
 ghost use Rattle.fx_direct.specs.Keys.{KeyBitsComeBack};
 ghost use Rattle.fx_direct.specs.Laws.{EachAccessFindsItsOwn, NothingIsLeft};
 ghost use Rattle.fx_direct.specs.Lives.{AStopLeavesNothing, EachCloseIsAskedForOnce, NoCloseIsLate};
@@ -107,4 +107,11 @@ pub fn haste_is_wrong()
 #[tactic(auto, using(crate::proofs::Mistakes::chain_is_not_an_open))]
 pub fn chain_is_not_an_open()
     ensures { ChainIsNotAnOpen }
+{}
+
+/// States that if a life were reserved in the ring's allocation range, there would be a flight in
+/// which its open finds the file of an open without a key.
+#[tactic(auto, using(crate::proofs::Mistakes::range_is_the_kernels))]
+pub fn range_is_the_kernels()
+    ensures { RangeIsTheKernels }
 {}

@@ -25,6 +25,7 @@ pub use chain::{ChainEnd, ChainOpen, LifeChain, Member};
 pub use crossing::machine_crosses;
 pub use key::{KINDS, LifeKey, MOST_LIVES, MOST_SLOTS};
 pub use phase::{Phase, PhaseName, Slot};
-pub use refusal::{LifeRefusal, ReserveRefusal};
+pub use refusal::{AdoptRefusal, LifeRefusal, ReserveRefusal};
+pub use slot_order::SlotRange;
 pub use slots::DirectSlots;
 pub use transition::Transition;

@@ -1,7 +1,8 @@
 //! The phases of a slot's life.
 ghost use Rattle.std.specs.Prelude.{◌≡◌, ◌≤◌, ◌+◌, ◌^◌, ◌&&◌};
 ghost use Rattle.fx_direct.specs.Living.{phase_name};
-ghost use Rattle.fx_direct.specs.Phases.{calls_in, is_live, lives_in, requests_in, users_in};
+ghost use Rattle.fx_direct.specs.Phases.{calls_in, is_adoptable, is_live, lives_in, requests_in};
+ghost use Rattle.fx_direct.specs.Phases.{users_in};
 ghost use Rattle.fx_direct.specs.Transitions.{unless_live};
 
 use crate::chain::LifeChain;
@@ -102,6 +103,14 @@ impl Phase {
             Phase::Live(requests, users) if stopped => Phase::Ending(requests, users),
             phase => phase,
         }
+    }
+
+    // Checks whether the kernel may have put a file at a slot in this phase.
+    #[inline(always)]
+    pub(crate) fn may_be_adopted(self) -> bool
+        ensures { result ≡ is_adoptable self }
+    {
+        matches!(self, Phase::Free | Phase::Closing)
     }
 
     // Returns 1 if a life is under way in this phase, or 0.

@@ -29,6 +29,29 @@ impl fmt::Display for LifeRefusal {
 
 impl Error for LifeRefusal {}
 
+/// The reason why a file isn't adopted.
+#[derive(Clone, Copy, Debug, PartialEq, Eq)]
+pub enum AdoptRefusal {
+    /// The slot isn't one of the machine's in the ring's allocation range.
+    OutOfRange,
+    /// A life at the slot has a file there.
+    NotFree,
+    /// The slot has had its last life.
+    NoMoreLives,
+}
+
+impl fmt::Display for AdoptRefusal {
+    fn fmt<W: fmt::Write>(&self, f: &mut fmt::Formatter<W>) -> fmt::Result {
+        f.write_str(match self {
+            AdoptRefusal::OutOfRange => "the slot is not in the allocation range",
+            AdoptRefusal::NotFree => "the slot has a life with a file",
+            AdoptRefusal::NoMoreLives => "the slot has had its last life",
+        })
+    }
+}
+
+impl Error for AdoptRefusal {}
+
 /// The reason why no slot begins a life.
 #[derive(Clone, Copy, Debug, PartialEq, Eq)]
 pub enum ReserveRefusal {

@@ -81,6 +81,15 @@ impl SlotList {
         self.slots[slot as usize].number
     }
 
+    // Returns a slot, or `None` past the last one.
+    #[inline(always)]
+    pub(crate) fn at(&self, slot: u32) -> Option<Slot>
+        ensures { MatchOption result (slot < length self.now → ⊥)
+            (λ it. (slot < length self.now) × (it ≡ slot_numbered self.now slot)) }
+    {
+        self.slots.get(slot as usize).copied()
+    }
+
     // Returns the key of the life under way at a slot, if there is one.
     #[inline(always)]
     pub(crate) fn key_at(&self, slot: u32) -> Option<LifeKey>

@@ -4,9 +4,11 @@ ghost use Rattle.std.specs.Prelude.{IfOk, IfSome, None, Some};
 ghost use Rattle.fx_direct.specs.Keys.{FitsBits};
 ghost use Rattle.fx_direct.specs.Living.{IsFirstFrom};
 ghost use Rattle.fx_direct.specs.Phases.{AllFree, AllUnused, calls_in_flight, lives_of, phase_at};
-ghost use Rattle.fx_direct.specs.Refusals.{RefusesEnd, RefusesReserve, RefusesTransition};
+ghost use Rattle.fx_direct.specs.Order.{is_ranged};
+ghost use Rattle.fx_direct.specs.Refusals.{RefusesAdopt, RefusesEnd, RefusesReserve};
+ghost use Rattle.fx_direct.specs.Refusals.{RefusesTransition};
 ghost use Rattle.fx_direct.specs.Refusals.{RefusesUnchained};
-ghost use Rattle.fx_direct.specs.Transitions.{HasLife, Advances, AdvancesAndAsks};
+ghost use Rattle.fx_direct.specs.Transitions.{HasLife, AdoptsFile, Advances, AdvancesAndAsks};
 ghost use Rattle.fx_direct.specs.Transitions.{EndsLife, completion, machine_with};
 ghost use Rattle.fx_direct.specs.declared.key.TheConstants.{MOST_SLOTS};
 ghost use Rattle.fx_direct.specs.declared.transition.Transition.TheVariants.{Reserves, Chains};
@@ -17,17 +19,18 @@ ghost use Rattle.fx_direct.specs.declared.transition.Transition.TheVariants.{Clo
 
 use crate::chain::{ChainEnd, LifeChain, Member};
 use crate::ending::{ask, free, set_ending, write};
-use crate::key::LifeKey;
+use crate::key::{LifeKey, MOST_LIVES};
 use crate::phase::{Phase, PhaseName};
-use crate::refusal::{LifeRefusal, ReserveRefusal};
+use crate::refusal::{AdoptRefusal, LifeRefusal, ReserveRefusal};
 use crate::slot_list::SlotList;
-use crate::slot_order::SlotOrder;
+use crate::slot_order::{SlotOrder, SlotRange};
 use fx_base::NoMemory;
 use std::alloc::Global;
 use std::marker::Model;
 
 /// The lives of the slots of one ring's table of direct descriptors. One thread at a time uses it.
-/// Contracts see the list of slots, and whether the machine was stopped.
+/// Contracts see the list of slots, the ring's allocation range, and whether the machine was
+/// stopped.
 ///
 /// Each call but `open` and `key_in` takes constant time, and no call but `open` allocates. A call
 /// that returns an error changes nothing.
@@ -44,26 +47,28 @@ impl Model for DirectSlots {
 
     ghost Value = { DirectMachine };
 
-    ghost view = { λ s. machine_with s.list s.stopped };
+    ghost view = { λ s. machine_with s.list s.order.range s.stopped };
 
     ghost invariant = { λ s. IsMachine s.list s.order };
 }
 
 impl DirectSlots {
     /// Creates the machine of a ring whose table has this number of slots, at most
-    /// [`crate::MOST_SLOTS`], all of them empty.
+    /// [`crate::MOST_SLOTS`], all of them empty. In the range, the ring's allocation range, the
+    /// kernel chooses slots, and no life is reserved.
     ///
     /// # Errors
     /// `NoMemory` if an allocation fails.
-    pub fn open(alloc: Global, slots: u32) -> Result<DirectSlots, NoMemory>
+    pub fn open(alloc: Global, slots: u32, range: SlotRange) -> Result<DirectSlots, NoMemory>
         requires { slots ≤ MOST_SLOTS }
         ensures size { IfOk result (λ it. length it.list ≡ slots) }
         ensures unused { IfOk result (λ it. AllUnused it.list) }
         ensures free { IfOk result (λ it. AllFree it.list) }
+        ensures range { IfOk result (λ it. it.range ≡ range) }
         ensures runs { IfOk result (λ it. it.stopped ≡ false) }
     {
         let list = SlotList::of_free(alloc, slots)?;
-        let order = SlotOrder::of_vacant(alloc, slots)?;
+        let order = SlotOrder::of_vacant(alloc, slots, range)?;
         Ok(DirectSlots {
             list,
             order,
@@ -76,12 +81,13 @@ impl DirectSlots {
     /// io_uring_prep_accept_direct(3)).
     ///
     /// # Errors
-    /// `Stopped` after [`Self::stop`]. `Full` if no slot is free, or each free slot has had its
-    /// last life.
+    /// `Stopped` after [`Self::stop`]. `Full` if no slot outside the range is free, or each free one
+    /// has had its last life.
     #[inline(always)]
     pub fn reserve(&mut self) -> Result<LifeKey, ReserveRefusal>
         ensures reserved { MatchResult result
-            (λ key. (self.old.stopped ≡ false) × Advances self.old (Reserves key) self.new)
+            (λ key. (self.old.stopped ≡ false) × (is_ranged self.old.range key.slot ≡ false)
+            × Advances self.old (Reserves key) self.new)
             (λ why. (self.new ≡ self.old) × RefusesReserve self.old why) }
         ensures fits { IfOk result FitsBits }
     {
@@ -99,12 +105,51 @@ impl DirectSlots {
         Ok(key)
     }
 
+    /// Adopts a file that the kernel has put at a slot of the range, as an accept at any slot does
+    /// (io_uring_prep_accept_direct(3), IORING_FILE_INDEX_ALLOC): a live life begins there, and its
+    /// key is returned. If the slot's earlier life was closing, its close has succeeded: that life
+    /// is over, and its key is stale when the completion of the close comes. After [`Self::stop`]
+    /// the life is ended at once: this returns the slot too, so submit a close of it.
+    ///
+    /// # Errors
+    /// `OutOfRange` if the slot isn't one of the machine's in the range. `NotFree` if a life at the
+    /// slot has a file there, so that the kernel can't have chosen it. `NoMoreLives` if the slot has
+    /// had its last life: then submit a close of it.
+    pub fn adopt(&mut self, slot: u32) -> Result<(LifeKey, Option<u32>), AdoptRefusal>
+        ensures adopted { MatchResult result
+            (λ it. (it.0.slot ≡ slot) × AdoptsFile self.old it.0 it.1 self.new)
+            (λ why. (self.new ≡ self.old) × RefusesAdopt self.old slot why) }
+        ensures fits { IfOk result (λ it. FitsBits it.0) }
+    {
+        let Some(earlier) = self.list.at(slot) else {
+            return Err(AdoptRefusal::OutOfRange);
+        };
+        if !self.order.range().has(slot) {
+            return Err(AdoptRefusal::OutOfRange);
+        }
+        if !earlier.phase.may_be_adopted() {
+            return Err(AdoptRefusal::NotFree);
+        }
+        if earlier.number >= MOST_LIVES {
+            return Err(AdoptRefusal::NoMoreLives);
+        }
+        let key = LifeKey {
+            slot,
+            number: earlier.number + 1,
+        };
+        if self.stopped {
+            return Ok((key, Some(ask(&mut self.list, key))));
+        }
+        self.list.set(key, Phase::Live(0, 0));
+        Ok((key, None))
+    }
+
     /// Stops the machine: from now on no life is reserved, and each life that becomes live is ended
     /// at once. A life that is reserved goes on. End each live life (a walk by [`Self::key_in`]):
     /// then [`Self::len`] is 0 once each call was completed and each user was released.
     #[inline(always)]
     pub fn stop(&mut self)
-        ensures { self.new ≡ machine_with self.old.list true }
+        ensures { self.new ≡ machine_with self.old.list self.old.range true }
     {
         self.stopped = true;
     }

@@ -6,6 +6,9 @@ use crate::key::LifeKey;
 pub enum Transition {
     /// A slot begins a life under a new key. An open at the slot is to be submitted.
     Reserves(LifeKey),
+    /// A slot of the ring's allocation range begins a life under a new key, with a file that the
+    /// kernel has put there.
+    Adopts(LifeKey),
     /// The open is to be submitted in a chain, with this number of requests on its file. They are
     /// followed by a close of it, if the bool is true.
     Chains(LifeKey, u32, bool),
