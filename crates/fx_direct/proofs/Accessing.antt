@@ -5,7 +5,10 @@ use Rattle.fx_direct.proofs.Words.{slot_numbered, phase_at, life_at, is_closing,
 use Rattle.fx_direct.proofs.Words.{Action, Look, Put, Release, Take, Allows, changed_at, table_after, Makes, Stops, IsElsewhere, HasItsTurn, waits_for, files_under, has_chain, same_key}
 use Rattle.fx_direct.proofs.Calls.{place_of, is_member, at_slot, tally, at_same, at_other, tally-mid, count_in, each-out, each-in, each-map, each-both, none_at, same_keys}
 use Rattle.fx_direct.proofs.Calls.{Fate, Expected, Missing, There, Gone, not_gone, Has, fits, suits, fits_same, has_same, opened_fits, closed_fits, no_open, expected_opens, unchained_due, is_bound}
-use Rattle.fx_direct.proofs.Moves.{Sound, Fitting}
+use Rattle.fx_direct.proofs.Words.{Allocate, Chooses}
+use Rattle.fx_direct.proofs.Calls.{Foreign, NextHas, Ranged, is_foreign, is_reserved, left_plain, next_none, none_next, next_same, ranged_same, none_if, not_true}
+use Rattle.fx_direct.proofs.Calls.{chosen_plain, chosen_gone, chosen_suits, chosen_counts, chosen_fits}
+use Rattle.fx_direct.proofs.Moves.{next_at, Sound, Fitting}
 use Rattle.fx_direct.proofs.Effects.{done_suits, taken_suits}
 
 -- One call and its file.
@@ -43,21 +46,23 @@ module _ {fate : ℕ → Fate} {slots : List Slot} {table : State} {calls : List
   at_written g s0 x = rw (eq-eqb s0 s0 refl) refl
 
   -- a moment that changes no slot and no file
-  quiet : (table' : State) (calls' : List Pending) (m : DirectMoment) → table'.size ≡ table.size
+  quiet : (table' : State) (calls' : List Pending) (m : DirectMoment) → table'.size ≡ table.size → table'.range ≡ table.range
       → ((s : ℕ) → s < length slots → table'.at s ≡ table.at s)
       → ((k : LifeKey) → files_under k (m ∷ h) ≡ files_under k h)
       → ((k : LifeKey) → has_chain k (m ∷ h) ≡ has_chain k h)
       → ((x : Member) (s : ℕ) → tally x s calls' ≡ tally x s calls)
       → AllByRecursion (Fitting slots fate) calls'
       → Sound fate slots table' calls' (m ∷ h)
-  quiet table' calls' m size at files linked count fits = record {
+  quiet table' calls' m size range at files linked count fits = record {
     inside = rw size sound.inside;
     counted = λ x s. count x s ∙ sound.counted x s;
     suit = sound.suit;
     has = λ s lt. has_same {fate = fate s} refl (at s lt) (files (life_at slots s)) (sound.has s lt);
     linked = λ s c. linked (life_at slots s) ∙ sound.linked s c;
     fits = fits;
-    unborn = λ k later. files k ∙ sound.unborn k later;
+    next = λ s lt. next_same {fate = fate s} refl (at s lt) (files (next_at slots s)) (sound.next s lt);
+    ranged = λ s. ranged_same table table' s (fate s) (phase_at slots s) range (sound.ranged s);
+    unborn = λ k later far. files k ∙ sound.unborn k later far;
   }
 
   -- the call that makes the access, at its slot
@@ -91,16 +96,17 @@ module _ {fate : ℕ → Fate} {slots : List Slot} {table : State} {calls : List
         (all.0.0, all.0.1, fit, λ c. ap (is_bound x.call) bound ∙ all.0.3 c)
 
     -- the access changes nothing but the call
-    pub only : (table' : State) (m : DirectMoment) → table'.size ≡ table.size → ((s : ℕ) → s < length slots → table'.at s ≡ table.at s)
+    pub only : (table' : State) (m : DirectMoment) → table'.size ≡ table.size → table'.range ≡ table.range → ((s : ℕ) → s < length slots → table'.at s ≡ table.at s)
         → ((k : LifeKey) → files_under k (m ∷ h) ≡ files_under k h) → ((k : LifeKey) → has_chain k (m ∷ h) ≡ has_chain k h)
         → (fits x.call x.stage (fate s0) ≡ true → fits x.call y.stage (fate s0) ≡ true) → Sound fate slots table' (front ++ y ∷ rest) (m ∷ h)
-    only table' m size at files linked fit =
-        quiet table' (front ++ y ∷ rest) m size at files linked counts
+    only table' m size range at files linked fit =
+        quiet table' (front ++ y ∷ rest) m size range at files linked counts
         (each-in (Fitting slots fate) front rest y
         (refits fate (fit all.0.2)) all.1)
 
     -- the file of the slot has another fate
-    pub moved : (f : Fate) (table' : State) (m : DirectMoment) → table'.size ≡ table.size
+    pub moved : (f : Fate) (table' : State) (m : DirectMoment) → table'.size ≡ table.size → table'.range ≡ table.range
+        → is_foreign (fate s0) ≡ false → is_foreign f ≡ false
         → ((s : ℕ) → s ≢ s0 → table'.at s ≡ table.at s)
         → ((k : LifeKey) → (k.slot ≡ s0 → k.number ≡ (slot_numbered slots k.slot).number → ⊥) → files_under k (m ∷ h) ≡ files_under k h)
         → ((k : LifeKey) → has_chain k (m ∷ h) ≡ has_chain k h)
@@ -109,7 +115,7 @@ module _ {fate : ℕ → Fate} {slots : List Slot} {table : State} {calls : List
         → fits x.call y.stage f ≡ true
         → AllByRecursion (λ z. place_of z ≡ s0 → Fitting slots fate z → fits z.call z.stage f ≡ true) others
         → Sound (changed_at fate s0 f) slots table' (front ++ y ∷ rest) (m ∷ h)
-    moved f table' m size at files linked suit has fit refit =
+    moved f table' m size range plain plainly at files linked suit has fit refit =
         let fate' = changed_at fate s0 f in let here = at_written fate s0 f in record {
           inside = rw size sound.inside;
           counted = λ mb s. counts mb s ∙ sound.counted mb s;
@@ -129,24 +135,35 @@ module _ {fate : ℕ → Fate} {slots : List Slot} {table : State} {calls : List
                 | inl e ↦ (fz.0, fz.1, subst (λ (q : ℕ). fits z.call z.stage (fate' q) ≡ true) (sym e) (ap (fits z.call z.stage) here ∙ re e fz), fz.3)
                 | inr ne ↦ fits_same z refl refl (at_changed fate s0 f (place_of z) ne) fz
               ]) all.1 refit);
-          unborn = λ k later. files k (λ e n. omega arith) ∙ sound.unborn k later;
+          next = λ s lt. elim (cases_eq s s0) [
+            | inl e ↦ subst (λ (q : ℕ). NextHas (fate' q) (table'.at q) (files_under (next_at slots q) (m ∷ h))) (sym e)
+                (next_same {fate = f} here refl refl (none_next f (table'.at s0) (files_under (next_at slots s0) (m ∷ h)) plainly
+                (files (next_at slots s0) (λ e n. omega arith) ∙ next_none (fate s0) (table.at s0) (files_under (next_at slots s0) h) plain (sound.next s0 all.0.0))))
+            | inr ne ↦ next_same {fate = fate s} (at_changed fate s0 f s ne) (at s ne) (files (next_at slots s) (λ e n. ne e)) (sound.next s lt)
+          ];
+          ranged = λ s. elim (cases_eq s s0) [
+            | inl e ↦ subst (λ (q : ℕ). Ranged table' q (fate' q) (phase_at slots q)) (sym e)
+                (ranged_same table table' s0 (fate' s0) (phase_at slots s0) range (λ foreign. absurd (let p = ap is_foreign here in cc), (sound.ranged s0).1))
+            | inr ne ↦ ranged_same table table' s (fate' s) (phase_at slots s) range (subst (λ (g : Fate). Ranged table s g (phase_at slots s)) (sym (at_changed fate s0 f s ne)) (sound.ranged s))
+          ];
+          unborn = λ k later far. files k (λ e n. omega arith) ∙ sound.unborn k later far;
         }
 
   -- the open of a key is done: it has put its file, or makes no access any more
   opened : (k : LifeKey) (linked : Bool) (stage : CallStage) (f : Fate) (front rest : List Pending) (table' : State) (m : DirectMoment)
-      → calls ≡ front ++ pending (OpenAt k) linked Waits ∷ rest → not_gone f ≡ true → fits (OpenAt k) stage f ≡ true → table'.size ≡ table.size
+      → calls ≡ front ++ pending (OpenAt k) linked Waits ∷ rest → not_gone f ≡ true → fits (OpenAt k) stage f ≡ true → table'.size ≡ table.size → table'.range ≡ table.range
       → ((s : ℕ) → s ≢ k.slot → table'.at s ≡ table.at s)
       → ((j : LifeKey) → (j.slot ≡ k.slot → j.number ≡ (slot_numbered slots j.slot).number → ⊥) → files_under j (m ∷ h) ≡ files_under j h)
       → ((j : LifeKey) → has_chain j (m ∷ h) ≡ has_chain j h)
       → (table.at k.slot ≡ None → files_under k h ≡ [] → Has f (table'.at k.slot) (files_under k (m ∷ h)))
       → Sound (changed_at fate k.slot f) slots table' (front ++ pending (OpenAt k) linked stage ∷ rest) (m ∷ h)
-  opened k linked stage f front rest table' m was left fit size at files same has =
+  opened k linked stage f front rest table' m was left fit size range at files same has =
       let x = pending (OpenAt k) linked Waits in let y = pending (OpenAt k) linked stage in let own = (all x y front rest was refl refl).0 in
       let due : fate k.slot ≡ Expected = waits_expected k (fate k.slot) own.2 in
       let suit : suits Expected (phase_at slots k.slot) ≡ true = ap (λ (g : Fate). suits g (phase_at slots k.slot)) (sym due) ∙ sound.suit k.slot in
       let empty : Has Expected (table.at k.slot) (files_under (life_at slots k.slot) h) = has_same {fate = fate k.slot} (sym due) refl refl (sound.has k.slot own.0) in
       let one = alone x y front rest was refl refl Open refl (bit_small (is_opening (phase_at slots k.slot))) in
-      moved x y front rest was refl refl f table' m size at files same (done_suits f (phase_at slots k.slot) suit left)
+      moved x y front rest was refl refl f table' m size range (ap is_foreign due) (left_plain f left) at files same (done_suits f (phase_at slots k.slot) suit left)
       (subst (λ (n : ℕ). Has f (table'.at k.slot) (files_under (record { slot = k.slot; number = n }) (m ∷ h))) (sym own.1)
       (has empty.0 (ap (λ (n : ℕ). files_under (record { slot = k.slot; number = n }) h) (sym own.1) ∙ empty.1)))
       fit
@@ -159,7 +176,7 @@ module _ {fate : ℕ → Fate} {slots : List Slot} {table : State} {calls : List
       (Accesses (OpenAt k) (Put k.slot f replaced) ∷ h)
   puts k linked f replaced front rest was =
       let own = (all (pending (OpenAt k) linked Waits) (pending (OpenAt k) linked Made) front rest was refl refl).0 in let m = Accesses (OpenAt k) (Put k.slot f replaced) in
-      opened k linked Made There front rest (table_after table (Put k.slot f replaced)) m was refl refl refl
+      opened k linked Made There front rest (table_after table (Put k.slot f replaced)) m was refl refl refl refl
       (λ s ne. at_changed table.at k.slot (Some f) s ne)
       (λ j ne. ap (λ (fs : List File). files_under j h ++ fs) (apart k j f (λ e n. ne e (n ∙ sym own.1 ∙ ap (λ (s : ℕ). (slot_numbered slots s).number) (sym e)))) ∙ append-nil (files_under j h))
       (λ j. refl)
@@ -205,7 +222,7 @@ module _ {fate : ℕ → Fate} {slots : List Slot} {table : State} {calls : List
       let there = found_there (fate k.slot) (table.at k.slot) (files_under (life_at slots k.slot) h) own.2 due (λ e. cc (found ∙ e)) (sound.has k.slot own.0) in
       let suit : suits There (phase_at slots k.slot) ≡ true = ap (λ (g : Fate). suits g (phase_at slots k.slot)) (sym there) ∙ sound.suit k.slot in
       let P = λ (z : Pending). (waits_for (CloseOf k) z.call z.stage ≡ false) ⊎ (at_slot Request k.slot z ≡ 0) in
-      moved x y front rest was refl refl Gone (table_after table (Take k.slot (Some f))) (Accesses (CloseOf k) (Take k.slot (Some f))) refl
+      moved x y front rest was refl refl Gone (table_after table (Take k.slot (Some f))) (Accesses (CloseOf k) (Take k.slot (Some f))) refl refl (ap is_foreign there) refl
       (λ s ne. at_changed table.at k.slot None s ne) (λ j ne. append-nil (files_under j h)) (λ j. refl)
       (taken_suits (phase_at slots k.slot) suit closing)
       (at_written table.at k.slot None) refl
@@ -220,7 +237,7 @@ module _ {fate : ℕ → Fate} {slots : List Slot} {table : State} {calls : List
   finds_none : (k : LifeKey) (linked : Bool) (front rest : List Pending) → calls ≡ front ++ pending (CloseOf k) linked Waits ∷ rest → None ≡ table.at k.slot
       → Sound fate slots (table_after table (Take k.slot None)) (front ++ pending (CloseOf k) linked Quit ∷ rest) (Accesses (CloseOf k) (Take k.slot None) ∷ h)
   finds_none k linked front rest was found =
-      only (pending (CloseOf k) linked Waits) (pending (CloseOf k) linked Quit) front rest was refl refl (table_after table (Take k.slot None)) (Accesses (CloseOf k) (Take k.slot None)) refl
+      only (pending (CloseOf k) linked Waits) (pending (CloseOf k) linked Quit) front rest was refl refl (table_after table (Take k.slot None)) (Accesses (CloseOf k) (Take k.slot None)) refl refl
       (λ s lt. elim (cases_eq s k.slot) [
         | inl e ↦ subst (λ (q : ℕ). changed_at table.at k.slot None q ≡ table.at q) (sym e) (at_written table.at k.slot None ∙ found)
         | inr ne ↦ at_changed table.at k.slot None s ne
@@ -238,17 +255,17 @@ module _ {fate : ℕ → Fate} {slots : List Slot} {table : State} {calls : List
       (fate, rw (makes.is, makes.may) (finds_none k makes.linked makes.front makes.rest makes.was (allowed.1 ∙ ap table.at makes.may)))
   accesses (UseOf k) (Look slot None) calls' allowed makes = (
     fate,
-    rw makes.is (only (pending (UseOf k) makes.linked Waits) (pending (UseOf k) makes.linked Waits) makes.front makes.rest makes.was refl refl table (Accesses (UseOf k) (Look slot None)) refl
+    rw makes.is (only (pending (UseOf k) makes.linked Waits) (pending (UseOf k) makes.linked Waits) makes.front makes.rest makes.was refl refl table (Accesses (UseOf k) (Look slot None)) refl refl
         (λ s lt. refl) (λ j. append-nil (files_under j h)) (λ j. refl) (λ fit. fit)),
   )
   accesses (UseOf k) (Look slot (Some f)) calls' allowed makes = let a = Look slot (Some f) in (
     fate,
-    rw makes.is (only (pending (UseOf k) makes.linked Waits) (pending (UseOf k) makes.linked Waits) makes.front makes.rest makes.was refl refl (table_after table a) (Accesses (UseOf k) a) refl
+    rw makes.is (only (pending (UseOf k) makes.linked Waits) (pending (UseOf k) makes.linked Waits) makes.front makes.rest makes.was refl refl (table_after table a) (Accesses (UseOf k) a) refl refl
         (λ s lt. refl) (λ j. append-nil (files_under j h)) (λ j. refl) (λ fit. fit)),
   )
   accesses (UseOf k) (Release f) calls' allowed makes = let a = Release f in (
     fate,
-    rw makes.is (only (pending (UseOf k) makes.linked Waits) (pending (UseOf k) makes.linked Waits) makes.front makes.rest makes.was refl refl (table_after table a) (Accesses (UseOf k) a) refl
+    rw makes.is (only (pending (UseOf k) makes.linked Waits) (pending (UseOf k) makes.linked Waits) makes.front makes.rest makes.was refl refl (table_after table a) (Accesses (UseOf k) a) refl refl
         (λ s lt. refl) (λ j. append-nil (files_under j h)) (λ j. refl) (λ fit. fit)),
   )
   accesses _ _ calls' allowed makes = absurd makes.may
@@ -257,27 +274,84 @@ module _ {fate : ℕ → Fate} {slots : List Slot} {table : State} {calls : List
   pub quits : (c : DirectCall) (calls' : List Pending) → Stops c calls calls' → Goes table calls' (Quits c)
   quits (OpenAt k) calls' stops = (
     changed_at fate k.slot Missing,
-    rw stops.is (opened k stops.linked Quit Missing stops.front stops.rest table (Quits (OpenAt k)) stops.was refl refl refl
+    rw stops.is (opened k stops.linked Quit Missing stops.front stops.rest table (Quits (OpenAt k)) stops.was refl refl refl refl
         (λ s ne. refl) (λ j ne. refl) (λ j. refl) (λ empty new. (empty, new))),
   )
   quits (UseOf k) calls' stops = (
     fate,
-    rw stops.is (only (pending (UseOf k) stops.linked Waits) (pending (UseOf k) stops.linked Quit) stops.front stops.rest stops.was refl refl table (Quits (UseOf k)) refl
+    rw stops.is (only (pending (UseOf k) stops.linked Waits) (pending (UseOf k) stops.linked Quit) stops.front stops.rest stops.was refl refl table (Quits (UseOf k)) refl refl
         (λ s lt. refl) (λ j. refl) (λ j. refl) (λ fit. refl)),
   )
   quits (CloseOf k) calls' stops = (
     fate,
-    rw stops.is (only (pending (CloseOf k) stops.linked Waits) (pending (CloseOf k) stops.linked Quit) stops.front stops.rest stops.was refl refl table (Quits (CloseOf k)) refl
+    rw stops.is (only (pending (CloseOf k) stops.linked Waits) (pending (CloseOf k) stops.linked Quit) stops.front stops.rest stops.was refl refl table (Quits (CloseOf k)) refl refl
         (λ s lt. refl) (λ j. refl) (λ j. refl) (λ fit. fit)),
   )
+
+  -- the kernel puts a file at a slot that it chooses
+  pub chooses : (k : LifeKey) (f : File) → Allows table (Allocate k.slot f) → k.slot < length slots → k.number ≡ (slot_numbered slots k.slot).number + 1
+      → Goes (table_after table (Allocate k.slot f)) calls (Chooses k f)
+  chooses k f allowed inside number =
+      let g = fate k.slot in let p = phase_at slots k.slot in let fate' = changed_at fate k.slot Foreign in let here = at_written fate k.slot Foreign in
+      let free = not_true (is_reserved p) (λ r. (sound.ranged k.slot).1 r allowed.1) in
+      let plain = chosen_plain g (table.at k.slot) (files_under (next_at slots k.slot) h) (sound.next k.slot inside) allowed.2 in
+      let gone = chosen_gone g p (table.at k.slot) (files_under (life_at slots k.slot) h) (sound.suit k.slot) free plain allowed.2 (sound.has k.slot inside) in
+      let none = chosen_counts g p (sound.suit k.slot) free gone in
+      let new : files_under k h ≡ [] = ap (λ (n : ℕ). files_under (record { slot = k.slot; number = n }) h) number
+      ∙ next_none g (table.at k.slot) (files_under (next_at slots k.slot) h) plain (sound.next k.slot inside) in
+      let others : (j : LifeKey) → (k.slot ≡ j.slot → k.number ≡ j.number → ⊥) → files_under j (Chooses k f ∷ h) ≡ files_under j h =
+      λ j ne. ap (λ (fs : List File). files_under j h ++ fs) (apart k j f (λ e n. ne (sym e) (sym n))) ∙ append-nil (files_under j h) in (
+        fate',
+        record {
+          inside = sound.inside;
+          counted = sound.counted;
+          suit = λ s. elim (cases_eq s k.slot) [
+            | inl e ↦ subst (λ (q : ℕ). suits (fate' q) (phase_at slots q) ≡ true) (sym e) (ap (λ (x : Fate). suits x p) here ∙ chosen_suits g p (sound.suit k.slot) free gone)
+            | inr ne ↦ ap (λ (x : Fate). suits x (phase_at slots s)) (at_changed fate k.slot Foreign s ne) ∙ sound.suit s
+          ];
+          has = λ s lt. elim (cases_eq s k.slot) [
+            | inl e ↦ subst (λ (q : ℕ). Has (fate' q) (changed_at table.at k.slot (Some f) q) (files_under (life_at slots q) (Chooses k f ∷ h))) (sym e) (has_same {fate = Foreign} here refl refl tt)
+            | inr ne ↦ has_same {fate = fate s} (at_changed fate k.slot Foreign s ne) (at_changed table.at k.slot (Some f) s ne) (others (life_at slots s) (λ e n. ne (sym e))) (sound.has s lt)
+          ];
+          linked = sound.linked;
+          fits = each-both (Fitting slots fate) (λ z. (at_slot Open k.slot z ≡ 0) × (at_slot Request k.slot z ≡ 0) × (g ≡ Missing → at_slot CloseMember k.slot z ≡ 0)) (Fitting slots fate') calls
+              (λ z fz no. elim (cases_eq (place_of z) k.slot) [
+                | inl e ↦ (
+                  fz.0,
+                  fz.1,
+                  subst (λ (q : ℕ). fits z.call z.stage (fate' q) ≡ true) (sym e) (ap (fits z.call z.stage) here
+                      ∙ chosen_fits z.call z.stage g (ap (fits z.call z.stage) (ap fate (sym e)) ∙ fz.2) gone (sym (at_same Open k.slot z e) ∙ no.0) (sym (at_same Request k.slot z e) ∙ no.1)
+                      (λ m. sym (at_same CloseMember k.slot z e) ∙ no.2 m)),
+                  fz.3,
+                )
+                | inr ne ↦ fits_same z refl refl (at_changed fate k.slot Foreign (place_of z) ne) fz
+              ]) sound.fits
+              (each-both (λ z. at_slot Open k.slot z ≡ 0) (λ z. (at_slot Request k.slot z ≡ 0) × (g ≡ Missing → at_slot CloseMember k.slot z ≡ 0)) _ calls (λ z a b. (a, b.0, b.1))
+              (none_at Open k.slot calls (sound.counted Open k.slot ∙ none.0))
+              (each-both (λ z. at_slot Request k.slot z ≡ 0) (λ z. g ≡ Missing → at_slot CloseMember k.slot z ≡ 0) _ calls (λ z a b. (a, b))
+              (none_at Request k.slot calls (sound.counted Request k.slot ∙ none.1))
+              (none_if CloseMember k.slot calls (λ m. sound.counted CloseMember k.slot ∙ none.2 m))));
+          next = λ s lt. elim (cases_eq s k.slot) [
+            | inl e ↦ subst (λ (q : ℕ). NextHas (fate' q) (changed_at table.at k.slot (Some f) q) (files_under (next_at slots q) (Chooses k f ∷ h))) (sym e)
+                (next_same {fate = Foreign} here refl (ap (λ (n : ℕ). files_under (record { slot = k.slot; number = n }) (Chooses k f ∷ h)) (sym number))
+                (f, at_written table.at k.slot (Some f), rw (new, same_keys k k refl refl) refl))
+            | inr ne ↦ next_same {fate = fate s} (at_changed fate k.slot Foreign s ne) (at_changed table.at k.slot (Some f) s ne) (others (next_at slots s) (λ e n. ne (sym e))) (sound.next s lt)
+          ];
+          ranged = λ s. elim (cases_eq s k.slot) [
+            | inl e ↦ subst (λ (q : ℕ). Ranged table q (fate' q) (phase_at slots q)) (sym e) (λ foreign. allowed.1, (sound.ranged k.slot).1)
+            | inr ne ↦ subst (λ (x : Fate). Ranged table s x (phase_at slots s)) (sym (at_changed fate k.slot Foreign s ne)) (sound.ranged s)
+          ];
+          unborn = λ j later far. others j (λ e n. let m = ap (λ (s : ℕ). (slot_numbered slots s).number) e in let i = far (subst (λ (s : ℕ). s < length slots) e inside) in omega arith) ∙ sound.unborn j later far;
+        },
+      )
 
   -- an action of others
   other_slot : (slot s : ℕ) (x : Option File) → length slots ≤ slot → s < length slots → changed_at table.at slot x s ≡ table.at s
   other_slot slot s x le lt = at_changed table.at slot x s (λ (e : s ≡ slot). omega arith)
 
-  elsewhere : (a : Action) (table' : State) → table'.size ≡ table.size → ((s : ℕ) → s < length slots → table'.at s ≡ table.at s)
+  elsewhere : (a : Action) (table' : State) → table'.size ≡ table.size → table'.range ≡ table.range → ((s : ℕ) → s < length slots → table'.at s ≡ table.at s)
       → Sound fate slots table' calls (Others a ∷ h)
-  elsewhere a table' size at = quiet table' calls (Others a) size at (λ j. refl) (λ j. refl) (λ m s. refl) sound.fits
+  elsewhere a table' size range at = quiet table' calls (Others a) size range at (λ j. refl) (λ j. refl) (λ m s. refl) sound.fits
 
   pub others_act : (a : Action) → IsElsewhere (length slots) a → Sound fate slots (table_after table a) calls (Others a ∷ h)
   others_act a le = grind (arith, elsewhere, other_slot)

@@ -3,7 +3,7 @@ use Rattle.fx_direct.proofs.Words.{arith, ◌≡◌, ◌≢◌, ℕ, zero, suc, 
 use Rattle.fx_direct.proofs.Words.{AllByRecursion, Option, Some, None, eq-eqb, ne_eqb, File, Phase, Member, Open, Request, CloseMember, bit, requests_in, is_opening, is_closing}
 use Rattle.fx_direct.proofs.Words.{Free, Opening, Live, Ending, Closing, Chained, Unseen, Installed, Failed, Awaited, Took, ChainOpen, ChainEnd}
 use Rattle.fx_direct.proofs.Words.{DirectCall, OpenAt, UseOf, CloseOf, key_of_call, CallStage, Waits, Made, Quit, Pending, pending, LifeKey, with_uses, with_close, waits_for, same_key}
-use Rattle.fx_direct.proofs.Words.{chain, chain_phase, is_chained, Slot}
+use Rattle.fx_direct.proofs.Words.{chain, chain_phase, is_chained, Slot, State, IsInRange}
 
 abbrev pub place_of : Pending → ℕ
 place_of p = (key_of_call p.call).slot
@@ -106,6 +106,11 @@ pub none_at : (m : Member) (s : ℕ) (ps : List Pending) → tally m s ps ≡ 0 
 none_at m s [] none = tt
 none_at m s (p ∷ ps) none = (omega arith, none_at m s ps (omega arith))
 
+-- the same, under a condition
+pub none_if : {X : Type 0} (m : Member) (s : ℕ) (ps : List Pending) → (X → tally m s ps ≡ 0) → AllByRecursion (λ p. X → at_slot m s p ≡ 0) ps
+none_if m s [] none = tt
+none_if m s (p ∷ ps) none = (λ x. let e = none x in omega arith, none_if m s ps (λ x. let e = none x in omega arith))
+
 pub each-use : (P : Pending → Type 0) (k : LifeKey) (n : ℕ) (ps : List Pending) → P (pending (UseOf k) true Waits)
     → AllByRecursion P ps → AllByRecursion P (with_uses k n ps)
 each-use P k zero ps own all = all
@@ -119,15 +124,21 @@ each-close P k false ps own all = all
 -- Files of slots.
 
 -- the file of a slot's life: its open waits; its open has installed nothing; it is there; it was
--- taken
+-- taken; it is missing or was taken, and a file is there that the next life is to adopt
 pub data Fate : Type 0 where
   Expected : Fate
   Missing : Fate
   There : Fate
   Gone : Fate
+  Foreign : Fate
+
+abbrev pub is_foreign : Fate → Bool
+is_foreign Foreign = true
+is_foreign fate = false
 
 abbrev pub not_gone : Fate → Bool
 not_gone Gone = false
+not_gone Foreign = false
 not_gone fate = true
 
 -- the file is at the slot, and it alone was installed under the key
@@ -140,6 +151,12 @@ Has Expected at files = (at ≡ None) × (files ≡ [])
 Has Missing at files = (at ≡ None) × (files ≡ [])
 Has There at files = HasOne at files
 Has Gone at files = at ≡ None
+Has Foreign at files = Unit {0}
+
+-- what was installed under the key of the slot's next life
+abbrev pub NextHas : Fate → Option File → List File → Type 0
+NextHas Foreign at files = HasOne at files
+NextHas fate at files = files ≡ []
 
 -- a call in flight at the slot
 abbrev pub fits : DirectCall → CallStage → Fate → Bool
@@ -151,6 +168,7 @@ fits (UseOf k) Waits fate = not_gone fate
 fits (UseOf k) Quit fate = true
 fits (CloseOf k) Waits fate = not_gone fate
 fits (CloseOf k) Made Gone = true
+fits (CloseOf k) Made Foreign = true
 fits (CloseOf k) Quit fate = not_gone fate
 fits call stage fate = false
 
@@ -172,13 +190,26 @@ suits_end fate end = not_gone fate
 abbrev pub suits : Fate → Phase → Bool
 suits Missing Free = true
 suits Gone Free = true
+suits Foreign Free = true
 suits fate Opening = not_gone fate
 suits There (Live requests users) = true
 suits There (Ending requests users) = true
 suits There Closing = true
 suits Gone Closing = true
+suits Foreign Closing = true
+suits Foreign (Chained c) = false
 suits fate (Chained c) = suits_open fate c.opened && suits_end fate c.end
 suits fate p = false
+
+-- the phase of a life that was reserved, and whose open wasn't seen, or that is chained
+abbrev pub is_reserved : Phase → Bool
+is_reserved Opening = true
+is_reserved (Chained c) = true
+is_reserved p = false
+
+-- a file that is to be adopted is in the allocation range, and a life that was reserved isn't
+abbrev pub Ranged : State → ℕ → Fate → Phase → Type 0
+Ranged table s fate p = (is_foreign fate ≡ true → IsInRange table s) × (is_reserved p ≡ true → IsInRange table s → ⊥)
 
 -- a request or a close that is linked
 abbrev pub is_bound : DirectCall → Bool → Bool
@@ -200,6 +231,49 @@ pub has_same : {fate fate' : Fate} {at at' : Option File} {files files' : List F
     → fate' ≡ fate → at' ≡ at → files' ≡ files → Has fate at files → Has fate' at' files'
 has_same e1 e2 e3 has = rw (e1, e2, e3) has
 
+pub next_same : {fate fate' : Fate} {at at' : Option File} {files files' : List File}
+    → fate' ≡ fate → at' ≡ at → files' ≡ files → NextHas fate at files → NextHas fate' at' files'
+next_same e1 e2 e3 has = rw (e1, e2, e3) has
+
+pub ranged_same : (table table' : State) (s : ℕ) (fate : Fate) (p : Phase) → table'.range ≡ table.range → Ranged table s fate p → Ranged table' s fate p
+ranged_same table table' s fate p e ranged = rw e ranged
+
+pub not_true : (b : Bool) → (b ≡ true → ⊥) → b ≡ false
+not_true b wrong = grind arith
+
+pub left_plain : (f : Fate) → not_gone f ≡ true → is_foreign f ≡ false
+left_plain f left = grind arith
+
+pub next_none : (f : Fate) (at : Option File) (files : List File) → is_foreign f ≡ false → NextHas f at files → files ≡ []
+next_none f at files plain has = grind arith
+
+pub none_next : (f : Fate) (at : Option File) (files : List File) → is_foreign f ≡ false → files ≡ [] → NextHas f at files
+none_next f at files plain none = grind arith
+
+-- A file that the kernel puts at a slot which it chooses.
+
+pub chosen_plain : (f : Fate) (at : Option File) (files : List File) → NextHas f at files → at ≡ None → is_foreign f ≡ false
+chosen_plain f at files has empty = grind arith
+
+pub chosen_gone : (f : Fate) (p : Phase) (at : Option File) (files : List File) → suits f p ≡ true → is_reserved p ≡ false → is_foreign f ≡ false → at ≡ None → Has f at files
+    → (f ≡ Missing) ⊎ (f ≡ Gone)
+chosen_gone f p at files suit free plain empty has = grind arith
+
+pub chosen_suits : (f : Fate) (p : Phase) → suits f p ≡ true → is_reserved p ≡ false → (f ≡ Missing) ⊎ (f ≡ Gone) → suits Foreign p ≡ true
+chosen_suits f p suit free gone = grind arith
+
+pub chosen_counts : (f : Fate) (p : Phase) → suits f p ≡ true → is_reserved p ≡ false → (f ≡ Missing) ⊎ (f ≡ Gone)
+    → (count_in Open p ≡ 0) × (count_in Request p ≡ 0) × (f ≡ Missing → count_in CloseMember p ≡ 0)
+chosen_counts f p suit free gone = grind arith
+
+pub chosen_fits : (call : DirectCall) (stage : CallStage) (f : Fate) → fits call stage f ≡ true → (f ≡ Missing) ⊎ (f ≡ Gone)
+    → is_member Open call ≡ 0 → is_member Request call ≡ 0 → (f ≡ Missing → is_member CloseMember call ≡ 0) → fits call stage Foreign ≡ true
+chosen_fits call stage f fit gone no_open no_use no_close = grind arith
+
+-- a free slot that has a file
+pub adopted_foreign : (f : Fate) (p : Phase) (at : Option File) (files : List File) (file : File) → suits f p ≡ true → p ≡ Free → at ≡ Some file → Has f at files → f ≡ Foreign
+adopted_foreign f p at files file suit free full has = grind arith
+
 -- Phases and files.
 
 -- the calls of a chain's phase are those of the chain
@@ -213,8 +287,8 @@ pub suits_chain : (fate : Fate) (n : ℕ) (opened : ChainOpen) (end : ChainEnd)
 suits_chain fate n opened end suit = grind arith
 
 -- a phase that a chain leaves is chained only if the chain was
-pub gone_free : (fate : Fate) (p : Phase) → suits fate p ≡ true → p ≡ Free → (fate ≡ Missing) ⊎ (fate ≡ Gone)
-gone_free fate p suit free = grind arith
+pub gone_free : (fate : Fate) (p : Phase) → suits fate p ≡ true → p ≡ Free → is_foreign fate ≡ false → (fate ≡ Missing) ⊎ (fate ≡ Gone)
+gone_free fate p suit free plain = grind arith
 
 -- an open waits: the phase counts it
 pub expected_opens : (p : Phase) → suits Expected p ≡ true → bit (is_opening p) ≡ 1

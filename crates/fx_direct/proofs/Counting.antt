@@ -7,7 +7,7 @@ use Rattle.fx_direct.specs.Counts.{times, of_key, reserves, chains, opens, start
 use Rattle.fx_direct.specs.Counts.{EachKeyIsBalanced, IsBalanced, KeysAreGivenOnce, NothingIsLeftOfALife}
 use Rattle.fx_direct.specs.Phases.{ends_anyway}
 use Rattle.fx_direct.specs.Transitions.{may_open, may_end, may_close, when_ended, when_closed, when_left}
-use Rattle.fx_direct.proofs.Words.{Starts, Finishes, Holds, Releases, Ends, Asks, Closes, FailsToClose, Opens, Chains, Ending, with_counts, when_opened, ◌-◌}
+use Rattle.fx_direct.proofs.Words.{Adopts, Starts, Finishes, Holds, Releases, Ends, Asks, Closes, FailsToClose, Opens, Chains, Ending, with_counts, when_opened, ◌-◌}
 use Rattle.fx_direct.proofs.Moves.{after-here, after-else}
 use Rattle.fx_direct.proofs.Turns.{within}
 
@@ -25,6 +25,12 @@ abbrev pub is_unopened : Phase → Bool
 is_unopened Opening = true
 is_unopened (Chained c) = not_installed c.opened
 is_unopened p = false
+
+-- a life begins
+abbrev pub is_new : Transition → Bool
+is_new (Reserves k) = true
+is_new (Adopts k) = true
+is_new t = false
 
 -- the chain isn't over, and its completions don't contradict each other
 abbrev pub IsProper : Phase → Type 0
@@ -83,6 +89,7 @@ asked_phases p q e = (ap (λ (r : Phase). bit (is_early r)) e, ap (λ (r : Phase
 for_asked : (k : LifeKey) (d : Transition) (p : Phase) → FitsPhase d p → IsProper p → same_key (key_concerned d) k ≡ true
     → opens k d + fails k d + bit (is_early (phase_after d p)) + bit (is_installed p) ≡ asks k d + bit (is_installed (phase_after d p)) + bit (is_early p)
 for_asked k (Reserves j) p may proper same = let e = asked_phases p Free may in omega (arith, e.0, e.1)
+for_asked k (Adopts j) p may proper same = let e = asked_phases p Free may in omega (arith, e.0, e.1, of_same j k 1 same)
 for_asked k (Chains j n true) p may proper same = let e = asked_phases p Opening may in omega (arith, e.0, e.1, of_same j k 1 same)
 for_asked k (Chains j n false) p may proper same = let e = asked_phases p Opening may in omega (arith, e.0, e.1, of_same j k 0 same)
 for_asked k (Opens j true) p may proper same = omega (arith, asked_opens p true may proper, of_same j k 1 same)
@@ -115,7 +122,7 @@ module _ (k : LifeKey) (d : Transition) (p : Phase) (may : FitsPhase d p) (prope
 
   for_ended : ((opens k d ≡ 1) × (is_unopened p ≡ true) × (ends k d ≡ 0) × (bit (is_live p') + bit (ends_anyway p) ≡ 1))
       ⊎ ((opens k d ≡ 0) × (bit (is_live p') + ends k d ≡ bit (is_live p)))
-      ⊎ ((opens k d ≡ 0) × (is_unopened p ≡ true))
+      ⊎ ((opens k d ≡ 0) × (is_unopened p ≡ true)) ⊎ ((opens k d ≡ 1) × (is_new d ≡ true) × (ends k d ≡ 0) × (bit (is_live p') ≡ 1))
   for_ended = grind (arith, of_same)
 
   for_early : (ends k d ≡ 0) ⊎ ((ends k d ≡ 1) × (is_live p ≡ true))
@@ -123,7 +130,7 @@ module _ (k : LifeKey) (d : Transition) (p : Phase) (may : FitsPhase d p) (prope
   for_early = grind (arith, of_same)
 
   for_unopened : is_unopened p' ≡ true → ((is_unopened p ≡ true) × (opens k d ≡ 0) × (bit (ends_anyway p') ≡ bit (ends_anyway p) + ends k d))
-      ⊎ ((d ≡ Reserves (key_concerned d)) × (opens k d ≡ 0) × (ends k d ≡ 0) × (bit (ends_anyway p') ≡ 0))
+      ⊎ ((is_new d ≡ true) × (opens k d ≡ 0) × (ends k d ≡ 0) × (bit (ends_anyway p') ≡ 0))
   for_unopened is = grind (arith, of_same)
 
   for_chained : is_chained p' ≡ true → (is_chained p ≡ true) ⊎ (chains k d ≡ 1)
@@ -132,17 +139,20 @@ module _ (k : LifeKey) (d : Transition) (p : Phase) (may : FitsPhase d p) (prope
   for_live : is_live p' ≡ true → (is_live p ≡ true) ⊎ (opens k d ≡ 1)
   for_live is = grind (arith, of_same)
 
-  for_reserves : (reserves k d ≡ 0) ⊎ ((reserves k d ≡ 1) × (d ≡ Reserves (key_concerned d)))
+  for_reserves : (reserves k d ≡ 0) ⊎ ((reserves k d ≡ 1) × (is_new d ≡ true))
   for_reserves = grind (arith, of_same)
 
-  balanced : (h : List Transition) → (d ≡ Reserves (key_concerned d) → (times (reserves k) h ≡ 0) × (times (ends k) h ≡ 0))
+  balanced : (h : List Transition) → (is_new d ≡ true → (times (reserves k) h ≡ 0) × (times (ends k) h ≡ 0))
       → IsBalanced h k p → IsBegun h k p → IsBalanced (d ∷ h) k p'
   balanced h new b begun = record {
     requests = omega (arith, b.requests, for_requests);
     users = omega (arith, b.users, for_users);
     ended = λ some_open. elim for_ended [
       | inl e ↦ omega (arith, e.0, e.2, e.3, (begun.unopened e.1).0, (begun.unopened e.1).1)
-      | inr e ↦ elim e [ inl f ↦ omega (arith, f.0, f.1, b.ended (omega (arith, f.0))) | inr f ↦ omega (arith, f.0, (begun.unopened f.1).0) ]
+      | inr e ↦ elim e [
+        | inl f ↦ omega (arith, f.0, f.1, b.ended (omega (arith, f.0)))
+        | inr f ↦ elim f [ inl g ↦ omega (arith, g.0, (begun.unopened g.1).0) | inr g ↦ omega (arith, g.0, g.2, g.3, (new g.1).0, (new g.1).1, b.opened) ]
+      ]
     ];
     early = elim for_early [
       | inl e ↦ omega (arith, e, b.early)
@@ -157,7 +167,7 @@ module _ (k : LifeKey) (d : Transition) (p : Phase) (may : FitsPhase d p) (prope
     opened = omega (arith, b.opened, for_opened);
   }
 
-  begun_after : (h : List Transition) → (d ≡ Reserves (key_concerned d) → (times (reserves k) h ≡ 0) × (times (ends k) h ≡ 0))
+  begun_after : (h : List Transition) → (is_new d ≡ true → (times (reserves k) h ≡ 0) × (times (ends k) h ≡ 0))
       → IsBalanced h k p → IsBegun h k p → IsBegun (d ∷ h) k p'
   begun_after h new b begun = record {
     unopened = λ is. elim (for_unopened is) [
@@ -239,13 +249,13 @@ phase_free slots k free = grind (arith, phase_here, phase_else)
 -- the number of a transition's slot before it
 pub number_before : (slots : List Slot) (d : Transition) → IsEnabled slots d
     → ((slot_numbered slots (key_concerned d).slot).number ≡ (key_concerned d).number)
-    ⊎ (((key_concerned d).number ≡ (slot_numbered slots (key_concerned d).slot).number + 1) × (phase_at slots (key_concerned d).slot ≡ Free) × (d ≡ Reserves (key_concerned d)))
+    ⊎ (((key_concerned d).number ≡ (slot_numbered slots (key_concerned d).slot).number + 1) × (phase_at slots (key_concerned d).slot ≡ Free) × (is_new d ≡ true))
 number_before slots d can = grind arith
 
 pub grows : (slots : List Slot) (d : Transition) → IsEnabled slots d → (slot_numbered slots (key_concerned d).slot).number ≤ (key_concerned d).number
 grows slots d can = elim (number_before slots d can) [ inl e ↦ omega arith | inr w ↦ omega (arith, w.0) ]
 
-new_of : (slots : List Slot) (d : Transition) → IsEnabled slots d → d ≡ Reserves (key_concerned d) → (slot_numbered slots (key_concerned d).slot).number < (key_concerned d).number
+new_of : (slots : List Slot) (d : Transition) → IsEnabled slots d → is_new d ≡ true → (slot_numbered slots (key_concerned d).slot).number < (key_concerned d).number
 new_of slots d can e = grind arith
 
 one_key : (j k : LifeKey) → j.slot ≡ k.slot → j.number ≡ k.number → same_key j k ≡ true
@@ -291,7 +301,7 @@ one_deed slots h d k can kept = elim (cases_eq (key_concerned d).slot k.slot) [
             phase_here (slots_with slots d) k (number ∙ n) ∙ ap (λ (s : Slot). s.phase) here in
             let old = at_phase was refl kept in let p = phase_at slots (key_concerned d).slot in
             let may = possible slots d can in let same = one_key (key_concerned d) k e n in
-            let new : d ≡ Reserves (key_concerned d) → (times (reserves k) h ≡ 0) × (times (ends k) h ≡ 0) =
+            let new : is_new d ≡ true → (times (reserves k) h ≡ 0) × (times (ends k) h ≡ 0) =
             λ r. kept.unborn (let lt = new_of slots d can r in omega arith) in
             at_phase (sym is) refl (record {
               balance = balanced k d p may old.proper same h new old.balance old.begun;

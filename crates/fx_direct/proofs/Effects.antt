@@ -3,7 +3,8 @@ use Rattle.fx_direct.proofs.Words.{arith, ◌≡◌, ℕ, ◌+◌, ◌-◌, ◌<
 use Rattle.fx_direct.proofs.Words.{Free, Opening, Ending, Closing, Chained, Unseen, chain, chain_of, ChainOpen, ChainEnd}
 use Rattle.fx_direct.proofs.Words.{requests_in, users_in, is_live, is_closing, is_chained, with_counts, when_opened, OpenAt, UseOf, CloseOf, Made, Quit}
 use Rattle.fx_direct.specs.Transitions.{may_open, may_end, may_close, when_ended, when_closed, when_left, open_seen}
-use Rattle.fx_direct.proofs.Calls.{count_in, is_member, uses_of, count_chain, suits_chain, Fate, Expected, There, Gone, not_gone, fits, suits}
+use Rattle.fx_direct.proofs.Words.{Transition, Reserves, FitsPhase, phase_after}
+use Rattle.fx_direct.proofs.Calls.{is_reserved, count_in, is_member, uses_of, count_chain, suits_chain, Fate, Expected, There, Gone, not_gone, fits, suits}
 
 module _ (m : Member) (k : LifeKey) where
   -- the calls that begin, and those that are over
@@ -79,6 +80,15 @@ module _ (fate : Fate) where
 -- the close of the slot has taken the file
 pub taken_suits : (p : Phase) → suits There p ≡ true → is_closing p ≡ true → suits Gone p ≡ true
 taken_suits p suit closing = grind arith
+
+-- a life begins by a reservation
+abbrev pub is_first : Transition → Bool
+is_first (Reserves k) = true
+is_first d = false
+
+-- a life that was reserved stays so until its open or its chain is over
+pub reserved_after : (d : Transition) (p : Phase) → FitsPhase d p → is_first d ≡ false → is_reserved (phase_after d p) ≡ true → is_reserved p ≡ true
+reserved_after d p may later is = grind arith
 
 -- a phase is chained after a transition only if it was, or the transition is a chain's begin
 

@@ -1,12 +1,25 @@
 -- Flights from one empty slot, moment by moment: each world is the one that the moment leaves.
-use Rattle.fx_direct.proofs.Words.{arith, ◌<◌, ◌≤◌, ◌≡◌, List, [], ◌∷◌, ◌++◌, refl, Bool, false, Slot, World, Pending, pending, CallStage, Waits, Quit, UseOf, Transition, DirectCall}
-use Rattle.fx_direct.proofs.Words.{Accesses, Does, Quits, Others, DirectMoment, Loses, TurnsCalls, MayMake, HasItsTurn, stage_after, IsElsewhere, Allows, Action, slots_with, table_after, length}
+use Rattle.fx_direct.proofs.Words.{arith, ◌<◌, ◌≤◌, ◌≡◌, List, [], ◌∷◌, ◌++◌, refl, Bool, false, World, Pending, pending, CallStage, Waits, Quit, UseOf, Transition, DirectCall}
+use Rattle.fx_direct.proofs.Words.{◌+◌, LifeKey, File, Allocate, Chooses, slot_numbered, Accesses, Does, Quits, Others, DirectMoment, Loses, TurnsCalls, MayMake, HasItsTurn, stage_after, IsElsewhere, Allows, Action, slots_with, table_after, length}
 use Rattle.fx_direct.specs.Flight.{IsDirectFlightBy}
-use Rattle.fx_direct.specs.Round.{one_slot, first_key}
+use Rattle.fx_direct.specs.Round.{two_slots, first_key}
 use Rattle.fx_direct.specs.declared.key.TheConstants.{MOST_LIVES}
 
-pub inside : 0 < 1
+pub inside : 0 < 2
 inside = omega arith
+
+pub one_left : 0 < 1
+one_left = omega arith
+
+pub second : 1 < 2
+second = omega arith
+
+-- the first slot is outside the range, and the second one inside
+pub outside : (1 ≤ 0) × (0 < 2) → ⊥
+outside r = let e = r.0 in omega arith
+
+pub ranged : (1 ≤ 1) × (1 < 2)
+ranged = (omega arith, omega arith)
 
 pub one_life : 1 ≤ MOST_LIVES
 one_life = omega arith
@@ -29,16 +42,16 @@ pub only : (c : DirectCall) (linked : Bool) (stage : CallStage) (rest : List Pen
 only c linked stage rest = record { front = []; rest = rest; linked = linked; was = refl; is = refl }
 
 -- a flight with these moments, under a condition of the machine's transitions
-pub record Flown (enabled : List Slot → Transition → Type 0) (h : List DirectMoment) : Type 0 where
+pub record Flown (enabled : World → Transition → Type 0) (h : List DirectMoment) : Type 0 where
   pub end : World
-  pub flight : IsDirectFlightBy enabled one_slot h end
+  pub flight : IsDirectFlightBy enabled two_slots h end
 
-abbrev pub begun : (enabled : List Slot → Transition → Type 0) → Flown enabled []
-begun enabled = record { end = one_slot; flight = refl }
+abbrev pub begun : (enabled : World → Transition → Type 0) → Flown enabled []
+begun enabled = record { end = two_slots; flight = refl }
 
-module _ {enabled : List Slot → Transition → Type 0} {h : List DirectMoment} (f : Flown enabled h) where
+module _ {enabled : World → Transition → Type 0} {h : List DirectMoment} (f : Flown enabled h) where
   -- a transition, after which these calls are in flight
-  abbrev pub does : (t : Transition) (calls : List Pending) → enabled f.end.slots t → TurnsCalls t f.end.calls calls → Flown enabled (Does t ∷ h)
+  abbrev pub does : (t : Transition) (calls : List Pending) → enabled f.end t → TurnsCalls t f.end.calls calls → Flown enabled (Does t ∷ h)
   does t calls can turns = record {
     end = record { slots = slots_with f.end.slots t; table = f.end.table; calls = calls };
     flight = (f.end, f.flight, (can, turns, refl));
@@ -58,6 +71,14 @@ module _ {enabled : List Slot → Transition → Type 0} {h : List DirectMoment}
   quits call linked front rest was = record {
     end = record { slots = f.end.slots; table = f.end.table; calls = front ++ pending call linked Quit ∷ rest };
     flight = (f.end, f.flight, (record { front = front; rest = rest; linked = linked; was = was; is = refl }, refl));
+  }
+
+  -- the access of an open without a key
+  abbrev pub chooses : (k : LifeKey) (file : File) → Allows f.end.table (Allocate k.slot file) → k.slot < length f.end.slots
+      → k.number ≡ (slot_numbered f.end.slots k.slot).number + 1 → Flown enabled (Chooses k file ∷ h)
+  chooses k file allowed inside number = record {
+    end = record { slots = f.end.slots; table = table_after f.end.table (Allocate k.slot file); calls = f.end.calls };
+    flight = (f.end, f.flight, (allowed, inside, number, refl));
   }
 
   -- an action of others

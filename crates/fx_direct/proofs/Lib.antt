@@ -4,6 +4,7 @@ mod Calls
 mod Counting
 mod Effects
 mod Flown
+mod Keeping
 mod Lives
 mod Mistakes
 mod Moves

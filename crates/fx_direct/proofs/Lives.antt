@@ -8,14 +8,12 @@ use Rattle.fx_direct.specs.Transitions.{DirectMachine, becomes_live, unless_live
 use Rattle.fx_direct.specs.Lives.{NoCloseIsDue, NeverAsks, IsMachineCall, NoCloseIsLate, EachCloseIsAskedForOnce, StaleKeysStayStale}
 use Rattle.fx_direct.proofs.Counting.{Kept, IsProper, is_unopened, kept_always, possible, phase_else, phase_here}
 use Rattle.fx_direct.proofs.Asking.{phase_left, at_key, ends_leaves}
+use Rattle.fx_direct.proofs.Calls.{not_true}
 use Rattle.fx_direct.proofs.Moves.{after-here, after-else}
 use Rattle.fx_direct.proofs.Turns.{within}
 use Rattle.std.proofs.lemmas.List.{get_or_past, set-set}
 
 -- Each close is asked for once.
-
-pub not_true : (b : Bool) → (b ≡ true → ⊥) → b ≡ false
-not_true b wrong = grind arith
 
 -- a phase that isn't opening has its file, or waits for its chain
 early_small : (p : Phase) → is_early p ≡ true → (is_unopened p ≡ true) × (is_chained p ≡ true)
@@ -107,7 +105,7 @@ by_calm old new t calm turns = let p = phase_at old.list (key_concerned t).slot 
 by_asking : (old new : DirectMachine) (t : Transition) (ask : Option ℕ) → AdvancesAndAsks old t ask new → Leaves old t new
 by_asking old new t None turns =
     let k = key_concerned t in let b = becomes_live t (phase_at old.list k.slot) && old.stopped in let can = first_may old.list t b turns.0.0 in
-    let list : new.list ≡ with_phase old.list k (phase_left old.stopped t (phase_at old.list k.slot)) = ap (λ (m : DirectMachine). m.list) turns.0.1 ∙ ends_leaves old.list t can b in
+    let list : new.list ≡ with_phase old.list k (phase_left old.stopped t (phase_at old.list k.slot)) = ap (λ (m : DirectMachine). m.list) turns.0.1 ∙ ends_leaves old.range old.list t can b in
     record {
       can = can;
       phase = phase_left old.stopped t (phase_at old.list k.slot);
@@ -119,7 +117,7 @@ by_asking old new t (Some slot) turns =
     let k = key_concerned t in let b = becomes_live t (phase_at old.list k.slot) && old.stopped in let can = first_may old.list t b turns.1.0.0 in record {
       can = can;
       phase = Closing;
-      list = ap (λ (m : DirectMachine). m.list) turns.1.1 ∙ ap (λ (xs : List Slot). with_phase xs k Closing) (ends_leaves old.list t can b) ∙ set-set old.list k.slot _ _;
+      list = ap (λ (m : DirectMachine). m.list) turns.1.1 ∙ ap (λ (xs : List Slot). with_phase xs k Closing) (ends_leaves old.range old.list t can b) ∙ set-set old.list k.slot _ _;
       left = inl refl;
       same = ap (λ (m : DirectMachine). m.stopped) turns.1.1;
     }

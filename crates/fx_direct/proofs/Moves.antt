@@ -1,12 +1,16 @@
 -- The invariant of flights, and a transition of the machine.
-use Rattle.fx_direct.proofs.Words.{arith, ◌≡◌, ◌≢◌, ℕ, ◌<◌, ◌≤◌, true, List, [], ◌∷◌, ◌++◌, length, refl, sym, ap, inl, inr}
+use Rattle.fx_direct.proofs.Words.{arith, ◌≡◌, ◌≢◌, ℕ, ◌+◌, ◌<◌, ◌≤◌, true, List, [], ◌∷◌, ◌++◌, length, refl, sym, ap, inl, inr}
 use Rattle.fx_direct.proofs.Words.{◌∙◌, subst, cases_eq, get_or-set_same, get_or-set_other, length-set, LifeKey, Phase, Slot, State, Member}
 use Rattle.fx_direct.proofs.Words.{AllByRecursion, is_chained, has_chain, Pending, DirectMoment, Does, Transition}
 use Rattle.fx_direct.proofs.Words.{life_at, slot_numbered, phase_at, key_concerned, phase_after, slots_with, files_under}
-use Rattle.fx_direct.proofs.Calls.{place_of, tally, at_other, tally-mid, count_in, each-both, is_bound, Fate, Has, FitsAt, fits_same, has_same, suits}
+use Rattle.fx_direct.proofs.Calls.{NextHas, next_same, Ranged, is_reserved, place_of, tally, at_other, tally-mid, count_in, each-both, is_bound, Fate, Has, FitsAt, fits_same, has_same, suits}
 
 abbrev pub Fitting : List Slot → (ℕ → Fate) → Pending → Type 0
 Fitting slots fate p = FitsAt p (length slots) (slot_numbered slots (place_of p)) (fate (place_of p))
+
+-- the key of the slot's next life
+abbrev pub next_at : List Slot → ℕ → LifeKey
+next_at slots s = record { slot = s; number = (slot_numbered slots s).number + 1 }
 
 -- the calls in flight are those that the machine counts, and each slot has a file as its phase and
 -- its calls say
@@ -17,7 +21,9 @@ pub record Sound (fate : ℕ → Fate) (slots : List Slot) (table : State) (call
   pub has : (s : ℕ) → s < length slots → Has (fate s) (table.at s) (files_under (life_at slots s) h)
   pub linked : (s : ℕ) → is_chained (phase_at slots s) ≡ true → has_chain (life_at slots s) h ≡ true
   pub fits : AllByRecursion (Fitting slots fate) calls
-  pub unborn : (k : LifeKey) → (slot_numbered slots k.slot).number < k.number → files_under k h ≡ []
+  pub next : (s : ℕ) → s < length slots → NextHas (fate s) (table.at s) (files_under (next_at slots s) h)
+  pub ranged : (s : ℕ) → Ranged table s (fate s) (phase_at slots s)
+  pub unborn : (k : LifeKey) → (slot_numbered slots k.slot).number < k.number → (k.slot < length slots → (slot_numbered slots k.slot).number + 1 < k.number) → files_under k h ≡ []
 
 abbrev written : Transition → List Slot → Slot
 written d slots = record { number = (key_concerned d).number; phase = phase_after d (phase_at slots (key_concerned d).slot) }
@@ -55,8 +61,10 @@ module _ {fate : ℕ → Fate} {slots : List Slot} {table : State} {calls : List
       → (is_chained p' ≡ true → has_chain k (Does d ∷ h) ≡ true)
       → AllByRecursion (Fitting (slots_with slots d) fate') calls'
       → (slot_numbered slots k.slot).number ≤ k.number
+      → NextHas (fate' k.slot) (table.at k.slot) (files_under (record { slot = k.slot; number = k.number + 1 }) h)
+      → Ranged table k.slot (fate' k.slot) p'
       → Sound fate' (slots_with slots d) table calls' (Does d ∷ h)
-  turned fate' calls' same count others suit has linked fits grows = record {
+  turned fate' calls' same count others suit has linked fits grows next ranged = record {
     inside = rw (after-length slots d) sound.inside;
     counted = λ m s. elim (cases_eq s k.slot) [
       | inl e ↦ subst (λ (y : ℕ). tally m y calls' ≡ count_in m (phase_at (slots_with slots d) y)) (sym e)
@@ -87,13 +95,27 @@ module _ {fate : ℕ → Fate} {slots : List Slot} {table : State} {calls : List
           ∙ linked_more (life_at slots s) d h (sound.linked s c)
     ];
     fits = fits;
-    unborn = λ j lt. elim (cases_eq j.slot k.slot) [
-      | inl e ↦ sound.unborn j (
+    next = λ s lt. elim (cases_eq s k.slot) [
+      | inl e ↦ subst (λ (y : ℕ). NextHas (fate' y) (table.at y) (files_under (next_at (slots_with slots d) y) h)) (sym e)
+          (subst (λ (x : Slot). NextHas (fate' k.slot) (table.at k.slot) (files_under (record { slot = k.slot; number = x.number + 1 }) h)) (sym (after-here slots d within)) next)
+      | inr ne ↦ next_same (same s ne) refl (ap (λ (x : Slot). files_under (record { slot = s; number = x.number + 1 }) h) (after-else slots d s ne))
+          (sound.next s (rw (← after-length slots d) lt))
+    ];
+    ranged = λ s. elim (cases_eq s k.slot) [
+      | inl e ↦ subst (λ (y : ℕ). Ranged table y (fate' y) (phase_at (slots_with slots d) y)) (sym e)
+          (subst (λ (x : Slot). Ranged table k.slot (fate' k.slot) x.phase) (sym (after-here slots d within)) ranged)
+      | inr ne ↦ subst (λ (x : Slot). Ranged table s (fate' s) x.phase) (sym (after-else slots d s ne))
+          (subst (λ (g : Fate). Ranged table s g (phase_at slots s)) (sym (same s ne)) (sound.ranged s))
+    ];
+    unborn = λ j lt far. elim (cases_eq j.slot k.slot) [
+      | inl e ↦
           let e1 : (slot_numbered (slots_with slots d) j.slot).number ≡ k.number =
           subst (λ (s : ℕ). (slot_numbered (slots_with slots d) s).number ≡ k.number) (sym e) (ap (λ (x : Slot). x.number) (after-here slots d within)) in
-          let e2 : (slot_numbered slots j.slot).number ≡ (slot_numbered slots k.slot).number = ap (λ (s : ℕ). (slot_numbered slots s).number) e in omega arith)
-      | inr ne ↦ sound.unborn j (
-          let e1 : (slot_numbered (slots_with slots d) j.slot).number ≡ (slot_numbered slots j.slot).number = ap (λ (x : Slot). x.number) (after-else slots d j.slot ne) in omega arith)
+          let e2 : (slot_numbered slots j.slot).number ≡ (slot_numbered slots k.slot).number = ap (λ (s : ℕ). (slot_numbered slots s).number) e in
+          sound.unborn j (omega arith) (λ inside. let f = far (rw (after-length slots d) inside) in omega arith)
+      | inr ne ↦
+          let e1 : (slot_numbered (slots_with slots d) j.slot).number ≡ (slot_numbered slots j.slot).number = ap (λ (x : Slot). x.number) (after-else slots d j.slot ne) in
+          sound.unborn j (omega arith) (λ inside. let f = far (rw (after-length slots d) inside) in omega arith)
     ];
   }
 
@@ -123,12 +145,15 @@ module _ {fate : ℕ → Fate} {slots : List Slot} {table : State} {calls : List
       → (is_chained p' ≡ true → has_chain k (Does d ∷ h) ≡ true)
       → AllByRecursion (Fitting slots fate) calls'
       → AllByRecursion Binds calls'
+      → (is_reserved p' ≡ true → is_reserved p ≡ true)
       → Sound fate (slots_with slots d) table calls' (Does d ∷ h)
-  still calls' num count others suit linked fits binds =
+  still calls' num count others suit linked fits binds reserved =
       turned fate calls' (λ s ne. refl) count others suit
       (has_same {fate = fate k.slot} refl refl (sym (ap (λ (n : ℕ). files_under (record { slot = k.slot; number = n }) h) num)) (sound.has k.slot within)) linked
       (each-both (Fitting slots fate) Binds (Fitting (slots_with slots d) fate) calls' (stays num) fits binds)
       (omega arith)
+      (next_same {fate = fate k.slot} refl refl (sym (ap (λ (n : ℕ). files_under (record { slot = k.slot; number = n + 1 }) h) num)) (sound.next k.slot within))
+      ((sound.ranged k.slot).0, λ r. (sound.ranged k.slot).1 (reserved r))
 
   -- one more call at the slot
   pub more : (x : Pending) → place_of x ≡ k.slot → (m : Member) (s : ℕ) → s ≢ k.slot → tally m s (x ∷ calls) ≡ tally m s calls

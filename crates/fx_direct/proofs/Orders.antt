@@ -51,7 +51,7 @@ module _ (v : Order) (slot at other : ℕ) (stock : IsOrder v) (inside : slot < 
   other_there : slice_index v.place other ≡ v.vacant
   other_there = ap (slice_index v.place) is_other ∙ stock.there v.vacant vacant_inside
 
-  pub put_back : IsOrder (record { order = twice v.order v.vacant slot at other; place = twice v.place slot v.vacant other at; vacant = v.vacant + 1 })
+  pub put_back : IsOrder (record { order = twice v.order v.vacant slot at other; place = twice v.place slot v.vacant other at; vacant = v.vacant + 1; range = v.range })
   put_back = let size = length-twice v.place slot v.vacant other at in let a = above in let b = at_inside in
       let places = named_again v.place v.order (length v.place) slot v.vacant at other refl stock.same inside vacant_inside at_inside other_inside
       at_back (sym is_other) stock.named stock.back in

@@ -4,10 +4,11 @@ use Rattle.fx_direct.proofs.Words.{Action, Look, Put, Take, LifeKey, Member, Req
 use Rattle.fx_direct.proofs.Words.{life_at, phase_at, DirectCall, OpenAt, UseOf, CloseOf, Waits, Pending, pending, World, DirectMoment, Does, Accesses, Quits, Others, Makes}
 use Rattle.fx_direct.proofs.Words.{Comes, IsDirectFlight, files_under, IsEmptyStart, IsFileOf, IsMissed, FindsItsOwn, AllByRecursion, ◌▷◌, ◌▷▷◌}
 use Rattle.fx_direct.specs.Laws.{EachAccessFindsItsOwn, NothingIsLeft}
-use Rattle.fx_direct.proofs.Calls.{place_of, at_same, tally, tally-mid, count_in, each-out, Has, Fate, Expected, Missing, suits, not_gone, missing_chained, is_member}
+use Rattle.fx_direct.proofs.Words.{Chooses}
+use Rattle.fx_direct.proofs.Calls.{is_foreign, is_reserved, not_true, place_of, at_same, tally, tally-mid, count_in, each-out, Has, Fate, Expected, Missing, suits, not_gone, missing_chained, is_member}
 use Rattle.fx_direct.proofs.Moves.{Sound, Fitting}
 use Rattle.fx_direct.proofs.Turns.{does, none_here, empty_at, none_free}
-use Rattle.fx_direct.proofs.Accessing.{accesses, quits, others_act, after_open, waits_expected}
+use Rattle.fx_direct.proofs.Accessing.{accesses, chooses, quits, others_act, after_open, waits_expected}
 
 abbrev pub SoundWorld : World → List DirectMoment → Type 0
 SoundWorld w h = (fate : ℕ → Fate) × Sound fate w.slots w.table w.calls h
@@ -22,17 +23,21 @@ at_start w start = (
     has = λ s lt. (start.empty s lt, refl);
     linked = λ s c. absurd (cc (ap is_chained (sym (start.free s)) ∙ c));
     fits = rw start.idle tt;
-    unborn = λ k later. refl;
+    next = λ s lt. refl;
+    ranged = λ s. (λ f. absurd (cc f), λ r. absurd (cc (ap is_reserved (sym (start.free s)) ∙ r)));
+    unborn = λ k later far. refl;
   },
 )
 
 one_moment : (w : World) (m : DirectMoment) (v : World) (h : List DirectMoment) → SoundWorld w h → Comes w m v → SoundWorld v (m ∷ h)
 one_moment w (Does d) v h sound comes =
-    subst (λ (x : World). SoundWorld x (Does d ∷ h)) (sym comes.2) (does sound.1 d v.calls comes.0 comes.1)
+    subst (λ (x : World). SoundWorld x (Does d ∷ h)) (sym comes.2) (does sound.1 d v.calls comes.0.0 comes.0.1 comes.1)
 one_moment w (Accesses c a) v h sound comes =
     subst (λ (x : World). SoundWorld x (Accesses c a ∷ h)) (sym comes.2) (accesses sound.1 c a v.calls comes.0 comes.1)
 one_moment w (Quits c) v h sound comes =
     subst (λ (x : World). SoundWorld x (Quits c ∷ h)) (sym comes.1) (quits sound.1 c v.calls comes.0)
+one_moment w (Chooses k f) v h sound comes =
+    subst (λ (x : World). SoundWorld x (Chooses k f ∷ h)) (sym comes.3) (chooses sound.1 k f comes.0 comes.1 comes.2)
 one_moment w (Others a) v h sound comes =
     subst (λ (x : World). SoundWorld x (Others a ∷ h)) (sym comes.2) (sound.0, others_act sound.1 a comes.1)
 
@@ -104,10 +109,11 @@ none_ending m = grind arith
 
 pub nothing_is_left : NothingIsLeft
 nothing_is_left start w h k begins flight =
-    let sound = (always start h w begins flight).1 in (
+    let world = always start h w begins flight in let sound = world.1 in let g = world.0 k.slot in (
       λ can. (
-        none_here k.slot w.calls (λ m. sound.counted m k.slot ∙ ap (count_in m) can.2 ∙ none_free m),
-        empty_at ((always start h w begins flight).0 k.slot) (phase_at w.slots k.slot) (w.table.at k.slot) (files_under (life_at w.slots k.slot) h) (sound.suit k.slot) can.2 (sound.has k.slot can.0),
+        none_here k.slot w.calls (λ m. sound.counted m k.slot ∙ ap (count_in m) can.0.2 ∙ none_free m),
+        empty_at g (phase_at w.slots k.slot) (w.table.at k.slot) (files_under (life_at w.slots k.slot) h) (sound.suit k.slot) can.0.2
+            (not_true (is_foreign g) (λ f. can.1 ((sound.ranged k.slot).0 f))) (sound.has k.slot can.0.0),
       ),
       λ can. none_here k.slot w.calls (λ m. sound.counted m k.slot ∙ ap (count_in m) can.1 ∙ none_ending m),
     )

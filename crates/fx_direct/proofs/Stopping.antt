@@ -8,7 +8,8 @@ use Rattle.fx_direct.specs.Phases.{unused}
 use Rattle.fx_direct.specs.Transitions.{DirectMachine, machine_with, becomes_live, when_ended, unless_live}
 use Rattle.fx_direct.proofs.Asking.{phase_left, is_begun}
 use Rattle.fx_direct.proofs.Counting.{IsProper, proper_after, possible, phase_here, number_before, no_ends, two_slots}
-use Rattle.fx_direct.proofs.Lives.{Leaves, call_leaves, not_due, not_true}
+use Rattle.fx_direct.proofs.Calls.{not_true}
+use Rattle.fx_direct.proofs.Lives.{Leaves, call_leaves, not_due}
 use Rattle.fx_direct.proofs.Sums.{none_of_all, each_none}
 use Rattle.fx_direct.proofs.Turns.{within}
 use Rattle.std.specs.Prelude.{not}
@@ -114,8 +115,8 @@ pub a_stop_leaves_nothing : AStopLeavesNothing
 a_stop_leaves_nothing start stops end earlier later free before after ended calls users =
     let begun : Settled start = record { proper = λ s. subst IsProper (sym (free s)) tt; due = λ s e. let f = free s in cc } in
     let at_stop = by_run start stops earlier before begun in
-    let at_end = by_run (machine_with stops.list true) end later after (record { proper = at_stop.proper; due = at_stop.due }) in
-    let left = remains_by_run (machine_with stops.list true) end later refl after in
+    let at_end = by_run (machine_with stops.list stops.range true) end later after (record { proper = at_stop.proper; due = at_stop.due }) in
+    let left = remains_by_run (machine_with stops.list stops.range true) end later refl after in
     none_of_all (λ (x : Slot). lives_in x.phase) end.list (λ s.
     over_one (phase_at end.list s) (at_end.proper s) (at_end.due s) (each_none (λ (x : Slot). calls_in x.phase) end.list s refl calls) (users s)
     (not_true (is_live (phase_at end.list s)) (λ live.

@@ -4,7 +4,7 @@ pub use Rattle.std.proofs.Common.{List, [], ◌∷◌, ◌++◌, length, slice_i
 pub use Rattle.std.proofs.lemmas.Bool.{cases_eq, cases_lt, eqb-true}
 pub use Rattle.std.proofs.lemmas.List.{append-nil, get_or-set_other, get_or-set_same, length-set}
 pub use Rattle.std.specs.List.{AllByRecursion}
-pub use Rattle.fx_plain.specs.State.{State}
+pub use Rattle.fx_plain.specs.State.{State, IsInRange}
 pub use Rattle.fx_plain.specs.Step.{Allows, changed_at}
 pub use Rattle.fx_plain.specs.Step.{after as table_after}
 pub use Rattle.fx_plain.specs.History.{◌▷◌, ◌▷▷◌}
@@ -25,8 +25,8 @@ pub use Rattle.fx_direct.specs.Phases.{Free, Opening, Live, Ending, Closing, Cha
 pub use Rattle.fx_direct.specs.Phases.{unused, slot_numbered, phase_at, requests_in, users_in, is_free, is_live, is_installed, is_opening, is_closing, is_chained, calls_in}
 pub use Rattle.fx_direct.specs.Phases.{lives_in, AllFree}
 pub use Rattle.fx_direct.specs.Transitions.{Reserves, Chains, Opens, Starts, Finishes, Holds, Releases, Ends, Asks, Closes, FailsToClose, with_counts, when_opened, key_concerned}
-pub use Rattle.fx_direct.specs.Transitions.{NamesLastLife, HasLife, FitsPhase, IsEnabled, phase_after, with_phase, slots_with, AreEnabled, slots_left_by, Advances, AdvancesAndAsks}
-pub use Rattle.fx_direct.specs.Living.{same_key, life_at}
-pub use Rattle.fx_direct.specs.Flight.{DirectCall, OpenAt, UseOf, CloseOf, key_of_call, CallStage, Waits, Made, Quit, Pending, pending, World, DirectMoment, Does, Accesses, Quits, Others, Loses}
+pub use Rattle.fx_direct.specs.Transitions.{life_at, Adopts, NamesLastLife, HasLife, FitsPhase, IsEnabled, phase_after, with_phase, slots_with, AreEnabled, slots_left_by, Advances, AdvancesAndAsks}
+pub use Rattle.fx_direct.specs.Living.{same_key}
+pub use Rattle.fx_direct.specs.Flight.{DirectCall, OpenAt, UseOf, CloseOf, key_of_call, CallStage, Waits, Made, Quit, Pending, pending, World, DirectMoment, Does, Accesses, Quits, Chooses, Others, Loses, CanDo, FitsRange, file_of_key}
 pub use Rattle.fx_direct.specs.Flight.{TurnsCalls, with_uses, with_close, waits_for, HasItsTurn, stage_after, MayMake, Makes, Stops, IsElsewhere, Comes, IsDirectFlight, files_put_by, files_under, has_chain}
 pub use Rattle.fx_direct.specs.Laws.{IsEmptyStart, IsFileOf, IsMissed, FindsItsOwn, NothingIsAt}

@@ -10,7 +10,6 @@ use Rattle.fx_direct.specs.Transitions.{IsEnabled, NamesLastLife}
 use Rattle.fx_direct.specs.declared.chain.ChainOpen.{ChainOpen}
 use Rattle.fx_direct.specs.declared.key.TheConstants.{MOST_LIVES}
 use Rattle.fx_direct.specs.declared.phase.Phase.{Phase}
-use Rattle.fx_direct.specs.declared.phase.Slot.{Slot}
 use Rattle.fx_direct.specs.declared.transition.Transition.{Transition}
 use Rattle.fx_direct.specs.Flight.{World, OpenAt, UseOf, CloseOf, DirectMoment, Does, Accesses}
 use Rattle.fx_direct.specs.Flight.{Quits, Chooses, CanDo, FitsRange, IsDirectFlightBy}

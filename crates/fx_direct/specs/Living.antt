@@ -1,6 +1,6 @@
 -- Keys, and the lives under way.
 use Rattle.std.specs.Prelude.{◌≡◌, ℕ, ◌<◌, ◌≤◌, ◌==◌, ◌&&◌, Bool, List, Option, Some, None}
-use Rattle.fx_direct.specs.Phases.{Free, Opening, Live, Ending, Closing, Chained, slot_numbered}
+use Rattle.fx_direct.specs.Phases.{Free, Opening, Live, Ending, Closing, Chained}
 use Rattle.fx_direct.specs.Phases.{phase_at}
 use Rattle.fx_direct.specs.Transitions.{HasLife}
 use Rattle.fx_direct.specs.declared.key.LifeKey.{LifeKey}

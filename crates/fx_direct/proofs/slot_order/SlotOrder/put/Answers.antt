@@ -7,7 +7,7 @@ use Rattle.fx_direct.proofs.slot_order.SlotOrder.put.Goals as goal
 
 pub invariant_of-self : goal.invariant_of-self
 invariant_of-self c =
-    let v : Order = record { order = c.self.inside.order.items; place = c.self.inside.place.items; vacant = c.self.inside.vacant } in
+    let v : Order = record { order = c.self.inside.order.items; place = c.self.inside.place.items; vacant = c.self.inside.vacant; range = c.self.inside.range } in
     let inside : c.args.slot < length c.self.inside.place.items =
     subst (λ (x : Order). c.args.slot < length x.place) (sym c.self.view_is) c.requires.inside in
     let out = subst (λ (x : Order). is_among_vacant x c.args.slot ≡ false) (sym c.self.view_is) c.requires.out in
