@@ -10,7 +10,12 @@ mod machine {
         pub slots: *mut std::ffi::c_void,
     }
     extern "C" {
-        pub fn yacht_direct_open_6(machine: *mut Direct, slots: u32) -> i32;
+        pub fn yacht_direct_open_6(
+            machine: *mut Direct,
+            slots: u32,
+            first: u32,
+            length: u32,
+        ) -> i32;
         pub fn yacht_direct_free(machine: Direct);
         pub fn yacht_direct_reserve(machine: *mut Direct, key: *mut u64, slot: *mut u32) -> i32;
         pub fn yacht_direct_opened(
@@ -178,7 +183,7 @@ fn main() {
             let mut it = Direct {
                 slots: std::ptr::null_mut(),
             };
-            assert_eq!(yacht_direct_open_6(&mut it, 1024), 0);
+            assert_eq!(yacht_direct_open_6(&mut it, 1024, 0, 0), 0);
             for _ in 0..lives {
                 assert!(yacht_direct_reserve(&mut it, &mut key, &mut slot) == 0);
                 let closing = black_box(1);
@@ -197,7 +202,7 @@ fn main() {
             let mut it = Direct {
                 slots: std::ptr::null_mut(),
             };
-            assert_eq!(yacht_direct_open_6(&mut it, 1024), 0);
+            assert_eq!(yacht_direct_open_6(&mut it, 1024, 0, 0), 0);
             for _ in 0..lives {
                 assert!(yacht_direct_reserve(&mut it, &mut key, &mut slot) == 0);
                 let result = black_box(0);

@@ -51,9 +51,10 @@
  * - Each key goes to the machine that returned it. A key doesn't name its machine, and the first
  *   keys of two machines are equal: with a key of another machine, yacht_direct_release may ask for
  *   the close of a file that is in use.
- * - Nobody else writes these slots: no io_uring_register_files_update at them, no request outside
- *   these calls, and no open at a slot that the kernel chooses, unless the ring's allocation range
- *   (io_uring_register_file_alloc_range) lies outside them. By default it is the whole table.
+ * - Nobody else writes these slots: no io_uring_register_files_update at them, and no request
+ *   outside these calls. The ring's allocation range, which by default is the whole table, is the
+ *   one with which the machine was opened. Only this ring's opens choose slots there, and each file
+ *   is adopted once.
  * - The kernel posts a completion once, with its request's user_data. An open succeeds (its result
  *   is 0 or more) if and only if it put its file at the slot, and a close if and only if it took
  *   one.
@@ -101,7 +102,8 @@ enum {
     YACHT_DIRECT_TOO_MANY_REQUESTS = -15, /* 2^32 - 1 requests are in flight under the key */
     YACHT_DIRECT_TOO_MANY_USERS = -16,  /* the key has 2^32 - 1 users */
     YACHT_DIRECT_IS_CHAINED = -17,      /* the chain of the key isn't over */
-    YACHT_DIRECT_STOPPED = -18          /* the machine was stopped */
+    YACHT_DIRECT_STOPPED = -18,         /* the machine was stopped */
+    YACHT_DIRECT_NOT_FREE = -19         /* the slot has a life with a file */
 };
 
 /* The phases of a life, as yacht_direct_phase returns them. */
@@ -132,17 +134,19 @@ static inline uint32_t yacht_direct_slot_of(uint64_t key) { return (uint32_t)(ke
 static inline unsigned yacht_direct_kind_of(uint64_t data) { return (unsigned)(data & 15); }
 
 /* Opens a machine of 1 to YACHT_DIRECT_MOST_SLOTS free slots: those from 0 of the table that the
- * caller registers with the ring. (A sparse table has at most RLIMIT_NOFILE slots.) No other call
- * allocates, and each other call but yacht_direct_key_in takes constant time.
+ * caller registers with the ring. (A sparse table has at most RLIMIT_NOFILE slots.) The ring's
+ * allocation range (io_uring_register_file_alloc_range) has the slot `first` and `length` slots in
+ * all; a `length` of 0 says that no slot of the machine is in it. No other call allocates, and each
+ * other call but yacht_direct_key_in takes constant time.
  * Returns YACHT_DIRECT_DONE and writes *machine; or YACHT_DIRECT_BAD_ARGUMENT at any other number
  * of slots; or YACHT_DIRECT_NO_MEMORY. */
-int yacht_direct_open(yacht_direct *machine, uint32_t slots);
+int yacht_direct_open(yacht_direct *machine, uint32_t slots, uint32_t first, uint32_t length);
 
 /* Frees a machine. It closes no file: the kernel does so when the ring ends. */
 void yacht_direct_free(yacht_direct machine);
 
-/* Begins a life at a free slot, and writes its key and its slot. The caller submits an open at the
- * slot. A slot that has had 2^40 - 1 lives isn't free again.
+/* Begins a life at a free slot outside the allocation range, and writes its key and its slot. The
+ * caller submits an open at the slot. A slot that has had 2^40 - 1 lives isn't free again.
  * Returns YACHT_DIRECT_DONE, YACHT_DIRECT_FULL, or YACHT_DIRECT_STOPPED. */
 int yacht_direct_reserve(yacht_direct *machine, uint64_t *key, uint32_t *slot);
 
@@ -152,6 +156,17 @@ int yacht_direct_reserve(yacht_direct *machine, uint64_t *key, uint32_t *slot);
  * or YACHT_DIRECT_STALE; or the phase in which the life is instead of opening:
  * YACHT_DIRECT_IS_LIVE, .._IS_ENDING, .._IS_CLOSING or .._IS_CHAINED. */
 int yacht_direct_opened(yacht_direct *machine, uint64_t key, int32_t result, uint32_t *slot);
+
+/* Adopts a file that the kernel has put at a slot of the allocation range: takes the completion of
+ * an open with IORING_FILE_INDEX_ALLOC, as each one of a multishot accept, whose result is the
+ * slot. A live life begins there, and its key is written. The kernel may choose a slot whose close
+ * it has made, before the completion of that close is taken: then the earlier life is over, and
+ * yacht_direct_closed answers YACHT_DIRECT_STALE.
+ * Returns YACHT_DIRECT_DONE; or YACHT_DIRECT_CLOSE after yacht_direct_stop: the life was ended at
+ * once, and the caller closes the slot; or YACHT_DIRECT_BAD_ARGUMENT, if the slot is not one of the
+ * machine's in the range; or YACHT_DIRECT_NOT_FREE, if a life has a file there: a premise is
+ * broken; or YACHT_DIRECT_FULL, if the slot has had 2^40 - 1 lives: the caller closes it. */
+int yacht_direct_adopt(yacht_direct *machine, uint32_t slot, uint64_t *key);
 
 /* Counts a chain in place of an open alone: the open, 0 to 2^32 - 1 requests on its file and,
  * unless `closes` is 0, a close, all under this key. Writes the slot. The caller submits the chain

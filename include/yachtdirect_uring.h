@@ -63,7 +63,7 @@ typedef struct yacht_uring {
 static inline int yacht_uring_open(yacht_uring *it, uint32_t slots) {
     int answer, error = io_uring_register_files_sparse(&it->ring, slots);
     if (error < 0) return error;
-    answer = yacht_direct_open(&it->machine, slots);
+    answer = yacht_direct_open(&it->machine, slots, 0, 0);
     it->zero_copy = it->accepts = it->kept = it->accepting = it->over.kind = 0;
     it->slots = slots, it->listener = -1, it->error = it->is_ending = 0;
     if (answer == YACHT_DIRECT_DONE) return 0;

@@ -41,6 +41,7 @@ const char *yacht_direct_strerror(int answer) {
     case YACHT_DIRECT_TOO_MANY_USERS: return "there are too many users";
     case YACHT_DIRECT_IS_CHAINED: return "the chain is not over";
     case YACHT_DIRECT_STOPPED: return "the machine was stopped";
+    case YACHT_DIRECT_NOT_FREE: return "the slot has a life with a file";
     default: return "not a number of yachtdirect.h";
     }
 }

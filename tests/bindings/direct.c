@@ -15,7 +15,7 @@ static uint32_t slot;
 static void one_life(void) {
     uint64_t key, other = 0;
     uint32_t requests, users;
-    WANT(yacht_direct_open(&machine, 2) == YACHT_DIRECT_DONE);
+    WANT(yacht_direct_open(&machine, 2, 0, 0) == YACHT_DIRECT_DONE);
     WANT(yacht_direct_reserve(&machine, &key, &slot) == YACHT_DIRECT_DONE && slot == yacht_direct_slot_of(key));
     WANT(yacht_direct_kind_of(key) == 0 && yacht_direct_kind_of(key | YACHT_DIRECT_MOST_KIND) == YACHT_DIRECT_MOST_KIND);
     WANT(yacht_direct_opened(&machine, key | 9, 0, &slot) == YACHT_DIRECT_DONE);
@@ -32,7 +32,7 @@ static void one_life(void) {
     WANT(yacht_direct_close_failed(&machine, key, &slot) == YACHT_DIRECT_CLOSE && slot == yacht_direct_slot_of(key));
     WANT(yacht_direct_closed(&machine, key) == YACHT_DIRECT_DONE && yacht_direct_len(&machine) == 0);
     yacht_direct_free(machine);
-    WANT(yacht_direct_open(&machine, YACHT_DIRECT_MOST_SLOTS) == YACHT_DIRECT_DONE);
+    WANT(yacht_direct_open(&machine, YACHT_DIRECT_MOST_SLOTS, 0, 0) == YACHT_DIRECT_DONE);
     yacht_direct_free(machine);
 }
 
@@ -40,7 +40,7 @@ static void one_life(void) {
 static void chains(void) {
     uint64_t key, next;
     uint32_t requests, users;
-    WANT(yacht_direct_open(&machine, 1) == YACHT_DIRECT_DONE && yacht_direct_reserve(&machine, &key, &slot) == YACHT_DIRECT_DONE);
+    WANT(yacht_direct_open(&machine, 1, 0, 0) == YACHT_DIRECT_DONE && yacht_direct_reserve(&machine, &key, &slot) == YACHT_DIRECT_DONE);
     WANT(yacht_direct_chain(&machine, key, 1, 1, &slot) == YACHT_DIRECT_DONE && yacht_direct_in_flight(&machine) == 3);
     WANT(yacht_direct_phase(&machine, key, &requests, &users) == YACHT_DIRECT_CHAINED && requests == 1 && users == 0);
     WANT(yacht_direct_start(&machine, key, &slot) == YACHT_DIRECT_IS_CHAINED && yacht_direct_opened(&machine, key, -2, &slot) == YACHT_DIRECT_IS_CHAINED);
@@ -59,7 +59,7 @@ static void chains(void) {
 /* a shutdown amid a live life, an open and a chain without a close: none of their slots is lost */
 static void stops(void) {
     uint64_t live, opening, chained, key;
-    WANT(yacht_direct_open(&machine, 4) == YACHT_DIRECT_DONE && yacht_direct_reserve(&machine, &live, &slot) == YACHT_DIRECT_DONE);
+    WANT(yacht_direct_open(&machine, 4, 0, 0) == YACHT_DIRECT_DONE && yacht_direct_reserve(&machine, &live, &slot) == YACHT_DIRECT_DONE);
     WANT(yacht_direct_reserve(&machine, &opening, &slot) == YACHT_DIRECT_DONE && yacht_direct_reserve(&machine, &chained, &slot) == YACHT_DIRECT_DONE);
     WANT(yacht_direct_opened(&machine, live, 0, &slot) == YACHT_DIRECT_DONE && yacht_direct_chain(&machine, chained, 1, 0, &slot) == YACHT_DIRECT_DONE);
     yacht_direct_stop(&machine);
@@ -74,6 +74,24 @@ static void stops(void) {
     WANT(yacht_direct_key_in(&machine, YACHT_DIRECT_ENDING, 0, &key) == YACHT_DIRECT_DONE && key == chained);
     WANT(yacht_direct_chained(&machine, chained, YACHT_DIRECT_REQUEST_OF_CHAIN, 3, &slot) == YACHT_DIRECT_CLOSE && slot == yacht_direct_slot_of(chained));
     WANT(yacht_direct_closed(&machine, chained) == YACHT_DIRECT_DONE && yacht_direct_len(&machine) == 0);
+    yacht_direct_free(machine);
+}
+
+/* files at slots that the kernel chose, and one that comes before the close of the earlier life */
+static void adoptions(void) {
+    uint64_t key, first, second;
+    WANT(yacht_direct_open(&machine, 3, 1, 2) == YACHT_DIRECT_DONE && yacht_direct_reserve(&machine, &key, &slot) == YACHT_DIRECT_DONE && slot == 0);
+    WANT(yacht_direct_reserve(&machine, &key, &slot) == YACHT_DIRECT_FULL);
+    WANT(yacht_direct_adopt(&machine, 0, &first) == YACHT_DIRECT_BAD_ARGUMENT && yacht_direct_adopt(&machine, 3, &first) == YACHT_DIRECT_BAD_ARGUMENT);
+    WANT(yacht_direct_adopt(&machine, 2, &first) == YACHT_DIRECT_DONE && yacht_direct_slot_of(first) == 2 && yacht_direct_kind_of(first) == 0);
+    WANT(yacht_direct_adopt(&machine, 2, &second) == YACHT_DIRECT_NOT_FREE && yacht_direct_start(&machine, first, &slot) == YACHT_DIRECT_DONE);
+    WANT(yacht_direct_end(&machine, first, &slot) == YACHT_DIRECT_DONE && yacht_direct_adopt(&machine, 2, &second) == YACHT_DIRECT_NOT_FREE);
+    WANT(yacht_direct_finish(&machine, first, &slot) == YACHT_DIRECT_CLOSE && slot == 2);
+    WANT(yacht_direct_adopt(&machine, 2, &second) == YACHT_DIRECT_DONE && second != first && yacht_direct_slot_of(second) == 2);
+    WANT(yacht_direct_closed(&machine, first) == YACHT_DIRECT_STALE && yacht_direct_in_flight(&machine) == 1);
+    yacht_direct_stop(&machine);
+    WANT(yacht_direct_adopt(&machine, 1, &first) == YACHT_DIRECT_CLOSE && yacht_direct_slot_of(first) == 1);
+    WANT(yacht_direct_closed(&machine, first) == YACHT_DIRECT_DONE && yacht_direct_end(&machine, second, &slot) == YACHT_DIRECT_CLOSE);
     yacht_direct_free(machine);
 }
 
@@ -123,7 +141,7 @@ static void words(void) {
         {-9, "an allocation failed"}, {-10, "the life of the key is over"}, {-11, "the open is not completed"},
         {-12, "the file is open"}, {-13, "the life was ended"}, {-14, "the close is not completed"},
         {-15, "too many requests are in flight"}, {-16, "there are too many users"}, {-17, "the chain is not over"},
-        {-18, "the machine was stopped"}, {1234, "not a number of yachtdirect.h"},
+        {-18, "the machine was stopped"}, {-19, "the slot has a life with a file"}, {1234, "not a number of yachtdirect.h"},
     };
     for (size_t nth = 0; nth < sizeof said / sizeof *said; nth++) WANT(!strcmp(yacht_direct_strerror(said[nth].number), said[nth].words));
     WANT(!strcmp(yacht_direct_version(), YACHT_DIRECT_VERSION));
@@ -134,7 +152,7 @@ static void failing_allocations(void) {
     int failed = 0, answer;
     for (;; failed++) {
         allowed = failed;
-        answer = yacht_direct_open(&none, 100);
+        answer = yacht_direct_open(&none, 100, 0, 0);
         allowed = -1;
         if (answer == YACHT_DIRECT_DONE) break;
         WANT(answer == YACHT_DIRECT_NO_MEMORY && none.slots == &none);
@@ -147,6 +165,7 @@ int main(void) {
     one_life();
     chains();
     stops();
+    adoptions();
     threads_post();
     words();
     failing_allocations();

@@ -24,7 +24,7 @@ int main() {
     yacht_direct machine;
     std::uint64_t key = 0;
     std::uint32_t slot = 9;
-    is_right = is_right && yacht_direct_open(&machine, 1) == YACHT_DIRECT_DONE;
+    is_right = is_right && yacht_direct_open(&machine, 1, 0, 0) == YACHT_DIRECT_DONE;
     is_right = is_right && yacht_direct_reserve(&machine, &key, &slot) == YACHT_DIRECT_DONE && slot == yacht_direct_slot_of(key);
     if (is_right) yacht_direct_free(machine);
     std::printf("%s %s %s ", YACHT_VERSION, YACHT_DIRECT_VERSION, YACHT_JUDGE_VERSION);

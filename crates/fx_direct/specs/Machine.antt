@@ -23,8 +23,8 @@ pub record AreCounted (slots : List Slot) (lives calls : ℕ) : Type 0 where
 abbrev pub is_vacant : Slot → Bool
 is_vacant slot = is_free slot.phase && nat_lt slot.number MOST_LIVES
 
--- the order has exactly the vacant slots outside the range as its first ones, and each number fits a
--- key's bits
+-- the order has exactly the vacant slots outside the range as its first ones, and each number fits
+-- a key's bits
 pub record IsMachine (slots : List Slot) (order : Order) : Type 0 where
   pub few : length slots ≤ MOST_SLOTS
   pub same : length order.place ≡ length slots

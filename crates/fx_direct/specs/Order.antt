@@ -7,8 +7,8 @@ use Rattle.fx_direct.specs.declared.slot_order.SlotRange.{SlotRange}
 abbrev pub is_ranged : SlotRange → ℕ → Bool
 is_ranged range slot = nat_le range.first slot && nat_lt (slot - range.first) range.length
 
--- slots in some order, of which this number are vacant, the place of each slot in the order, and the
--- ring's allocation range, of which no slot is vacant
+-- slots in some order, of which this number are vacant, the place of each slot in the order, and
+-- the ring's allocation range, of which no slot is vacant
 pub record Order : Type 0 where
   pub order : List ℕ
   pub place : List ℕ

@@ -6,7 +6,8 @@ use Rattle.fx_plain.specs.declared.event.Action.TheVariants.{Look, Release, Put,
 use Rattle.fx_plain.specs.declared.event.File.{File}
 use Rattle.fx_direct.specs.declared.key.LifeKey.{LifeKey}
 use Rattle.fx_direct.specs.Phases.{unused}
-use Rattle.fx_direct.specs.Transitions.{Reserves, Adopts, Chains, Opens, Starts, Finishes, Holds, Releases}
+use Rattle.fx_direct.specs.Transitions.{Reserves, Adopts, Chains, Opens, Starts, Finishes, Holds}
+use Rattle.fx_direct.specs.Transitions.{Releases}
 use Rattle.fx_direct.specs.Transitions.{Ends, Asks, Closes, FailsToClose}
 use Rattle.fx_direct.specs.Flight.{World, OpenAt, UseOf, CloseOf, DirectMoment, Does, Accesses}
 use Rattle.fx_direct.specs.Flight.{Quits, Chooses, Others}

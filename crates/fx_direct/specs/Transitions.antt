@@ -232,8 +232,8 @@ EndsLife old k ask new =
     ⊎ (HasLife old.list k × (ends_anyway (phase_at old.list k.slot) ≡ true) × (ask ≡ None)
     × (new ≡ old))
 
--- the file that the kernel put at the key's slot is adopted. If the slot's earlier life was closing,
--- its close succeeded
+-- the file that the kernel put at the key's slot is adopted. If the slot's earlier life was
+-- closing, its close succeeded
 abbrev pub AdoptsFile : DirectMachine → LifeKey → Option ℕ → DirectMachine → Type 0
 AdoptsFile old k ask new =
     (m : DirectMachine) × ((m ≡ old) ⊎ Advances old (Closes (life_at old.list k.slot)) m)

@@ -81,8 +81,8 @@ impl DirectSlots {
     /// io_uring_prep_accept_direct(3)).
     ///
     /// # Errors
-    /// `Stopped` after [`Self::stop`]. `Full` if no slot outside the range is free, or each free one
-    /// has had its last life.
+    /// `Stopped` after [`Self::stop`]. `Full` if no slot outside the range is free, or each free
+    /// one has had its last life.
     #[inline(always)]
     pub fn reserve(&mut self) -> Result<LifeKey, ReserveRefusal>
         ensures reserved { MatchResult result
@@ -113,8 +113,8 @@ impl DirectSlots {
     ///
     /// # Errors
     /// `OutOfRange` if the slot isn't one of the machine's in the range. `NotFree` if a life at the
-    /// slot has a file there, so that the kernel can't have chosen it. `NoMoreLives` if the slot has
-    /// had its last life: then submit a close of it.
+    /// slot has a file there, so that the kernel can't have chosen it. `NoMoreLives` if the slot
+    /// has had its last life: then submit a close of it.
     pub fn adopt(&mut self, slot: u32) -> Result<(LifeKey, Option<u32>), AdoptRefusal>
         ensures adopted { MatchResult result
             (λ it. (it.0.slot ≡ slot) × AdoptsFile self.old it.0 it.1 self.new)

@@ -12,10 +12,11 @@ use Rattle.fx_direct.specs.declared.chain.Member.TheVariants.{Close as CloseOfCh
 use Rattle.fx_direct.specs.declared.phase.Phase.TheVariants.{Free, Opening, Live, Ending, Closing}
 use Rattle.fx_direct.specs.declared.phase.Phase.TheVariants.{Chained}
 use Rattle.fx_direct.specs.Phases.{requests_in, users_in}
-use Rattle.fx_direct.specs.Refusals.{RefusesEnd, RefusesReserve, RefusesTransition}
+use Rattle.fx_direct.specs.Refusals.{RefusesAdopt, RefusesEnd, RefusesReserve}
+use Rattle.fx_direct.specs.Refusals.{RefusesTransition}
 use Rattle.fx_direct.specs.Refusals.{RefusesUnchained}
 use Rattle.fx_direct.specs.Transitions.{DirectMachine, HasLife, Advances, AdvancesAndAsks}
-use Rattle.fx_direct.specs.Transitions.{EndsLife, completion, key_concerned}
+use Rattle.fx_direct.specs.Transitions.{AdoptsFile, EndsLife, completion, key_concerned}
 use Rattle.fx_direct.specs.declared.transition.Transition.TheVariants.{Reserves}
 use Rattle.fx_direct.specs.declared.key.LifeKey.{LifeKey}
 use Rattle.fx_direct.specs.declared.phase.Phase.{Phase}
@@ -26,11 +27,15 @@ use Rattle.fx_direct.specs.declared.phase.PhaseName.TheVariants.{Ending as Endin
 use Rattle.fx_direct.specs.declared.phase.PhaseName.TheVariants.{Closing as ClosingName}
 use Rattle.fx_direct.specs.declared.phase.PhaseName.TheVariants.{Chained as ChainedName}
 use Rattle.fx_direct.specs.declared.phase.Slot.{Slot}
+use Rattle.fx_direct.specs.declared.refusal.AdoptRefusal.{AdoptRefusal}
+use Rattle.fx_direct.specs.declared.refusal.AdoptRefusal.TheVariants.{OutOfRange, NotFree}
+use Rattle.fx_direct.specs.declared.refusal.AdoptRefusal.TheVariants.{NoMoreLives}
 use Rattle.fx_direct.specs.declared.refusal.LifeRefusal.{LifeRefusal}
 use Rattle.fx_direct.specs.declared.refusal.LifeRefusal.TheVariants.{Stale, Is, TooManyRequests}
 use Rattle.fx_direct.specs.declared.refusal.LifeRefusal.TheVariants.{TooManyUsers}
 use Rattle.fx_direct.specs.declared.refusal.ReserveRefusal.{ReserveRefusal}
 use Rattle.fx_direct.specs.declared.refusal.ReserveRefusal.TheVariants.{Full, Stopped}
+use Rattle.fx_direct.specs.declared.slot_order.SlotRange.{SlotRange}
 use Rattle.fx_direct.specs.declared.transition.Transition.{Transition}
 use Rattle.fx_direct_c.specs.declared.codes.TheConstants.{DONE, CLOSE, FULL, STALE, IS_OPENING}
 use Rattle.fx_direct_c.specs.declared.codes.TheConstants.{IS_LIVE, IS_ENDING, IS_CLOSING, OPENING}
@@ -38,6 +43,7 @@ use Rattle.fx_direct_c.specs.declared.codes.TheConstants.{TOO_MANY_REQUESTS, TOO
 use Rattle.fx_direct_c.specs.declared.codes.TheConstants.{ENDING, CLOSING, CHAINED, IS_CHAINED}
 use Rattle.fx_direct_c.specs.declared.codes.TheConstants.{OPEN_OF_CHAIN, REQUEST_OF_CHAIN}
 use Rattle.fx_direct_c.specs.declared.codes.TheConstants.{CLOSE_OF_CHAIN, BAD_ARGUMENT, STOPPED}
+use Rattle.fx_direct_c.specs.declared.codes.TheConstants.{NOT_FREE}
 
 -- the number of a phase. No life that is under way is free
 abbrev pub phase_code : Phase → ℤ
@@ -66,6 +72,11 @@ name_numbered number =
     else if int_eq number CHAINED then Some ChainedName
     else None
 
+abbrev pub code_of_adopt : AdoptRefusal → ℤ
+code_of_adopt OutOfRange = BAD_ARGUMENT
+code_of_adopt NotFree = NOT_FREE
+code_of_adopt NoMoreLives = FULL
+
 abbrev pub code_of_reserve : ReserveRefusal → ℤ
 code_of_reserve Full = FULL
 code_of_reserve Stopped = STOPPED
@@ -93,11 +104,13 @@ close_slot (Ok (Some slot)) old = slot
 close_slot answer old = old
 
 -- a machine was opened with this number of unused slots, and is in its place
-pub record OpensMachine (slots : ℕ) (place : Option DirectMachine) : Type 0 where
+pub record OpensMachine (slots : ℕ) (range : SlotRange) (place : Option DirectMachine)
+    : Type 0 where
   pub machine : DirectMachine
   pub placed : place ≡ Some machine
   pub size : length machine.list ≡ slots
   pub unused : AllUnused machine.list
+  pub ranged : machine.range ≡ range
   pub runs : machine.stopped ≡ false
 
 -- the call was refused, for a reason of this number
@@ -169,6 +182,16 @@ ReservesAs old code old_key new_key old_slot new_slot new =
     × (old.stopped ≡ false) × Advances old (Reserves k) new × FitsBits k)
     ⊎ ((new_key ≡ old_key) × (new_slot ≡ old_slot) × (new ≡ old)
     × (why : ReserveRefusal) × (code ≡ code_of_reserve why) × RefusesReserve old why)
+
+-- the file at the slot was adopted under the key that was written, and its close was asked for or
+-- not; or it wasn't adopted
+abbrev pub AdoptsAs : DirectMachine → (slot : ℕ) → ℤ → (old_key new_key : ℕ) → DirectMachine
+    → Type 0
+AdoptsAs old slot code old_key new_key new =
+    ((k : LifeKey) × (ask : Option ℕ) × (code ≡ close_code (Ok ask)) × (new_key ≡ bits_of k 0)
+    × (k.slot ≡ slot) × AdoptsFile old k ask new × FitsBits k)
+    ⊎ ((new_key ≡ old_key) × (new ≡ old)
+    × (why : AdoptRefusal) × (code ≡ code_of_adopt why) × RefusesAdopt old slot why)
 
 -- the phase of the life under a key was returned, or that no life is under way
 abbrev pub ShowsPhase : List Slot → LifeKey → ℤ

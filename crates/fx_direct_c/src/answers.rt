@@ -1,15 +1,16 @@
 //! The numbers of the machine's answers.
 ghost use Rattle.std.specs.Prelude.{◌≡◌};
 ghost use Rattle.fx_direct_c.specs.Answers.{close_code, close_slot, code_of_refusal};
-ghost use Rattle.fx_direct_c.specs.Answers.{code_of_reserve, member_numbered, name_numbered};
+ghost use Rattle.fx_direct_c.specs.Answers.{code_of_adopt, code_of_reserve};
+ghost use Rattle.fx_direct_c.specs.Answers.{member_numbered, name_numbered};
 ghost use Rattle.fx_direct_c.specs.Answers.{phase_code};
 
 use crate::codes::{
-    CHAINED, CLOSE, CLOSE_OF_CHAIN, CLOSING, DONE, ENDING, FULL, IS_CHAINED, IS_CLOSING, IS_ENDING,
-    IS_LIVE, IS_OPENING, LIVE, OPEN_OF_CHAIN, OPENING, REQUEST_OF_CHAIN, STALE, STOPPED,
-    TOO_MANY_REQUESTS, TOO_MANY_USERS,
+    BAD_ARGUMENT, CHAINED, CLOSE, CLOSE_OF_CHAIN, CLOSING, DONE, ENDING, FULL, IS_CHAINED,
+    IS_CLOSING, IS_ENDING, IS_LIVE, IS_OPENING, LIVE, NOT_FREE, OPEN_OF_CHAIN, OPENING,
+    REQUEST_OF_CHAIN, STALE, STOPPED, TOO_MANY_REQUESTS, TOO_MANY_USERS,
 };
-use fx_direct::{LifeRefusal, Member, Phase, PhaseName, ReserveRefusal};
+use fx_direct::{AdoptRefusal, LifeRefusal, Member, Phase, PhaseName, ReserveRefusal};
 
 // Returns the number of a refusal.
 #[inline(always)]
@@ -25,6 +26,17 @@ pub(crate) fn of_refusal(why: LifeRefusal) -> i32
         LifeRefusal::Is(Phase::Chained(_)) => IS_CHAINED,
         LifeRefusal::TooManyRequests => TOO_MANY_REQUESTS,
         LifeRefusal::TooManyUsers => TOO_MANY_USERS,
+    }
+}
+
+// Returns the number of the reason why a file isn't adopted.
+pub(crate) fn of_adopt(why: AdoptRefusal) -> i32
+    ensures { result ≡ code_of_adopt why }
+{
+    match why {
+        AdoptRefusal::OutOfRange => BAD_ARGUMENT,
+        AdoptRefusal::NotFree => NOT_FREE,
+        AdoptRefusal::NoMoreLives => FULL,
     }
 }
 

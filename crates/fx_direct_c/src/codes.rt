@@ -42,6 +42,9 @@ pub const IS_CHAINED: i32 = -17;
 /// The machine was stopped, so no life begins.
 pub const STOPPED: i32 = -18;
 
+/// A life at the slot has a file there, so no file is adopted.
+pub const NOT_FREE: i32 = -19;
+
 /// The phase of a life: its open is in flight.
 pub const OPENING: i32 = 1;
 

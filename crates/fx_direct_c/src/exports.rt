@@ -10,23 +10,32 @@ ghost use Rattle.fx_direct.specs.declared.transition.Transition.TheVariants.{Cha
 ghost use Rattle.fx_direct.specs.declared.transition.Transition.TheVariants.{Starts, Finishes};
 ghost use Rattle.fx_direct.specs.declared.transition.Transition.TheVariants.{Holds, Releases};
 ghost use Rattle.fx_direct.specs.declared.transition.Transition.TheVariants.{Closes, FailsToClose};
+ghost use Rattle.fx_direct_c.specs.Answers.{AdoptsAs};
 ghost use Rattle.fx_direct_c.specs.Answers.{ChainedAs, ClosesAs, CompletesAs, EndsAs, FinishesAs};
 ghost use Rattle.fx_direct_c.specs.Answers.{MakesAs, OpensMachine, ReservesAs, ShowsFirst};
 ghost use Rattle.fx_direct_c.specs.Answers.{ShowsKey, ShowsPhase, StartsAs};
 ghost use Rattle.fx_direct_c.specs.declared.codes.TheConstants.{BAD_ARGUMENT, DONE, NO_MEMORY};
 
-use crate::answers::{member_of, name_of, of_close, of_phase, of_refusal, of_reserve};
-use crate::codes::{BAD_ARGUMENT, DONE, NO_MEMORY, STALE};
+use crate::answers::{member_of, name_of, of_adopt, of_close, of_phase, of_refusal, of_reserve};
+use crate::codes::{BAD_ARGUMENT, CLOSE, DONE, NO_MEMORY, STALE};
 use crate::handle::{MachineHandle, MachinePlace};
-use fx_direct::{DirectSlots, LifeKey, MOST_SLOTS};
+use fx_direct::{DirectSlots, LifeKey, MOST_SLOTS, SlotRange};
 use std::alloc::Global;
 
-/// Opens a machine of 1 to 1,048,576 slots. It returns `DONE`; `BAD_ARGUMENT` at any other number
-/// of slots, or `NO_MEMORY`, and writes nothing. Its name has the major version, so that a program
-/// that was compiled with the header of another one doesn't link.
+/// Opens a machine of 1 to 1,048,576 slots, and the ring's allocation range: its first slot and its
+/// length. It returns `DONE`; `BAD_ARGUMENT` at any other number of slots, or `NO_MEMORY`, and
+/// writes nothing. Its name has the major version, so that a program that was compiled with the
+/// header of another one doesn't link.
 #[unsafe(no_mangle)]
-pub extern "C" fn yacht_direct_open_6(alloc: Global, machine: &mut MachinePlace, slots: u32) -> i32
-    ensures opened { result ≡ DONE → OpensMachine slots machine.new.slots }
+pub extern "C" fn yacht_direct_open_6(
+    alloc: Global,
+    machine: &mut MachinePlace,
+    slots: u32,
+    first: u32,
+    length: u32,
+) -> i32
+    ensures opened { result ≡ DONE
+        → OpensMachine slots (record { first = first; length = length }) machine.new.slots }
     ensures nothing { result ≢ DONE → machine.new ≡ machine.old }
     ensures out_of_range { (result ≡ BAD_ARGUMENT) ↔ ((slots ≡ 0) ⊎ (MOST_SLOTS < slots)) }
     ensures numbers { (result ≡ DONE) ⊎ (result ≡ BAD_ARGUMENT) ⊎ (result ≡ NO_MEMORY) }
@@ -34,7 +43,7 @@ pub extern "C" fn yacht_direct_open_6(alloc: Global, machine: &mut MachinePlace,
     if slots == 0 || slots > MOST_SLOTS {
         return BAD_ARGUMENT;
     }
-    let Ok(opened) = DirectSlots::open(alloc, slots) else {
+    let Ok(opened) = DirectSlots::open(alloc, slots, SlotRange { first, length }) else {
         return NO_MEMORY;
     };
     let Ok(owner) = Box::new(alloc, opened) else {
@@ -71,11 +80,31 @@ pub extern "C" fn yacht_direct_reserve(
     }
 }
 
+/// Adopts a file that the kernel has put at a slot of the allocation range, and writes its key. It
+/// returns `DONE`; `CLOSE`, if the machine was stopped; or `BAD_ARGUMENT` at any other slot,
+/// `NOT_FREE` or `FULL`, and writes nothing.
+#[unsafe(no_mangle)]
+pub extern "C" fn yacht_direct_adopt(machine: &mut MachineHandle, slot: u32, key: &mut u64) -> i32
+    ensures { AdoptsAs machine.old.slots slot result key.old key.new machine.new.slots }
+{
+    match machine.as_mut().adopt(slot) {
+        Ok((adopted, close)) => {
+            *key = adopted.to_bits(0);
+            match close {
+                Some(_) => CLOSE,
+                None => DONE,
+            }
+        }
+        Err(why) => of_adopt(why),
+    }
+}
+
 /// Stops a machine: no life begins by `yacht_direct_reserve`, and each life that becomes live is
 /// ended at once.
 #[unsafe(no_mangle)]
 pub extern "C" fn yacht_direct_stop(machine: &mut MachineHandle)
-    ensures { machine.new.slots ≡ machine_with machine.old.slots.list true }
+    ensures { machine.new.slots
+        ≡ machine_with machine.old.slots.list machine.old.slots.range true }
 {
     machine.as_mut().stop();
 }

@@ -6,7 +6,7 @@
 //! | `Releases` | always | always | yes | | always |
 //! | `User` | always | always | no | | always |
 //! | `Key`, `Next`, `Phase`, `PhaseName`, `Member`, errors | always | always | yes | | always |
-//! | `After<T>` | `T: Send` | `T: Sync` | `T: Clone` | covariant | `T: UnwindSafe` |
+//! | `After<T>`, `Adopted<T>` | `T: Send` | `T: Sync` | `T: Clone` | covariant | `T: UnwindSafe` |
 //!
 //! Each pair of programs below differs by one token ([`pair`]). These must compile: one thread has
 //! the slots, so a value that threads may not share does no harm; and values have a shorter
@@ -16,8 +16,8 @@
 //! use std::panic::{RefUnwindSafe, UnwindSafe};
 //! use yachtbanyan::direct::*;
 //! fn plain<T: Send + Sync + UnwindSafe + RefUnwindSafe>() {}
-//! plain::<(Key, Next, Phase, PhaseName, Member, After<u8>)>();
-//! plain::<(OpenError, ReserveError, Refusal)>();
+//! plain::<(Key, Next, Phase, PhaseName, Member, After<u8>, Adopted<u8>)>();
+//! plain::<(OpenError, ReserveError, AdoptError, Refusal)>();
 //! plain::<(Releases, User)>();
 //! fn send<T: Send>() {}
 //! send::<Slots<std::cell::Cell<u8>>>();
@@ -35,6 +35,8 @@ type Staying = std::rc::Rc<u8>;"
     Clone: {User Releases};
     Send: After<{Staying u8}>;
     Clone: After<{User Key}>;
+    Send: Adopted<{Staying u8}>;
+    Clone: Adopted<{User Key}>;
     // the completions of a chain come in any order
     {PartialOrd PartialEq}: Member;
 }

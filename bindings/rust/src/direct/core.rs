@@ -16,7 +16,7 @@ macro_rules! numbers {
 // the answers, as yachtdirect.h describes them
 numbers! { DONE 0, CLOSE 1, FULL -6, BAD_ARGUMENT -8, NO_MEMORY -9, STALE -10, IS_OPENING -11 }
 numbers! { IS_LIVE -12, IS_ENDING -13, IS_CLOSING -14, TOO_MANY_REQUESTS -15, TOO_MANY_USERS -16 }
-numbers! { IS_CHAINED -17, STOPPED -18 }
+numbers! { IS_CHAINED -17, STOPPED -18, NOT_FREE -19 }
 // the phases
 numbers! { OPENING 1, LIVE 2, ENDING 3, CLOSING 4, CHAINED 5 }
 
@@ -28,7 +28,12 @@ pub(super) use super::stand_in::*;
 
 #[cfg(not(yachtbanyan_stand_in))]
 unsafe extern "C" {
-    pub(super) fn yacht_direct_open_6(machine: *mut Machine, slots: u32) -> i32;
+    pub(super) fn yacht_direct_open_6(
+        machine: *mut Machine,
+        slots: u32,
+        first: u32,
+        length: u32,
+    ) -> i32;
     pub(super) fn yacht_direct_free(machine: Machine);
     pub(super) fn yacht_direct_reserve(machine: *mut Machine, key: *mut u64, slot: *mut u32)
         -> i32;
@@ -38,6 +43,7 @@ unsafe extern "C" {
         result: i32,
         slot: *mut u32,
     ) -> i32;
+    pub(super) fn yacht_direct_adopt(machine: *mut Machine, slot: u32, key: *mut u64) -> i32;
     pub(super) fn yacht_direct_stop(machine: *mut Machine);
     pub(super) fn yacht_direct_chain(
         machine: *mut Machine,

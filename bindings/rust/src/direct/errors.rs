@@ -1,7 +1,7 @@
 //! The errors. None of them changes anything.
 use super::core::{
-    FULL, IS_CHAINED, IS_CLOSING, IS_ENDING, IS_LIVE, IS_OPENING, MOST_SLOTS, STALE, STOPPED,
-    TOO_MANY_REQUESTS, TOO_MANY_USERS,
+    BAD_ARGUMENT, FULL, IS_CHAINED, IS_CLOSING, IS_ENDING, IS_LIVE, IS_OPENING, MOST_SLOTS,
+    NOT_FREE, STALE, STOPPED, TOO_MANY_REQUESTS, TOO_MANY_USERS,
 };
 use super::key::Key;
 use std::error::Error;
@@ -44,6 +44,34 @@ pub enum ReserveError {
     },
     /// The slots were [stopped](crate::direct::Slots::stop).
     Stopped,
+}
+
+/// The reason why [`Slots::adopt`](crate::direct::Slots::adopt) adopts no file.
+///
+/// ```
+/// let mut slots = yachtbanyan::direct::Slots::<()>::with_range(4, 2..4)?;
+/// let error = slots.adopt(1).unwrap_err();
+/// assert_eq!(error.to_string(), "slot 1 is not in the allocation range");
+/// # Ok::<(), Box<dyn std::error::Error>>(())
+/// ```
+#[derive(Clone, Copy, Debug, PartialEq, Eq)]
+#[non_exhaustive]
+pub enum AdoptError {
+    /// The slot isn't one of these slots that are in the allocation range.
+    OutOfRange {
+        /// The slot.
+        slot: u32,
+    },
+    /// A life has a file at the slot, so that the kernel can't have chosen it: a premise is broken.
+    NotFree {
+        /// The slot.
+        slot: u32,
+    },
+    /// The slot has had 2^40 - 1 lives. The caller submits a close of it.
+    Full {
+        /// The slot.
+        slot: u32,
+    },
 }
 
 /// Defines the refusals of calls by a key, each with its number in yachtdirect.h and its words.
@@ -116,6 +144,17 @@ impl Refusal {
     }
 }
 
+impl AdoptError {
+    /// Returns the number that the header yachtdirect.h has for it: -8, -19 or -6.
+    pub fn number(self) -> i32 {
+        match self {
+            AdoptError::OutOfRange { .. } => BAD_ARGUMENT,
+            AdoptError::NotFree { .. } => NOT_FREE,
+            AdoptError::Full { .. } => FULL,
+        }
+    }
+}
+
 impl ReserveError {
     /// Returns the number that the header yachtdirect.h has for it, -6 or -18.
     pub fn number(self) -> i32 {
@@ -131,6 +170,18 @@ impl fmt::Display for OpenError {
         match self {
             OpenError::Slots(slots) => write!(f, "{slots} slots: there are 1 to {MOST_SLOTS}"),
             OpenError::NoMemory => f.write_str("an allocation failed"),
+        }
+    }
+}
+
+impl fmt::Display for AdoptError {
+    fn fmt(&self, f: &mut fmt::Formatter<'_>) -> fmt::Result {
+        match self {
+            AdoptError::OutOfRange { slot } => {
+                write!(f, "slot {slot} is not in the allocation range")
+            }
+            AdoptError::NotFree { slot } => write!(f, "slot {slot} has a life with a file"),
+            AdoptError::Full { slot } => write!(f, "slot {slot} has had its last life"),
         }
     }
 }
@@ -154,4 +205,5 @@ impl fmt::Display for Refusal {
 
 impl Error for OpenError {}
 impl Error for ReserveError {}
+impl Error for AdoptError {}
 impl Error for Refusal {}

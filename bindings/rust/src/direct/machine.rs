@@ -2,12 +2,13 @@
 //!
 //! The only unsafe code of this module. A machine has memory of its own, which its calls alone
 //! use. It is one thread's at a time, since it isn't `Sync`.
-use super::core::{self, Machine as Raw, CLOSE, DONE, NO_MEMORY, STOPPED};
-use super::errors::{OpenError, Refusal, ReserveError};
+use super::core::{self, Machine as Raw, CLOSE, DONE, FULL, NOT_FREE, NO_MEMORY, STOPPED};
+use super::errors::{AdoptError, OpenError, Refusal, ReserveError};
 use super::key::Key;
 use super::slots::{Member, Next, Phase, PhaseName};
 use std::cell::UnsafeCell;
 use std::mem::MaybeUninit;
+use std::ops::Range;
 
 /// The machine of one ring.
 pub(super) struct Machine {
@@ -19,10 +20,11 @@ pub(super) struct Machine {
 unsafe impl Send for Machine {}
 
 impl Machine {
-    pub(super) fn open(slots: u32) -> Result<Machine, OpenError> {
+    pub(super) fn open(slots: u32, range: Range<u32>) -> Result<Machine, OpenError> {
+        let length = range.end.saturating_sub(range.start);
         let mut raw = MaybeUninit::uninit();
         // SAFETY: it writes the machine if it returns DONE, and else nothing.
-        match unsafe { core::yacht_direct_open_6(raw.as_mut_ptr(), slots) } {
+        match unsafe { core::yacht_direct_open_6(raw.as_mut_ptr(), slots, range.start, length) } {
             DONE => Ok(Machine { raw: UnsafeCell::new(unsafe { raw.assume_init() }) }),
             NO_MEMORY => Err(OpenError::NoMemory),
             _ => Err(OpenError::Slots(slots)),
@@ -60,6 +62,20 @@ impl Machine {
             DONE => Ok(Key::from_bits(key).0),
             STOPPED => Err(ReserveError::Stopped),
             _ => Err(ReserveError::Full { slots }),
+        }
+    }
+
+    // Adopts the file at a slot, and returns whether its close is asked for.
+    pub(super) fn adopt(&mut self, slot: u32) -> Result<(Key, Next), AdoptError> {
+        let mut key = 0;
+        // SAFETY: the machine is open, and no other thread uses it.
+        let answer = unsafe { core::yacht_direct_adopt(self.raw.get(), slot, &mut key) };
+        match answer {
+            DONE => Ok((Key::from_bits(key).0, Next::Nothing)),
+            CLOSE => Ok((Key::from_bits(key).0, Next::Close(slot))),
+            NOT_FREE => Err(AdoptError::NotFree { slot }),
+            FULL => Err(AdoptError::Full { slot }),
+            _ => Err(AdoptError::OutOfRange { slot }),
         }
     }
 

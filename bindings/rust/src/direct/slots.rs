@@ -1,9 +1,10 @@
 //! The slots of one ring's table.
-use super::errors::{OpenError, Refusal, ReserveError};
+use super::errors::{AdoptError, OpenError, Refusal, ReserveError};
 use super::key::Key;
 use super::machine::Machine;
 use super::releases::{Releases, User};
 use std::fmt;
+use std::ops::Range;
 
 /// What a caller does after a call by which a request, a user or a life ends.
 #[must_use = "a slot that isn't closed is never free again"]
@@ -82,6 +83,18 @@ pub enum After<T> {
     Over(T),
 }
 
+/// A life that began by an adoption.
+#[must_use = "a slot that isn't closed is never free again"]
+#[derive(Clone, Copy, Debug, PartialEq, Eq)]
+pub struct Adopted<T> {
+    /// The key of the life.
+    pub key: Key,
+    /// The close of the slot, if the slots were stopped.
+    pub next: Next,
+    /// The value of the slot's earlier life, if the completion of its close wasn't taken.
+    pub earlier: Option<T>,
+}
+
 /// The slots of one ring's table of direct descriptors, with a value for each life.
 ///
 /// Every call but [`Slots::new`], [`Slots::key_in`] and [`Slots::keys`] takes constant time, and
@@ -119,7 +132,18 @@ impl<T> Slots<T> {
     ///
     /// The number is out of range, or an allocation failed.
     pub fn new(slots: u32) -> Result<Slots<T>, OpenError> {
-        let machine = Machine::open(slots)?;
+        Slots::with_range(slots, 0..0)
+    }
+
+    /// Opens slots as [`Slots::new`]. `range` is the ring's allocation range
+    /// (`io_uring_register_file_alloc_range`), in which the kernel chooses slots: there no life is
+    /// reserved, and [`Slots::adopt`] takes the files.
+    ///
+    /// # Errors
+    ///
+    /// The number is out of range, or an allocation failed.
+    pub fn with_range(slots: u32, range: Range<u32>) -> Result<Slots<T>, OpenError> {
+        let machine = Machine::open(slots, range)?;
         let mut values = Vec::new();
         let room = values.try_reserve_exact(slots as usize);
         room.map_err(|_| OpenError::NoMemory)?;
@@ -166,6 +190,58 @@ impl<T> Slots<T> {
         self.after(key, next)
     }
 
+    /// Adopts a file that the kernel has put at a slot of the allocation range: takes the
+    /// completion of an open with `IORING_FILE_INDEX_ALLOC`, as each one of a multishot accept,
+    /// whose result is the slot. A live life begins there, with a value that is made from its key.
+    /// After [`Slots::stop`] it is ended at once: then [`Next::Close`] is returned with the key.
+    ///
+    /// The kernel may choose a slot whose close it has made before the completion of that close is
+    /// taken: then the earlier life is over, its value is returned, and [`Slots::closed`] is
+    /// refused as [`Refusal::Stale`].
+    ///
+    /// ```
+    /// use yachtbanyan::direct::{Adopted, Next, Refusal, Slots};
+    ///
+    /// let mut slots = Slots::with_range(4, 2..4)?;
+    /// // an accept at any slot was completed with the result 3
+    /// let it = slots.adopt_with(3, |key| format!("connection {key}"))?;
+    /// let Adopted { key, next, earlier } = it;
+    /// assert_eq!((key.slot(), next, earlier), (3, Next::Nothing, None));
+    /// assert_eq!(slots.end(key)?, Next::Close(3)); // submit a close
+    /// // another accept has the slot, before the completion of the close
+    /// let next = slots.adopt_with(3, |key| format!("connection {key}"))?;
+    /// assert_eq!(next.earlier, Some(format!("connection {key}")));
+    /// assert_eq!(slots.closed(key), Err(Refusal::Stale { key }));
+    /// # Ok::<(), Box<dyn std::error::Error>>(())
+    /// ```
+    ///
+    /// # Errors
+    ///
+    /// The slot isn't in the range, has a life with a file, or has had its last life. Then `make`
+    /// isn't called. If `make` panics, the life is live and has no value.
+    pub fn adopt_with(
+        &mut self,
+        slot: u32,
+        make: impl FnOnce(Key) -> T,
+    ) -> Result<Adopted<T>, AdoptError> {
+        let (key, next) = self.machine.adopt(slot)?;
+        let earlier = self.take(key);
+        self.values[slot as usize] = Some(make(key));
+        Ok(Adopted { key, next, earlier })
+    }
+
+    /// Adopts a file with the default value, as [`Slots::adopt_with`].
+    ///
+    /// # Errors
+    ///
+    /// The slot isn't in the range, has a life with a file, or has had its last life.
+    pub fn adopt(&mut self, slot: u32) -> Result<Adopted<T>, AdoptError>
+    where
+        T: Default,
+    {
+        self.adopt_with(slot, |_| T::default())
+    }
+
     /// Counts an open, requests on its file and, if `closes`, its close, and returns the slot. The
     /// caller submits them there together, by links, in place of an open alone. Until the last of
     /// their completions the slot isn't free, whatever they are.
@@ -198,12 +274,7 @@ impl<T> Slots<T> {
     /// # Errors
     ///
     /// No such member is in flight, or the open failed and the close took a file.
-    pub fn chained(
-        &mut self,
-        key: Key,
-        member: Member,
-        result: i32,
-    ) -> Result<After<T>, Refusal> {
+    pub fn chained(&mut self, key: Key, member: Member, result: i32) -> Result<After<T>, Refusal> {
         let next = self.machine.chained(key, member, result)?;
         self.after(key, next)
     }

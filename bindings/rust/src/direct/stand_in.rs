@@ -2,7 +2,7 @@
 //! see into a library that they have not compiled. It has the same functions and numbers.
 use super::core::{
     Machine, BAD_ARGUMENT, CHAINED, CLOSE, CLOSING, DONE, ENDING, FULL, IS_CHAINED, LIVE,
-    MOST_SLOTS, OPENING, STALE, STOPPED, TOO_MANY_REQUESTS, TOO_MANY_USERS,
+    MOST_SLOTS, NOT_FREE, OPENING, STALE, STOPPED, TOO_MANY_REQUESTS, TOO_MANY_USERS,
 };
 
 const FREE: i32 = 0;
@@ -46,6 +46,7 @@ struct Plain {
     free: usize,
     in_flight: u64,
     stopped: bool,
+    range: (u32, u32),
 }
 
 unsafe fn plain<'a>(machine: *mut Machine) -> &'a mut Plain {
@@ -89,9 +90,10 @@ impl Plain {
     }
 
     fn free_slot(&mut self, key: u64) -> Result<i32, i32> {
+        let is_ranged = self.is_ranged((key >> 4) as u32 & (MOST_SLOTS - 1));
         let life = self.life(key)?;
         life.phase = FREE;
-        let (at, is_last) = (life.at, life.number == LAST_NUMBER);
+        let (at, is_last) = (life.at, life.number == LAST_NUMBER || is_ranged);
         self.len -= 1;
         self.swap(at, self.len);
         if is_last {
@@ -142,6 +144,37 @@ impl Plain {
         self.in_phase(key, OPENING)?.phase = LIVE;
         self.in_flight -= 1;
         self.live(key)
+    }
+
+    fn is_ranged(&self, slot: u32) -> bool {
+        slot >= self.range.0 && slot - self.range.0 < self.range.1
+    }
+
+    // Begins a live life at a slot of the range, and returns its key and what to do.
+    fn adopt(&mut self, slot: u32) -> Result<(u64, i32), i32> {
+        if slot as usize >= self.lives.len() || !self.is_ranged(slot) {
+            return Err(BAD_ARGUMENT);
+        }
+        let life = self.lives[slot as usize];
+        match life.phase {
+            FREE | CLOSING if life.number == LAST_NUMBER => return Err(FULL),
+            CLOSING => {
+                let _done = self.end_of_life(self.key(slot), CLOSING);
+            }
+            FREE => {}
+            _ => return Err(NOT_FREE),
+        }
+        // the slot goes from those without numbers to those with a life
+        let at = self.lives[slot as usize].at;
+        self.swap(at, self.free);
+        self.swap(self.free, self.len);
+        self.free += 1;
+        self.len += 1;
+        let life = &mut self.lives[slot as usize];
+        life.number += 1;
+        (life.phase, life.requests, life.users) = (LIVE, 0, 0);
+        let key = self.key(slot);
+        Ok((key, self.live(key)?))
     }
 
     // Ends a life that became live, if the machine was stopped.
@@ -253,7 +286,12 @@ unsafe fn at_slot(answer: Result<i32, i32>, key: u64, slot: *mut u32) -> i32 {
     number(answer)
 }
 
-pub(super) unsafe extern "C" fn yacht_direct_open_6(machine: *mut Machine, slots: u32) -> i32 {
+pub(super) unsafe extern "C" fn yacht_direct_open_6(
+    machine: *mut Machine,
+    slots: u32,
+    first: u32,
+    length: u32,
+) -> i32 {
     if !(1..=MOST_SLOTS).contains(&slots) {
         return BAD_ARGUMENT;
     }
@@ -265,14 +303,23 @@ pub(super) unsafe extern "C" fn yacht_direct_open_6(machine: *mut Machine, slots
         chain: Chain::default(),
         at,
     };
-    let made = Box::new(Plain {
+    let mut made = Box::new(Plain {
         lives: (0..slots as usize).map(life).collect(),
         order: (0..slots).collect(),
         len: 0,
         free: slots as usize,
         in_flight: 0,
         stopped: false,
+        range: (first, length),
     });
+    for slot in 0..slots {
+        if made.is_ranged(slot) {
+            let at = made.lives[slot as usize].at;
+            made.free -= 1;
+            let last = made.free;
+            made.swap(at, last);
+        }
+    }
     let slots = Box::into_raw(made).cast();
     unsafe { machine.write(Machine { slots }) };
     DONE
@@ -304,6 +351,20 @@ pub(super) unsafe extern "C" fn yacht_direct_opened(
 ) -> i32 {
     let seen = unsafe { plain(machine) }.opened(key, result >= 0);
     unsafe { at_slot(seen, key, slot) }
+}
+
+pub(super) unsafe extern "C" fn yacht_direct_adopt(
+    machine: *mut Machine,
+    slot: u32,
+    key: *mut u64,
+) -> i32 {
+    match unsafe { plain(machine) }.adopt(slot) {
+        Ok((new, next)) => unsafe {
+            *key = new;
+            next
+        },
+        Err(why) => why,
+    }
 }
 
 pub(super) unsafe extern "C" fn yacht_direct_stop(machine: *mut Machine) {

@@ -1,5 +1,7 @@
 //! Lives against a model that counts on its own, with random calls.
-use super::{After, Key, Member, Next, OpenError, Phase, PhaseName, Refusal, Releases};
+use super::{
+    AdoptError, Adopted, After, Key, Member, Next, OpenError, Phase, PhaseName, Refusal, Releases,
+};
 use super::{ReserveError, Slots};
 use std::collections::HashMap;
 use std::mem::discriminant;
@@ -32,9 +34,7 @@ fn phase_of(life: Life) -> Phase {
         Life::Live(requests, users) => Phase::Live { requests, users },
         Life::Ending(requests, users) => Phase::Ending { requests, users },
         Life::Closing => Phase::Closing,
-        Life::Chained(chain) => Phase::Chained {
-            requests: chain.requests,
-        },
+        Life::Chained(chain) => Phase::Chained { requests: chain.requests },
     }
 }
 
@@ -54,6 +54,8 @@ struct Model {
     all: Vec<Key>,
     seed: u64,
     stopped: bool,
+    // the number of slots in the allocation range
+    ranged: usize,
 }
 
 impl Model {
@@ -124,16 +126,8 @@ impl Model {
             (0, Some(Life::Opening)) => {
                 let (closes, open, close) = (good, None, None);
                 let ended = false;
-                self.lives.insert(
-                    key,
-                    Life::Chained(Chain {
-                        requests,
-                        closes,
-                        open,
-                        close,
-                        ended,
-                    }),
-                );
+                self.lives
+                    .insert(key, Life::Chained(Chain { requests, closes, open, close, ended }));
                 assert_eq!(slots.chain(key, requests, closes), Ok(key.slot()));
             }
             (0, _) => assert_eq!(slots.chain(key, requests, good), Err(no)),
@@ -215,7 +209,8 @@ impl Model {
                 self.lives.insert(key, Life::Opening);
             }
             Err(ReserveError::Full { slots: count }) => {
-                assert_eq!((count, self.lives.len() as u32), (slots.slots(), count));
+                let all = count as usize - self.ranged;
+                assert_eq!((count, self.lives.len()), (slots.slots(), all));
             }
             Err(error) => assert!(self.stopped && error == ReserveError::Stopped),
         }
@@ -289,8 +284,8 @@ fn random_calls_answer_as_the_model() {
     for (seed, count) in [(1, 1), (2, 3), (3, 40)] {
         let mut slots = Slots::new(count).unwrap();
         let (lives, all) = (HashMap::new(), Vec::new());
-        let stopped = false;
-        let mut model = Model { lives, all, seed, stopped };
+        let (stopped, ranged) = (false, 0);
+        let mut model = Model { lives, all, seed, stopped, ranged };
         for round in 0..20_000 {
             if model.all.is_empty() || model.below(12) == 0 {
                 model.reserve(&mut slots);
@@ -401,4 +396,67 @@ fn users_in_other_threads_come_back() {
     assert_eq!((woken.load(Relaxed), collected.1.load(Relaxed)), (2, 1));
     assert_eq!(slots.release(key), Ok(Next::Close(key.slot())));
     assert_eq!(slots.phase(key), Some(Phase::Closing));
+}
+
+#[test]
+fn adoptions_are_lives_of_the_range() {
+    let (lives, all) = (HashMap::new(), Vec::new());
+    let mut model = Model { lives, all, seed: 4, stopped: false, ranged: 2 };
+    let mut slots = Slots::with_range(5, 2..4).unwrap();
+    // the lives of the range, and whether each is closing
+    let mut kept: [Option<(Key, bool)>; 2] = [None; 2];
+    let mut early = 0;
+    for round in 0..4_000 {
+        let slot = model.below(2);
+        let key = kept[slot].map(|it| it.0);
+        match (model.below(3), kept[slot]) {
+            (0, Some((_, false))) => {
+                let error = AdoptError::NotFree { slot: slot as u32 + 2 };
+                assert_eq!(slots.adopt_with(slot as u32 + 2, |key| key), Err(error));
+            }
+            (0, life) => {
+                let Adopted { key, next, earlier } =
+                    slots.adopt_with(slot as u32 + 2, |key| key).unwrap();
+                assert_eq!(
+                    (key.slot(), next, slots.get(key)),
+                    (slot as u32 + 2, Next::Nothing, Some(&key))
+                );
+                assert_eq!(earlier, life.map(|it| it.0));
+                if let Some((earlier, _)) = life {
+                    assert_eq!(slots.closed(earlier), Err(Refusal::Stale { key: earlier }));
+                    early += 1;
+                }
+                kept[slot] = Some((key, false));
+            }
+            (1, Some((key, false))) => {
+                assert_eq!(slots.end(key), Ok(Next::Close(key.slot())));
+                kept[slot] = Some((key, true));
+            }
+            (2, Some((key, true))) => {
+                assert_eq!(slots.closed(key), Ok(key));
+                kept[slot] = None;
+            }
+            _ => assert_eq!(slots.key_at(slot as u32 + 2), key),
+        }
+        if round % 16 == 0 {
+            model.reserve(&mut slots);
+        }
+        let closing = kept.iter().flatten().filter(|it| it.1).count();
+        assert_eq!(slots.in_flight(), (model.lives.len() + closing) as u64);
+    }
+    assert!(early > 100 && model.lives.keys().all(|key| !(2..4).contains(&key.slot())));
+    assert_eq!(slots.reserve_with(|key| key), Err(ReserveError::Full { slots: 5 }));
+    for slot in [1, 4, 5, u32::MAX] {
+        assert_eq!(slots.adopt_with(slot, |key| key), Err(AdoptError::OutOfRange { slot }));
+    }
+    slots.stop();
+    for slot in [2, 3] {
+        match slots.adopt_with(slot, |key| key) {
+            Ok(Adopted { key, next, .. }) => {
+                assert_eq!((key.slot(), next), (slot, Next::Close(slot)));
+                assert_eq!(slots.phase(key), Some(Phase::Closing));
+            }
+            Err(error) => assert_eq!((error, error.number()), (AdoptError::NotFree { slot }, -19)),
+        }
+    }
 }
