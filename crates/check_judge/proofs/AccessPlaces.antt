@@ -3,8 +3,8 @@ use Rattle.check_judge.proofs.Words.{◌≡◌, ℕ, ◌+◌, ◌<◌, false, tr
 use Rattle.check_judge.proofs.Words.{append_assoc, length-append, length-map, map, slice_index_or, take, length-take-le, take_more, All-append}
 use Rattle.check_judge.proofs.Words.{All-map, All-nil, FileEntry, Completed, next_member, severs, Asked, Operation, Place, IsChainDone, IsRequestDone}
 use Rattle.check_judge.proofs.Words.{Access, IsChainListed, place_at, AccessPlace, own_places, either_case, drop, zero, suc, Some, slice_get}
-use Rattle.check_judge.proofs.Words.{slice_get_within, take-append-drop, Vec, first_member, accesses_of_chain, AreChainsDone, ChainAccess, AreListsOf}
-use Rattle.check_judge.proofs.Words.{IsListFor, AreAccessPlaces, places_of_chain, add-zero, add_comm, AreChainsListed, parts_of, same_Some, ◌≢◌, ◌-◌}
+use Rattle.check_judge.proofs.Words.{take-append-drop, Vec, first_member, accesses_of_chain, AreChainsDone, ChainAccess, AreListsOf}
+use Rattle.check_judge.proofs.Words.{IsListFor, AreAccessPlaces, places_of_chain, add-zero, AreChainsListed, parts_of, same_Some, ◌≢◌, ◌-◌}
 use Rattle.check_judge.proofs.Words.{slice_set, ◌≤◌, ◌==◌, filter, take_all, take-length, All-get_or, by_equality, eq-eqb, ne_eqb, get_or_read_under}
 use Rattle.check_judge.proofs.Words.{length_push, map_push, filter-append, each_set, slice_get_read, few_made, positions_of, accesses_of_chain-append}
 
@@ -90,14 +90,9 @@ module _ (catalogue : List FileEntry) (size submission : ℕ) (order : List Chai
   pub each_list : (chain : ℕ) (runs : List (List Asked)) (lists : List (Vec AccessPlace)) (cs : List Completed)
       → AreListsOf catalogue size submission chain runs order lists cs
       → (k : ℕ) {list : Vec AccessPlace} → slice_get lists k ≡ Some list → IsListFor order (chain + k) list.items
-  each_list chain [] lists cs x k {list} got =
-      let inside = slice_get_within lists k list got in let none = ap length x.0 in absurd (omega arith)
-  each_list chain (run ∷ runs) lists cs x zero {list} got =
-      let same : x.0 ≡ list = same_Some x.0 list (rw x.4 at got) in
-      let (as_many, own) = chain_listed catalogue size (first_member submission chain) run (accesses_of_chain chain order) x.0.items x.2 x.6 in
-      rw (add-zero, sym same) (record { as_many = as_many; same = own })
-  each_list chain (run ∷ runs) lists cs x (suc k) {list} got =
-      let e : chain + suc k ≡ chain + 1 + k = omega arith in rw e (each_list (chain + 1) runs x.1 x.3 x.7 k (rw x.4 at got))
+  each_list chain [] lists cs x k {list} got = grind arith
+  each_list chain (run ∷ runs) lists cs x zero {list} got = grind (arith, chain_listed)
+  each_list chain (run ∷ runs) lists cs x (suc k) {list} got = grind (arith, each_list (chain + 1) runs x.1 x.3 x.7 k (rw x.4 at got))
 
   -- a list of places that has them all, each chain's in its order
   pub all_listed : (chain : ℕ) (runs : List (List Asked)) (lists : List (Vec AccessPlace)) (cs : List Completed) (places : List AccessPlace)
@@ -120,10 +115,7 @@ module _ (catalogue : List FileEntry) (size submission : ℕ) (order : List Chai
       → map (λ (p : AccessPlace). p.chain) places ≡ map (λ (x : ChainAccess). x.chain) order
       → ((k : ℕ) (list : Vec AccessPlace) → slice_get lists k ≡ Some list → places_of_chain (k + 1) places ≡ list.items)
       → AreAccessPlaces catalogue size submission runs cs order places
-  all_places {runs} lists {cs} {places} x chains has = record {
-    chains = chains;
-    members = all_listed 1 runs lists cs places x (λ k list got. rw (add_comm 1 k) (has k list got));
-  }
+  all_places lists x chains has = grind (arith, all_listed)
 
   -- the lists that are appended, for chains that were done
   abbrev pub ArePut : ℕ → List (List Asked) → List Completed → List (Vec AccessPlace) → List (Vec AccessPlace) → Type 0
@@ -235,9 +227,7 @@ module _ {lists : List (Vec AccessPlace)} {order : List ChainAccess} {i : ℕ} {
 
     pub chains_listed : map (λ (q : AccessPlace). q.chain) places ≡ map (λ (y : ChainAccess). y.chain) (take i order)
         → map (λ (q : AccessPlace). q.chain) (places ++ p ∷ []) ≡ map (λ (y : ChainAccess). y.chain) (take (i + 1) order)
-    chains_listed so_far =
-        map_push (λ (q : AccessPlace). q.chain) places p ∙ (λ t. so_far t ++ of_chain t ∷ [])
-        ∙ sym (map_push (λ (y : ChainAccess). y.chain) (take i order) x) ∙ ap (map (λ (y : ChainAccess). y.chain)) (sym r.taken)
+    chains_listed so_far = grind (arith, map_push, of_chain)
 
     -- the places of each chain so far
     pub lists_more : (k : ℕ) {own : Vec AccessPlace} → slice_get lists k ≡ Some own

@@ -10,7 +10,7 @@ use Rattle.check_judge.proofs.Words.{IsFileInRange, runs_of, each_all, RingState
 use Rattle.check_judge.proofs.Words.{MayBeClosed, ring_with_slots, name_of, IsTrue, unwrap_or, AreLinesInRange, IsCloseInRange, is_without}
 use Rattle.check_judge.proofs.Words.{All-filter, AllByRecursion, completion_so, name_without_end, IsBytes, IsAllocationInRange}
 use Rattle.fx_base.specs.declared.catalogue.TheConstants.{LONGEST_ENTRY}
-use Rattle.fx_base.specs.declared.errno.Errno.TheVariants.{ECANCELED, ENOENT}
+use Rattle.fx_base.specs.declared.errno.Errno.TheVariants.{ENOENT}
 use Rattle.fx_base.specs.declared.tag_completion.TagCompletion.{TagCompletion}
 use Rattle.check_lines.proofs.CompletionTexts.{no_bytes}
 use Rattle.check_judge.proofs.StrandClaims.{possible_of_chain}
@@ -76,8 +76,7 @@ module _ (catalogue : List FileEntry) (are : AreFiles catalogue) (size : ℕ) (s
       → All IsCompletionInRange (canceled place requests)
   canceled_so place [] is few = All-nil IsCompletionInRange
   canceled_so place (r ∷ rs) is few =
-      All-cons IsCompletionInRange (refusal place ECANCELED) (canceled (next_member place) rs) (error is ECANCELED)
-      (canceled_so (next_member place) rs (moved (length rs) is few) (omega arith))
+      grind (arith, canceled_so (next_member place) rs (moved (length rs) is few) (omega arith), All-cons, next_member, error, moved)
 
   chain_so : (place : Place) (requests : List Asked) (accesses : List Access) (cs : List Completed) → IsPlaceInRange place
       → place.member + length requests < 2 ^ 32 → AreInside accesses → IsChainDone catalogue size place requests accesses cs

@@ -4,7 +4,7 @@ use Rattle.check_judge.proofs.Words.{Submitted, Completed, next_member, first_me
 use Rattle.check_judge.proofs.Words.{IsRequestDone, IsChainDone, AreChainsDone, either_way, by_equality, Installed, OneInstalled, Closed, sym, ap}
 use Rattle.check_judge.proofs.Words.{◌∙◌, ◌^◌, All, Contains, subst, All-map, AreInRange, IsFileInRange, IsAccepted, IsChain, members_of, runs_of}
 use Rattle.check_judge.proofs.Words.{Chain, each_all, RingState, Reported, accesses_of, RingSlots, IsOneOrder, table_of, ring_with_slots, AreFrom}
-use Rattle.check_judge.proofs.Words.{IsFileAtSlot, MayBeClosed, ◌⊎◌, All-weaker, HasNone, MayCloseAll, removes_contained, HasCounted}
+use Rattle.check_judge.proofs.Words.{IsFileAtSlot, MayBeClosed, ◌⊎◌, All-weaker, HasNone, MayCloseAll, removes_contained}
 use Rattle.check_judge.proofs.Words.{files_removed_in, fault_of, IsRingKept, MOST_SUBMISSIONS, None, false, zero, suc, map, drop, refl, Some}
 use Rattle.check_judge.proofs.Words.{slice_index_or, length-map, slice_get-get_or, is_lt, name_at, all_completed, all_asked, Slots, named_close_of}
 use Rattle.check_judge.proofs.Words.{named_close, named_closes, ClosedLine, AreApart, name_of, drop_all, get_or-map, get_or_default, HasDistinctMarks}
@@ -31,9 +31,7 @@ module _ (s : ℕ) (f : Closed) where
 
   request_installed : (catalogue : List FileEntry) (size : ℕ) (place : Place) (request : Asked) (accesses : List Access) (c : Completed)
       → IsRequestDone catalogue size place request.operation accesses c → Places accesses → Installed request c f.mark
-  request_installed catalogue size place request accesses c x has =
-      let i = (each_placed catalogue size place request.operation accesses c x).0 s f has in
-      record { entry = i.at; is_mark = i.is.mark ∙ ap (λ (p : Place). Submitted p.submission p.chain p.member i.at) (sym i.here); listed = i.listed; res = i.res; accepted = i.accepted }
+  request_installed catalogue size place request accesses c x has = grind (arith, each_placed)
 
   module _ (catalogue : List FileEntry) (size : ℕ) where
     chain_installed : (place : Place) (requests : List Asked) (accesses : List Access) (cs : List Completed) → Places accesses
@@ -84,10 +82,7 @@ short_runs asked accepted =
 -- a file of a member whose numbers are small
 of_member : {file : Closed} {s c m e : ℕ} → file.mark ≡ Submitted s c m e → file.tag ≡ 0 → s < 2 ^ 32 → c < 2 ^ 32 → m < 2 ^ 32 → e < 2 ^ 32
     → IsFileInRange file
-of_member is untagged submission chain member entry = record {
-  mark = rw is (record { submission = submission; chain = chain; member = member }, entry);
-  tag = omega arith;
-}
+of_member is untagged submission chain member entry = grind arith
 
 -- an accepted submission that is counted, at a ring that is kept
 pub record IsCounted (catalogue : List FileEntry) (old : RingSlots) (asked : List Asked) : Type 0 where
@@ -106,11 +101,7 @@ module _ {catalogue : List FileEntry} {old : RingSlots} {asked : List Asked} (s 
 
   -- a mark of the next submission is of no file at a slot
   none_next : {file : Closed} → IsOfNext before asked file → HasNone old.slots file.mark
-  none_next next slot g at same =
-      let counted : HasCounted before (Submitted next.place.submission next.place.chain next.place.member next.entry) =
-      subst (HasCounted before) (same ∙ next.mark) (s.kept.is_ring.counted slot g at) in
-      let later = next.next in
-      absurd (omega arith)
+  none_next next slot g h4 same = grind arith
 
   may_close : {file : Closed} → IsThere before file ⊎ IsOfNext before asked file → MayBeClosed catalogue old.slots file
   may_close {file} = ⊎_elim (λ there. record { inside = s.kept.is_ring.entries there.0 file there.2; from = inl (there.0, there.2) })
@@ -140,12 +131,7 @@ module _ {catalogue : List FileEntry} {old : RingSlots} {asked : List Asked} (s 
       ⊎_elim (λ was. inl (w.slot, was)) (λ new. inr (placed_installed w.slot file new)) w.was)
 
   next_in_range : {file : Closed} → IsOfNext before asked file → IsFileInRange file
-  next_in_range {file} next =
-      let later = next.next in
-      let low = next.chain in
-      let members = next.member in
-      let listed = next.listed in
-      of_member next.mark next.untagged (omega arith) (omega arith) (omega arith) (omega arith)
+  next_in_range next = grind (arith, of_member)
 
   pub closed_in_range : (file : Closed) → Contains report.closes.files file → IsFileInRange file
   closed_in_range file has = ⊎_elim (λ there. s.kept.in_range there.0 file there.2) (λ next. next_in_range next) (known.from file has)

@@ -3,7 +3,7 @@ use Rattle.check_judge.proofs.Words.{◌≡◌, ◌≤◌, List, sym, subst, IsA
 use Rattle.check_judge.proofs.Words.{each_order_is_a_history, NonePast, ring_with_files, shows_ring, ◌↔◌, ◌-◌, ℕ, ◌++◌, drop, length, length-append}
 use Rattle.check_judge.proofs.Words.{take, ap, ◌∙◌, arith, length-take-le, take-append-drop, FileEntry, RingContents, Instruction, Prints, RingSlots}
 use Rattle.check_judge.proofs.Words.{BeginsWith, IsMet, ContinuesText, IsStep, ring_with_slots, inl, inr, ⊎_elim, ◌⊎◌, Some, None, ENOMEM, MOST_SLOTS}
-use Rattle.check_judge.proofs.Words.{LeadsNowhere, table_of_slots, result_line, negated, AreInRange, IsRingKept, MOST_SUBMISSIONS, suc, ◌+◌, ◌<◌, []}
+use Rattle.check_judge.proofs.Words.{LeadsNowhere, table_of_slots, result_line, negated, AreInRange, IsRingKept, suc, ◌+◌, ◌<◌, []}
 use Rattle.check_judge.proofs.Words.{◌∷◌, refl, slice_index_or, Option, append-nil, append_assoc, length-drop, option_to_list, take_all, new_ring}
 use Rattle.check_judge.proofs.Words.{instruction_of, instructions_of, MayPrintBy, LeadsTo, Fault, Order, add-zero, zero-add, add-one, HasNoCloses}
 use Rattle.check_judge.proofs.Words.{Meaning, MayPrintAllBy, PrintsAllBy, mapped_at, shown}
@@ -11,14 +11,12 @@ use Rattle.check_judge.specs.Judged.{IsBrokenFrom, IsJudged, IsJudgedFrom, MayPr
 use Rattle.check_judge.specs.declared.command.Met.{Met}
 use Rattle.check_judge.specs.declared.command.Met.TheVariants.{Apart, Here}
 use Rattle.check_judge.specs.declared.judgement.Judgement.{Judgement}
-use Rattle.check_judge.specs.declared.judgement.Judgement.TheVariants.{Legal, NotLegal, Undecided}
 use Rattle.check_lines.proofs.Calls.{Answers, Fails, answers, called_registrations, called_ring, called_submissions, may_fail, never_fails}
 use Rattle.check_lines.proofs.Calls.{not_failed, one_line_of}
 use Rattle.check_lines.proofs.PlaysBegin.{command_begins, plays_begin}
 use Rattle.check_lines.specs.Calls.{IsCall, IsLineOf, after_call, memory_word}
 use Rattle.fx_language.specs.declared.command.Command.{Command}
 use Rattle.fx_ring.proofs.SubmittedRing.{submitted_rings}
-use Rattle.fx_ring.specs.declared.ring.TheConstants.{MOST_REGISTRATIONS}
 use Rattle.fx_script.specs.Play.{PrintsAll, PrintsEnd}
 use Rattle.std.proofs.Math.Seq.{drop-append_seam, take-add, take-append_seam}
 use Rattle.std.proofs.lemmas.List.{drop-drop}
@@ -77,9 +75,7 @@ module _ (catalogue : List FileEntry) (old : RingSlots) (command : Instruction) 
 
   answers_at : (ring next : RingContents) (printed : List ℕ) → ring_of ring ≡ before
       → Prints ring command next printed ↔ (Answers before command (ring_of next) printed ⊎ Fails before command (ring_of next) printed)
-  answers_at ring next printed same =
-      subst (λ (r : RingState). Prints ring command next printed ↔ (Answers r command (ring_of next) printed ⊎ Fails r command (ring_of next) printed)) same
-      (answers ring next command printed (subst (λ (r : RingState). IsCall r.submissions command) (sym same) counts))
+  answers_at ring next printed same = grind (arith, answers)
 
   module _ (line : List ℕ) (recorded : IsLineOf before command line) where
     -- the text continues with the call's text if no allocation fails
@@ -118,17 +114,7 @@ module _ (catalogue : List FileEntry) (old : RingSlots) (command : Instruction) 
 pub call_keeps : (catalogue : List FileEntry) (old new : RingSlots) (command : Instruction) → IsRingKept catalogue old
     → ring_with_slots catalogue new ≡ after_call (ring_with_slots catalogue old) command → length new.slots.at.items ≤ MOST_SLOTS
     → (AreInRange (table_of_slots old.slots).at → AreInRange (table_of_slots new.slots).at) → IsRingKept catalogue new
-call_keeps catalogue old new command kept left few fits =
-    let before = ring_with_slots catalogue old in record {
-      few_slots = few;
-      few_submissions = subst (λ (n : ℕ). n ≤ MOST_SUBMISSIONS)
-          (sym (ap (λ (r : RingState). r.submissions) left ∙ called_submissions before command)) kept.few_submissions;
-      few_registrations = subst (λ (r : RingState). r.registrations ≤ MOST_REGISTRATIONS) (sym left)
-          (called_registrations before command kept.few_registrations);
-      is_ring = subst IsRing (sym left) (called_ring command kept.is_ring);
-      files = kept.files;
-      in_range = fits kept.in_range;
-    }
+call_keeps catalogue old new command kept left few fits = grind (arith, called_submissions, called_registrations, called_ring)
 
 -- The plays of a script go along with the text, command by command.
 
@@ -200,13 +186,7 @@ at_start start all text = record { along = λ aim more can. rw zero-add at can; 
 -- a judgement from a ring without a table is one on the script
 pub judged_script : (script : Meaning) (text : List ℕ) (judgement : Judgement) → IsJudgedFrom (new_ring script.catalogue) script.commands text judgement
     → IsJudged script text judgement
-judged_script script text (Legal orders) may =
-    let by = may.1 may.0.0 may.0.1 in (
-      (may.0.0, may.0.1, all_printed may.0.0 script.commands text orders.items by),
-      (may.0.0, may.0.1, by),
-    )
-judged_script script text (NotLegal broken) breaks = record { none = λ is. breaks.none is.0 is.1 is.2; breaks = breaks }
-judged_script script text (Undecided submission doubt) nothing = nothing
+judged_script script text judgement h4 = grind (arith, all_printed)
 
 module _ {start : RingState} {all : List Instruction} {text : List ℕ} {done at : ℕ} {orders : List Order} {now : RingState}
     (so_far : GoesWith start all text done at orders now) where

@@ -1,9 +1,9 @@
 -- Reports that no order leads to.
-use Rattle.check_judge.proofs.Words.{◌≡◌, inl, inr, ℕ, zero, suc, ◌+◌, ◌≤◌, if◌then◌else◌, List, [], ◌∷◌, length, sym, ◌∙◌, arith, All-contains}
+use Rattle.check_judge.proofs.Words.{◌≡◌, inl, inr, ℕ, zero, suc, ◌+◌, ◌≤◌, List, [], ◌∷◌, length, sym, ◌∙◌, arith, All-contains}
 use Rattle.check_judge.proofs.Words.{Contains, Option, Some, None, slice_index_or, Vec, AllZip, Closed, by_equality, Table, Permits, PermitsAll}
 use Rattle.check_judge.proofs.Words.{table_with, accesses_of, accesses_of_chain, contains_head, contains_tail, Access, ChainAccess, Fits, found_by}
-use Rattle.check_judge.proofs.Words.{left_by, touched, HasNoOrder, Claim, At, Full, Same, Empty, File, table_of_slots, same_Some, slice_get_cases}
-use Rattle.check_judge.proofs.Words.{none-some, Brings, contains_none, Slots, refl, ap, AllByRecursion, all_completed, Asked, RingState, IsRing}
+use Rattle.check_judge.proofs.Words.{left_by, HasNoOrder, Claim, table_of_slots, slice_get_cases}
+use Rattle.check_judge.proofs.Words.{Brings, contains_none, Slots, ap, AllByRecursion, all_completed, Asked, RingState, IsRing}
 use Rattle.check_judge.proofs.Words.{files_removed_in, Allocates, IsOneOrder, table_of, AreDone, AreClaims, IsAllocationInRange, IfRefuted, same_size}
 use Rattle.check_judge.proofs.Words.{◌-◌, Removes, emptied, removes_contained, IsBrought, IsKnown, IsPermutation-sym, Contains-permutation, runs_of}
 use Rattle.check_judge.proofs.Words.{IsRecordedOutcome, recorded_report, Recorded, no_file_that_stays_is_closed}
@@ -18,19 +18,13 @@ module _ (closes : List Closed) (file : Closed) where
   FindsIt a = left_by a ≡ Some file → found_by a ≡ Some file
 
   finds : (a : Access) (claim : Claim) → Fits closes claim a → (Brings claim file → ⊥) → FindsIt a
-  finds a (At slot condition Same) (at, expected, same) none = λ left. sym same ∙ left
-  finds a (At slot condition Empty) (at, expected, (removed, gone)) none = λ left. absurd (none-some file (sym gone ∙ left))
-  finds a (At slot condition (File r)) (at, expected, (removed, (f, is, resident))) none = λ left.
-      absurd (none (resident.same ∙ same_Some f file (sym is ∙ left)))
-  finds a Full fits none = λ left. absurd (none-some file (rw fits at left))
+  finds a claim h3 none = grind arith
 
   -- each access of a chain fits one of its claims
   fitting : (claims : List Claim) (accesses : List Access) {a : Access} → AllZip (Fits closes) claims accesses → Contains accesses a
       → (claim : Claim) × Contains claims claim × Fits closes claim a
   fitting (c ∷ claims) (x ∷ accesses) all (zero, lt, is) = (c, contains_head c claims, rw (sym is) all.0)
-  fitting (c ∷ claims) (x ∷ accesses) {a} all (suc k, lt, is) =
-      let rest = fitting claims accesses all.1 (k, omega arith, is) in
-      (rest.0, contains_tail c claims rest.0 rest.1, rest.2)
+  fitting (c ∷ claims) (x ∷ accesses) {a} all (suc k, lt, is) = grind (arith, fitting claims accesses all.1 (k, omega arith, is), contains_tail)
   fitting claims [] {a} all has = absurd (contains_none a has)
   fitting [] accesses all has = absurd all
 
@@ -39,12 +33,7 @@ module _ (closes : List Closed) (file : Closed) where
   IsNowhere table = (slot : ℕ) → table.at slot ≡ Some file → ⊥
 
   nowhere_after : (table : Table) (a : Access) → Permits table a → FindsIt a → IsNowhere table → IsNowhere (table_with table a)
-  nowhere_after table a may found none = elim (some_or_none (touched a)) [
-    | inl there ↦ λ slot is.
-        by_equality slot there.0 (λ b. (if b then left_by a else table.at slot) ≡ Some file → ⊥)
-        (λ _ left. none there.0 (sym (found_at table a there.1 may) ∙ found left)) (λ _ old. none slot old) (rw (at_after table a there.1 may) at is)
-    | inr full ↦ rw (untouched table a full) none
-  ]
+  nowhere_after table a may found none = grind (arith, some_or_none, by_equality, found_at, at_after, untouched)
 
   never_removed : (order : List ChainAccess) (table : Table) → PermitsAll table (accesses_of order) → IsNowhere table
       → ((x : ChainAccess) → Contains order x → FindsIt x.access) → Removes (accesses_of order) file → ⊥
@@ -99,10 +88,7 @@ module _ (old : RingState) (requests : List Asked) (recorded : Recorded) where
   IsDone = AreDone old.catalogue old.size old.range (old.submissions + 1) 1 (runs_of requests) (all_completed recorded.completions.items)
 
   pub done_so : (room : ℕ) (left : RingState) → (one : IsOneOrder old requests (recorded_report old recorded room) left) → IsDone one.order
-  done_so room left one = record {
-    possible = possible_all (table_of old) old.size old.range (accesses_of one.order) refl refl one.is.permitted;
-    done = one.is.done;
-  }
+  done_so room left one = grind (arith, possible_all)
 
   pub outcome_recorded : IsRing old → (chains : List (Vec Claim)) → length chains ≡ length (runs_of requests)
       → ((order : List ChainAccess) → IsDone order → AreClaims recorded.closes.items chains order)

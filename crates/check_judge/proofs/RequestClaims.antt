@@ -1,12 +1,12 @@
 -- The claims of requests, by what they intend, and the accesses that fit them.
 use Rattle.check_judge.proofs.Words.{FileEntry, bytes_at, Closed, installed, Completed, completed_of, Opens, Operation, operation_of, Place}
 use Rattle.check_judge.proofs.Words.{AreAppended, Concludes, Fits, IsAllocationInRange, IsAnsweredBy, LeavesSo, Possibly, Expected, found_by, left_by}
-use Rattle.check_judge.proofs.Words.{touched, cells_after, IsCell, ShowsFile, Cell, Claim, At, Full, Leaves, Empty, File, Same, Resident, Condition}
-use Rattle.check_judge.proofs.Words.{Permits, Table, file_removed_by, table_with, Allocates, FindsFull, Looks, Takes, Access, by_equality, unchanged}
+use Rattle.check_judge.proofs.Words.{touched, cells_after, IsCell, ShowsFile, Cell, Claim, At, Full, Leaves, Empty, Same, Resident, Condition}
+use Rattle.check_judge.proofs.Words.{Permits, Table, file_removed_by, table_with, FindsFull, Looks, Takes, Access, by_equality, unchanged}
 use Rattle.check_judge.proofs.Words.{changed_at, has_slot, All, Contains, Err, IsSome, List, None, Ok, Option, Result, Some, [], ap, append_assoc}
-use Rattle.check_judge.proofs.Words.{arith, eq-eqb, false, if◌then◌else◌, inl, inr, int_lt, is_some, length, map, negsuc, pos, refl, slice_get, subst}
-use Rattle.check_judge.proofs.Words.{suc, sym, take, true, zero, ℕ, ℤ, ◌++◌, ◌+◌, ◌<◌, ◌||◌, ◌∙◌, ◌∷◌, ◌≡◌, ◌⊎◌, ne_eqb, true≢false, ⊎_elim, and_from}
-use Rattle.check_judge.proofs.Words.{cases_Bool, take_more, All-head, All-map, All-tail, All-weaker, slice_get_within, same_Some}
+use Rattle.check_judge.proofs.Words.{arith, false, if◌then◌else◌, inl, inr, int_lt, is_some, length, map, negsuc, pos, refl, slice_get, subst}
+use Rattle.check_judge.proofs.Words.{suc, sym, take, true, zero, ℕ, ℤ, ◌++◌, ◌+◌, ◌<◌, ◌||◌, ◌∙◌, ◌∷◌, ◌≡◌, ◌⊎◌, true≢false, and_from}
+use Rattle.check_judge.proofs.Words.{take_more, All-head, All-map, All-tail, All-weaker, slice_get_within, same_Some}
 use Rattle.check_judge.proofs.Words.{get_or_from_slice_get, AllByRecursion, AllZip, same_size, list_all-from_AllPass, IsDecided, IsMade, answer}
 use Rattle.check_judge.proofs.Words.{IsOpened, Closes, Reads, Updates, nat_tests, all_zipped_more}
 use Rattle.check_judge.specs.declared.answered.AnsweredRequest.{AnsweredRequest}
@@ -20,7 +20,7 @@ use Rattle.fx_chain.specs.declared.intent.Intent.{Intent}
 use Rattle.fx_chain.specs.declared.intent.Intent.TheVariants.{Allocate, Look, Take}
 use Rattle.fx_chain.specs.declared.request.Target.TheVariants.{Any, Slot}
 use Rattle.fx_order.proofs.Intents.{single}
-use Rattle.fx_order.specs.Access.{IsOf, finding_of, last_finding}
+use Rattle.fx_order.specs.Access.{IsOf}
 use Rattle.fx_chain.specs.declared.intent.Finding.TheVariants.{At as FoundAt}
 
 -- what was decided of all b is decided of all a, if each a has its b
@@ -62,9 +62,7 @@ module _ (R : Intent → Access → Type 0) where
 
 -- the file that a permitted access found is at its slot
 pub found_at : (table : Table) (a : Access) {slot : ℕ} → touched a ≡ Some slot → Permits table a → found_by a ≡ table.at slot
-found_at table (Allocates s file) {slot} is may = may.0.1 ∙ ap table.at (same_Some s slot is)
-found_at table FindsFull is may = absurd (cc)
-found_at table a {slot} is may = may.1 ∙ ap table.at (same_Some _ slot is)
+found_at table a is may = grind arith
 
 pub some_or_none : {X : Type 0} (x : Option X) → ((y : X) × (x ≡ Some y)) ⊎ (x ≡ None)
 some_or_none None = inr refl
@@ -73,15 +71,11 @@ some_or_none (Some y) = inl (y, refl)
 -- the files after an access
 pub at_after : (table : Table) (a : Access) {slot : ℕ} → touched a ≡ Some slot → Permits table a
     → (table_with table a).at ≡ changed_at table.at slot (left_by a)
-at_after table (Looks s found) {slot} is may = sym (unchanged table.at slot found (found_at table (Looks s found) is may))
-at_after table FindsFull is may = absurd (cc)
-at_after table a {slot} is may = ap (λ (k : ℕ). changed_at table.at k (left_by a)) (same_Some _ slot is)
+at_after table a is may = grind (arith, unchanged, found_at)
 
 -- an access that is of no slot leaves them
 pub untouched : (table : Table) (a : Access) → touched a ≡ None → (table_with table a).at ≡ table.at
-untouched table (Looks s found) is = refl
-untouched table FindsFull is = refl
-untouched table a is = absurd (cc)
+untouched table a is = grind arith
 
 pub same_range : (table : Table) (a : Access) → (table_with table a).range ≡ table.range
 same_range table (Looks s found) = refl
@@ -90,11 +84,7 @@ same_range table a = refl
 -- a cell after an access, with the file at its slot then
 pub moved : (table : Table) (closes : List Closed) (a : Access) (cell : Cell) (file : Option Resident) → IsCell table closes cell
     → ShowsFile closes ((table_with table a).at cell.slot) file → IsCell (table_with table a) closes (record cell { file = file })
-moved table closes a cell file now shows = record {
-  inside = rw (same_size table a) now.inside;
-  range = λ yes. rw (same_range table a) (now.range yes);
-  shows = shows;
-}
+moved table closes a cell file now shows = grind (arith, same_size, same_range)
 
 module _ (closes : List Closed) where
   -- a slot that is among the cells shows the file that is there
@@ -119,10 +109,7 @@ module _ (closes : List Closed) where
   shown_some found shown shows some = grind arith
 
   taken : (table : Table) (cell : Cell) → IsCell table closes cell → Permits table FindsFull → is_taken cell ≡ true
-  taken table cell is may = elim (cases_Bool cell.in_range) [
-    | inl in_range ↦ rw in_range (shown_some (table.at cell.slot) cell.file is.shows (may cell.slot is.inside (is.range in_range)))
-    | inr elsewhere ↦ rw elsewhere
-  ]
+  taken table cell is may = grind (arith, shown_some)
 
   module _ (table : Table) (cells : List Cell) (a : Access) (all : All (IsCell table closes) cells) (may : Permits table a)
       (seen : has_slot cells (touched a) ≡ true) (closed : (f : Closed) → file_removed_by a ≡ Some f → Contains closes f) where
@@ -142,10 +129,7 @@ module _ (closes : List Closed) where
 
     kept_cell : {slot : ℕ} (file : Option Resident) {cell : Cell} → touched a ≡ Some slot → ShowsFile closes (left_by a) file
         → IsCell table closes cell → IsCell (table_with table a) closes (cell_with slot file cell)
-    kept_cell {slot} file {cell} is shows now =
-        by_equality cell.slot slot (λ b. IsCell (table_with table a) closes (if b then record cell { file = file } else cell))
-        (λ same. moved table closes a cell file now (rw (at_after table a is may, eq-eqb cell.slot slot same) shows))
-        (λ other. moved table closes a cell cell.file now (rw (at_after table a is may, ne_eqb cell.slot slot other) now.shows))
+    kept_cell file is shows now = grind (arith, by_equality, moved, at_after)
 
     all_kept : {slot : ℕ} (file : Option Resident) → touched a ≡ Some slot → ShowsFile closes (left_by a) file
         → All (IsCell (table_with table a) closes) (map (cell_with slot file) cells)
@@ -155,13 +139,7 @@ module _ (closes : List Closed) where
         (λ cell now. kept_cell file is shows now) cells all)
 
     pub cells_follow : (claim : Claim) → Fits closes claim a → All (IsCell (table_with table a) closes) (cells_after cells claim)
-    cells_follow (At slot condition Same) fits =
-        let same = at_after table a fits.0 may ∙ unchanged table.at slot (left_by a) (fits.2 ∙ found_at table a fits.0 may) in
-        All-weaker (IsCell table closes) (IsCell (table_with table a) closes)
-        (λ cell now. moved table closes a cell cell.file now (rw same now.shows)) cells all
-    cells_follow (At slot condition Empty) fits = all_kept None fits.0 (rw fits.2.1 tt)
-    cells_follow (At slot condition (File resident)) fits = all_kept (Some resident) fits.0 (rw fits.2.1.1 fits.2.1.2)
-    cells_follow Full fits = rw fits all
+    cells_follow claim fits = grind (arith, at_after, unchanged, found_at, All-weaker, moved, all_kept)
 
 -- The claims of requests, by what they intend.
 
@@ -212,28 +190,17 @@ module _ (it : AnsweredRequest) where
   same_made : ((found : Option Finding) → completed_of it.c.now ≡ answer it found) → (xs : List Intent) (own : List Access)
       → AllByRecursion (IsAllocationInRange it.setting.size it.setting.range) own → AllZip IsOf xs own → AllZip (IsMade it) xs own
   same_made said [] [] inside fits = tt
-  same_made said (x ∷ xs) (a ∷ own) inside fits =
-      ((fits.0, inside.0, said (Some (finding_of a))), same_made said xs own inside.1 fits.1)
+  same_made said (x ∷ xs) (a ∷ own) inside fits = grind (arith, same_made said xs own inside.1 fits.1)
   same_made said [] (a ∷ own) inside fits = absurd fits
   same_made said (x ∷ xs) [] inside fits = absurd fits
 
   pub all_made : (own : List Access) → Possibly it.setting.size it.setting.range (IsAnsweredBy it) own → AllZip (IsMade it) intents own
-  all_made own done = ⊎_elim
-      (λ one. subst (λ (xs : List Intent). AllZip (IsMade it) xs own) (sym one.1)
-      (single one.0 (λ l. AllByRecursion (IsAllocationInRange it.setting.size it.setting.range) l → completed_of it.c.now ≡ answer it (last_finding l)
-      → AllZip (IsMade it) (one.0 ∷ []) l) own
-      (subst (λ (xs : List Intent). AllZip IsOf xs own) one.1 done.1.0) (λ a is inside said. ((is, inside.0, said), tt)) done.0 done.1.1))
-      (λ same. same_made (λ found. done.1.1 ∙ (same (last_finding own) ∙ sym (same found))) intents own done.0 done.1.0)
-      (shape it.setting.catalogue.now it.place it.entry (operation_of it.request.now.op))
+  all_made own done = grind (arith, single, answer, same_made, shape)
 
 -- the bytes of the answer by a file that is found
 pub got_by_entry : (catalogue : List FileEntry) (place : Place) (operation : Operation) (file : Closed)
     → (answer_at_table catalogue place operation (Some (FoundAt (Some file)))).got ≡ bytes_read catalogue operation file.entry
-got_by_entry catalogue place (Opens name (Slot slot)) file = refl
-got_by_entry catalogue place (Opens name Any) file = refl
-got_by_entry catalogue place (Reads slot off len) file = refl
-got_by_entry catalogue place (Closes slot) file = refl
-got_by_entry catalogue place (Updates off list) file = refl
+got_by_entry catalogue place operation file = grind arith
 
 not_negative : (n : ℕ) → int_lt (pos n) (pos 0) ≡ false
 not_negative n = grind (arith, nat_tests)

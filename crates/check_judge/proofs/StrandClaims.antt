@@ -4,10 +4,10 @@ use Rattle.check_judge.proofs.Words.{contains_tail, Access, ChainAccess, IsAlloc
 use Rattle.check_judge.proofs.Words.{◌⊎◌, zero, suc, ◌+◌, ◌≤◌, Bool, true, false, ◌++◌, length, filter, cond, refl, ap, ◌∙◌, arith, slice_get, Some}
 use Rattle.check_judge.proofs.Words.{if◌then◌else◌, Vec, AllZip, append-nil, Closed, by_equality, AreClaims, Fits, touched, AreStrands, keeps, seen}
 use Rattle.check_judge.proofs.Words.{slot_claimed, strand_for, Cell, Claim, At, Full, Strand, ⊎_elim, nil_from_length, AllZip-long, ◌<◌, map, drop}
-use Rattle.check_judge.proofs.Words.{All, slice_index, slice_index_or, slice_set, Option, option_to_list, length-map, length-set, All-contains}
+use Rattle.check_judge.proofs.Words.{All, slice_index, slice_set, Option, option_to_list, length-map, length-set, All-contains}
 use Rattle.check_judge.proofs.Words.{Contains-append_right, slice_get_within, Table, Permits, PermitsAll, table_with, table_after, file_removed_by}
-use Rattle.check_judge.proofs.Words.{files_removed_in, Standing, HasNoOrder, table_of_slots, eq-eqb, ◌==◌, IsEndOfClaims, Ends, cells_after}
-use Rattle.check_judge.proofs.Words.{is_staying, may_stay, next, IsCell, ShowsFile, has_slot, Resident, All-weaker, ne_eqb, true≢false, length-drop}
+use Rattle.check_judge.proofs.Words.{files_removed_in, Standing, HasNoOrder, table_of_slots, eq-eqb, IsEndOfClaims, Ends, cells_after}
+use Rattle.check_judge.proofs.Words.{is_staying, may_stay, next, IsCell, ShowsFile, has_slot, Resident, All-weaker, true≢false, length-drop}
 use Rattle.check_judge.proofs.Words.{drop_more, drop_all, cases_Bool, list_all-from_AllPass, same_Some, slice_get_cases, slice_get_past, not_own}
 use Rattle.check_judge.proofs.Words.{Slots, each_set, Completed, next_member, first_member, severs, Asked, Place, AreDone, AreMembersDone, Possibly}
 use Rattle.check_judge.proofs.Words.{IsRequestDone, take, both_parts, parts_of}
@@ -22,10 +22,7 @@ use Rattle.check_judge.specs.declared.answered.ClaimSetting.{ClaimSetting}
 pub possible_of_chain : (size : ℕ) (range : ℕ × ℕ) (chain : ℕ) (order : List ChainAccess) → AllByRecursion (IsAllocationInRange size range) (accesses_of order)
     → AllByRecursion (IsAllocationInRange size range) (accesses_of_chain chain order)
 possible_of_chain size range chain [] all = tt
-possible_of_chain size range chain (x ∷ order) all = elim (of_chain x order chain) [
-  | inl same ↦ subst (AllByRecursion (IsAllocationInRange size range)) (sym same.1) (all.0, possible_of_chain size range chain order all.1)
-  | inr other ↦ subst (AllByRecursion (IsAllocationInRange size range)) (sym other.1) (possible_of_chain size range chain order all.1)
-]
+possible_of_chain size range chain (x ∷ order) all = grind (arith, possible_of_chain size range chain order all.1, of_chain)
 
 -- an access of an order is one of its chain's
 pub of_its_chain : (order : List ChainAccess) {x : ChainAccess} → Contains order x → Contains (accesses_of_chain x.chain order) x.access
@@ -172,16 +169,7 @@ module _ (closes : List Closed) (strands : List Strand) (first : List Cell)
   -- an access of another slot
   passed : {table : Table} (at : Standing) (x : ChainAccess) (order : List ChainAccess) → has_slot first (touched x.access) ≡ false
       → All (IsCell (table_with table x.access) closes) at.cells → Left table at (x ∷ order) → Left (table_with table x.access) at order
-  passed at x order out cells left = record {
-    fits = λ i strand is. elim (of_chain x order strand.chain) [
-      | inl same ↦ rw (same.1, out) at (left.fits i strand is)
-      | inr other ↦ rw other.1 at (left.fits i strand is)
-    ];
-    each = λ y has. left.each y (contains_tail x order y has);
-    long = left.long;
-    slots = left.slots;
-    cells = cells;
-  }
+  passed at x order out cells left = grind (arith, of_chain, contains_tail)
 
   -- an access of one of these slots is the next claim of its chain
   stepped : (table : Table) (at : Standing) (x : ChainAccess) (order : List ChainAccess) → has_slot first (touched x.access) ≡ true
@@ -212,17 +200,7 @@ module _ (closes : List Closed) (strands : List Strand) (first : List Cell)
   -- cells of other slots than an access's
   cells_passed : {table : Table} (a : Access) (cells : List Cell) → Permits table a → has_slot cells (touched a) ≡ false
       → All (IsCell table closes) cells → All (IsCell (table_with table a) closes) cells
-  cells_passed {table} a cells may out all = λ k d lt.
-      let cell = slice_index_or cells k d in
-      let same : (table_with table a).at cell.slot ≡ table.at cell.slot = elim (some_or_none (touched a)) [
-        | inl there ↦ rw (
-          at_after table a there.1 may,
-          ne_eqb cell.slot there.0 (λ here. true≢false (sym (list_any_at (λ (c : Cell). c.slot == there.0)
-              cells k d lt (eq-eqb cell.slot there.0 here)) ∙ (rw there.1 at out))),
-        )
-        | inr none ↦ rw (untouched table a none)
-      ] in
-      moved table closes a cell cell.file (all k d lt) (rw same (all k d lt).shows)
+  cells_passed a cells may out all = grind (arith, some_or_none, at_after, list_any_at, untouched, moved)
 
   -- a cell whose file the closes don't have
   stays : (found : Option Closed) (shown : Option Resident) → ShowsFile closes found shown
@@ -336,7 +314,4 @@ module _ (setting : ClaimSetting) where
 -- the claims of one chain more
 pub claims_more : (closes : List Closed) (lists : List (Vec Claim)) (own : Vec Claim) (order : List ChainAccess) → AreClaims closes lists order
     → AllZip (Fits closes) own.items (accesses_of_chain (length lists + 1) order) → AreClaims closes (lists ++ own ∷ []) order
-claims_more closes lists own order so fits = λ k those at. elim (get_push lists k at) [
-  | inl old ↦ so k those old
-  | inr new ↦ rw (sym new.1, new.0) fits
-]
+claims_more closes lists own order so fits = grind (arith, get_push)

@@ -1,15 +1,14 @@
 -- Accepted submissions, and the lines that a text goes on with.
-use Rattle.check_judge.proofs.Words.{◌≡◌, ℕ, ◌+◌, ◌≤◌, List, length, map, filter, not, ◌==◌, take, sym, ap, subst, ◌∙◌, arith, Some, refl, lt-leb}
+use Rattle.check_judge.proofs.Words.{◌≡◌, ℕ, ◌+◌, ◌≤◌, List, length, map, filter, not, ◌==◌, take, sym, ap, subst, ◌∙◌, arith, Some, refl}
 use Rattle.check_judge.proofs.Words.{FileEntry, tags_of, all_completed, Asked, runs_of, IsOneOrder, ChainAccess, MOST_SLOTS, RingState, IsRing}
-use Rattle.check_judge.proofs.Words.{ring_of, Reported, MOST_SUBMISSIONS, SubmitsAll, Closed, named_close_of, lines_in, lines_of, lines_text}
+use Rattle.check_judge.proofs.Words.{ring_of, Reported, SubmitsAll, Closed, named_close_of, lines_in, lines_of, lines_text}
 use Rattle.check_judge.proofs.Words.{named_closes, CameBy, recorded_report, RingSlots, Recorded, IsRingKept, BeginsWith, MayPrintBy, AreAccessPlaces}
-use Rattle.check_judge.proofs.Words.{AreChainsDone, Order, Bool, MatchOption, Option, Prints, PrintsReport, RingContents, false, nat_le, refused_line}
-use Rattle.check_judge.proofs.Words.{too_many_line, ◌↔◌, ring_with_slots, printed_lines, IsOrderOf, ring_left, HasLines, ◌++◌, None, Result, Ok, Err}
+use Rattle.check_judge.proofs.Words.{AreChainsDone, Order, Prints, PrintsReport, RingContents}
+use Rattle.check_judge.proofs.Words.{◌↔◌, ring_with_slots, printed_lines, IsOrderOf, ring_left, HasLines, ◌++◌, None, Result, Ok, Err}
 use Rattle.check_judge.proofs.Words.{Lines, ReadsReport, ContinuesText, LeadsNowhere, LeadsTo, AreApart, YieldsKnown, Fault, IsReportBefore, Yields}
-use Rattle.check_judge.proofs.Words.{one_at, IsRefuted, each_order_is_a_history, CutFault}
+use Rattle.check_judge.proofs.Words.{one_at, IsRefuted, each_order_is_a_history}
 use Rattle.check_lines.proofs.CompletionTexts.{each_request}
 use Rattle.check_lines.specs.declared.report_lines.ReportLines.{ReportLines}
-use Rattle.std.specs.Bool.{MatchBool}
 use Rattle.fx_order.proofs.OneRing.{each_report_leads_to_one_ring}
 use Rattle.fx_order.proofs.Ordered.{each_history_is_an_order}
 use Rattle.fx_script.specs.Text.{report_text}
@@ -40,12 +39,7 @@ tags_again same = rw (same, map-map)
 pub counted_prints : {catalogue : List FileEntry} {old : RingSlots} {asked : List Asked} → IsCounted catalogue old asked
     → (ring next : RingContents) (line : List ℕ) → ring_of ring ≡ ring_with_slots catalogue old
     → Prints ring (SubmitsAll asked) next line ↔ PrintsReport ring asked next line
-counted_prints {catalogue} {old} {asked} s ring next line same =
-    let room : nat_le MOST_SUBMISSIONS ring.submissions ≡ false =
-    ap (λ (r : RingState). nat_le MOST_SUBMISSIONS r.submissions) same ∙ lt-leb MOST_SUBMISSIONS old.submissions s.few in
-    subst (λ (z : Option CutFault × Bool). Prints ring (SubmitsAll asked) next line ↔ MatchOption z.0
-    (MatchBool z.1 ((ring_of next ≡ ring_of ring) × (line ≡ too_many_line)) (PrintsReport ring asked next line))
-    (λ fault. (ring_of next ≡ ring_of ring) × (line ≡ refused_line fault))) (λ t. (s.accepted t, room t)) ((λ p. p), (λ p. p))
+counted_prints s ring next line same = grind arith
 
 module _ {catalogue : List FileEntry} {old : RingSlots} {asked : List Asked} (s : IsCounted catalogue old asked) (new : RingSlots) (recorded : Recorded) where
   abbrev before : RingState
