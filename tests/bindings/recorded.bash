@@ -145,8 +145,8 @@ legal_example() {
     done
 }
 
-# found_example LANGUAGE N [SED [HEADER_SED]]: one of twenty logs is not legal; all calls are made if
-# one look of N is wrong
+# found_example LANGUAGE N [SED [HEADER_SED]]: one of twenty logs is not legal; if one look of N is
+# wrong, all calls are made
 found_example() {
     local seed few=$few
     [ "$2" -eq 0 ] || few=
