@@ -1,13 +1,13 @@
 -- The calls between submissions: the rings that they leave, and their lines.
-use Rattle.check_lines.proofs.Words.{Instruction, MakesSparse, RegistersList, SetsRange, SubmitsAll, Unregisters, UpdatesRing, RingSlots, Slots}
+use Rattle.check_lines.proofs.Words.{Instruction, SetsRange, SubmitsAll, RingSlots, Slots}
 use Rattle.check_lines.proofs.Words.{after_call, call_of, unless_refused, IsCall, accepted_following, word_unless, memory_word, append_assoc}
 use Rattle.check_lines.proofs.Words.{both_options, List, None, Option, Some, [], ap, arith, refl, subst, sym, ℕ, ◌∙◌, ◌≡◌, ◌≤◌, FileEntry, Bool}
-use Rattle.check_lines.proofs.Words.{MatchBool, if◌then◌else◌, inl, inr, nat_le, true, ◌+◌, leb-false, Errno, registered_rings, updated_rings}
-use Rattle.check_lines.proofs.Words.{counted_still, none_rings, Table, ring_with_slots, table_of_slots, registered_sparse, range_refusal, IsRing}
-use Rattle.check_lines.proofs.Words.{RingState, without_table, HasClosed, RingContents, ring_of, tags_given, MOST_REGISTRATIONS, MOST_SUBMISSIONS}
+use Rattle.check_lines.proofs.Words.{MatchBool, if◌then◌else◌, inl, inr, nat_le, true, ◌+◌, Errno, registered_rings, updated_rings}
+use Rattle.check_lines.proofs.Words.{counted_still, none_rings, Table, ring_with_slots, table_of_slots, IsRing}
+use Rattle.check_lines.proofs.Words.{RingState, HasClosed, RingContents, ring_of, MOST_REGISTRATIONS, MOST_SUBMISSIONS}
 use Rattle.check_lines.proofs.Words.{AreInRange, ◌<◌, ◌^◌, pos, negsuc, ◌++◌, All, IfSome, unwrap_or, ⊎_elim, ◌↔◌, ◌⊎◌, append-nil, nil_from_length}
-use Rattle.check_lines.proofs.Words.{length_permutation, CloseListView, ENOMEM, Closed, negated, closes_text, result_line, refused_line}
-use Rattle.check_lines.proofs.Words.{too_many_line, MatchOption, fault_of, CutFault, MOST_SLOTS, CallAnswers, IsCallRefused, Prints, PrintsReport}
+use Rattle.check_lines.proofs.Words.{length_permutation, CloseListView, ENOMEM, Closed, negated, closes_text, result_line}
+use Rattle.check_lines.proofs.Words.{MatchOption, fault_of, CutFault, MOST_SLOTS, CallAnswers, IsCallRefused, Prints}
 use Rattle.check_lines.proofs.Entries.{none_holds, inside_of, IsAtOne, all_in_order, all_removed, closes_printed}
 pub use Rattle.check_lines.specs.Calls.{AnswersFound, Call, IsLineOf, IsNoSubmission, YieldsCall as Tells, YieldsClosed}
 use Rattle.check_lines.proofs.Decimals.{one_result}
@@ -41,21 +41,10 @@ none_in_range slots none slot file is = let e : None ≡ Some file = sym (ap (λ
 -- what every ring has
 
 ranged : {ring : RingState} (range : ℕ × ℕ) → IsRing ring → IsRing (record ring { range = range })
-ranged {ring} range is = record {
-  entries = is.entries;
-  counted = λ slot file at. counted_still ring (record ring { range = range }) file.mark (omega arith) (omega arith) (is.counted slot file at);
-  distinct = is.distinct;
-}
+ranged range is = grind (arith, counted_still)
 
 left_ring : {ring : RingState} (command : Instruction) → IsRing ring → (call_of ring command).refusal ≡ None → IsRing (call_of ring command).left
-left_ring {ring} (MakesSparse n) is none = none_rings (registered_sparse ring n) refl
-left_ring {ring} (RegistersList list tags) is none =
-    registered_rings ring list (tags_given list tags) (none_holds ring (RegistersList list tags) none).1.1.1.0
-left_ring {ring} Unregisters is none = none_rings (without_table ring) refl
-left_ring {ring} (SetsRange off len) is none = ranged (off, len) is
-left_ring {ring} (UpdatesRing off list tags) is none =
-    updated_rings ring off list (tags_given list tags) is (none_holds ring (UpdatesRing off list tags) none).1.1.0
-left_ring (SubmitsAll asked) is none = is
+left_ring command is none = grind (arith, none_rings, registered_rings, none_holds, ranged, updated_rings)
 
 pub called_ring : {ring : RingState} (command : Instruction) → IsRing ring → IsRing (after_call ring command)
 called_ring command is = still IsRing command is (left_ring command is)
@@ -67,11 +56,7 @@ called_submissions ring command = still (λ (r : RingState). r.submissions ≡ r
 
 left_registrations : (ring : RingState) (command : Instruction) → ring.registrations ≤ MOST_REGISTRATIONS → (call_of ring command).refusal ≡ None
     → (call_of ring command).left.registrations ≤ MOST_REGISTRATIONS
-left_registrations ring (RegistersList list tags) few none =
-    let room = leb-false MOST_REGISTRATIONS ring.registrations (none_holds ring (RegistersList list tags) none).1.1.1.1.0 in omega arith
-left_registrations ring (UpdatesRing off list tags) few none =
-    let room = leb-false MOST_REGISTRATIONS ring.registrations (none_holds ring (UpdatesRing off list tags) none).1.1.1.0 in omega arith
-left_registrations ring _ few none = few
+left_registrations ring command few none = grind (arith, none_holds)
 
 pub called_registrations : (ring : RingState) (command : Instruction) → ring.registrations ≤ MOST_REGISTRATIONS
     → (after_call ring command).registrations ≤ MOST_REGISTRATIONS
@@ -108,9 +93,7 @@ accepted_line ring command files closes first line none accepted are has is_firs
 
 -- the files that it closes are at slots
 there : (ring : RingState) (command : Instruction) → IfSome (call_of ring command).closed (All (IsAtOne ring.at))
-there ring Unregisters = all_in_order ring.at ring.size
-there ring (UpdatesRing off list tags) = all_removed ring.at off list
-there ring _ = tt
+there ring command = grind (arith, all_in_order, all_removed)
 
 -- so success has one line
 one_told : (ring : RingState) (head : List ℕ) (closed : Option (List Closed)) (a b : List ℕ) → IsRing ring → IfSome closed (All (IsAtOne ring.at))
@@ -182,12 +165,7 @@ found_or_not one = ((λ p. ⊎_elim inl (λ f. inr (tt, f)) (one.0 p)), (λ q. o
 
 pub answers : (old next : RingContents) (command : Instruction) (line : List ℕ) → IsCall old.submissions command
     → Prints old command next line ↔ (Answers (ring_of old) command (ring_of next) line ⊎ Fails (ring_of old) command (ring_of next) line)
-answers old next (SetsRange off len) line counts =
-    found_alone (both_parts (range_refusal (ring_of old) off len) (ring_of old) (ring_of next) (call_of (ring_of old) (SetsRange off len)) line)
-answers old next (SubmitsAll asked) line counts =
-    found_alone (refused_parts (fault_of asked) (ring_of next ≡ ring_of old) (PrintsReport old asked next line) line too_many_line refused_line counts)
-answers old next command line counts =
-    let call = call_of (ring_of old) command in found_or_not (memory_parts call.refusal (ring_of old) (ring_of next) call line)
+answers old next command line counts = grind (arith, found_alone, both_parts, refused_parts, found_or_not, memory_parts)
 
 -- no two lines are that of a call
 
@@ -208,23 +186,16 @@ one_line_of {ring} command {a} {b} is_ring =
 
 pub few_told : (ring : RingState) (command : Instruction) → ring.size ≤ MOST_SLOTS → (call_of ring command).refusal ≡ None
     → (call_of ring command).res < 2 ^ 31
-few_told ring (UpdatesRing off list tags) few none =
-    let within = inside_of ring off list tags none in omega arith
-few_told ring _ few none = omega arith
+few_told ring command few none = grind (arith, inside_of)
 
 told_of : (ring : RingState) (command : Instruction) (line : List ℕ) → TakesMemory command → (call_of ring command).refusal ≡ None
     → IsLineOf ring command line → Tells ring (call_of ring command) line
-told_of ring (SetsRange off len) line takes none told = absurd takes
-told_of ring (SubmitsAll asked) line takes none told = absurd takes
-told_of ring command line takes none told =
-    let call = call_of ring command in subst (λ (x : Option Errno). AnswersFound x call.word (Tells ring call) line) none told
+told_of ring command line takes none told = grind arith
 
 pub not_failed : (ring : RingState) (command : Instruction) (line behind more : List ℕ) → ring.size ≤ MOST_SLOTS → TakesMemory command
     → (call_of ring command).refusal ≡ None → IsLineOf ring command line
     → line ++ behind ≡ result_line (call_of ring command).word (negated ENOMEM) ++ more → ⊥
-not_failed ring command line behind more few takes none told =
-    let call = call_of ring command in
-    not_refused ring call.word call.res call.closed line behind more (few_told ring command few none) (told_of ring command line takes none told)
+not_failed ring command line behind more few takes none told = grind (arith, not_refused, few_told, told_of)
 
 -- the word of a call that may fail
 word_at : (x : Option Errno) {own word : List ℕ} → word_unless x own ≡ Some word → (x ≡ None) × (word ≡ own)
@@ -233,14 +204,8 @@ word_at None {own} {word} is = (refl, let e : Some own ≡ Some word = is in cc)
 
 pub may_fail : (ring : RingState) (command : Instruction) {word : List ℕ} → memory_word ring command ≡ Some word
     → TakesMemory command × ((call_of ring command).refusal ≡ None) × (word ≡ (call_of ring command).word)
-may_fail ring (SetsRange off len) {word} is = absurd (let e : None ≡ Some word = is in cc)
-may_fail ring (SubmitsAll asked) {word} is = absurd (let e : None ≡ Some word = is in cc)
-may_fail ring command is = let (none, own) = word_at (call_of ring command).refusal is in (tt, none, own)
+may_fail ring command is = grind arith
 
 pub never_fails : (ring : RingState) (command : Instruction) → memory_word ring command ≡ None → TakesMemory command
     → (call_of ring command).refusal ≡ None → ⊥
-never_fails ring (SetsRange off len) is takes none = takes
-never_fails ring (SubmitsAll asked) is takes none = takes
-never_fails ring command is takes none =
-    let word = (call_of ring command).word in
-    let e : Some word ≡ None = subst (λ (x : Option Errno). word_unless x word ≡ None) none is in cc
+never_fails ring command is takes none = grind arith

@@ -1,5 +1,5 @@
 -- The number of completions of a submission.
-use Rattle.check_lines.proofs.Words.{Asked, runs_of, state_of, Event, FileEntry, explained_count, ExplainsParts, List, ℕ, ◌∙◌, ◌≡◌, ◌+◌, ap}
+use Rattle.check_lines.proofs.Words.{Asked, Event, FileEntry, explained_count, ExplainsParts, List, ℕ, ◌≡◌, ◌+◌, ap}
 use Rattle.check_lines.proofs.Words.{length, [], arith, ◌∷◌, length-append, flat_map, ReportsHaveEachRequest, are_runs, Completed, IsBytes}
 
 pub no_bytes : IsBytes []
@@ -15,6 +15,4 @@ parts_count catalogue size submission chain (run ∷ runs) history completions (
     let apart = length-append run (flat_map (λ run. run) runs) in omega arith
 
 pub each_request : ReportsHaveEachRequest
-each_request old asked report new one =
-    parts_count old.catalogue (state_of old.table).size report.submission 1 (runs_of asked) one.history report.completions one.explained
-    ∙ ap length (are_runs asked).whole
+each_request old asked report new one = grind (arith, parts_count, are_runs)

@@ -12,15 +12,7 @@ use Rattle.check_lines.proofs.Cuts.{cut_once, without_failing}
 use Rattle.std.specs.Int.Signed.{mag}
 
 tells : IsDigitsTest (λ ds. list_all is_digit ds ≡ true)
-tells = record {
-  empty = refl;
-  parts = λ c cs all. let here = (and_parts (is_digit c) (list_all is_digit cs) all).0 in (
-    (leb-true 48 c (and_parts (nat_le 48 c) (nat_le c 57) here).0, leb-true c 57 (and_parts (nat_le 48 c) (nat_le c 57) here).1),
-    (and_parts (is_digit c) (list_all is_digit cs) all).1,
-  );
-  more = λ c cs within all. and_from (is_digit c) (list_all is_digit cs)
-      (and_from (nat_le 48 c) (nat_le c 57) (le-leb 48 c within.0) (le-leb c 57 within.1)) all;
-}
+tells = grind (arith, and_from)
 
 own : IsNumeralModel (λ ds. list_all is_digit ds ≡ true) (digits_value 10)
 own = numerals_by_value _ tells
@@ -66,9 +58,7 @@ decimal_without at n none small = without_failing is_digit at none (decimal n) (
 
 -- a result has no byte but digits and its sign
 pub result_without : (at : ℕ) (res : ℤ) → is_digit at ≡ false → (45 == at) ≡ false → IsResultInRange res → is_without at (signed_decimal res) ≡ true
-result_without at (pos n) none other fits = decimal_without at n none (omega arith)
-result_without at (negsuc n) none other fits =
-    and_from (not (45 == at)) (is_without at (decimal (suc n))) (ap not other) (decimal_without at (suc n) none (omega arith))
+result_without at res none other fits = grind (arith, decimal_without, and_from)
 
 -- The line of a result determines the result.
 

@@ -2,13 +2,13 @@
 use Rattle.check_lines.proofs.Words.{length-append, append_assoc, is_bad_entry, Instruction, MakesSparse, RegistersList, SetsRange, SubmitsAll}
 use Rattle.check_lines.proofs.Words.{Unregisters, UpdatesRing, call_of, RingSlots, by_equality, Bool, List, None, Option, Some, [], false}
 use Rattle.check_lines.proofs.Words.{if◌then◌else◌, length, refl, sym, true, ℕ, ℤ, ◌≤◌, ◌+◌, ◌==◌, ◌∙◌, ◌∷◌, ◌≡◌, nat_le, nat_lt, ◌||◌, zero, suc}
-use Rattle.check_lines.proofs.Words.{◌<◌, ◌^◌, pos, negsuc, All, ap, subst, arith, IfNone, unwrap_or, ◌++◌, slice_index_or, drop, ltb-false, or_parts}
+use Rattle.check_lines.proofs.Words.{◌<◌, ◌^◌, pos, negsuc, All, ap, subst, arith, IfNone, unwrap_or, ◌++◌, slice_index_or, drop, or_parts}
 use Rattle.check_lines.proofs.Words.{leb-false, lt-leb, or_from, AllByRecursion, list_any, Errno, EAGAIN, EBADF, EBUSY, EINVAL, EMFILE, ENOMEM, ENXIO}
 use Rattle.check_lines.proofs.Words.{MOST_SLOTS, is_bad_file, removed_from, removed_by_number, file_after, RingState, HasClosed, IsRing}
 use Rattle.check_lines.proofs.Words.{ring_files_in_order, files_of_ring, RingContents, ring_of, are_bad_tags, tags_given, tag_at, MOST_REGISTRATIONS}
 use Rattle.check_lines.proofs.Words.{option_to_list, All-permutation, FileEntry, CloseListView, Closed, ring_with_slots, table_of_slots, good_files}
 use Rattle.check_lines.proofs.Words.{files_upto, upto_here, upto_next, removed_next, few_removed, removed_entries, IsEntry, entries_of, All-append}
-use Rattle.check_lines.proofs.Words.{All-cons, All-nil, PrintsClosed, PrintsEnd, closes_text, teardown_text, Registered, AreInRange, IsFileInRange}
+use Rattle.check_lines.proofs.Words.{All-cons, All-nil, PrintsClosed, PrintsEnd, closes_text, teardown_text, Registered, AreInRange}
 use Rattle.check_lines.proofs.Words.{Table, with_file}
 use Rattle.fx_chain.proofs.Counted.{passed}
 use Rattle.fx_base.specs.declared.catalogue.TheConstants.{MOST_ENTRIES}
@@ -49,9 +49,7 @@ none_holds ring command none = all_fail (reasons_of ring command) (sym (refusal_
 -- an accepted update ends within the table
 pub inside_of : (ring : RingState) (off : ℕ) (list : List ℤ) (tags : Option (List ℕ)) → (call_of ring (UpdatesRing off list tags)).refusal ≡ None
     → off + length list ≤ ring.size
-inside_of ring off list tags none =
-    let good = (none_holds ring (UpdatesRing off list tags) none).1.0 in
-    ltb-false ring.size (off + length list) (or_parts _ _ (or_parts (length list == 0) _ good).1).0
+inside_of ring off list tags none = grind (arith, none_holds, or_parts)
 
 abbrev is_memory : Bool × Errno → Bool
 is_memory (holds, ENOMEM) = true
@@ -90,24 +88,15 @@ all_of_ring catalogue ring files is kept = subst (AreOf catalogue) (sym is) (ent
 
 pub few_of_ring : (ring : RingSlots) (files : List Closed)
     → files ≡ ring_files_in_order (table_of_slots ring.slots).at (length ring.slots.at.items) → length ring.slots.at.items ≤ MOST_SLOTS → length files < 2 ^ 32
-few_of_ring ring files is few =
-    let same = ap length is in
-    let most = few_in_order (table_of_slots ring.slots).at (length ring.slots.at.items) in omega arith
+few_of_ring ring files is few = grind (arith, few_in_order)
 
 -- so are those that a call closes
 pub closed_files : (catalogue : List FileEntry) (ring : RingSlots) (command : Instruction) (files : List Closed)
     → files ≡ unwrap_or (call_of (ring_with_slots catalogue ring) command).closed [] → IsRing (ring_with_slots catalogue ring)
     → length ring.slots.at.items ≤ MOST_SLOTS → (call_of (ring_with_slots catalogue ring) command).refusal ≡ None
     → AreOf catalogue files × (length files < 2 ^ 32)
-closed_files catalogue ring Unregisters files is kept few none = (all_of_ring catalogue ring files is kept, few_of_ring ring files is few)
-closed_files catalogue ring (UpdatesRing off list tags) files is kept few none =
-    let at = (table_of_slots ring.slots).at in
-    let same : length files ≡ length (removed_from at off list) = ap length is in
-    let most = few_removed at off list in
-    let ends = inside_of (ring_with_slots catalogue ring) off list tags none in
-    (subst (AreOf catalogue) (sym is) (removed_entries (length catalogue) at off list kept.entries), omega arith)
-closed_files catalogue ring _ files is kept few none =
-    let empty : length files ≡ 0 = ap length is in (λ k d inside. absurd (omega arith), omega arith)
+closed_files catalogue ring command files is kept few none =
+    grind (arith, all_of_ring, few_of_ring, removed_from, few_removed, inside_of, removed_entries)
 
 pub all_closed : (catalogue : List FileEntry) (files : List Closed) (closes : CloseListView) → AreOf catalogue files → HasClosed files closes
     → AreOf catalogue closes.files
@@ -148,9 +137,7 @@ all_in_order at zero = λ k d inside. absurd (omega arith)
 all_in_order at (suc n) = All-append (IsAtOne at) (ring_files_in_order at n) (option_to_list (at n)) (all_in_order at n) (listed at n (at n) refl)
 
 taken : (at : ℕ → Option Closed) (slot : ℕ) (number : ℤ) → All (IsAtOne at) (removed_by_number number (at slot))
-taken at slot (pos entry) = listed at slot (at slot) refl
-taken at slot (negsuc zero) = listed at slot (at slot) refl
-taken at slot (negsuc (suc n)) = λ k d inside. absurd (omega arith)
+taken at slot number = grind (arith, listed)
 
 pub all_removed : (at : ℕ → Option Closed) (slot : ℕ) (list : List ℤ) → All (IsAtOne at) (removed_from at slot list)
 all_removed at slot [] = λ k d inside. absurd (omega arith)
@@ -159,9 +146,7 @@ all_removed at slot (number ∷ list) =
 
 -- files at different slots have different marks
 pub one_at : (ring : RingState) → IsRing ring → (x y : Closed) → IsAtOne ring.at x → IsAtOne ring.at y → x.mark ≡ y.mark → x ≡ y
-one_at ring is x y here there marks =
-    let slots : here.0 ≡ there.0 = is.distinct here.0 there.0 x y here.1 there.1 marks in
-    let same : Some x ≡ Some y = sym here.1 ∙ ap ring.at slots ∙ there.1 in cc
+one_at ring is x y here there marks = grind arith
 
 -- the printed text of them is the same
 pub closes_printed : (ring : RingState) (files : List Closed) (closes : CloseListView) (line printed : List ℕ) → IsRing ring → All (IsAtOne ring.at) files
@@ -183,16 +168,7 @@ end_printed before files closes text is_ring all closed (other, has, is) =
 -- a number of a list leaves files in range
 pub in_range_after : (t : Table) (slot k i tag : ℕ) (z : ℤ) → AreInRange t.at → k < 2 ^ 32 → i < 2 ^ 32 → tag < 2 ^ 64
     → AreInRange (with_file t slot (file_after (Registered k i) tag z (t.at slot))).at
-in_range_after t slot k i tag z fits low short small s file =
-    by_equality s slot (λ b. ◌≡◌ {A = Option Closed} (if b then file_after (Registered k i) tag z (t.at slot) else t.at s) (Some file) → IsFileInRange file)
-    (λ _ is. there z is) (λ _ is. fits s file is)
-  where
-    there : (z : ℤ) → file_after (Registered k i) tag z (t.at slot) ≡ Some file → IsFileInRange file
-    there (pos entry) is =
-        let e : file ≡ record { mark = Registered k i; entry = entry; tag = tag } = cc in
-        subst IsFileInRange (sym e) (record { mark = (low, short); tag = small })
-    there (negsuc zero) is = absurd (cc)
-    there (negsuc (suc n)) is = fits slot file is
+in_range_after t slot k i tag z fits low short small s file = grind (arith, by_equality)
 
 module _ (k off i : ℕ) (list : List ℤ) (tags : List ℕ) (z : ℤ) (first cur new : Table) (inside : i < length list)
     (is : z ≡ slice_index_or list i (pos 0)) (before : cur ≡ record first { at = files_upto k first.at off list tags i }) where

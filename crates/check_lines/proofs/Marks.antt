@@ -13,10 +13,7 @@ numbers (Registered k i) = 0 ∷ k ∷ i ∷ []
 numbers (Submitted s c m e) = 1 ∷ s ∷ c ∷ m ∷ e ∷ []
 
 same_mark : (a b : Mark) → numbers a ≡ numbers b → a ≡ b
-same_mark (Registered k i) (Registered l j) same = let e : 0 ∷ k ∷ i ∷ [] ≡ 0 ∷ l ∷ j ∷ [] = same in cc
-same_mark (Registered k i) (Submitted s c m e) same = let no : 0 ∷ k ∷ i ∷ [] ≡ 1 ∷ s ∷ c ∷ m ∷ e ∷ [] = same in cc
-same_mark (Submitted s c m e) (Registered k i) same = let no : 1 ∷ s ∷ c ∷ m ∷ e ∷ [] ≡ 0 ∷ k ∷ i ∷ [] = same in cc
-same_mark (Submitted s c m e) (Submitted t d n f) same = let is : 1 ∷ s ∷ c ∷ m ∷ e ∷ [] ≡ 1 ∷ t ∷ d ∷ n ∷ f ∷ [] = same in cc
+same_mark a b same = grind arith
 
 abbrev pub below : List ℕ → List ℕ → Bool
 below k l = is_lt (slice_cmp nat_cmp k l)
@@ -25,11 +22,7 @@ then_equal : (o : Ordering) → ordering_then o Equal ≡ o
 then_equal o = grind arith
 
 pub same_cmp : (a b : Mark) → slice_cmp nat_cmp (numbers a) (numbers b) ≡ mark_cmp a b
-same_cmp (Registered k i) (Registered l j) = ap (ordering_then (nat_cmp k l)) (then_equal (nat_cmp i j))
-same_cmp (Registered k i) (Submitted s c m e) = refl
-same_cmp (Submitted s c m e) (Registered k i) = refl
-same_cmp (Submitted s c m e) (Submitted t d n f) =
-    ap (λ (o : Ordering). ordering_then (nat_cmp s t) (ordering_then (nat_cmp c d) (ordering_then (nat_cmp m n) o))) (then_equal (nat_cmp e f))
+same_cmp a b = grind (arith, then_equal)
 
 abbrev pub is_below : Closed → Closed → Bool
 is_below x y = below (numbers x.mark) (numbers y.mark)

@@ -1,5 +1,5 @@
 -- The output of a play begins with no line of a closed file or of a tag.
-use Rattle.check_lines.proofs.Words.{action_of, closes_in, Instruction, MakesSparse, RegistersList, Unregisters, SetsRange, UpdatesRing, SubmitsAll}
+use Rattle.check_lines.proofs.Words.{action_of, closes_in, Instruction, SubmitsAll}
 use Rattle.check_lines.proofs.Words.{AnswersFound, Call, IsNoSubmission, call_of, either_case, either_option, ◌≡◌, ℕ, zero, suc, ◌/◌, ◌%◌, ◌<◌, ◌==◌}
 use Rattle.check_lines.proofs.Words.{true, false, List, [], ◌∷◌, ◌++◌, get_or, refl, sym, ap, ◌∙◌, arith, if◌then◌else◌, codes, decimal, true≢false}
 use Rattle.check_lines.proofs.Words.{nat_tests, is_digit, HasNoCloses, ◌≤◌, nat_le, length, drop, map, subst, Option, Some, None, ℤ, pos}
@@ -13,16 +13,10 @@ use Rattle.check_lines.proofs.CompletionTexts.{each_request}
 
 -- a text with another first byte
 pub by_first : {b : ℕ} (rest : List ℕ) → (b == 99) ≡ false → (b == 116) ≡ false → HasNoCloses (b ∷ rest)
-by_first {b} rest no_c no_t = record {
-  no_closed = λ starts. let first : b ≡ 99 = ap (λ (t : List ℕ). get_or t 0 0) starts in true≢false (sym (ap (λ n. n == 99) first) ∙ no_c);
-  no_tag = λ starts. let first : b ≡ 116 = ap (λ (t : List ℕ). get_or t 0 0) starts in true≢false (sym (ap (λ n. n == 116) first) ∙ no_t);
-}
+by_first rest no_c no_t = grind arith
 
 pub by_teardown : (rest : List ℕ) → HasNoCloses (codes "teardown\n" ++ rest)
-by_teardown rest = record {
-  no_closed = λ starts. let first : 116 ≡ 99 = ap (λ (t : List ℕ). get_or t 0 0) starts in true≢false (ap (λ n. n == 116) first);
-  no_tag = λ starts. let second : 101 ≡ 97 = ap (λ (t : List ℕ). get_or t 1 0) starts in true≢false (ap (λ n. n == 101) second);
-}
+by_teardown rest = grind arith
 
 pub by_nothing : HasNoCloses []
 by_nothing = record { no_closed = λ starts. cc starts; no_tag = λ starts. cc starts }
@@ -67,12 +61,7 @@ no_letter d is = (grind (arith, nat_tests), grind (arith, nat_tests))
 
 -- the lines of the end
 end_begins : (ring : RingState) {text : List ℕ} → PrintsEnd ring text → HasNoCloses text
-end_begins ring (closes, are, is) =
-    let lines = closes_text ring.catalogue closes.files in
-    subst HasNoCloses (sym is) (elim (length closes.files == 0) as (λ b. HasNoCloses (if b then [] else codes "teardown\n" ++ lines)) [
-      | true ↦ by_nothing
-      | false ↦ by_teardown lines
-    ])
+end_begins ring h2 = grind (arith, by_nothing, by_teardown)
 
 -- no events of no chains
 no_events : (history : List Event) → ((e : Event) → Contains history e → (1 ≤ e.chain) × (e.chain ≤ 0)) → history ≡ []
@@ -122,12 +111,7 @@ line_begins word res rest is_word =
 
 -- the word of a call
 called_word : (ring : RingState) (command : Instruction) → IsNoSubmission command → IsWord (call_of ring command).word
-called_word ring (MakesSparse n) call = word_with (drop 1 (codes "sparse")) refl refl
-called_word ring (RegistersList list tags) call = word_with (drop 1 (codes "register")) refl refl
-called_word ring Unregisters call = word_with (drop 1 (codes "unregister")) refl refl
-called_word ring (SetsRange off len) call = word_with (drop 1 (codes "range")) refl refl
-called_word ring (UpdatesRing off list tags) call = word_with (drop 1 (codes "regupdate")) refl refl
-called_word ring (SubmitsAll asked) call = absurd call
+called_word ring command call = grind (arith, word_with)
 
 module _ (old new : RingContents) (line others : List ℕ) (behind : HasNoCloses others) where
   abbrev Begins : Type 0

@@ -1,15 +1,13 @@
 -- The lines of a report: completions, closed files and tags.
 use Rattle.check_lines.proofs.Words.{◌≤◌, arith, Mark, IsCut, IsMarkInRange, Closed, Reported, FileEntry, List, None, ℕ, ◌∙◌, ◌≡◌, take, ◌++◌, ap, length, sym, All, Some, [], refl}
-use Rattle.check_lines.proofs.Words.{◌∷◌, true, nat_le, subst, ◌<◌, get_or, ◌==◌, ◌^◌, true≢false, take_at, append-nil, append_assoc}
+use Rattle.check_lines.proofs.Words.{◌∷◌, true, subst, ◌<◌, get_or, ◌==◌, ◌^◌, true≢false, take_at, append-nil, append_assoc}
 use Rattle.check_lines.proofs.Words.{flat_map, codes, decimal, AreAll, AreFirst, HasLength, HasNoCloses, IsCloseInRange}
 use Rattle.check_lines.proofs.Words.{IsCompletionInRange, NamedClose, is_without, line_of_tag, named_line, IsReportBefore, Lines}
 use Rattle.check_lines.proofs.Words.{ReadsReport, lines_of, lines_text, Completed, completion_line, completion_lines, mark_text, name_of}
-use Rattle.check_lines.proofs.Words.{and_parts, append_cancel_left, flat_map_more, All-tail, All-head, All-push, flat_map-map, StartsWith}
-use Rattle.check_lines.proofs.Words.{list_all}
+use Rattle.check_lines.proofs.Words.{append_cancel_left, flat_map_more, All-tail, All-head, All-push, flat_map-map, StartsWith}
 use Rattle.check_lines.proofs.Cuts.{parts_are, without_failing}
 use Rattle.check_lines.proofs.Decimals.{decimal_without}
-use Rattle.fx_base.specs.Name.{is_name, name_byte}
-use Rattle.fx_base.specs.declared.name.TheConstants.{LONGEST_NAME}
+use Rattle.fx_base.specs.Name.{is_name}
 use Rattle.fx_base.specs.Tags.{tags_of}
 use Rattle.fx_base.specs.declared.tag_completion.TagCompletion.{TagCompletion}
 use Rattle.fx_script.specs.Text.{report_text}
@@ -79,9 +77,7 @@ tail_of_tag {rest} {tail} begins tag more same = append_cancel_left (codes "tag 
 
 -- a name has no line end
 pub name_without_end : (name : List ℕ) → is_name name ≡ true → is_without 10 name ≡ true
-name_without_end name is =
-    without_failing name_byte 10 refl name (and_parts (nat_le (length name) LONGEST_NAME) (list_all name_byte name)
-    (and_parts (nat_le 1 (length name)) _ is).1).1
+name_without_end name is = grind (arith, without_failing)
 
 -- The lines of a report: those of its completions, then those of closed files, then those of tags.
 
