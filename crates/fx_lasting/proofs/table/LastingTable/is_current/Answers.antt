@@ -1,5 +1,5 @@
-use Rattle.fx_lasting.proofs.Words.{◌≡◌, ℕ, ap, ◌∙◌, arith, refl, slot_of, ◌<◌, no_use, subst, Holding, Hold, File, full_name_in, ◌+◌}
-use Rattle.fx_lasting.proofs.Passing.{adds_so, at_rest, holds_alone, still_pass}
+use Rattle.fx_lasting.proofs.Words.{ap, ◌∙◌, arith, refl, slot_of, ◌<◌, no_use}
+use Rattle.fx_lasting.proofs.Passing.{adds_so, at_rest, still_pass}
 use Rattle.fx_lasting.proofs.Places.{slot_back}
 use Rattle.fx_lasting.proofs.Running.{runs_goes}
 use Rattle.fx_lasting.proofs.slot_lemmas.Current.{current_so}
