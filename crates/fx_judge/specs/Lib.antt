@@ -1,5 +1,5 @@
 pub mod Arrays
-pub mod Flaws
 pub mod Logs
 pub mod Outcomes
+pub mod Reading
 pub mod Verdicts

@@ -5,11 +5,8 @@ use Rattle.fx_language.specs.declared.fault.ScriptFault.{ScriptFault}
 use Rattle.fx_script.specs.Play.{IsText}
 use Rattle.check_judge.specs.Judged.{IsBroken}
 use Rattle.check_judge.specs.declared.judgement.Break.{Break}
-use Rattle.check_judge.specs.declared.judgement.Judgement.{Judgement}
-use Rattle.check_judge.specs.declared.judgement.Judgement.TheVariants.{Legal, NotLegal, Undecided}
 use Rattle.fx_judge.specs.declared.judge.YachtVerdict.{YachtVerdict}
-use Rattle.fx_judge.specs.declared.codes.TheConstants.{LEGAL, NOT_LEGAL, UNDECIDED}
-use Rattle.fx_judge.specs.declared.codes.TheConstants.{BAD_SCRIPT, NO_MEMORY}
+use Rattle.fx_judge.specs.declared.codes.TheConstants.{BAD_SCRIPT, LEGAL, NO_MEMORY, NOT_LEGAL}
 
 -- the bytes are a script that may print this
 pub record MayBePrinted (script text : List ℕ) : Type 0 where
@@ -29,13 +26,6 @@ pub record IsNotPrinted (script text : List ℕ) (commands at : ℕ) : Type 0 wh
 -- the bytes aren't a script: this line has the first fault
 abbrev pub HasFaultOnLine : List ℕ → ℕ → Type 0
 HasFaultOnLine script line = (kind : ScriptFault) × HasFault script line kind
-
--- the number and the details of a judgement
-abbrev pub IsConclusion : Judgement → ℕ → YachtVerdict → Type 0
-IsConclusion (Legal orders) code verdict = code ≡ LEGAL
-IsConclusion (NotLegal broken) code verdict =
-    (code ≡ NOT_LEGAL) × (verdict.commands ≡ broken.commands) × (verdict.at ≡ broken.at)
-IsConclusion (Undecided submission doubt) code verdict = code ≡ UNDECIDED
 
 -- a number and the details of a text that was judged
 pub record IsTextVerdict (script text : List ℕ) (number : ℕ) (details : YachtVerdict)
