@@ -1,8 +1,8 @@
 -- The texts that were found, as they are written.
 use Rattle.fx_judge.proofs.Words.{◌≡◌, ℕ, Bool, true, false, arith, IsTrue, List, [], ◌∷◌, All, Contains, length, map, take, ap, ◌∙◌, string_bytes, string_eq}
-use Rattle.fx_judge.proofs.Words.{String, Global, AllByRecursion, length-map, All-map, IsScript, Meaning, joined, lengths_in, ◌+◌, ◌<◌}
+use Rattle.fx_judge.proofs.Words.{String, Global, AllByRecursion, length-map, All-map, IsScript, Meaning, joined, lengths_in}
 use Rattle.std.specs.List.{IsDistinct}
-use Rattle.fx_judge.proofs.Words.{◌++◌, sym, slice_index_or, concat, map-append, map_more, append-nil}
+use Rattle.fx_judge.proofs.Words.{◌++◌, concat, map-append, append-nil}
 use Rattle.check_texts.specs.Texts.{IsTextFound}
 use Rattle.fx_judge.specs.Outcomes.{AreOutcomes, AreWritten, IsTextList, same_bytes}
 use Rattle.fx_judge.specs.declared.codes.TheConstants.{ALL, SOME}
@@ -15,13 +15,6 @@ module _ {A : Type 0} (f : A → List ℕ) (front : List A) (x : A) where
 
   pub lengths_more : lengths_in (map f (front ++ x ∷ [])) ≡ lengths_in (map f front) ++ length (f x) ∷ []
   lengths_more = ap lengths_in (map-append f front (x ∷ [])) ∙ map-append length (map f front) (f x ∷ [])
-
--- what was read of the first items is what they say, also with one more
-
-pub map_one_more : {A B C : Type 0} (f : A → C) (g : B → C) (read new : List A) (xs : List B) (i : ℕ) (x : A) (d : B) → i < length xs
-    → new ≡ read ++ x ∷ [] → map f read ≡ map g (take i xs) → f x ≡ g (slice_index_or xs i d) → map f new ≡ map g (take (i + 1) xs)
-map_one_more f g read new xs i x d inside pushed front same =
-    ap (map f) pushed ∙ (map-append f read (x ∷ []) ∙ ((λ j. front j ++ same j ∷ []) ∙ sym (map_more g xs i d inside)))
 
 each_of_map : (P : List ℕ → Type 0) (xs : List (String Global)) → AllByRecursion (λ x. P (string_bytes x)) xs
     → AllByRecursion P (map string_bytes xs)

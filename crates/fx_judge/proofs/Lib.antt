@@ -1,5 +1,4 @@
-pub mod Concluded
-pub mod FirstFlaws
+pub mod ReadFiles
 pub mod LogVerdicts
 pub mod Found
 pub mod Words

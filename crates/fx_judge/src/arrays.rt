@@ -1,174 +1,51 @@
-//! The arrays of a log, and what its events say.
-ghost use Rattle.std.specs.Prelude.{◌≡◌, IfOk, string_bytes};
+//! The events of a log, and what they say.
+ghost use Rattle.std.specs.Prelude.{◌≡◌};
 ghost use Rattle.fx_chain.specs.Completed.{completed_of};
 ghost use Rattle.fx_chain.specs.Operation.{all_asked, asked_of, operation_of};
 ghost use Rattle.fx_flight.specs.Events.{all_happenings, happening_of};
-ghost use Rattle.fx_judge.specs.Arrays.{answer_passed, arrays_in, asked_passed, chain_passed};
-ghost use Rattle.fx_judge.specs.Arrays.{file_passed, happening_passed};
-ghost use Rattle.fx_judge.specs.Arrays.{log_passed, name_passed, operation_passed, part_from, place_passed};
+ghost use Rattle.fx_judge.specs.Arrays.{answer_passed, are_known_flags, asked_passed, chain_passed};
+ghost use Rattle.fx_judge.specs.Arrays.{happening_passed, log_passed, named_passed, opens_passed};
+ghost use Rattle.fx_judge.specs.Arrays.{operation_passed, passed_log, place_passed};
+ghost use Rattle.fx_judge.specs.Reading.{ReadsOrFails};
+ghost use Rattle.fx_judge.specs.declared.unread.LogRefusal.TheVariants.{Malformed};
 
 use crate::codes::{
     EVENT_CALL, EVENT_CLOSED, EVENT_DONE, EVENT_EMPTY, EVENT_FOUND, EVENT_FREE, EVENT_LOOK,
-    REQUEST_CLOSE, REQUEST_OPEN, REQUEST_OPEN_ANY, REQUEST_READ, REQUEST_UPDATE,
+    EVENT_SETTLED, FLAW_EVENT, FLAW_FILE, FLAW_FLAGS, FLAW_RANGE, FLAW_REQUEST, REQUEST_CLOSE,
+    REQUEST_OPEN, REQUEST_OPEN_ANY, REQUEST_OPEN_MISSING, REQUEST_READ, REQUEST_UPDATE,
 };
 use crate::events::{YachtEvent, YachtRequest};
+use crate::files::part;
+use crate::logs::CallLog;
+use crate::unread::{LogRefusal, Unread};
 use bitflags::Flags;
-use fx_base::{Catalogue, Closed, NoMemory};
+use fx_base::{Catalogue, Closed};
 use fx_chain::{Completion, Op, Place, Request, SqeFlags, Target};
 use fx_flight::LogEvent;
 use std::alloc::Global;
 
-/// The arrays that the events of a log refer to.
+/// A log whose events are read.
 #[derive(Drop)]
-pub struct LogArrays<'a> {
+pub struct LogReader<'a> {
     pub alloc: Global,
     /// The files that the requests can open.
     pub catalogue: &'a Catalogue,
-    /// The requests of all calls.
-    pub requests: &'a [YachtRequest],
-    /// The entries of all updates.
-    pub entries: &'a [i32],
-    /// The bytes that all reads returned.
-    pub bytes: &'a [u8],
+    /// The log.
+    pub log: CallLog<'a>,
 }
 
-/// Returns the items from `first` on, at most `count` of them.
-pub fn part<T>(items: &[T], first: u32, count: u32) -> &[T]
-    ensures { result.now ≡ part_from items.now first count }
+// Returns the refusal of the event at a position.
+fn flawed(at: usize, flaw: u32) -> LogRefusal
+    ensures { result ≡ Malformed at flaw }
 {
-    let (first, count) = (first as usize, count as usize);
-    if first >= items.len() {
-        return &items[..0];
-    }
-    let rest = &items[first..];
-    if count < rest.len() {
-        &rest[..count]
-    } else {
-        rest
-    }
+    LogRefusal::Malformed { at, flaw }
 }
 
-impl LogArrays<'_> {
-    // Returns the name of a file of the catalogue, or no bytes if it has no such file.
-    fn name(&self, file: u8) -> Result<String, NoMemory>
-        ensures { IfOk result (λ name. string_bytes name ≡ name_passed self.now.catalogue.now file) }
-    {
-        if file as u32 >= self.catalogue.len() {
-            return Ok(String::new(self.alloc));
-        }
-        Ok(String::from_str(self.alloc, self.catalogue.name_of(file))?)
-    }
-
-    // Returns the operation of a request.
-    fn op(&self, request: &YachtRequest) -> Result<Op, NoMemory>
-        ensures { IfOk result (λ op.
-            operation_of op ≡ operation_passed (arrays_in self.now) request.now) }
-    {
-        let (slot, first, count) = (request.slot, request.first, request.count);
-        match request.kind {
-            REQUEST_OPEN => Ok(Op::Open {
-                name: self.name(request.file)?,
-                target: Target::Slot(slot),
-            }),
-            REQUEST_OPEN_ANY => Ok(Op::Open {
-                name: self.name(request.file)?,
-                target: Target::Any,
-            }),
-            REQUEST_READ => Ok(Op::Read {
-                slot,
-                off: first,
-                len: count,
-            }),
-            REQUEST_CLOSE => Ok(Op::Close { slot }),
-            REQUEST_UPDATE => Ok(Op::Update {
-                off: slot,
-                list: Vec::from_slice(self.alloc, part(self.entries, first, count))?,
-            }),
-            _ => Ok(Op::Open {
-                name: String::new(self.alloc),
-                target: Target::Any,
-            }),
-        }
-    }
-
-    // Returns a request.
-    fn request(&self, request: &YachtRequest) -> Result<Request, NoMemory>
-        ensures { IfOk result (λ asked. asked_of asked ≡ asked_passed (arrays_in self.now) request.now) }
-    {
-        let flags = SqeFlags::from_bits_retain(request.flags);
-        let op = self.op(request)?;
-        Ok(Request { op, flags })
-    }
-
-    // Returns the requests of a call.
-    fn chain(&self, event: &YachtEvent) -> Result<Vec<Request>, NoMemory>
-        ensures { IfOk result (λ chain.
-            all_asked chain.items ≡ chain_passed (arrays_in self.now) event.now) }
-    {
-        let requests = part(self.requests, event.first, event.count);
-        let mut chain = Vec::new(self.alloc);
-        for request in requests {
-            chain.push(self.request(request)?)?;
-        }
-        Ok(chain)
-    }
-
-    // Returns the answer of a member.
-    fn answer(&self, event: &YachtEvent) -> Result<Completion, NoMemory>
-        ensures { IfOk result (λ c. completed_of c ≡ answer_passed (arrays_in self.now) event.now) }
-    {
-        let got = part(self.bytes, event.first, event.count);
-        Ok(Completion {
-            place: place(event.call, event.member),
-            res: event.res,
-            got: Vec::from_slice(self.alloc, got)?,
-        })
-    }
-
-    /// Returns what an event says.
-    ///
-    /// # Errors
-    /// `NoMemory` if an allocation fails.
-    fn event(&self, event: &YachtEvent) -> Result<LogEvent, NoMemory>
-        ensures { IfOk result (λ said.
-            happening_of said ≡ happening_passed (arrays_in self.now) event.now) }
-    {
-        let id = event.call;
-        match event.kind {
-            EVENT_CALL => Ok(LogEvent::Call {
-                id,
-                chain: self.chain(event)?,
-            }),
-            EVENT_DONE => Ok(LogEvent::Done(self.answer(event)?)),
-            EVENT_LOOK => Ok(LogEvent::Look {
-                id,
-                slot: event.slot,
-            }),
-            EVENT_FOUND => Ok(LogEvent::Found {
-                id,
-                file: Some(file(event)),
-            }),
-            EVENT_EMPTY => Ok(LogEvent::Found { id, file: None }),
-            EVENT_FREE => Ok(LogEvent::Free { id }),
-            EVENT_CLOSED => Ok(LogEvent::Closed(file(event))),
-            _ => Ok(LogEvent::Settled),
-        }
-    }
-
-    /// Returns what the events say.
-    ///
-    /// # Errors
-    /// `NoMemory` if an allocation fails.
-    pub fn log(&self, events: &[YachtEvent]) -> Result<Vec<LogEvent>, NoMemory>
-        ensures { IfOk result (λ log.
-            all_happenings log.items ≡ log_passed (arrays_in self.now) events.now) }
-    {
-        let mut log = Vec::new(self.alloc);
-        for event in events {
-            log.push(self.event(event)?)?;
-        }
-        Ok(log)
-    }
+// Checks whether each flag is one that is known.
+fn are_known_flags(flags: u8) -> bool
+    ensures { result ≡ are_known_flags flags }
+{
+    matches!(flags, 0 | 1 | 4 | 5 | 8 | 9 | 12 | 13)
 }
 
 // Returns the place of a member of a call.
@@ -182,9 +59,139 @@ fn place(call: u32, member: u32) -> Place
     }
 }
 
-// Returns the file that an event names.
-fn file(event: &YachtEvent) -> Closed
-    ensures { result ≡ file_passed event.now }
-{
-    place(event.by_call, event.by_member).installed(event.by_entry, event.file)
+// Each of these reads a part of the event at the position `at`.
+impl LogReader<'_> {
+    // Returns the operation of an open.
+    fn open(&self, at: usize, file: u8, target: Target) -> Result<Op, Unread>
+        ensures { ReadsOrFails operation_of result (opens_passed self.now.catalogue.now at file target) }
+    {
+        if u32::from(file) >= self.catalogue.len() {
+            return Err(Unread::Refused(flawed(at, FLAW_FILE)));
+        }
+        let name = String::from_str(self.alloc, self.catalogue.name_of(file))?;
+        Ok(Op::Open { name, target })
+    }
+
+    // Returns the operation of a request.
+    fn op(&self, at: usize, request: &YachtRequest) -> Result<Op, Unread>
+        ensures { ReadsOrFails operation_of result
+            (operation_passed (passed_log self.now.log) self.now.catalogue.now at request.now) }
+    {
+        let (slot, first, count) = (request.slot, request.first, request.count);
+        match request.kind {
+            REQUEST_OPEN => self.open(at, request.file, Target::Slot(slot)),
+            REQUEST_OPEN_ANY => self.open(at, request.file, Target::Any),
+            REQUEST_OPEN_MISSING => Ok(Op::Open {
+                name: String::new(self.alloc),
+                target: Target::Any,
+            }),
+            REQUEST_READ => Ok(Op::Read {
+                slot,
+                off: first,
+                len: count,
+            }),
+            REQUEST_CLOSE => Ok(Op::Close { slot }),
+            REQUEST_UPDATE => {
+                let list = part(self.log.entries, first, count, flawed(at, FLAW_RANGE))?;
+                let list = Vec::from_slice(self.alloc, list)?;
+                Ok(Op::Update { off: slot, list })
+            }
+            _ => Err(Unread::Refused(flawed(at, FLAW_REQUEST))),
+        }
+    }
+
+    // Returns a request.
+    fn request(&self, at: usize, request: &YachtRequest) -> Result<Request, Unread>
+        ensures { ReadsOrFails asked_of result
+            (asked_passed (passed_log self.now.log) self.now.catalogue.now at request.now) }
+    {
+        if !are_known_flags(request.flags) {
+            return Err(Unread::Refused(flawed(at, FLAW_FLAGS)));
+        }
+        let flags = SqeFlags::from_bits_retain(request.flags);
+        let op = self.op(at, request)?;
+        Ok(Request { op, flags })
+    }
+
+    // Returns the requests of a call.
+    fn chain(&self, at: usize, event: &YachtEvent) -> Result<Vec<Request>, Unread>
+        ensures { ReadsOrFails (λ chain. all_asked chain.items) result
+            (chain_passed (passed_log self.now.log) self.now.catalogue.now at event.now) }
+    {
+        let flaw = flawed(at, FLAW_RANGE);
+        let requests = part(self.log.requests, event.first, event.count, flaw)?;
+        let mut chain = Vec::new(self.alloc);
+        for request in requests {
+            chain.push(self.request(at, request)?)?;
+        }
+        Ok(chain)
+    }
+
+    // Returns the answer of a member.
+    fn answer(&self, at: usize, event: &YachtEvent) -> Result<Completion, Unread>
+        ensures { ReadsOrFails completed_of result
+            (answer_passed (passed_log self.now.log) at event.now) }
+    {
+        let flaw = flawed(at, FLAW_RANGE);
+        let got = part(self.log.bytes, event.first, event.count, flaw)?;
+        Ok(Completion {
+            place: place(event.call, event.member),
+            res: event.res,
+            got: Vec::from_slice(self.alloc, got)?,
+        })
+    }
+
+    // Returns the file that an event names.
+    fn file(&self, at: usize, event: &YachtEvent) -> Result<Closed, Unread>
+        ensures { ReadsOrFails (λ file. file) result
+            (named_passed self.now.catalogue.now at event.now) }
+    {
+        if u32::from(event.file) >= self.catalogue.len() {
+            return Err(Unread::Refused(flawed(at, FLAW_FILE)));
+        }
+        Ok(place(event.by_call, event.by_member).installed(event.by_entry, event.file))
+    }
+
+    // Returns what an event says.
+    fn event(&self, at: usize, event: &YachtEvent) -> Result<LogEvent, Unread>
+        ensures { ReadsOrFails happening_of result
+            (happening_passed (passed_log self.now.log) self.now.catalogue.now at event.now) }
+    {
+        let id = event.call;
+        match event.kind {
+            EVENT_CALL => Ok(LogEvent::Call {
+                id,
+                chain: self.chain(at, event)?,
+            }),
+            EVENT_DONE => Ok(LogEvent::Done(self.answer(at, event)?)),
+            EVENT_LOOK => Ok(LogEvent::Look {
+                id,
+                slot: event.slot,
+            }),
+            EVENT_FOUND => Ok(LogEvent::Found {
+                id,
+                file: Some(self.file(at, event)?),
+            }),
+            EVENT_EMPTY => Ok(LogEvent::Found { id, file: None }),
+            EVENT_FREE => Ok(LogEvent::Free { id }),
+            EVENT_CLOSED => Ok(LogEvent::Closed(self.file(at, event)?)),
+            EVENT_SETTLED => Ok(LogEvent::Settled),
+            _ => Err(Unread::Refused(flawed(at, FLAW_EVENT))),
+        }
+    }
+
+    /// Returns what the events say.
+    ///
+    /// # Errors
+    /// `Malformed` of the first event that can't be read. `NoMemory` if an allocation fails.
+    pub fn events(&self) -> Result<Vec<LogEvent>, Unread>
+        ensures { ReadsOrFails (λ said. all_happenings said.items) result
+            (log_passed (passed_log self.now.log) self.now.catalogue.now) }
+    {
+        let mut said = Vec::new(self.alloc);
+        for event in self.log.events {
+            said.push(self.event(said.len(), event)?)?;
+        }
+        Ok(said)
+    }
 }

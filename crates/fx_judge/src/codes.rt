@@ -23,6 +23,9 @@ pub const MALFORMED: u32 = 6;
 /// The table has more than `MOST_LOG_SLOTS` slots.
 pub const TOO_MANY_SLOTS: u32 = 7;
 
+/// A catalogue refuses a file.
+pub const BAD_FILE: u32 = 8;
+
 /// All texts are listed.
 pub const ALL: u32 = 0;
 

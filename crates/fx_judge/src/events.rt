@@ -1,5 +1,19 @@
 //! The events of a log as C passes them: of fixed size, with ranges of other arrays.
 
+/// A file of the catalogue of a log.
+#[repr(C)]
+#[derive(Drop)]
+pub struct YachtFile {
+    /// The position of the first byte of its name in `bytes`.
+    pub name: u32,
+    /// The number of bytes of its name.
+    pub name_length: u32,
+    /// The position of its first byte in `bytes`.
+    pub first: u32,
+    /// The number of its bytes.
+    pub count: u32,
+}
+
 /// A request of a chain. A field that its kind doesn't use says nothing.
 #[repr(C)]
 #[derive(Drop)]

@@ -1,14 +1,16 @@
 //! The verdict on a log of calls in flight.
-ghost use Rattle.std.specs.Prelude.{◌≡◌, true};
-ghost use Rattle.fx_judge.specs.Logs.{HasNotHappened, HasNotHappenedBy, IsLogVerdict, IsNumberOf};
-ghost use Rattle.fx_judge.specs.Logs.{MayHaveHappened, MayHaveHappenedBy, passed_log, number_of_fault};
+ghost use Rattle.std.specs.Prelude.{◌≡◌};
+ghost use Rattle.fx_judge.specs.Arrays.{passed_log};
+ghost use Rattle.fx_judge.specs.Logs.{IsLogVerdict, IsNumberOf, IsUnreadNumber, number_of_fault};
 
 use crate::codes::{
-    FAULT_ANSWERED_TWICE, FAULT_NOT_CALLED, FAULT_NOT_HELD, FAULT_NOT_ONE_CHAIN, FAULT_OUT_OF_TURN,
-    FAULT_STILL_OPEN, FAULT_WRONG_NUMBER, FAULTY, LEGAL, NO_MEMORY, NOT_LEGAL, UNDECIDED,
+    BAD_FILE, FAULT_ANSWERED_TWICE, FAULT_NOT_CALLED, FAULT_NOT_HELD, FAULT_NOT_ONE_CHAIN,
+    FAULT_OUT_OF_TURN, FAULT_STILL_OPEN, FAULT_WRONG_NUMBER, FAULTY, LEGAL, MALFORMED, NO_MEMORY,
+    NOT_LEGAL, TOO_MANY_SLOTS, UNDECIDED,
 };
 use crate::logs::CallLog;
 use crate::steps::{YachtStep, write_steps};
+use crate::unread::{LogRefusal, Unread};
 use check_flight::{FlightVerdict, judge_events};
 use check_search::Limits;
 use fx_flight::EventFault;
@@ -19,16 +21,13 @@ use std::alloc::Global;
 #[derive(Drop)]
 pub struct YachtJudgement {
     /// The position of the event of a verdict, from 0: the first one with which the log is known
-    /// not to be legal, or the first one with a fault or a flaw.
+    /// not to be legal, or the first one with a fault or a flaw. Of a refused file: its position.
     pub at: u64,
     /// Of a log that isn't legal: the number of steps of the whole reason, of which as many are
     /// written as have room, or 0 if no reason is found.
     pub steps: u64,
     /// The number of the fault, or of the flaw.
     pub fault: u32,
-    /// Of bytes that aren't a script: the line of the first fault, from 1, or 0 if there are too
-    /// many bytes.
-    pub line: u32,
 }
 
 // Returns the number of a fault.
@@ -69,8 +68,29 @@ fn number(verdict: FlightVerdict, steps: &mut [YachtStep], judgement: &mut Yacht
     }
 }
 
-// Judges a log of calls in flight; with `whole` each update is one step.
-fn judge_log_by(
+// Writes the details of a log that isn't read. Returns its number.
+fn unread(why: Unread, judgement: &mut YachtJudgement) -> u32
+    ensures { IsUnreadNumber why result judgement.new }
+{
+    match why {
+        Unread::Refused(LogRefusal::TooManySlots) => TOO_MANY_SLOTS,
+        Unread::Refused(LogRefusal::BadFile(at)) => {
+            judgement.at = at as u64;
+            BAD_FILE
+        }
+        Unread::Refused(LogRefusal::Malformed { at, flaw }) => {
+            judgement.at = at as u64;
+            judgement.fault = flaw;
+            MALFORMED
+        }
+        Unread::NoMemory => NO_MEMORY,
+    }
+}
+
+/// Judges a log of calls in flight, by searches within these limits, and writes the first steps of
+/// the reason. With `whole` each update is one step, not one for each entry. It returns `LEGAL`,
+/// `NOT_LEGAL`, `UNDECIDED`, `NO_MEMORY`, `FAULTY`, `MALFORMED`, `TOO_MANY_SLOTS` or `BAD_FILE`.
+pub fn judge_log(
     alloc: Global,
     log: &CallLog<'_>,
     whole: bool,
@@ -78,47 +98,20 @@ fn judge_log_by(
     steps: &mut [YachtStep],
     judgement: &mut YachtJudgement,
 ) -> u32
-    ensures { IsLogVerdict (MayHaveHappenedBy whole) (HasNotHappenedBy whole) (passed_log log.now)
-        result judgement.new }
+    ensures { IsLogVerdict whole (passed_log log.now) result judgement.new }
 {
-    let read = match log.read(alloc, judgement) {
-        Ok(read) => read,
-        Err(number) => return number,
+    *judgement = YachtJudgement {
+        at: 0,
+        steps: 0,
+        fault: 0,
     };
-    let catalogue = read.script.catalogue();
-    let slots = &read.slots;
+    let read = match log.read(alloc) {
+        Ok(read) => read,
+        Err(why) => return unread(why, judgement),
+    };
+    let (catalogue, slots) = (&read.catalogue, &read.slots);
     let Ok(verdict) = judge_events(alloc, catalogue, slots, &read.events, whole, limits) else {
-        return NO_MEMORY;
+        return unread(Unread::NoMemory, judgement);
     };
     number(verdict, steps, judgement)
-}
-
-/// Judges a log of calls in flight, by searches within these limits, and writes the first steps of
-/// the reason. It returns `LEGAL`, `NOT_LEGAL`, `UNDECIDED`, `BAD_SCRIPT`, `NO_MEMORY`, `FAULTY`,
-/// `MALFORMED` or `TOO_MANY_SLOTS`.
-pub fn judge_log(
-    alloc: Global,
-    log: &CallLog<'_>,
-    limits: Limits,
-    steps: &mut [YachtStep],
-    judgement: &mut YachtJudgement,
-) -> u32
-    ensures { IsLogVerdict MayHaveHappened HasNotHappened (passed_log log.now) result judgement.new }
-{
-    judge_log_by(alloc, log, false, limits, steps, judgement)
-}
-
-/// Judges a log as `judge_log` does, by whole updates: each update is one step, not one for each
-/// entry.
-pub fn judge_whole_updates(
-    alloc: Global,
-    log: &CallLog<'_>,
-    limits: Limits,
-    steps: &mut [YachtStep],
-    judgement: &mut YachtJudgement,
-) -> u32
-    ensures { IsLogVerdict (MayHaveHappenedBy true) (HasNotHappenedBy true) (passed_log log.now)
-        result judgement.new }
-{
-    judge_log_by(alloc, log, true, limits, steps, judgement)
 }

@@ -1,5 +1,8 @@
 //! The verdict on a text.
-ghost use Rattle.fx_judge.specs.Verdicts.{IsConclusion, IsTextVerdict};
+ghost use Rattle.std.specs.Prelude.{ℕ, List};
+ghost use Rattle.fx_language.specs.Script.{IsScript, Meaning};
+ghost use Rattle.check_judge.specs.Judged.{IsJudged};
+ghost use Rattle.fx_judge.specs.Verdicts.{IsTextVerdict};
 
 use crate::codes::{BAD_SCRIPT, LEGAL, NO_MEMORY, NOT_LEGAL, UNDECIDED};
 use crate::note::{JudgedText, note_break, note_fault};
@@ -46,7 +49,9 @@ fn conclude(
     note: &mut [u8],
     verdict: &mut YachtVerdict,
 ) -> u32
-    ensures { IsConclusion judgement result verdict.new }
+    ensures { (script : List ℕ) (meaning : Meaning) → IsScript script meaning
+        → IsJudged meaning judged.entry.text.now judgement
+        → IsTextVerdict script judged.entry.text.now result verdict.new }
 {
     match judgement {
         Judgement::Legal(_) => LEGAL,

@@ -6,7 +6,7 @@
 mod arrays;
 pub mod codes;
 mod events;
-mod flaws;
+mod files;
 mod flights;
 mod judge;
 mod limits;
@@ -14,9 +14,10 @@ mod logs;
 mod note;
 mod outcomes;
 mod steps;
+mod unread;
 
-pub use events::{YachtEvent, YachtRequest};
-pub use flights::{YachtJudgement, judge_log, judge_whole_updates};
+pub use events::{YachtEvent, YachtFile, YachtRequest};
+pub use flights::{YachtJudgement, judge_log};
 pub use judge::{YachtVerdict, judge_text};
 pub use limits::limits_of;
 pub use logs::CallLog;

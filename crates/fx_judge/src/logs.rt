@@ -1,32 +1,33 @@
 //! A log as C passes it, and how it is read.
-ghost use Rattle.std.specs.Prelude.{◌≡◌, ◌≢◌, ◌<◌, IfErr, IfOk, None};
+ghost use Rattle.std.specs.Prelude.{◌≡◌, ◌≤◌, IfOk, None};
+ghost use Rattle.fx_base.specs.Catalogue.{IsCatalogue};
 ghost use Rattle.fx_order.specs.Slots.{table_of_slots};
-ghost use Rattle.fx_judge.specs.Logs.{IsLogRefusal, IsReadLog, passed_log, passed};
-ghost use Rattle.fx_judge.specs.declared.codes.TheConstants.{FAULTY, UNDECIDED};
+ghost use Rattle.fx_judge.specs.Arrays.{passed_log};
+ghost use Rattle.fx_judge.specs.Logs.{reading_in, reading_passed};
+ghost use Rattle.fx_judge.specs.Reading.{ReadsOrFails};
 
-use crate::arrays::LogArrays;
-use crate::codes::{BAD_SCRIPT, MALFORMED, MOST_LOG_SLOTS, NO_MEMORY, TOO_MANY_SLOTS};
-use crate::events::{YachtEvent, YachtRequest};
-use crate::flaws::flaw_of_log;
-use crate::flights::YachtJudgement;
-use fx_base::NoMemory;
+use crate::arrays::LogReader;
+use crate::codes::MOST_LOG_SLOTS;
+use crate::events::{YachtEvent, YachtFile, YachtRequest};
+use crate::files::catalogue_of;
+use crate::unread::{LogRefusal, Unread};
+use fx_base::{Catalogue, NoMemory};
 use fx_flight::LogEvent;
 use fx_order::Slots;
-use fx_script::{Script, ScriptError};
 use std::alloc::Global;
 
 /// A log of calls in flight, as C passes it.
 #[derive(Clone, Copy, Drop)]
 pub struct CallLog<'a> {
-    /// The script, whose files are the catalogue. Its commands are not looked at.
-    pub script: &'a [u8],
+    /// The files of the catalogue.
+    pub files: &'a [YachtFile],
     /// The number of slots of the table, which are empty at first.
     pub slots: u32,
     /// The requests of all calls.
     pub requests: &'a [YachtRequest],
     /// The entries of all updates.
     pub entries: &'a [i32],
-    /// The bytes that all reads returned.
+    /// The names and the bytes of all files, and the bytes that all reads returned.
     pub bytes: &'a [u8],
     /// The events.
     pub events: &'a [YachtEvent],
@@ -35,8 +36,8 @@ pub struct CallLog<'a> {
 /// A log that was read.
 #[derive(Drop)]
 pub struct ReadLog {
-    /// The script.
-    pub script: Script,
+    /// The catalogue.
+    pub catalogue: Catalogue,
     /// The slots of the table before the log.
     pub slots: Slots,
     /// The events of the log, in order.
@@ -52,75 +53,34 @@ fn empty_slots(alloc: Global, n: u32) -> Result<Slots, NoMemory>
     Ok(Slots { range: (0, n), at })
 }
 
-impl<'a> CallLog<'a> {
-    /// Returns the log that C passes in these arguments.
-    pub fn of(
-        script: &'a [u8],
-        slots: u32,
-        requests: &'a [YachtRequest],
-        entries: &'a [i32],
-        bytes: &'a [u8],
-        events: &'a [YachtEvent],
-    ) -> CallLog<'a>
-        ensures { passed_log result
-            ≡ passed script.now slots requests.now entries.now bytes.now events.now }
+impl CallLog<'_> {
+    /// Reads the log.
+    ///
+    /// # Errors
+    /// `TooManySlots`, or else `BadFile` of the first file that the catalogue refuses, or else
+    /// `Malformed` of the first event that can't be read. `NoMemory` if an allocation fails.
+    pub fn read(&self, alloc: Global) -> Result<ReadLog, Unread>
+        ensures read { ReadsOrFails reading_in result (reading_passed (passed_log self.now)) }
+        ensures catalogue { IfOk result (λ read. IsCatalogue read.catalogue) }
+        ensures few { IfOk result (λ _. self.now.slots ≤ MOST_LOG_SLOTS) }
+        ensures slots { IfOk result (λ read. table_of_slots read.slots
+            ≡ record { size = self.now.slots; range = (0, self.now.slots); at = λ _. None }) }
     {
-        CallLog {
-            script,
-            slots,
-            requests,
-            entries,
-            bytes,
-            events,
-        }
-    }
-
-    /// Reads the log. Returns a number instead if there are too many slots, the bytes aren't a
-    /// script, an event has a flaw or an allocation fails. Writes the details of that number.
-    pub fn read(&self, alloc: Global, details: &mut YachtJudgement) -> Result<ReadLog, u32>
-        ensures read { IfOk result (IsReadLog (passed_log self.now)) }
-        ensures refused { IfErr result (λ number. IsLogRefusal (passed_log self.now) number
-            details.new.at details.new.fault details.new.line) }
-        ensures no_verdict { IfErr result (λ number. UNDECIDED < number) }
-        ensures no_fault { IfErr result (λ number. number ≢ FAULTY) }
-    {
-        *details = YachtJudgement {
-            at: 0,
-            steps: 0,
-            fault: 0,
-            line: 0,
-        };
         if self.slots > MOST_LOG_SLOTS {
-            return Err(TOO_MANY_SLOTS);
+            return Err(Unread::Refused(LogRefusal::TooManySlots));
         }
-        let script = match Script::read(alloc, self.script) {
-            Ok(script) => script,
-            Err(ScriptError::NoMemory) => return Err(NO_MEMORY),
-            Err(ScriptError::Fault { line, kind: _ }) => {
-                details.line = line;
-                return Err(BAD_SCRIPT);
-            }
-        };
-        let arrays = LogArrays {
+        let catalogue = catalogue_of(alloc, self.files, self.bytes)?;
+        let reader = LogReader {
             alloc,
-            catalogue: script.catalogue(),
-            requests: self.requests,
-            entries: self.entries,
-            bytes: self.bytes,
+            catalogue: &catalogue,
+            log: *self,
         };
-        if let Some(flaw) = flaw_of_log(&arrays, self.events) {
-            details.at = flaw.at as u64;
-            details.fault = flaw.flaw;
-            return Err(MALFORMED);
-        }
-        let Ok(events) = arrays.log(self.events) else {
-            return Err(NO_MEMORY);
-        };
+        let events = reader.events()?;
         let Ok(slots) = empty_slots(alloc, self.slots) else {
-            return Err(NO_MEMORY);
+            return Err(Unread::NoMemory);
         };
         Ok(ReadLog {
-            script,
+            catalogue,
             slots,
             events,
         })

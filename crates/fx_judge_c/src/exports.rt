@@ -1,14 +1,14 @@
 //! The functions that C calls. Each has the contract of the call of `fx_judge` that it makes, and
 //! the major version in its name, since C passes structs.
-ghost use Rattle.std.specs.Prelude.{true};
-ghost use Rattle.fx_judge.specs.Logs.{HasNotHappened, HasNotHappenedBy, IsLogVerdict};
-ghost use Rattle.fx_judge.specs.Logs.{MayHaveHappened, MayHaveHappenedBy, passed};
+ghost use Rattle.std.specs.Prelude.{false, true};
+ghost use Rattle.fx_judge.specs.Arrays.{passed};
+ghost use Rattle.fx_judge.specs.Logs.{IsLogVerdict};
 ghost use Rattle.fx_judge.specs.Outcomes.{IsTextList};
 ghost use Rattle.fx_judge.specs.Verdicts.{IsTextVerdict};
 
 use fx_judge::{
-    CallLog, YachtEvent, YachtJudgement, YachtRequest, YachtStep, YachtTexts, YachtVerdict,
-    judge_log, judge_text, judge_whole_updates, limits_of, list_texts,
+    CallLog, YachtEvent, YachtFile, YachtJudgement, YachtRequest, YachtStep, YachtTexts,
+    YachtVerdict, judge_log, judge_text, limits_of, list_texts,
 };
 use std::alloc::Global;
 
@@ -53,7 +53,7 @@ pub extern "C" fn yacht_outcomes_6(
 #[unsafe(no_mangle)]
 pub extern "C" fn yacht_judge_events_6(
     alloc: Global,
-    script: &[u8],
+    files: &[YachtFile],
     slots: u32,
     requests: &[YachtRequest],
     entries: &[i32],
@@ -64,20 +64,28 @@ pub extern "C" fn yacht_judge_events_6(
     steps: &mut [YachtStep],
     judgement: &mut YachtJudgement,
 ) -> u32
-    ensures { IsLogVerdict MayHaveHappened HasNotHappened
-        (passed script.now slots requests.now entries.now bytes.now events.now) result
+    ensures { IsLogVerdict false
+        (passed files.now slots requests.now entries.now bytes.now events.now) result
         judgement.new }
 {
-    let log = CallLog::of(script, slots, requests, entries, bytes, events);
-    judge_log(alloc, &log, limits_of(states, memory), steps, judgement)
+    let log = CallLog {
+        files,
+        slots,
+        requests,
+        entries,
+        bytes,
+        events,
+    };
+    let limits = limits_of(states, memory);
+    judge_log(alloc, &log, false, limits, steps, judgement)
 }
 
 /// Judges a log of calls in flight by whole updates, as `yacht_judge_events` does:
-/// `fx_judge::judge_whole_updates`.
+/// `fx_judge::judge_log`.
 #[unsafe(no_mangle)]
 pub extern "C" fn yacht_judge_whole_updates_6(
     alloc: Global,
-    script: &[u8],
+    files: &[YachtFile],
     slots: u32,
     requests: &[YachtRequest],
     entries: &[i32],
@@ -88,10 +96,18 @@ pub extern "C" fn yacht_judge_whole_updates_6(
     steps: &mut [YachtStep],
     judgement: &mut YachtJudgement,
 ) -> u32
-    ensures { IsLogVerdict (MayHaveHappenedBy true) (HasNotHappenedBy true)
-        (passed script.now slots requests.now entries.now bytes.now events.now) result
+    ensures { IsLogVerdict true
+        (passed files.now slots requests.now entries.now bytes.now events.now) result
         judgement.new }
 {
-    let log = CallLog::of(script, slots, requests, entries, bytes, events);
-    judge_whole_updates(alloc, &log, limits_of(states, memory), steps, judgement)
+    let log = CallLog {
+        files,
+        slots,
+        requests,
+        entries,
+        bytes,
+        events,
+    };
+    let limits = limits_of(states, memory);
+    judge_log(alloc, &log, true, limits, steps, judgement)
 }
