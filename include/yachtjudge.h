@@ -1,9 +1,9 @@
 /* The judge: decides whether the rules of io_uring's registered file table (docs/inside/MODEL.md)
  * let a script print a text, lists the texts that a script may print, and judges logs of calls in
  * flight (docs/inside/FLIGHT.md). The functions are verified. Their contracts say what YACHT_LEGAL,
- * YACHT_NOT_LEGAL, YACHT_BAD_SCRIPT, YACHT_ALL, YACHT_SOME, YACHT_FAULTY, YACHT_MALFORMED and
- * YACHT_TOO_MANY_SLOTS mean (docs/inside/PROOFS.md). The other numbers, the note and the steps of a
- * reason are tested.
+ * YACHT_NOT_LEGAL, YACHT_BAD_SCRIPT, YACHT_ALL, YACHT_SOME, YACHT_FAULTY, YACHT_MALFORMED,
+ * YACHT_TOO_MANY_SLOTS and YACHT_BAD_FILE mean (docs/inside/PROOFS.md). The other numbers, the note
+ * and the steps of a reason are tested.
  * C11 or C++17. Link with -lyachtjudge.
  *
  * The caller must ensure the following, which nothing checks:
@@ -45,11 +45,12 @@ enum {
     YACHT_NOT_LEGAL = 1,   /* a judge: the script doesn't print the text, or the log has no flight
                             * in which each request finds memory */
     YACHT_UNDECIDED = 2,   /* a judge: neither was shown within the limits */
-    YACHT_BAD_SCRIPT = 3,  /* all: the bytes are not a script */
+    YACHT_BAD_SCRIPT = 3,  /* of a script: the bytes are not one */
     YACHT_JUDGE_NO_MEMORY = 4, /* all: an allocation failed */
     YACHT_FAULTY = 5,      /* a judge: an event can't follow those before it in a log */
     YACHT_MALFORMED = 6,   /* of a log: an event can't be read */
     YACHT_TOO_MANY_SLOTS = 7, /* of a log: the table has more than YACHT_MOST_LOG_SLOTS */
+    YACHT_BAD_FILE = 8,    /* of a log: a file can't be one of the catalogue */
     YACHT_ALL = 0,         /* yacht_outcomes: all texts are listed */
     YACHT_SOME = 1,        /* yacht_outcomes: all listed texts are right, and there may be more */
     YACHT_NO_ROOM = 2      /* yacht_outcomes: there is no room for the texts */
@@ -104,6 +105,15 @@ typedef struct yacht_texts {
 uint32_t yacht_outcomes(const uint8_t *script, size_t script_length, uint32_t states,
                         uint32_t memory, uint8_t *texts, size_t texts_length, uint64_t *lengths,
                         size_t lengths_length, yacht_texts *found);
+
+/* A file of the catalogue of a log: a name of its own, of 1 to 32 letters, digits, `.`, `_` or `-`,
+ * and at most 4,096 bytes. */
+typedef struct yacht_file {
+    uint32_t name;        /* the position of the first byte of its name in `bytes`, from 0 */
+    uint32_t name_length; /* the number of bytes of its name */
+    uint32_t first;       /* the position of its first byte in `bytes`, from 0 */
+    uint32_t count;       /* the number of its bytes */
+} yacht_file;
 
 /* The kinds of the events of a log, and the fields that each uses beside `kind`
  * (docs/inside/FLIGHT.md, "Meaning of a log"). Calls are numbered from 1 in the order of their
@@ -264,25 +274,26 @@ typedef struct yacht_step {
 typedef struct yacht_judgement {
     /* YACHT_NOT_LEGAL: the position of the event, from 0, up to and with which the log has no
      * flight in which each request finds memory, or none by whole updates; YACHT_FAULTY,
-     * YACHT_MALFORMED: of the first event with a fault or a flaw */
+     * YACHT_MALFORMED: of the first event with a fault or a flaw; YACHT_BAD_FILE: of the first file
+     * that is past `bytes`, or that the catalogue of the files before it refuses */
     uint64_t at;
     uint64_t steps; /* YACHT_NOT_LEGAL: the number of steps of the reason; 0 if none is found */
     uint32_t fault; /* YACHT_FAULTY, YACHT_MALFORMED: the number of the fault or of the flaw */
-    uint32_t line;  /* YACHT_BAD_SCRIPT: as in a verdict */
 } yacht_judgement;
 
-/* Judges a log of calls in flight. The files of `script` are the catalogue, numbered from 0 in the
- * order of their lines; its commands are not looked at. The table has `slots` slots, all of them
- * empty at first and in the allocation range. The events name ranges of the other arrays: the
- * requests of chains, the entries of updates (-1 empties a slot, -2 leaves it as it is, any other
- * number is a file), and the bytes that reads returned. Each search of states keeps at most
- * `states` states and `memory` MiB of them. A log with an answer -12 is undecided.
+/* Judges a log of calls in flight. `files` are the catalogue, at most 256 of them, numbered from 0:
+ * a read is judged by their bytes. The table has `slots` slots, all of them empty at first and in
+ * the allocation range. The events name ranges of the other arrays: the requests of chains, the
+ * entries of updates (-1 empties a slot, -2 leaves it as it is, any other number is a file), and
+ * the bytes that reads returned, which stand in `bytes` beside the names and the bytes of files.
+ * Each search of states keeps at most `states` states and `memory` MiB of them. A log with an
+ * answer -12 is undecided.
  * For a log that isn't legal, it looks for the reason why the log has no flight up to and with the
  * event judgement->at. The first steps of the reason are written to `steps`, at most steps_length.
  * Each follows from the log and from steps before it.
- * Returns YACHT_LEGAL, YACHT_NOT_LEGAL, YACHT_UNDECIDED, YACHT_BAD_SCRIPT, YACHT_JUDGE_NO_MEMORY,
- * YACHT_FAULTY, YACHT_MALFORMED or YACHT_TOO_MANY_SLOTS, and writes *judgement. */
-uint32_t yacht_judge_events(const uint8_t *script, size_t script_length, uint32_t slots,
+ * Returns YACHT_LEGAL, YACHT_NOT_LEGAL, YACHT_UNDECIDED, YACHT_JUDGE_NO_MEMORY, YACHT_FAULTY,
+ * YACHT_MALFORMED, YACHT_TOO_MANY_SLOTS or YACHT_BAD_FILE, and writes *judgement. */
+uint32_t yacht_judge_events(const yacht_file *files, size_t files_length, uint32_t slots,
                             const yacht_request *requests, size_t requests_length,
                             const int32_t *entries, size_t entries_length, const uint8_t *bytes,
                             size_t bytes_length, const yacht_event *events, size_t events_length,
@@ -292,7 +303,7 @@ uint32_t yacht_judge_events(const uint8_t *script, size_t script_length, uint32_
 /* Judges a log as yacht_judge_events does, by whole updates: each update is one step, as on Linux,
  * not one for each entry. A log that is legal by whole updates is legal. A reason is found only if
  * the log is not legal by the entries of updates, either. */
-uint32_t yacht_judge_whole_updates(const uint8_t *script, size_t script_length, uint32_t slots,
+uint32_t yacht_judge_whole_updates(const yacht_file *files, size_t files_length, uint32_t slots,
                                    const yacht_request *requests, size_t requests_length,
                                    const int32_t *entries, size_t entries_length,
                                    const uint8_t *bytes, size_t bytes_length,

@@ -1,5 +1,5 @@
-"""The events of a log of calls in flight, which yachtlog reads, as the verified judge reads them (include/yachtjudge.h): the structs of the
-events and of the requests, as bytes."""
+"""A log of calls in flight, which yachtlog reads, as the verified judge reads it (include/yachtjudge.h): the structs of its files, events and
+requests, as bytes."""
 from __future__ import annotations
 
 import struct
@@ -16,6 +16,7 @@ FIXED_FILE, LINKS, EBADF = 1, {"": 0, "link": 4, "hardlink": 8}, -9
 # a struct ends as its widest number is aligned
 EVENT = struct.Struct("@3Ii6IB0I")
 REQUEST = struct.Struct("@4I2B0I")
+FILE = struct.Struct("@4I")
 ENTRY = struct.Struct("@i")
 NO_FILE = 0, 0, 0, 0
 
@@ -45,18 +46,27 @@ def numbered(log: Lines, events: Sequence[Event]) -> list[int]:
 
 
 class Events:
-    """The events, the requests of their chains, the entries of their updates, and the bytes that their reads returned. Calls are numbered
-    from 1 in the order of their events. Raises BadEvent if an event says what no call can."""
+    """The files, the events, the requests of their chains, the entries of their updates, and the bytes: the name and the bytes of each file,
+    and those that reads returned. Calls are numbered from 1 in the order of their events. Raises BadEvent if an event says what no call
+    can."""
 
     def __init__(self, log: Lines, events: Sequence[Event]) -> None:
         self._log = log
-        self.events, self.requests, self.entries, self.bytes = bytearray(), bytearray(), bytearray(), bytearray()
+        self.files, self.events, self.requests, self.entries, self.bytes = (bytearray() for _ in range(5))
+        for name, at in log.names.items():
+            self.files += FILE.pack(*self._keep(name.encode()), *self._keep(bytes.fromhex(log.contents[at])))
         self._numbers = {call: number for number, call in enumerate(numbered(log, events))}
         for event in events:
             try:
                 getattr(self, f"_{event.word}")(event)
             except (ValueError, KeyError, IndexError, struct.error) as fault:
                 raise BadEvent(event.line, str(fault)) from fault
+
+    def _keep(self, data: bytes) -> tuple[int, int]:
+        """Appends bytes. Returns their position and their number."""
+        first = len(self.bytes)
+        self.bytes += data
+        return first, len(data)
 
     def _add(
         self,
@@ -106,9 +116,7 @@ class Events:
     def _done(self, event: Event) -> None:
         answer = self._log.answers[event.call, event.member]
         if isinstance(answer.found, str) and self._log.chains[event.call][0].kind != "look":
-            found = bytes.fromhex(answer.found)
-            self._add(EVENT_DONE, event.call, (event.member, answer.result), part=(len(self.bytes), len(found)))
-            self.bytes += found
+            self._add(EVENT_DONE, event.call, (event.member, answer.result), part=self._keep(bytes.fromhex(answer.found)))
         elif answer.result == 0 and not isinstance(answer.found, str):
             self._add(EVENT_FOUND, event.call, file=self._file(answer.found))
         elif answer.result == EBADF:

@@ -36,7 +36,7 @@ __version__ = "6.0.0"
 # what a script or a text may be
 Words = Union[str, bytes, bytearray, memoryview]
 
-LEGAL, NOT_LEGAL, UNDECIDED, BAD_SCRIPT, NO_MEMORY, FAULTY, MALFORMED, TOO_MANY_SLOTS = range(8)
+LEGAL, NOT_LEGAL, UNDECIDED, BAD_SCRIPT, NO_MEMORY, FAULTY, MALFORMED, TOO_MANY_SLOTS, BAD_FILE = range(9)
 ALL, SOME, NO_ROOM = range(3)
 # the faults of a log, and the flaws of an event, in the order of their numbers from 1
 FAULTS = ["wrong-number", "not-one-chain", "not-called", "out-of-turn", "answered-twice", "not-held", "still-open"]
@@ -115,6 +115,10 @@ class _Texts(ctypes.Structure):
     _fields_ = fields(uint64="count bytes", uint32="line")
 
 
+class _File(ctypes.Structure):
+    _fields_ = fields(uint32="name name_length first count")
+
+
 class _Event(ctypes.Structure):
     _fields_ = [*fields(uint32="kind call member", int32="res"), *fields(uint32="slot first count by_call by_member by_entry", uint8="file")]
 
@@ -124,7 +128,7 @@ class _Request(ctypes.Structure):
 
 
 class _Judgement(ctypes.Structure):
-    _fields_ = fields(uint64="at steps", uint32="fault line")
+    _fields_ = fields(uint64="at steps", uint32="fault")
 
 
 def _paths() -> Iterator[Path]:
@@ -171,7 +175,7 @@ _library = _load()
 _BYTES = POINTER(c_uint8), c_size_t
 _LIMITS = c_uint32, c_uint32
 _REASON = POINTER(_Step), c_size_t
-_LOG = *_BYTES, c_uint32, POINTER(_Request), c_size_t, POINTER(c_int32), c_size_t, *_BYTES, POINTER(_Event), c_size_t
+_LOG = POINTER(_File), c_size_t, c_uint32, POINTER(_Request), c_size_t, POINTER(c_int32), c_size_t, *_BYTES, POINTER(_Event), c_size_t
 for _function, _given in (
     (_library.yacht_judge_6, (*_BYTES, *_BYTES, *_LIMITS, *_BYTES, POINTER(_Verdict))),
     (_library.yacht_outcomes_6, (*_BYTES, *_LIMITS, *_BYTES, POINTER(c_uint64), c_size_t, POINTER(_Texts))),
@@ -254,18 +258,16 @@ def _array(kind: type[Any], data: bytearray) -> tuple[Any, int]:
 
 
 class _Passed:
-    """A log as C reads it: the events, the catalogue as a script, and all arguments up to the events. Raises ValueError if two files have one
-    name."""
+    """A log as C reads it: the events, and all arguments up to them. Raises ValueError if two files have one name."""
 
     def __init__(self, log: yachtlog.Log, events: Sequence[yachtlog.Event] | None) -> None:
         if len(log.names) < len(log.contents):
             raise ValueError("two files have one name")
-        self.slots = log.slots
+        self.log = log
         self.events = [it for it in log.events if it.word != "tag"] if events is None else list(events)
-        self.catalogue = "".join(f"file {name} {log.contents[at] or '-'}\n" for name, at in log.names.items())
         said = Events(log, self.events)
         self.arguments = (
-            *_bytes(self.catalogue, "catalogue"),
+            *_array(_File, said.files),
             min(log.slots, MOST),
             *_array(_Request, said.requests),
             *_array(c_int32, said.entries),
@@ -275,13 +277,12 @@ class _Passed:
 
     def check(self, code: int, at: int, fault: int) -> None:
         """Raises what a number other than a verdict's says."""
-        if code == BAD_SCRIPT:
-            # the judge names the fault
-            judge(self.catalogue, b"", 0, 0)
         if code == NO_MEMORY:
             raise NoMemory("an allocation of the judge failed")
         if code == TOO_MANY_SLOTS:
-            raise ValueError(f"the table has too many slots: {self.slots}")
+            raise ValueError(f"the table has too many slots: {self.log.slots}")
+        if code == BAD_FILE:
+            raise ValueError(f"no catalogue has the file {list(self.log.names)[at]}")
         if code in (FAULTY, MALFORMED):
             raise BadEvent(self.events[at].line, (FAULTS if code == FAULTY else FLAWS)[fault - 1])
 
@@ -306,8 +307,8 @@ def judge_events(log: yachtlog.Log, events: Sequence[yachtlog.Event] | None = No
     events are those of the log, without its tags, or others of the same calls. With `whole_updates` each update is one step, not one for each
     entry. A log with an answer -12 is undecided.
 
-    Raises BadEvent if an event has a fault, or says what no call can; BadScript if its files aren't a catalogue; NoMemory if an allocation
-    fails; TypeError or ValueError if a limit is none; and ValueError if two files have one name, or the table has too many slots."""
+    Raises BadEvent if an event has a fault, or says what no call can; NoMemory if an allocation fails; TypeError or ValueError if a limit is
+    none; and ValueError if the files aren't a catalogue, or the table has too many slots."""
     limits, passed = _limits(states, memory), _Passed(log, events)
     code, at, steps = passed.judged(limits, whole_updates)
     if code == NOT_LEGAL:

@@ -5,7 +5,8 @@
 #include <yachtjudge.h>
 
 enum { ROOM = 64 };
-static const char catalogue[] = "file a 61\n";
+/* a file with the name a, and the one byte a: both are the byte that a read returns, too */
+static const yacht_file file = {0, 1, 0, 1};
 /* a look finds a file that a close removed before the look was called */
 static const yacht_request stale_requests[] = {{.kind = YACHT_REQUEST_OPEN}, {.kind = YACHT_REQUEST_CLOSE}};
 static const yacht_event stale_events[] = {
@@ -32,13 +33,13 @@ static yacht_judgement judgement;
 static uint32_t judge(uint32_t slots, size_t length, size_t room, int is_whole) {
     memset(steps, '?', sizeof steps), memset(&judgement, '?', sizeof judgement);
     return (is_whole ? yacht_judge_whole_updates : yacht_judge_events)(
-        (const uint8_t *)catalogue, strlen(catalogue), slots, requests, requests_length, entries, 2, bytes, 1, events, length, YACHT_STATES, YACHT_MEMORY,
+        &file, 1, slots, requests, requests_length, entries, 2, bytes, 1, events, length, YACHT_STATES, YACHT_MEMORY,
         steps, room, &judgement);
 }
 
 static int is_untouched(size_t nth) { return steps[nth].rule == 0x3f3f3f3f; }
 
-static int has_details(uint64_t at, uint64_t all) { return judgement.at == at && judgement.steps == all && !judgement.fault && !judgement.line; }
+static int has_details(uint64_t at, uint64_t all) { return judgement.at == at && judgement.steps == all && !judgement.fault; }
 
 /* A look finds a file that a close removed before the look was called. */
 static void stale(void) {

@@ -23,6 +23,7 @@ typedef struct judge_row {
     PART(uint8_t, text);
     PART(uint8_t, note);
     PART(uint64_t, lengths);
+    PART(yacht_file, files);
     PART(yacht_request, requests);
     PART(int32_t, entries);
     PART(uint8_t, bytes);
@@ -44,7 +45,7 @@ static void read_judge_rows(void) {
     judge_rows = (judge_row *)(data + 8);
     for (judge_row *it = judge_rows; it < judge_rows + judge_rows_length; it++) {
         it->script = data + it->script_place, it->text = data + it->text_place, it->note = data + it->note_place;
-        it->lengths = (void *)(data + it->lengths_place), it->requests = (void *)(data + it->requests_place);
+        it->lengths = (void *)(data + it->lengths_place), it->files = (void *)(data + it->files_place), it->requests = (void *)(data + it->requests_place);
         it->entries = (void *)(data + it->entries_place), it->bytes = data + it->bytes_place, it->events = (void *)(data + it->events_place);
     }
 }

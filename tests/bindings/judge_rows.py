@@ -70,11 +70,11 @@ def listed(_, script, limits, number, line, texts):
 def judged_log(is_refused, script, limits, number, fields, lines):
     """Judges a log by the module and by the command. What the module doesn't read as a log isn't one, at the same line."""
     slots, *limits = limits
-    at, fault, _ = map(int, fields.split())
+    at, fault = map(int, fields.split())
     files = script.count(b"\n")
     line = files + 3 + at
     text = script.decode() + f"call 1 sparse {slots}\ndone 1.1 0\n" + expanded(lines).decode()
-    bad_line = 1 if number == 3 else files + 1 if not 0 < slots <= 1_048_576 else line if number == 5 and not is_refused else 0
+    bad_line = at + 1 if number == 8 and not is_refused else files + 1 if not 0 < slots <= 1_048_576 else line if number == 5 and not is_refused else 0
     if bad_line:
         fault = raised(lambda: yachtlog.Log(text))
         want(type(fault) is yachtlog.BadLog and fault.line == bad_line, f"{fault!r} of what is not a log at line {bad_line}: {lines}")
@@ -87,8 +87,10 @@ def judged_log(is_refused, script, limits, number, fields, lines):
         wanted = BadEvent, f"line {line}: {name}"
     if number == 7:
         wanted = ValueError, f"the table has too many slots: {slots}"
+    if number == 8:
+        wanted = ValueError, f"no catalogue has the file {list(log.names)[at]}"
     want(found == wanted, f"{found} in place of {wanted}: {lines}")
-    if number != 7 and not log.lacking:
+    if number < 7 and not log.lacking:
         want(command(text, limits) == said(text, number, line, name), f"the command prints something else: {command(text, limits)}, {lines}")
 
 

@@ -34,6 +34,7 @@ static int is_request(const yacht_request *it, const yacht_request *other) {
 
 static int has_log(const judge_row *it) {
     if (it->slots != given.slots || it->events_length != given.events_length || it->requests_length != given.requests_length) return 0;
+    if (!is_same(it->files, it->files_length * sizeof(yacht_file), given.files, given.files_length * sizeof(yacht_file))) return 0;
     if (!is_same(it->entries, it->entries_length * sizeof(int32_t), given.entries, given.entries_length * sizeof(int32_t))) return 0;
     if (!is_same(it->bytes, it->bytes_length, given.bytes, given.bytes_length)) return 0;
     for (size_t nth = 0; nth < given.events_length; nth++)
@@ -65,15 +66,15 @@ uint32_t yacht_outcomes(const uint8_t *script, size_t script_length, uint32_t st
 
 /* what is passed of a log */
 #define LOG_PASSED                                                                                                                              \
-    const uint8_t *script, size_t script_length, uint32_t slots, const yacht_request *requests, size_t requests_length, const int32_t *entries, \
+    const yacht_file *files, size_t files_length, uint32_t slots, const yacht_request *requests, size_t requests_length, const int32_t *entries, \
         size_t entries_length, const uint8_t *bytes, size_t bytes_length, const yacht_event *events, size_t events_length
 
 uint32_t yacht_judge_events(LOG_PASSED, uint32_t states, uint32_t memory, yacht_step *steps, size_t steps_length, yacht_judgement *judgement) {
     (void)steps, (void)steps_length;
-    given = (judge_row){.slots = slots, .requests = requests, .requests_length = requests_length, .entries = entries, .entries_length = entries_length,
+    given = (judge_row){.files = files, .files_length = files_length, .slots = slots, .requests = requests, .requests_length = requests_length, .entries = entries, .entries_length = entries_length,
                         .bytes = bytes, .bytes_length = bytes_length, .events = events, .events_length = events_length};
-    const judge_row *it = row_of(LOG, script, script_length, states, memory, has_log);
-    *judgement = (yacht_judgement){it->at, 0, (uint32_t)it->fault, (uint32_t)it->line};
+    const judge_row *it = row_of(LOG, bytes, 0, states, memory, has_log);
+    *judgement = (yacht_judgement){it->at, 0, (uint32_t)it->fault};
     return (uint32_t)it->number;
 }
 
@@ -85,7 +86,7 @@ static yacht_point point_of(uint32_t nth) {
  * reason of as many steps as it has slots, each with other numbers. */
 uint32_t yacht_judge_whole_updates(LOG_PASSED, uint32_t states, uint32_t memory, yacht_step *steps, size_t steps_length, yacht_judgement *judgement) {
     if (events_length) {
-        (void)yacht_judge_events(script, script_length, slots, requests, requests_length, entries, entries_length, bytes, bytes_length, events,
+        (void)yacht_judge_events(files, files_length, slots, requests, requests_length, entries, entries_length, bytes, bytes_length, events,
                                  events_length, states, memory, steps, steps_length, judgement);
         return YACHT_UNDECIDED;
     }

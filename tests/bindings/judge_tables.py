@@ -9,8 +9,7 @@ ROWS = (Path(__file__).resolve().parents[2] / "bindings/rust_judge/tests/rows.tx
 CALL, DONE, LOOK, FOUND, EMPTY, FREE, CLOSED, SETTLED = range(1, 9)
 OPEN, OPEN_ANY, OPEN_MISSING, READ, CLOSE, UPDATE = range(1, 7)
 # the structs of the library and of judge_rows.h: numbers, and where each part is and its length
-EVENT, REQUEST, ROW = struct.Struct("<IIIiIIIIIIB3x"), struct.Struct("<IIIIBB2x"), struct.Struct("<11Q16Q")
-PARTS = 8
+EVENT, REQUEST, FILE, ROW = struct.Struct("<IIIiIIIIIIB3x"), struct.Struct("<IIIIBB2x"), struct.Struct("<4I"), struct.Struct("<11Q18Q")
 
 
 def expanded(field):
@@ -37,8 +36,13 @@ class Log:
     """The structs of the lines of a log."""
 
     def __init__(self, script, lines):
-        self.names = re.findall(r"^file (\S+)", script.decode(), re.MULTILINE)
-        self.requests, self.entries, self.bytes, self.events, self.calls, self.looks = [], [], b"", [], {}, set()
+        files = re.findall(r"^file (\S+) (\S+)$", script.decode(), re.MULTILINE)
+        self.names, self.files, self.bytes = [name for name, _ in files], b"", b""
+        self.requests, self.entries, self.events, self.calls, self.looks = [], [], [], {}, set()
+        for name, content in files:
+            data = bytes.fromhex(content.replace("-", ""))
+            self.files += FILE.pack(len(self.bytes), len(name), len(self.bytes) + len(name), len(data))
+            self.bytes += name.encode() + data
         for line in lines.decode().splitlines():
             self.events.append(EVENT.pack(*self.event(*line.split(" "), line=line)))
 
@@ -89,8 +93,9 @@ class Log:
         return {"free": FREE, "settled": SETTLED}[word], max(call - 1, 0), *(0,) * 9
 
     def parts(self):
-        packed = b"".join(REQUEST.pack(*it) for it in self.requests), struct.pack(f"<{len(self.entries)}i", *self.entries), self.bytes, b"".join(self.events)
-        return list(zip(packed, map(len, (self.requests, self.entries, self.bytes, self.events))))
+        requests = b"".join(REQUEST.pack(*it) for it in self.requests)
+        packed = self.files, requests, struct.pack(f"<{len(self.entries)}i", *self.entries), self.bytes, b"".join(self.events)
+        return list(zip(packed, map(len, (self.names, self.requests, self.entries, self.bytes, self.events))))
 
 
 def packed(kind, is_refused, script, numbers, number, fields):
@@ -98,15 +103,15 @@ def packed(kind, is_refused, script, numbers, number, fields):
     log."""
     slots, states, memory = [0] * (3 - len(numbers)) + numbers
     values = [int(it) for it in fields[0].split()]
-    commands, at, submission, line, fault, note, lengths, log = 0, 0, 0, values[-1], 0, b"", [], [(b"", 0)] * 4
+    commands, at, submission, line, fault, note, lengths, log = 0, 0, 0, values[-1], 0, b"", [], [(b"", 0)] * 5
     if kind == "judge":
         (commands, at, submission, line), note, text = values, expanded(fields[1]), expanded(fields[2])
     elif kind == "list":
         texts = expanded(fields[1]).split(b"^")[:-1]
         lengths, text = list(map(len, texts)), b"".join(texts)
     else:
-        (at, fault, line), text = values, expanded(fields[1])
-        log = Log(script, text).parts()
+        (at, fault), line, text = values, 0, expanded(fields[1])
+        log, script = Log(script, text).parts(), b""
     head = [("judge", "list", "log").index(kind), is_refused, slots, states, memory, number, commands, at, submission, line, fault]
     return head, [(script, len(script)), (text, len(text)), (note, len(note)), (struct.pack(f"<{len(lengths)}Q", *lengths), len(lengths)), *log]
 

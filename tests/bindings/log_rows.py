@@ -124,7 +124,7 @@ raises(yachtjudge.BadEvent, "line 6: ", lambda: judge_events(changed(answers={(2
 raises(yachtjudge.BadEvent, "line 7: a look is not a request of a chain", lambda: judge_events(changed(chains={**long, 3: [*long[3], long[2][0]]})))
 closed = yachtlog.Event(9, "closed", mark=(3, 1, 0))
 raises(yachtjudge.BadEvent, "line 9: unknown-file", lambda: judge_events(changed(names={}, contents=[]), [*events, closed]))
-raises(yachtjudge.BadScript, "line 1: bad-name", lambda: judge_events(changed(names={"b/b": 0}, contents=["61"])))
+raises(ValueError, "no catalogue has the file b/b", lambda: judge_events(changed(names={"a": 0, "b/b": 1}, contents=["61", "62"])))
 raises(ValueError, "two files have one name", lambda: judge_events(changed(contents=["61", "62", "63"])))
 raises(ValueError, "too many slots: 1048577", lambda: judge_events(changed(slots=1_048_577)))
 raises(ValueError, "too many slots: 4294967297", lambda: judge_events(changed(slots=2**32 + 1)))

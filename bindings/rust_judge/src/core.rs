@@ -7,6 +7,7 @@ macro_rules! numbers {
 
 // the answers, as yachtjudge.h describes them
 numbers! { LEGAL 0, NOT_LEGAL 1, UNDECIDED 2, BAD_SCRIPT 3, NO_MEMORY 4, FAULTY 5, MALFORMED 6 }
+numbers! { BAD_FILE 8 }
 // of a list of texts
 numbers! { ALL 0, NO_ROOM 2 }
 // the kinds of events
@@ -30,10 +31,11 @@ macro_rules! structs {
 structs! {
     Verdict { commands: u64, at: u64, note: u64, submission: u32, line: u32 }
     Texts { count: u64, bytes: u64, line: u32 }
+    File { name: u32, name_length: u32, first: u32, count: u32 }
     Event { kind: u32, call: u32, member: u32, res: i32, slot: u32, first: u32, count: u32,
             by_call: u32, by_member: u32, by_entry: u32, file: u8 }
     Request { kind: u32, slot: u32, first: u32, count: u32, flags: u8, file: u8 }
-    Judgement { at: u64, steps: u64, fault: u32, line: u32 }
+    Judgement { at: u64, steps: u64, fault: u32 }
     Point { kind: u32, slot: u32, at: u64, access: u64,
             by_call: u32, by_member: u32, by_entry: u32, file: u8 }
     Step { rule: u32, is_strict: u32, first: u64, second: u64, access: u64, premise: u64,
@@ -45,7 +47,7 @@ structs! {
 macro_rules! functions {
     ($($name:ident(log, $($more:ident: $kind:ty),*);)*) => { unsafe extern "C" { $(
         pub(crate) fn $name(
-            script: *const u8, script_length: usize, slots: u32,
+            files: *const File, files_length: usize, slots: u32,
             requests: *const Request, requests_length: usize,
             entries: *const i32, entries_length: usize, bytes: *const u8, bytes_length: usize,
             events: *const Event, events_length: usize, $($more: $kind),*

@@ -49,6 +49,11 @@ pub enum JudgeError {
         /// The name of the fault, such as `word-count`.
         fault: String,
     },
+    /// A file can't be one of a log's catalogue.
+    BadFile {
+        /// The position of the first such file, from 0.
+        at: usize,
+    },
     /// An event isn't one of a log.
     BadEvent {
         /// The position of the first such event, from 0.
@@ -58,8 +63,8 @@ pub enum JudgeError {
     },
     /// The table of a log has more than 1,048,576 slots.
     TooManySlots,
-    /// The requests, the entries of updates or the bytes of reads before some event of a log are
-    /// 2^32 or more.
+    /// The requests, the entries of updates or the bytes of files and reads before some event of a
+    /// log are 2^32 or more.
     TooLong,
     /// An allocation of the judge failed.
     NoMemory,
@@ -69,6 +74,7 @@ impl fmt::Display for JudgeError {
     fn fmt(&self, f: &mut fmt::Formatter<'_>) -> fmt::Result {
         match self {
             JudgeError::BadScript { line, fault } => write!(f, "line {line}: {fault}"),
+            JudgeError::BadFile { at } => write!(f, "the catalogue refuses file {at}"),
             JudgeError::BadEvent { at, fault } => write!(f, "event {at}: {fault}"),
             JudgeError::TooManySlots => f.write_str("the table has more than 1,048,576 slots"),
             JudgeError::TooLong => f.write_str("the log has 2^32 bytes, entries or requests"),

@@ -107,7 +107,7 @@ pub enum LogVerdict {
 /// use yachtjudge::{File, Limits, Link, Log, LogVerdict, Op, Request};
 ///
 /// let one = |op| [Request { op, link: Link::None }];
-/// let mut log = Log::new("file page.html 68656c6c6f\n", 1);
+/// let mut log = Log::new(&[("page.html", b"hello")], 1);
 /// let page = log.call(&one(Op::Open { file: 0, slot: 0 }));
 /// log.done(page, 1, 0, b"");
 /// let read = log.call(&one(Op::Read { slot: 0, first: 0, count: 5 }));
@@ -131,7 +131,7 @@ pub enum LogVerdict {
 /// use yachtjudge::{File, Limits, Link, Log, LogVerdict, Op, Request};
 ///
 /// let one = |op| [Request { op, link: Link::None }];
-/// let mut log = Log::new("file page.html 68656c6c6f\n", 1);
+/// let mut log = Log::new(&[("page.html", b"hello")], 1);
 /// let page = log.call(&one(Op::Open { file: 0, slot: 0 }));
 /// log.done(page, 1, 0, b"");
 /// let close = log.call(&one(Op::Close { slot: 0 }));
@@ -146,7 +146,7 @@ pub enum LogVerdict {
 /// ```
 #[derive(Clone, Debug)]
 pub struct Log {
-    catalogue: String,
+    files: Vec<core::File>,
     slots: u32,
     calls: u32,
     events: Vec<core::Event>,
@@ -172,13 +172,13 @@ const ROOM: usize = 4096;
 /// Calls a function of the judge with a log and further arguments.
 macro_rules! ask {
     ($function:expr, $log:expr, $($more:expr),*) => {{
-        let (it, script) = ($log, &$log.catalogue);
-        let (requests, entries) = (&it.requests, &it.entries);
+        let it = $log;
+        let (files, requests, entries) = (&it.files, &it.requests, &it.entries);
         let (bytes, events) = (&it.bytes, &it.events);
         // SAFETY: the slices are valid for their lengths, and the written ones overlap no other.
         unsafe {
             $function(
-                script.as_ptr(), script.len(), it.slots, requests.as_ptr(), requests.len(),
+                files.as_ptr(), files.len(), it.slots, requests.as_ptr(), requests.len(),
                 entries.as_ptr(), entries.len(), bytes.as_ptr(), bytes.len(),
                 events.as_ptr(), events.len(), $($more),*
             )
@@ -187,11 +187,12 @@ macro_rules! ask {
 }
 
 impl Log {
-    /// Creates a log without events, of a table of empty slots. The files of the script `catalogue`
-    /// are those that requests can open, numbered from 0.
-    pub fn new(catalogue: &str, slots: u32) -> Log {
-        Log {
-            catalogue: catalogue.to_string(),
+    /// Creates a log without events, of a table of empty slots. The files, each a name and its
+    /// bytes, are those that requests can open, numbered from 0: at most 256, each with a name of
+    /// its own, of 1 to 32 letters, digits, `.`, `_` or `-`, and at most 4,096 bytes.
+    pub fn new(files: &[(&str, &[u8])], slots: u32) -> Log {
+        let mut log = Log {
+            files: Vec::new(),
             slots,
             calls: 0,
             events: Vec::new(),
@@ -199,7 +200,25 @@ impl Log {
             entries: Vec::new(),
             bytes: Vec::new(),
             is_too_long: false,
+        };
+        for (name, bytes) in files {
+            let (name, name_length) = log.keep(name.as_bytes());
+            let (first, count) = log.keep(bytes);
+            log.files.push(core::File {
+                name,
+                name_length,
+                first,
+                count,
+            });
         }
+        log
+    }
+
+    // Appends bytes. Returns their position and their number.
+    fn keep(&mut self, bytes: &[u8]) -> (u32, u32) {
+        let part = self.part(self.bytes.len(), bytes.len());
+        self.bytes.extend(bytes);
+        part
     }
 
     /// Returns the position of a part and its length as the judge reads them. A log with one that
@@ -280,8 +299,7 @@ impl Log {
 
     /// Appends the answer of a member, from 1, of a call: its result, and the bytes of a read.
     pub fn done(&mut self, call: u32, member: u32, res: i32, bytes: &[u8]) {
-        let (first, count) = self.part(self.bytes.len(), bytes.len());
-        self.bytes.extend(bytes);
+        let (first, count) = self.keep(bytes);
         self.add(core::Event {
             member,
             res,
@@ -339,7 +357,7 @@ impl Log {
     /// use yachtjudge::{Limits, Link, Log, LogVerdict, Op, Request};
     ///
     /// let one = |op| [Request { op, link: Link::None }];
-    /// let mut log = Log::new("file page.html 68656c6c6f\n", 2);
+    /// let mut log = Log::new(&[("page.html", b"hello")], 2);
     /// let both = log.call(&one(Op::Update { slot: 0, entries: vec![0, 0] }));
     /// let first = log.call(&one(Op::Read { slot: 0, first: 0, count: 5 }));
     /// log.done(first, 1, 5, b"hello");
@@ -372,7 +390,7 @@ impl Log {
                 Ok(LogVerdict::NotLegal { at, reason })
             }
             core::UNDECIDED => Ok(LogVerdict::Undecided),
-            _ => Err(self.error(number, at, judgement.fault)),
+            _ => Err(Log::error(number, at, judgement.fault)),
         }
     }
 
@@ -406,14 +424,9 @@ impl Log {
     }
 
     // Returns the error that a number other than a verdict's says.
-    fn error(&self, number: u32, at: usize, fault: u32) -> JudgeError {
+    fn error(number: u32, at: usize, fault: u32) -> JudgeError {
         match number {
-            core::BAD_SCRIPT => {
-                match crate::judge(self.catalogue.as_bytes(), b"", Limits::default()) {
-                    Err(fault) => fault,
-                    Ok(_) => unreachable!("the judge finds the fault again"),
-                }
-            }
+            core::BAD_FILE => JudgeError::BadFile { at },
             core::NO_MEMORY => JudgeError::NoMemory,
             core::FAULTY => JudgeError::BadEvent {
                 at,

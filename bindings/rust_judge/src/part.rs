@@ -20,7 +20,7 @@ mod tests {
 
     #[test]
     fn a_log_that_is_too_long_is_not_judged() {
-        let mut log = Log::new("", 1);
+        let mut log = Log::new(&[], 1);
         assert_eq!(log.part(MOST, MOST), (u32::MAX, u32::MAX));
         assert_eq!(log.check_length(), Ok(()));
         log.part(MOST + 1, 1);

@@ -255,10 +255,7 @@ impl Reader {
                 self.log.found(ids[0] - 1, found);
             }
             "done" => {
-                let bytes: String = words.get(3).unwrap_or(&"").to_string();
-                let pairs = bytes.as_bytes().chunks(2);
-                let pair = |it| u8::from_str_radix(std::str::from_utf8(it).unwrap(), 16).unwrap();
-                let bytes: Vec<u8> = pairs.map(pair).collect();
+                let bytes = bytes_of(words.get(3).unwrap_or(&""));
                 self.log
                     .done(ids[0] - 1, ids[1], words[2].parse().unwrap(), &bytes);
             }
@@ -274,14 +271,20 @@ impl Reader {
     }
 }
 
+/// Returns bytes from their hexadecimal digits, or none from `-`.
+fn bytes_of(hex: &str) -> Vec<u8> {
+    let pair = |it| u8::from_str_radix(std::str::from_utf8(it).unwrap(), 16).unwrap();
+    hex.as_bytes().chunks_exact(2).map(pair).collect()
+}
+
 fn read(row: &Row) -> Log {
     let script = String::from_utf8(row.script.clone()).unwrap();
-    let names = script
-        .lines()
-        .map(|it| it.split(' ').nth(1).unwrap().to_string());
+    let words: Vec<Vec<_>> = script.lines().map(|it| it.split(' ').collect()).collect();
+    let bytes: Vec<_> = words.iter().map(|it| bytes_of(it[2])).collect();
+    let files = words.iter().zip(&bytes).map(|(it, bytes)| (it[1], &bytes[..]));
     let mut reader = Reader {
-        names: names.collect(),
-        log: Log::new(&script, numbers(row.fields[1])[0] as u32),
+        names: words.iter().map(|it| it[1].to_string()).collect(),
+        log: Log::new(&files.collect::<Vec<_>>(), numbers(row.fields[1])[0] as u32),
         chains: HashMap::new(),
     };
     for line in row.lines.split('|').filter(|it| !it.is_empty()) {
@@ -294,8 +297,8 @@ fn not_legal(at: usize) -> LogVerdict {
     LogVerdict::NotLegal { at, reason: vec![] }
 }
 
-fn judged_log(rows: &[Row], row: &Row) {
-    let [at, fault, _] = numbers(row.fields[3])[..] else {
+fn judged_log(row: &Row) {
+    let [at, fault] = numbers(row.fields[3])[..] else {
         panic!()
     };
     let at = at as usize;
@@ -307,9 +310,9 @@ fn judged_log(rows: &[Row], row: &Row) {
         0 => Ok(LogVerdict::Legal),
         1 => Ok(not_legal(at)),
         2 => Ok(LogVerdict::Undecided),
-        3 => Err(bad_script(rows, row)),
         4 => Err(JudgeError::NoMemory),
         5 | 6 => Err(JudgeError::BadEvent { at, fault }),
+        8 => Err(JudgeError::BadFile { at }),
         _ => Err(JudgeError::TooManySlots),
     };
     // the rows have no reasons
@@ -327,7 +330,7 @@ fn each_answer_is_that_of_its_row() {
         match it.fields[0] {
             "judge" => judged(&rows, it),
             "list" => listed(&rows, it),
-            _ => judged_log(&rows, it),
+            _ => judged_log(it),
         }
     }
     assert!(rows.len() > 80, "{} rows", rows.len());
@@ -343,11 +346,12 @@ fn the_limits_are_those_of_fixcheck() {
 fn each_fault_has_words_of_its_own() {
     let errors = [JudgeError::TooManySlots, JudgeError::TooLong, JudgeError::NoMemory];
     let mut words: Vec<_> = errors.iter().map(JudgeError::to_string).collect();
+    words.push(JudgeError::BadFile { at: 1 }.to_string());
     words.extend(FAULTS.iter().map(LogFault::to_string));
     words.push(LogFault::UnknownFile.to_string());
     words.sort();
     words.dedup();
-    assert_eq!(words.len(), 11);
+    assert_eq!(words.len(), 12);
 }
 
 fn point(nth: u32) -> Point {
@@ -380,7 +384,7 @@ fn each_step_has_the_numbers_of_the_library() {
     }
     let mut rules = HashMap::new();
     for count in [0, 27, 4_096, 5_000] {
-        let found = Log::new("", count as u32).judge_whole_updates(Limits::default());
+        let found = Log::new(&[], count as u32).judge_whole_updates(Limits::default());
         let Ok(LogVerdict::NotLegal { at: 7, reason: steps }) = found else {
             panic!("{found:?} of a log without events");
         };
