@@ -29,7 +29,9 @@ use std::path::{Path, PathBuf};
 use std::process::ExitCode;
 use std::sync::atomic::Ordering;
 use std::sync::mpsc::channel;
-use work::{Bell, STALE};
+use std::sync::Mutex;
+use std::thread;
+use work::{work, Bell, STALE};
 use yachtbanyan::direct::{Lives, Releases};
 use yachtbanyan::Options;
 
@@ -45,21 +47,30 @@ fn serve(ring: Ring, slots: u32, folder: PathBuf) -> Result<Counts, Box<dyn Erro
     let table = Options::new(slots).handles(1).readers(WORKERS).guards(0).open()?;
     let (asked, questions) = channel();
     let (answers, answered) = channel();
-    let bell = Bell::new()?;
-    let workers = work::start(WORKERS, &table, questions, &answers, &bell);
-    let releases = Releases::new({
-        let bell = bell.clone();
-        move || bell.ring()
-    });
-    let (lives, handle) = (Lives::new(ring, slots)?, table.handle()?);
-    let (counts, unread) = (Counts::default(), Box::default());
-    let server =
-        Server { lives, handle, releases, asked, answered, listener, folder, bell, unread, counts };
-    let counts = server.serve()?;
-    for worker in workers {
-        worker.join().expect("a worker ends");
-    }
-    Ok(counts)
+    let (bell, questions) = (Bell::new()?, Mutex::new(questions));
+    thread::scope(|scope| {
+        for _ in 0..WORKERS {
+            let (reader, to, bell) = (table.reader()?, answers.clone(), bell.clone());
+            let questions = &questions;
+            scope.spawn(move || work(&reader, questions, &to, &bell));
+        }
+        let (ringing, handle) = (bell.clone(), table.handle()?);
+        let releases = Releases::new(move || ringing.ring());
+        let (lives, counts, unread) = (Lives::new(ring, slots)?, Counts::default(), Box::default());
+        let it = Server {
+            lives,
+            handle,
+            releases,
+            asked,
+            answered,
+            listener,
+            folder,
+            bell,
+            unread,
+            counts,
+        };
+        it.serve()
+    })
 }
 
 fn main() -> Result<ExitCode, Box<dyn Error>> {

@@ -27,11 +27,6 @@ const READ: u8 = 2;
 const WAKE: u64 = 1;
 const INPUT: u64 = 2;
 
-// Checks the name of a file. A path of several names would lead out of the folder.
-fn is_number(name: &[u8]) -> bool {
-    !name.is_empty() && name.iter().all(u8::is_ascii_digit)
-}
-
 /// What the server counts.
 #[derive(Default)]
 pub struct Counts {
@@ -178,8 +173,11 @@ impl Server {
         };
         it.is_answering = true;
         match line.strip_prefix(b"get ").map(<[u8]>::trim_ascii_end) {
-            Some(file) if is_number(file) => self.read_file(key, file)?,
-            Some(_) => self.answer(key, NO_FILE)?,
+            // a path of several names would lead out of the folder
+            Some(file) if file.is_empty() || !file.iter().all(u8::is_ascii_digit) => {
+                self.answer(key, NO_FILE)?
+            }
+            Some(file) => self.read_file(key, file)?,
             None => self.asked.send(Job { key, name, line })?,
         }
         self.counts.lines += 1;

@@ -5,10 +5,10 @@ use std::os::unix::net::UnixStream;
 use std::sync::atomic::{AtomicU32, Ordering};
 use std::sync::mpsc::{Receiver, Sender};
 use std::sync::{Arc, Mutex};
-use std::thread::{self, JoinHandle};
+use std::thread;
 use std::time::Duration;
 use yachtbanyan::direct::{Key, User};
-use yachtbanyan::{Reader, Table};
+use yachtbanyan::Reader;
 
 /// A line of a connection, and then its answer: with the connection's key, and its name in the
 /// table.
@@ -49,7 +49,7 @@ impl Bell {
 pub static STALE: AtomicU32 = AtomicU32::new(0);
 
 /// Answers lines until no more come. The connection of each is held meanwhile.
-fn work(reader: &Reader<Session>, asked: &Mutex<Receiver<Job>>, to: &Sender<Job>, bell: &Bell) {
+pub fn work(reader: &Reader<Session>, asked: &Mutex<Receiver<Job>>, to: &Sender<Job>, bell: &Bell) {
     let next = || asked.lock().unwrap().recv().ok();
     for (nth, job) in std::iter::from_fn(next).enumerate() {
         let Ok(session) = reader.get(job.name) else {
@@ -65,21 +65,4 @@ fn work(reader: &Reader<Session>, asked: &Mutex<Receiver<Job>>, to: &Sender<Job>
         let _is_taken = to.send(job);
         bell.ring();
     }
-}
-
-/// Starts this number of threads.
-pub fn start(
-    workers: u32,
-    table: &Table<Session>,
-    asked: Receiver<Job>,
-    answered: &Sender<Job>,
-    bell: &Bell,
-) -> Vec<JoinHandle<()>> {
-    let asked = Arc::new(Mutex::new(asked));
-    let one = |_| {
-        let reader = table.reader().expect("a reader for each worker");
-        let (asked, to, bell) = (asked.clone(), answered.clone(), bell.clone());
-        thread::spawn(move || work(&reader, &asked, &to, &bell))
-    };
-    (0..workers).map(one).collect()
 }
