@@ -103,7 +103,8 @@ enum {
     YACHT_DIRECT_TOO_MANY_USERS = -16,  /* the key has 2^32 - 1 users */
     YACHT_DIRECT_IS_CHAINED = -17,      /* the chain of the key isn't over */
     YACHT_DIRECT_STOPPED = -18,         /* the machine was stopped */
-    YACHT_DIRECT_NOT_FREE = -19         /* the slot has a life with a file */
+    YACHT_DIRECT_NOT_FREE = -19,        /* the slot has a life with a file */
+    YACHT_DIRECT_OTHER_MACHINE = -20    /* the queue is that of another machine */
 };
 
 /* The phases of a life, as yacht_direct_phase returns them. */
@@ -263,22 +264,36 @@ int yacht_direct_key_in(yacht_direct *machine, int phase, uint32_t from, uint64_
 /* A release that another thread asks for: part of a value of that thread. */
 typedef struct yacht_direct_note {
     struct yacht_direct_note *next;
+    struct yacht_direct_queue *queue;
     uint64_t key;
 } yacht_direct_note;
 
-/* The notes that a ring's thread hasn't collected. Any thread posts. {NULL} is empty. */
+/* The notes that a ring's thread hasn't collected. Any thread posts. The fields are the library's
+ * own. */
 typedef struct yacht_direct_queue {
     yacht_direct_note *first;
+    void *slots;
 } yacht_direct_queue;
 
-/* Posts a note, which stays the queue's until it is collected. It allocates nothing and never
+/* Returns an empty queue of a machine. No other machine takes it. */
+static inline yacht_direct_queue yacht_direct_queue_of(yacht_direct machine) {
+    yacht_direct_queue queue = {NULL, machine.slots};
+    return queue;
+}
+
+/* Counts a user as yacht_direct_hold, and writes the note by which its thread releases it.
+ * Returns what yacht_direct_hold returns, or YACHT_DIRECT_OTHER_MACHINE. */
+int yacht_direct_hold_by(yacht_direct *machine, uint64_t key, yacht_direct_queue *queue, yacht_direct_note *note);
+
+/* Posts a note to its queue, whose it stays until it is collected. It allocates nothing and never
  * waits for a thread that is stopped. This is not proved.
  * Returns 1 if the queue was empty: then the caller wakes the ring's thread. */
-int yacht_direct_post(yacht_direct_queue *queue, yacht_direct_note *note);
+int yacht_direct_post(yacht_direct_note *note);
 
 /* Empties the queue, in the ring's thread, which then calls yacht_direct_release for each note.
- * Returns the note that was posted last, or NULL. Each has the one before it in `next`. */
-yacht_direct_note *yacht_direct_collect(yacht_direct_queue *queue);
+ * Writes the note that was posted last, or NULL. Each has the one before it in `next`.
+ * Returns YACHT_DIRECT_DONE, or YACHT_DIRECT_OTHER_MACHINE. */
+int yacht_direct_collect(yacht_direct *machine, yacht_direct_queue *queue, yacht_direct_note **notes);
 
 /* Returns a number of this header in words, such as "no slot is free". The string is never freed.
  * Phases, slots and keys are no such numbers. */

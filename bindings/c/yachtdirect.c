@@ -10,7 +10,8 @@ void __tsan_release(void *) __attribute__((weak));
 /* The note belongs to the ring's thread from the exchange on, so what its thread wrote to the value
  * before is seen by who collects it. A note that is collected and posted again meanwhile makes an
  * exchange succeed that should fail only if the list is the same again: then `next` is right. */
-int yacht_direct_post(yacht_direct_queue *queue, yacht_direct_note *note) {
+int yacht_direct_post(yacht_direct_note *note) {
+    yacht_direct_queue *queue = note->queue;
     yacht_direct_note *first = __atomic_load_n(&queue->first, __ATOMIC_RELAXED);
     if (__tsan_release) __tsan_release(queue);
     do {
@@ -19,10 +20,18 @@ int yacht_direct_post(yacht_direct_queue *queue, yacht_direct_note *note) {
     return !first;
 }
 
-yacht_direct_note *yacht_direct_collect(yacht_direct_queue *queue) {
-    yacht_direct_note *first = __atomic_exchange_n(&queue->first, NULL, __ATOMIC_ACQUIRE);
+int yacht_direct_collect(yacht_direct *machine, yacht_direct_queue *queue, yacht_direct_note **notes) {
+    if (queue->slots != machine->slots) return YACHT_DIRECT_OTHER_MACHINE;
+    *notes = __atomic_exchange_n(&queue->first, NULL, __ATOMIC_ACQUIRE);
     if (__tsan_acquire) __tsan_acquire(queue);
-    return first;
+    return YACHT_DIRECT_DONE;
+}
+
+int yacht_direct_hold_by(yacht_direct *machine, uint64_t key, yacht_direct_queue *queue, yacht_direct_note *note) {
+    if (queue->slots != machine->slots) return YACHT_DIRECT_OTHER_MACHINE;
+    int answer = yacht_direct_hold(machine, key);
+    if (answer == YACHT_DIRECT_DONE) note->queue = queue, note->key = key;
+    return answer;
 }
 
 const char *yacht_direct_strerror(int answer) {
@@ -42,6 +51,7 @@ const char *yacht_direct_strerror(int answer) {
     case YACHT_DIRECT_IS_CHAINED: return "the chain is not over";
     case YACHT_DIRECT_STOPPED: return "the machine was stopped";
     case YACHT_DIRECT_NOT_FREE: return "the slot has a life with a file";
+    case YACHT_DIRECT_OTHER_MACHINE: return "the queue is that of another machine";
     default: return "not a number of yachtdirect.h";
     }
 }

@@ -96,14 +96,13 @@ static void adoptions(void) {
 }
 
 struct thread {
-    yacht_direct_queue *queue;
     yacht_direct_note notes[NOTES];
     unsigned woke;
 };
 
 static void *post(void *with) {
     struct thread *it = with;
-    for (int i = 0; i < NOTES; i++) it->woke += (unsigned)yacht_direct_post(it->queue, &it->notes[i]);
+    for (int i = 0; i < NOTES; i++) it->woke += (unsigned)yacht_direct_post(&it->notes[i]);
     return NULL;
 }
 
@@ -111,25 +110,41 @@ static void *post(void *with) {
 static void threads_post(void) {
     static struct thread those[THREADS];
     static unsigned char seen[THREADS * NOTES];
-    yacht_direct_queue queue = {NULL};
+    uint64_t key, stale = 0;
+    yacht_direct other;
+    yacht_direct_note *note;
+    WANT(yacht_direct_open(&machine, 1, 0, 0) == YACHT_DIRECT_DONE && yacht_direct_open(&other, 1, 0, 0) == YACHT_DIRECT_DONE);
+    WANT(yacht_direct_reserve(&machine, &key, &slot) == YACHT_DIRECT_DONE && yacht_direct_opened(&machine, key, 0, &slot) == YACHT_DIRECT_DONE);
+    yacht_direct_queue queue = yacht_direct_queue_of(machine);
     pthread_t threads[THREADS];
-    unsigned count = 0, twice = 0, woken = 0, woke = 0;
-    WANT(yacht_direct_collect(&queue) == NULL);
+    unsigned count = 0, twice = 0, refused = 0, woken = 0, woke = 0;
+    WANT(yacht_direct_collect(&machine, &queue, &note) == YACHT_DIRECT_DONE && !note);
+    WANT(yacht_direct_hold_by(&other, key, &queue, &those[0].notes[0]) == YACHT_DIRECT_OTHER_MACHINE);
+    WANT(yacht_direct_hold_by(&machine, stale, &queue, &those[0].notes[0]) == YACHT_DIRECT_STALE && !those[0].notes[0].queue);
     for (int t = 0; t < THREADS; t++) {
-        those[t].queue = &queue;
-        for (int i = 0; i < NOTES; i++) those[t].notes[i].key = (uint64_t)(t * NOTES + i);
+        for (int i = 0; i < NOTES; i++) refused += yacht_direct_hold_by(&machine, key, &queue, &those[t].notes[i]) != YACHT_DIRECT_DONE;
         WANT(!pthread_create(&threads[t], NULL, post, &those[t]));
     }
     while (count < THREADS * NOTES) {
-        yacht_direct_note *note = yacht_direct_collect(&queue);
+        refused += yacht_direct_collect(&machine, &queue, &note) != YACHT_DIRECT_DONE;
         woken += note != NULL;
-        for (; note; note = note->next, count++) twice += seen[note->key]++;
+        for (; note; note = note->next, count++) {
+            size_t t = 0;
+            while (note < those[t].notes || note >= those[t].notes + NOTES) t++;
+            twice += seen[t * NOTES + (size_t)(note - those[t].notes)]++;
+            refused += yacht_direct_release(&machine, note->key, &slot) != YACHT_DIRECT_DONE;
+        }
     }
     for (int t = 0; t < THREADS; t++) {
         pthread_join(threads[t], NULL);
         woke += those[t].woke;
     }
-    WANT(!twice && woken == woke && yacht_direct_collect(&queue) == NULL);
+    WANT(!twice && woken == woke && !refused && yacht_direct_collect(&machine, &queue, &note) == YACHT_DIRECT_DONE && !note);
+    note = those[0].notes;
+    WANT(yacht_direct_collect(&other, &queue, &note) == YACHT_DIRECT_OTHER_MACHINE && note == those[0].notes);
+    WANT(yacht_direct_release(&machine, key, &slot) == YACHT_DIRECT_IS_LIVE);
+    yacht_direct_free(other);
+    yacht_direct_free(machine);
 }
 
 static void words(void) {
@@ -141,7 +156,7 @@ static void words(void) {
         {-9, "an allocation failed"}, {-10, "the life of the key is over"}, {-11, "the open is not completed"},
         {-12, "the file is open"}, {-13, "the life was ended"}, {-14, "the close is not completed"},
         {-15, "too many requests are in flight"}, {-16, "there are too many users"}, {-17, "the chain is not over"},
-        {-18, "the machine was stopped"}, {-19, "the slot has a life with a file"}, {1234, "not a number of yachtdirect.h"},
+        {-18, "the machine was stopped"}, {-19, "the slot has a life with a file"}, {-20, "the queue is that of another machine"}, {1234, "not a number of yachtdirect.h"},
     };
     for (size_t nth = 0; nth < sizeof said / sizeof *said; nth++) WANT(!strcmp(yacht_direct_strerror(said[nth].number), said[nth].words));
     WANT(!strcmp(yacht_direct_version(), YACHT_DIRECT_VERSION));

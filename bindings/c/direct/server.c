@@ -90,7 +90,7 @@ static void drop(void *value, void *with) {
     struct connection *it = value;
     (void)with;
     elsewhere += !pthread_equal(pthread_self(), ring_thread);
-    if (yacht_direct_post(&released, &it->note)) wake();
+    if (yacht_direct_post(&it->note)) wake();
 }
 
 /* returns the connection of a key, or NULL if its life was ended: its slot may have another one */
@@ -201,7 +201,7 @@ static void accepted(uint64_t key) {
     it->note.key = key;
     waits += yacht_direct_len(&ring.machine) + KEPT_FOR_FILES >= SLOTS;
     /* the server may have been stopped before this event */
-    it->is_ended = yacht_direct_hold(&ring.machine, key) != YACHT_DIRECT_DONE;
+    it->is_ended = yacht_direct_hold_by(&ring.machine, key, &released, &it->note) != YACHT_DIRECT_DONE;
     if (!it->is_ended && yacht_insert_key(handle, it, &it->name) < 0) wrong++;
     receive(key, it);
 }
@@ -243,7 +243,9 @@ static void listen_for_wakes(void) {
 
 /* what other threads left for the ring's */
 static void woken(void) {
-    for (yacht_direct_note *next, *note = yacht_direct_collect(&released); note; note = next) {
+    yacht_direct_note *note;
+    must(yacht_direct_collect(&ring.machine, &released, &note) == YACHT_DIRECT_DONE, "yacht_direct_collect");
+    for (yacht_direct_note *next; note; note = next) {
         next = note->next; /* the release may end the note's life */
         yacht_uring_release(&ring, note->key);
     }
@@ -310,6 +312,7 @@ static void open_ring(void) {
         fprintf(stderr, "server: io_uring is refused: %s\n", strerror(-error));
         exit(NO_IO_URING);
     }
+    released = yacht_direct_queue_of(ring.machine);
     ring_thread = pthread_self();
 }
 

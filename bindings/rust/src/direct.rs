@@ -61,12 +61,12 @@ mod stand_in;
 #[cfg(test)]
 mod tests;
 
-pub use errors::{AdoptError, OpenError, Refusal, ReserveError};
+pub use errors::{AdoptError, OpenError, OtherSlots, Refusal, ReserveError};
 pub use key::{Key, MOST_KIND};
 pub use lives::{Event, Lives, MOST_OWN_KIND};
 pub use releases::{Releases, User};
 pub use ring::{Completion, Entry, Request, Ring};
-pub use slots::{Adopted, After, Member, Next, Phase, PhaseName, Slots};
+pub use slots::{Adopted, After, Chain, Member, Next, Phase, PhaseName, Slots};
 
 /// The largest number of slots.
 pub const MOST_SLOTS: u32 = core::MOST_SLOTS;

@@ -32,7 +32,7 @@ use std::sync::mpsc::channel;
 use std::sync::Mutex;
 use std::thread;
 use work::{work, Bell, STALE};
-use yachtbanyan::direct::{Lives, Releases};
+use yachtbanyan::direct::Lives;
 use yachtbanyan::Options;
 
 const WORKERS: u32 = 2;
@@ -55,8 +55,8 @@ fn serve(ring: Ring, slots: u32, folder: PathBuf) -> Result<Counts, Box<dyn Erro
             scope.spawn(move || work(&reader, questions, &to, &bell));
         }
         let (ringing, handle) = (bell.clone(), table.handle()?);
-        let releases = Releases::new(move || ringing.ring());
         let (lives, counts, unread) = (Lives::new(ring, slots)?, Counts::default(), Box::default());
+        let releases = lives.releases(move || ringing.ring());
         let it = Server {
             lives,
             handle,

@@ -17,7 +17,7 @@
 //! use yachtbanyan::direct::*;
 //! fn plain<T: Send + Sync + UnwindSafe + RefUnwindSafe>() {}
 //! plain::<(Key, Next, Phase, PhaseName, Member, After<u8>, Adopted<u8>)>();
-//! plain::<(OpenError, ReserveError, AdoptError, Refusal)>();
+//! plain::<(OpenError, ReserveError, AdoptError, OtherSlots, Refusal)>();
 //! plain::<(Releases, User)>();
 //! fn send<T: Send>() {}
 //! send::<Slots<std::cell::Cell<u8>>>();
@@ -44,11 +44,13 @@ type Staying = std::rc::Rc<u8>;"
 // any thread wakes the ring's
 pair!("compile_fail,E0277" ("use std::{rc::Rc, sync::Arc};
 let woken = ") {Rc Arc} ("::new(0);
-yachtbanyan::direct::Releases::new(move || drop(woken.clone()));"));
+let slots = yachtbanyan::direct::Slots::<u8>::new(1).unwrap();
+slots.releases(move || drop(woken.clone()));"));
 // what wakes it may be called after every borrow has ended
 pair!("compile_fail,E0597" ("let woken = String::new();
 let at = woken.") {as_str clone} ("();
-yachtbanyan::direct::Releases::new(move || drop(at.len()));"));
+let slots = yachtbanyan::direct::Slots::<u8>::new(1).unwrap();
+slots.releases(move || drop(at.len()));"));
 // values have no longer lifetime
 pair!("compile_fail" ("use yachtbanyan::direct::Slots;
 fn with<'a>(it: Slots<&'a str>) -> Slots<&") {'static 'a} (" str> { it }"));
@@ -61,6 +63,21 @@ println!(\"{value:?}\");"));
 // a walk goes by the name of a phase, and not by its counts
 pair!("compile_fail,E0308" ("let slots = yachtbanyan::direct::Slots::<u8>::new(1).unwrap();
 slots.key_in(yachtbanyan::direct::") {Next PhaseName} ("::Closing, 0);"));
+// no member of a chain follows its close
+pair!("compile_fail,E0599" ("let mut slots = yachtbanyan::direct::Slots::<u8>::new(1).unwrap();
+let key = slots.reserve().unwrap();
+let chain = slots.chain(key, |_| {}).unwrap();
+chain.") {close request} ("(|_| {}).close(|_| {});"));
+// the slots count the chain before anything else is done with them
+pair!("compile_fail,E0502" ("let mut slots = yachtbanyan::direct::Slots::<u8>::new(1).unwrap();
+let key = slots.reserve().unwrap();
+let chain = slots.chain(key, |_| {}).unwrap();
+println!(\"{:?}\", ") {slots key} (");
+chain.close(|_| {});"));
+// a queue is that of slots
+pair!("compile_fail,E0624" ("let slots = yachtbanyan::direct::Slots::<u8>::new(1).unwrap();
+let releases = slots.releases(|| {});
+drop(") {releases slots} (".collect(&releases));"));
 // a slot that is to be closed isn't forgotten
 pair!("compile_fail" ("#![deny(unused_must_use)]
 use yachtbanyan::direct::{Key, Refusal, Slots};

@@ -16,7 +16,7 @@ macro_rules! numbers {
 // the answers, as yachtdirect.h describes them
 numbers! { DONE 0, CLOSE 1, FULL -6, BAD_ARGUMENT -8, NO_MEMORY -9, STALE -10, IS_OPENING -11 }
 numbers! { IS_LIVE -12, IS_ENDING -13, IS_CLOSING -14, TOO_MANY_REQUESTS -15, TOO_MANY_USERS -16 }
-numbers! { IS_CHAINED -17, STOPPED -18, NOT_FREE -19 }
+numbers! { IS_CHAINED -17, STOPPED -18, NOT_FREE -19, OTHER_MACHINE -20 }
 // the phases
 numbers! { OPENING 1, LIVE 2, ENDING 3, CLOSING 4, CHAINED 5 }
 

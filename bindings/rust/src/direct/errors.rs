@@ -1,7 +1,7 @@
 //! The errors. None of them changes anything.
 use super::core::{
     BAD_ARGUMENT, FULL, IS_CHAINED, IS_CLOSING, IS_ENDING, IS_LIVE, IS_OPENING, MOST_SLOTS,
-    NOT_FREE, STALE, STOPPED, TOO_MANY_REQUESTS, TOO_MANY_USERS,
+    NOT_FREE, OTHER_MACHINE, STALE, STOPPED, TOO_MANY_REQUESTS, TOO_MANY_USERS,
 };
 use super::key::Key;
 use std::error::Error;
@@ -74,6 +74,18 @@ pub enum AdoptError {
     },
 }
 
+/// A queue of releases is that of other slots: nothing was collected.
+///
+/// ```
+/// let slots = [1, 1].map(|it| yachtbanyan::direct::Slots::<()>::new(it).unwrap());
+/// let releases = slots[0].releases(|| {});
+/// let error = slots[1].collect(&releases).unwrap_err();
+/// assert_eq!(error.to_string(), "the queue is that of another machine");
+/// assert_eq!(error.number(), -20);
+/// ```
+#[derive(Clone, Copy, Debug, PartialEq, Eq)]
+pub struct OtherSlots;
+
 /// Defines the refusals of calls by a key, each with its number in yachtdirect.h and its words.
 macro_rules! refusals {
     ($($(#[$meaning:meta])* $name:ident $number:ident $words:literal)*) => {
@@ -130,6 +142,8 @@ refusals! {
     TooManyUsers TOO_MANY_USERS "there are too many users"
     /// The chain isn't over.
     IsChained IS_CHAINED "the chain is not over"
+    /// The queue of releases is that of other slots.
+    OtherSlots OTHER_MACHINE "the queue is that of another machine"
 }
 
 impl Refusal {
@@ -138,9 +152,16 @@ impl Refusal {
         self.parts().0
     }
 
-    /// Returns the number that the header yachtdirect.h has for it, from -17 to -10.
+    /// Returns the number that the header yachtdirect.h has for it: from -17 to -10, or -20.
     pub fn number(self) -> i32 {
         self.parts().1
+    }
+}
+
+impl OtherSlots {
+    /// Returns the number that the header yachtdirect.h has for it, -20.
+    pub fn number(self) -> i32 {
+        OTHER_MACHINE
     }
 }
 
@@ -171,6 +192,12 @@ impl fmt::Display for OpenError {
             OpenError::Slots(slots) => write!(f, "{slots} slots: there are 1 to {MOST_SLOTS}"),
             OpenError::NoMemory => f.write_str("an allocation failed"),
         }
+    }
+}
+
+impl fmt::Display for OtherSlots {
+    fn fmt(&self, f: &mut fmt::Formatter<'_>) -> fmt::Result {
+        f.write_str("the queue is that of another machine")
     }
 }
 
@@ -206,4 +233,5 @@ impl fmt::Display for Refusal {
 impl Error for OpenError {}
 impl Error for ReserveError {}
 impl Error for AdoptError {}
+impl Error for OtherSlots {}
 impl Error for Refusal {}

@@ -1,5 +1,5 @@
 //! A ring and its slots in one.
-use super::errors::{OpenError, Refusal, ReserveError};
+use super::errors::{OpenError, OtherSlots, Refusal, ReserveError};
 use super::key::Key;
 use super::releases::{Releases, User};
 use super::ring::{Completion, Entry, Request, Ring};
@@ -141,6 +141,20 @@ impl<T: Default, R: Ring> Lives<T, R> {
         self.slots.get_mut(key).filter(|_| is_live)
     }
 
+    /// Makes a queue of releases, as [`Slots::releases`].
+    pub fn releases(&self, wake: impl Fn() + Send + Sync + 'static) -> Releases {
+        self.slots.releases(wake)
+    }
+
+    /// Returns the keys of the users that were dropped, as [`Slots::collect`].
+    ///
+    /// # Errors
+    ///
+    /// As of [`Slots::collect`].
+    pub fn collect(&self, releases: &Releases) -> Result<Vec<Key>, OtherSlots> {
+        self.slots.collect(releases)
+    }
+
     /// Counts a user in any thread, as [`Slots::hold_by`].
     ///
     /// # Errors
@@ -251,7 +265,7 @@ impl<T: Default, R: Ring> Lives<T, R> {
         let mut value = Some(value);
         let reserved = self.slots.reserve_with(|_| value.take().unwrap_or_default());
         let key = reserved.map_err(|error| (error, value.unwrap_or_default()))?;
-        let counted = self.slots.chain(key, requests.len() as u32, closes);
+        let counted = self.slots.count_chain(key, requests.len() as u32, closes);
         debug_assert!(counted.is_ok(), "the life is opening");
         self.push_at(Request::Own(open), key, OPEN, if left > 0 { SOFT_LINK } else { 0 });
         for (kind, request) in requests {

@@ -69,9 +69,9 @@ fn accepts_are_kept_in_flight() {
     assert!(it.next().is_err());
     let first = queued(&mut it);
     assert_eq!(first.len(), 3);
-    for (nth, entry) in first.iter().enumerate() {
+    for entry in &first {
         assert_eq!((entry.request, entry.flags), (Request::Accept(5), 0));
-        assert_eq!(entry.file_index, nth as u32 + 1);
+        assert_eq!(entry.file_index, Key::from_bits(entry.user_data).0.slot() + 1);
     }
     // a slot more for accepts, and four for chains
     assert_eq!(complete(&mut it, first[0].user_data, 0, 0).len(), 1);

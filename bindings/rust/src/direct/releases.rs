@@ -6,11 +6,12 @@ use std::panic::RefUnwindSafe;
 use std::sync::{Arc, Mutex, PoisonError};
 
 /// The keys of users that were dropped, in any thread, for the ring's thread, which calls
-/// [`Slots::release`](super::Slots::release) for each.
+/// [`Slots::release`](super::Slots::release) for each. The queue belongs to the slots that made it
+/// ([`Slots::releases`](super::Slots::releases)), and others refuse it.
 ///
 /// ```
 /// use yachtbanyan::Table;
-/// use yachtbanyan::direct::{Next, Releases, Slots, User};
+/// use yachtbanyan::direct::{Next, OtherSlots, Slots, User};
 ///
 /// struct Connection {
 ///     user: User,
@@ -18,7 +19,7 @@ use std::sync::{Arc, Mutex, PoisonError};
 /// }
 ///
 /// let mut slots = Slots::<()>::new(4)?;
-/// let releases = Releases::new(|| { /* write to the ring's eventfd */ });
+/// let releases = slots.releases(|| { /* write to the ring's eventfd */ });
 /// let table = Table::with_slots(4)?;
 /// let key = slots.reserve()?;
 /// slots.opened(key, 0)?;
@@ -29,7 +30,9 @@ use std::sync::{Arc, Mutex, PoisonError};
 /// drop(table.remove(name)?); // the connection ends: nobody finds it any more
 /// assert_eq!(slots.end(key)?, Next::Nothing); // the worker is left
 /// drop(held); // in the worker's thread
-/// for key in releases.collect() {
+/// let other = Slots::<()>::new(4)?; // those of another ring
+/// assert_eq!(other.collect(&releases), Err(OtherSlots));
+/// for key in slots.collect(&releases)? {
 ///     assert_eq!(slots.release(key)?, Next::Close(key.slot()));
 /// }
 /// # Ok::<(), Box<dyn std::error::Error>>(())
@@ -40,6 +43,8 @@ pub struct Releases {
 }
 
 struct Shared {
+    // the number of the slots that made the queue
+    slots: u64,
     keys: Mutex<Vec<Key>>,
     wake: Box<dyn Fn() + Send + Sync>,
 }
@@ -48,17 +53,17 @@ struct Shared {
 impl RefUnwindSafe for Shared {}
 
 impl Releases {
-    /// Makes a queue. `wake` is called in any thread, within the drop of a [`User`], if the queue
-    /// was empty: it wakes the ring's thread, as by a write to an eventfd that the ring reads. It
-    /// must not panic, and takes no lock that a thread may hold around a drop.
-    pub fn new(wake: impl Fn() + Send + Sync + 'static) -> Releases {
+    pub(super) fn new(slots: u64, wake: impl Fn() + Send + Sync + 'static) -> Releases {
         let keys = Mutex::default();
         let wake = Box::new(wake);
-        Releases { shared: Arc::new(Shared { keys, wake }) }
+        Releases { shared: Arc::new(Shared { slots, keys, wake }) }
     }
 
-    /// Returns the keys of the users that were dropped since the last call.
-    pub fn collect(&self) -> Vec<Key> {
+    pub(super) fn is_of(&self, slots: u64) -> bool {
+        self.shared.slots == slots
+    }
+
+    pub(super) fn collect(&self) -> Vec<Key> {
         mem::take(&mut self.shared.keys.lock().unwrap_or_else(PoisonError::into_inner))
     }
 

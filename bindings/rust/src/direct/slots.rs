@@ -1,10 +1,13 @@
 //! The slots of one ring's table.
-use super::errors::{AdoptError, OpenError, Refusal, ReserveError};
+use super::errors::{AdoptError, OpenError, OtherSlots, Refusal, ReserveError};
 use super::key::Key;
 use super::machine::Machine;
 use super::releases::{Releases, User};
 use std::fmt;
 use std::ops::Range;
+use std::sync::atomic::{AtomicU64, Ordering::Relaxed};
+
+static NUMBERS: AtomicU64 = AtomicU64::new(0);
 
 /// What a caller does after a call by which a request, a user or a life ends.
 #[must_use = "a slot that isn't closed is never free again"]
@@ -119,6 +122,8 @@ pub struct Adopted<T> {
 /// ```
 pub struct Slots<T = ()> {
     machine: Machine,
+    // no other slots have this number
+    number: u64,
     // by slot
     values: Box<[Option<T>]>,
 }
@@ -149,7 +154,8 @@ impl<T> Slots<T> {
         room.map_err(|_| OpenError::NoMemory)?;
         values.resize_with(slots as usize, || None);
         let values = values.into_boxed_slice();
-        Ok(Slots { machine, values })
+        let number = NUMBERS.fetch_add(1, Relaxed);
+        Ok(Slots { machine, number, values })
     }
 
     /// Begins a life at a free slot, with a value that is made from its key. The caller submits an
@@ -242,16 +248,22 @@ impl<T> Slots<T> {
         self.adopt_with(slot, |_| T::default())
     }
 
-    /// Counts an open, requests on its file and, if `closes`, its close, and returns the slot. The
-    /// caller submits them there together, by links, in place of an open alone. Until the last of
-    /// their completions the slot isn't free, whatever they are.
+    /// Begins a chain: an open, requests on its file and perhaps its close, which the caller
+    /// submits together, by links, in place of an open alone. `open` is called once, with the slot,
+    /// and submits the open; [`Chain`] takes the other members. Until the last of their completions
+    /// the slot isn't free, whatever they are.
     ///
     /// ```
     /// use yachtbanyan::direct::{After, Member, Slots};
     ///
     /// let mut slots = Slots::new(1)?;
     /// let key = slots.reserve_with(|key| format!("file {key}"))?;
-    /// slots.chain(key, 1, true)?; // submit an openat, a read and a close, linked
+    /// let mut queue = Vec::new(); // where a ring would be
+    /// slots
+    ///     .chain(key, |slot| queue.push(("openat", slot)))?
+    ///     .request(|slot| queue.push(("read", slot)))
+    ///     .close(|slot| queue.push(("close", slot)));
+    /// assert_eq!(slots.in_flight(), 3);
     /// assert_eq!(slots.chained(key, Member::Open, -2)?, After::Nothing); // no such file
     /// assert!(slots.reserve_with(|_| String::new()).is_err());
     /// assert_eq!(slots.chained(key, Member::Request, -125)?, After::Nothing);
@@ -262,8 +274,23 @@ impl<T> Slots<T> {
     ///
     /// # Errors
     ///
-    /// The life isn't opening.
-    pub fn chain(&mut self, key: Key, requests: u32, closes: bool) -> Result<u32, Refusal> {
+    /// The life isn't opening. Then `open` isn't called.
+    pub fn chain(&mut self, key: Key, open: impl FnOnce(u32)) -> Result<Chain<'_>, Refusal> {
+        if self.machine.phase(key) != Some(Phase::Opening) {
+            // it is refused with the reason
+            self.machine.chain(key, 0, false)?;
+        }
+        open(key.slot());
+        Ok(Chain { machine: &mut self.machine, key, requests: 0, closes: false })
+    }
+
+    // Counts a chain, whose members the caller submits.
+    pub(super) fn count_chain(
+        &mut self,
+        key: Key,
+        requests: u32,
+        closes: bool,
+    ) -> Result<u32, Refusal> {
         self.machine.chain(key, requests, closes)
     }
 
@@ -306,13 +333,37 @@ impl<T> Slots<T> {
         self.machine.hold(key)
     }
 
+    /// Makes a queue of releases for these slots. `wake` is called in any thread, within the drop
+    /// of a [`User`], if the queue was empty: it wakes the ring's thread, as by a write to an
+    /// eventfd that the ring reads. It must not panic, and takes no lock that a thread may hold
+    /// around a drop.
+    pub fn releases(&self, wake: impl Fn() + Send + Sync + 'static) -> Releases {
+        Releases::new(self.number, wake)
+    }
+
+    /// Returns the keys of the users that were dropped since the last call, for
+    /// [`Slots::release`].
+    ///
+    /// # Errors
+    ///
+    /// The queue is that of other slots.
+    pub fn collect(&self, releases: &Releases) -> Result<Vec<Key>, OtherSlots> {
+        if !releases.is_of(self.number) {
+            return Err(OtherSlots);
+        }
+        Ok(releases.collect())
+    }
+
     /// Counts a user, as [`Slots::hold`], whose drop posts the key to a queue: then the ring's
     /// thread collects it, and calls [`Slots::release`]. The user may go to another thread.
     ///
     /// # Errors
     ///
-    /// The life isn't live, or has 2^32 - 1 users.
+    /// The queue is that of other slots, or the life isn't live, or has 2^32 - 1 users.
     pub fn hold_by(&mut self, key: Key, releases: &Releases) -> Result<User, Refusal> {
+        if !releases.is_of(self.number) {
+            return Err(Refusal::OtherSlots { key });
+        }
         self.machine.hold(key)?;
         Ok(releases.user(key))
     }
@@ -454,6 +505,54 @@ impl<T> Slots<T> {
 
     fn take(&mut self, key: Key) -> Option<T> {
         self.values[key.slot() as usize].take()
+    }
+}
+
+/// A chain that is being submitted. Each member that it submits is counted, and no other one: it
+/// ends by [`Chain::close`], or without a close when it is dropped. A member whose closure panics
+/// is taken as not submitted.
+#[must_use = "a chain without a close ends here"]
+pub struct Chain<'a> {
+    machine: &'a mut Machine,
+    key: Key,
+    requests: u32,
+    closes: bool,
+}
+
+impl Chain<'_> {
+    /// Submits a request on the file, by calling `submit` with the slot.
+    ///
+    /// # Panics
+    ///
+    /// If the chain has 2^32 - 1 requests.
+    pub fn request(mut self, submit: impl FnOnce(u32)) -> Self {
+        let requests = self.requests.checked_add(1).expect("a chain has at most 2^32 - 1 requests");
+        submit(self.key.slot());
+        self.requests = requests;
+        self
+    }
+
+    /// Submits the close of the slot, which is the last member, by calling `submit` with the slot.
+    pub fn close(mut self, submit: impl FnOnce(u32)) {
+        submit(self.key.slot());
+        self.closes = true;
+    }
+}
+
+impl Drop for Chain<'_> {
+    fn drop(&mut self) {
+        // nobody else has used the life, which was opening when the chain began
+        let _counted = self.machine.chain(self.key, self.requests, self.closes);
+    }
+}
+
+impl fmt::Debug for Chain<'_> {
+    fn fmt(&self, f: &mut fmt::Formatter<'_>) -> fmt::Result {
+        let (key, requests) = (self.key, self.requests);
+        f.debug_struct("Chain")
+            .field("key", &key)
+            .field("requests", &requests)
+            .finish_non_exhaustive()
     }
 }
 

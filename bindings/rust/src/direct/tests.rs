@@ -1,8 +1,10 @@
 //! Lives against a model that counts on its own, with random calls.
 use super::{
-    AdoptError, Adopted, After, Key, Member, Next, OpenError, Phase, PhaseName, Refusal, Releases,
+    AdoptError, Adopted, After, Key, Member, Next, OpenError, OtherSlots, Phase, PhaseName,
+    Refusal, Releases,
 };
 use super::{ReserveError, Slots};
+use std::cell::Cell;
 use std::collections::HashMap;
 use std::mem::discriminant;
 use std::sync::atomic::{AtomicU32, Ordering::Relaxed};
@@ -47,6 +49,28 @@ fn refusal(life: Option<Life>, key: Key) -> Refusal {
         Some(Life::Closing) => Refusal::IsClosing { key },
         Some(Life::Chained(_)) => Refusal::IsChained { key },
     }
+}
+
+// Submits a chain, which calls for each of its members once.
+fn submit_chain(slots: &mut Slots<Key>, key: Key, requests: u32, closes: bool) {
+    let submitted = Cell::new(0);
+    let submit = |slot| {
+        assert_eq!(slot, key.slot());
+        submitted.set(submitted.get() + 1);
+    };
+    let before = slots.in_flight();
+    let mut chain = slots.chain(key, submit).unwrap();
+    for _ in 0..requests {
+        chain = chain.request(submit);
+    }
+    if closes {
+        chain.close(submit);
+    } else {
+        drop(chain);
+    }
+    assert_eq!(submitted.get(), requests + 1 + u32::from(closes));
+    // the open was in flight before
+    assert_eq!(slots.in_flight(), before + u64::from(submitted.get()) - 1);
 }
 
 struct Model {
@@ -128,9 +152,13 @@ impl Model {
                 let ended = false;
                 self.lives
                     .insert(key, Life::Chained(Chain { requests, closes, open, close, ended }));
-                assert_eq!(slots.chain(key, requests, closes), Ok(key.slot()));
+                submit_chain(slots, key, requests, closes);
             }
-            (0, _) => assert_eq!(slots.chain(key, requests, good), Err(no)),
+            (0, _) => {
+                let refused = slots.chain(key, |_| panic!("an open is submitted"));
+                assert_eq!(refused.map(drop), Err(no));
+                assert_eq!(slots.count_chain(key, requests, good), Err(no));
+            }
             (_, Some(Life::Chained(chain))) => {
                 let seen = self.chained(key, chain, member, good);
                 let result = if good { requests as i32 } else { -125 };
@@ -348,6 +376,7 @@ fn each_refusal_has_a_number_and_words() {
         (Refusal::TooManyRequests { key }, -15, "too many requests are in flight"),
         (Refusal::TooManyUsers { key }, -16, "there are too many users"),
         (Refusal::IsChained { key }, -17, "the chain is not over"),
+        (Refusal::OtherSlots { key }, -20, "the queue is that of another machine"),
     ];
     for (it, number, words) in refusals {
         assert_eq!((it.key(), it.number()), (key, number));
@@ -367,30 +396,36 @@ fn users_in_other_threads_come_back() {
     let collected = Arc::new((OnceLock::<Releases>::new(), AtomicU32::new(0)));
     let (counter, inner) = (woken.clone(), Arc::downgrade(&collected));
     // what wakes the ring's thread may look at the queue
-    let releases = Releases::new(move || {
+    let mut slots = Slots::<()>::new(2).unwrap();
+    let releases = slots.releases(move || {
         counter.fetch_add(1, Relaxed);
         let inner = inner.upgrade().unwrap();
         let keys = inner.0.get().map_or(0, |it| it.collect().len());
         inner.1.fetch_add(keys as u32, Relaxed);
     });
-    let mut slots = Slots::<()>::new(2).unwrap();
     let key = slots.reserve().unwrap();
     assert_eq!(slots.opened(key, 0), Ok(After::Nothing));
+    let mut others = Slots::<()>::new(2).unwrap();
+    let twin = others.reserve().unwrap();
+    assert_eq!((twin, others.opened(twin, 0)), (key, Ok(After::Nothing)));
+    let other = Refusal::OtherSlots { key };
+    assert_eq!(others.hold_by(key, &releases).map(|it| it.key()), Err(other));
     let mut users: Vec<_> = (0..40).map(|_| slots.hold_by(key, &releases).unwrap()).collect();
     assert_eq!((slots.end(key), users[0].key()), (Ok(Next::Nothing), key));
     let no = Refusal::IsEnding { key };
     assert_eq!(slots.hold_by(key, &releases).map(|it| it.key()), Err(no));
-    assert!(releases.collect().is_empty(), "a user that is refused");
+    assert!(slots.collect(&releases).unwrap().is_empty(), "a user that is refused");
     let last = users.pop();
     std::thread::scope(|scope| {
         for user in users {
             scope.spawn(move || drop(user));
         }
     });
-    let keys = releases.collect();
+    assert_eq!(others.collect(&releases), Err(OtherSlots));
+    let keys = slots.collect(&releases).unwrap();
     assert_eq!((keys.len(), woken.load(Relaxed)), (39, 1));
     assert!(keys.into_iter().all(|it| slots.release(it) == Ok(Next::Nothing)));
-    assert!(releases.collect().is_empty() && slots.phase(key).is_some());
+    assert!(slots.collect(&releases).unwrap().is_empty() && slots.phase(key).is_some());
     collected.0.set(releases).ok().unwrap();
     drop(last);
     assert_eq!((woken.load(Relaxed), collected.1.load(Relaxed)), (2, 1));
