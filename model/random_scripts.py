@@ -11,12 +11,12 @@ KINDS = ("open", "open", "any", "read", "read", "read", "close", "close", "updat
 TINY = ("open", "open", "any", "any", "read", "read", "read", "close", "update", "update")
 AT_SLOTS = ("open", "open", "read", "read", "read", "close", "update")
 STEADY = ("open", "open", "read", "read", "update")
+BUSY = ("open", "open", "open", "any", "read", "read", "read", "close", "close", "update")
 
 
 class Shape(NamedTuple):
-    """Of what a script is drawn: how many slots a table may have, submissions there may be, chains of one and members of a chain. Then
-    the requests, the lengths of reads, how often a call comes between two submissions, and how often something is odd; and how many
-    entries an update has at most."""
+    """Of what a script is drawn: numbers of slots, submissions, chains and members; the requests, the lengths of reads, how often a
+    call comes between two submissions, how often something is odd, and how many entries an update has at most."""
 
     slots: tuple
     submissions: tuple
@@ -29,10 +29,7 @@ class Shape(NamedTuple):
     entries: int = 16
 
 
-# of every command and request; the same with much that is odd, and with requests that no submission
-# may have; so small that all orders can be played; chains that contend for two slots, with no open
-# at any slot and nothing odd, so that no difference of Linux bears on them, and more of them; and
-# the largest submissions, of which few requests fail
+# all; much that is odd; small; chains that contend for two slots; more; the largest; many chains
 SHAPES = {
     "random": Shape((1, 1, 2, 2, 3, 4, 6, 16), (1, 2, 2, 3, 4), (1, 1, 2, 2, 3, 4, 6), (1, 1, 2, 2, 3, 4, 6)),
     "odd": Shape((0, 1, 2, 3, 4, 16, 256, 257), (1, 2, 2, 3, 4), (0, 1, 2, 3, 5, 12), (1, 1, 2, 2, 3, 4, 6), (*KINDS * 8, "long"), odd=0.1),
@@ -40,6 +37,7 @@ SHAPES = {
     "contending": Shape((2,), (1, 1, 2), (2, 3, 4, 5), (1, 2, 3, 3, 4), AT_SLOTS, calls=0, odd=0),
     "meeting": Shape((2,), (1, 1, 2), tuple(range(3, 9)), (1, 1, 2, 3), TINY, calls=0, odd=0),
     "large": Shape((256,), (1,), (1023,), (16,), (*STEADY * 4, "any", "close"), (0, 0, 1), 0, 0.005, 4),
+    "busy": Shape((4,), (1,), (64,), (4,), BUSY, (1,), 0, 0, 2),
 }
 
 

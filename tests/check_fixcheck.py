@@ -1,19 +1,17 @@
-"""check-fixcheck PROGRAM FIXFILES [COUNT [SEED]] [--few]: tests the verdicts of fixcheck, the PROGRAM: on the examples, on texts at the limits, of
-the sizes between them and of parts, on the texts that FIXFILES prints for COUNT random scripts, on 1, 2, 3 and 16 workers and over both
-tables, and on these texts with a spoiled line of each kind of tests/spoiled_lines.py. The model, which does requests one at a time, judges
-what fixcheck prints. At most one text of five hundred is undecided, and there are enough texts of each kind. With --few it runs the parts
-and a few of the others. tests/check-verdicts tests how a verdict is printed, and the arguments."""
+"""check-fixcheck PROGRAM FIXFILES [COUNT [SEED]] [--few]: tests the verdicts of fixcheck, the PROGRAM: on the examples, on texts at the
+limits, of the sizes between them and of parts, on what FIXFILES prints for COUNT random scripts on several workers and over both tables,
+and on these texts with a spoiled line of each kind of tests/spoiled_lines.py. The model judges what fixcheck prints. At most one text of
+five hundred is undecided. With --few it runs the parts and a few of the others. tests/check-verdicts tests how a verdict is printed."""
 import collections
 import functools
 import random
 import re
 import zlib
 
-from bench import measure_fixcheck
 from scripts.checks import Counted, arguments
 from model import contradictions, orders
-from tests import fixcheck_rows, spoiled_lines
-from tests.fixcheck_rows import LEGAL_SIZES, PARTS
+from tests import spoiled_lines
+from tests.limits import limits, lines
 from model.model import Player
 from model.orders import TooManyOrders, ending_of
 from scripts.programs import LEGAL, NOT_LEGAL, UNDECIDED, in_parallel, in_processes, run, verdict
@@ -22,6 +20,7 @@ from model.replay import Illegal, replayed
 from scripts.examples import examples
 from scripts.repository import keep
 from tests.spoiled_lines import parsed
+from tests.sweeps import sweeps
 from model.told_history import complaint_of
 
 # the answer of a lack of memory: a checker accepts it, and the model never returns it
@@ -36,30 +35,34 @@ LARGEST_FREE_SEARCH = 1_000
 NAMED_EACH, LEAST_OF_A_KIND = 8, 3
 # submissions of chains of four at four slots, played by one worker, and the states that decide each
 CONTENDED, CONTENDING_CHAINS, CONTENDED_STATES = 20, 16, 1_000
-# submissions that workers play in turns: the workers, the slots, the chains and the most members of
-# each, and a seed; and the states that decide each text
+# played in turns: workers, slots, chains, most members, a seed; and the states for each text
 PLAYED, PLAYED_STATES = ((16, 4, 40, 3, 4), (4, 12, 60, 4, 7), (4, 2, 60, 4, 8)), 200_000
 # of ten verdicts on a spoiled line the number that name it, and the states of each
 NAMED_OF_TEN, NAMED_STATES = 9, 20_000
 # one of this many may name a later command
 LATER_OF = 100
-# for each hundred scripts the least number of texts whose verdict names lines that have no order,
-# or lines that contradict each other for whatever reason, and of texts with several breaks
+# for each hundred scripts the least verdicts that name such lines, and texts with several breaks
 LEAST_OF_100 = {"unordered": 2, "contradicting": 20, "broken": 10}
 # with --few: how many examples
 FEW = 8
+# of limits two are bad scripts
+LEGAL_SIZES = 493
+# how many rows of parts there are
+PARTS = 6
+# too few states for the part of two slots, an order of which goes through eleven
+FEW_STATES = 10
+# and this many for five slots, if the opens at the first one can be done in any order
+FIVE_STATES, OPENS = 60, 7
 
 
 class Counts(Counted):
-    """What was looked at, of one script or of all. `of` counts texts by what they are, and verdicts on texts with a spoiled line by what
-    they are and the kind of that line: LEGAL or NOT_LEGAL; or of some `refused` ones those where the line is `named`, or a `later`
-    command."""
+    """What was looked at, of one script or of all. `of` counts texts by what they are, verdicts by LEGAL or NOT_LEGAL and the kind
+    of the spoiled line, and the `refused` ones, those that name it, and those that name a `later` command."""
 
     def add(self, other):
         self.seen, self.wrong, self.of = self.seen + other.seen, self.wrong + other.wrong, self.of + other.of
 
     def total(self, what):
-        """Returns the number of verdicts, of all kinds of lines."""
         return sum(count for it, count in self.of.items() if it[0] == what)
 
     def note_undecided(self):
@@ -229,8 +232,75 @@ def counts_of(fixcheck, fixfiles, script):
     return counts
 
 
+def sizes():
+    """Scripts at the limits and between them with their texts, all of them legal."""
+    for name, script, text, *fault in [*limits(), *sweeps()]:
+        if not any(fault):
+            yield name, script.encode(), text
+
+
+def contending(chains):
+    """Returns the requests and completions of `chains` chains, each of which puts a file at slot 0 and one at slot 1, and of a chain
+    that reads what the first chain put at slot 1 and then what it put at slot 0; and the files that were closed, and those that are
+    left."""
+    requests, answers, closed, left = [], [], [], []
+    for nth in range(1, chains + 1):
+        names = "ab"[nth % 2], "x" if nth == 1 else "ab"[(nth + 1) % 2]
+        requests += [f"open {names[0]} at 0 link", f"open {names[1]} at 1"]
+        answers += [f"1.{nth}.1 0", f"1.{nth}.2 0"]
+        (left if nth == chains else closed).extend([f"closed 1.{nth}.1.0 {names[0]}", f"closed 1.{nth}.2.0 {names[1]}"])
+    return [*requests, "read 1 0 1 link", "read 0 0 1"], [*answers, f"1.{chains + 1}.1 1 78", f"1.{chains + 1}.2 1 62"], closed, left
+
+
+def parts():
+    """Parts with too many states: the name, the script, the text, the states, the status and what the verdict says."""
+    requests, answers, closed, left = contending(4)
+    head = ["file a 61", "file b 62", "file c 63", "file x 78", "register 2,2,2,2,2,2,2"]
+    rest = [f"closed r1.{it} c" for it in (2, 3, 4)]
+    both = [f"closed r1.{it} c" for it in (5, 6)]
+
+    def case(more, told, gone, stay, last):
+        text = ["register 0", *answers, *told, "closed r1.0 c", "closed r1.1 c", *gone, *closed, "teardown", *stay, *left, *last]
+        return lines(*head, *requests, *more, "submit").encode(), lines(*text), FEW_STATES
+
+    yield "the part alone", *case([], [], [], [*rest, *both], []), UNDECIDED, "undecided: submission 1"
+    yield "a slot by itself", *case(["read 5 0 1"], ["1.6.1 1 61"], [], [*rest, *both], []), NOT_LEGAL, "which can't be at slot 5 then"
+    # each of two chains puts a file, and then reads what was at the other's slot before
+    crossed = ["open a at 5 link", "read 6 0 1", "open b at 6 link", "read 5 0 1"]
+    told = ["1.6.1 0", "1.6.2 1 63", "1.7.1 0", "1.7.2 1 63"]
+    opened = ["closed 1.6.1.0 a", "closed 1.7.1.0 b"]
+    yield "a later part", *case(crossed, told, both, rest, opened), NOT_LEGAL, "lines 13 and 15 of the text: no order of the requests gives all of these"
+    yield "the fifth slot of a part", *fifth_slot(), NOT_LEGAL, "lines 6 and 7 of the text: no order of the requests gives all of these, which concern slot 4"
+    yield from range_without_slots()
+
+
+def fifth_slot():
+    """A chain that reads at five slots, the last one twice, where it finds the new file and then the old one."""
+    reads = [f"read {slot} 0 1 link" for slot in range(5)] + ["read 4 0 1"]
+    opens = ["open a at 0"] * OPENS
+    answers = [f"1.1.{member} 1 {'62' if member == 5 else '63'}" for member in range(1, 7)] + [f"1.{nth}.1 0" for nth in range(2, OPENS + 3)]
+    closed = ["closed r1.0 c", "closed r1.4 c", *(f"closed 1.{nth}.1.0 a" for nth in range(3, OPENS + 2))]
+    left = [*(f"closed r1.{slot} c" for slot in (1, 2, 3)), "closed 1.2.1.0 b", f"closed 1.{OPENS + 2}.1.0 a"]
+    script = lines("file a 61", "file b 62", "file c 63", "register 2,2,2,2,2", *reads, "open b at 4", *opens, "submit")
+    return script.encode(), lines("register 0", *answers, *closed, "teardown", *left), FIVE_STATES
+
+
+def range_without_slots():
+    """Chains of two slots, whose open at any slot finds a range of no slots full: the chain is of one part all the same."""
+    head = ["file a 61", "file b 62", "register 0,0", "range 2 0", "read 1 0 1 hardlink", "open a any hardlink", "open b at 0"]
+    text = ["register 0", "range 0", "1.1.1 1 61", "1.1.2 -23", "1.1.3 0", "closed r1.0 a", "teardown", "closed r1.1 a", "closed 1.1.3.0 b"]
+    yield "a range without slots", lines(*head, "submit").encode(), lines(*text), FEW_STATES, LEGAL, "legal"
+    others = ["read 0 0 1 hardlink", "open a any hardlink", "open b at 1"]
+    text = [
+        "register 0", "range 0", "1.1.1 1 62", "1.1.2 -23", "1.1.3 0", "1.2.1 1 62", "1.2.2 -23", "1.2.3 0", "closed r1.0 a", "closed r1.1 a",
+        "teardown", "closed 1.1.3.0 b", "closed 1.2.3.0 b",
+    ]
+    said = "lines 3 and 6 of the text: no order of the requests gives all of these"
+    yield "a range without slots, crossed", lines(*head, *others, "submit").encode(), lines(*text), FEW_STATES, NOT_LEGAL, said
+
+
 def check_parts(fixcheck, counts):
-    rows = list(fixcheck_rows.parts())
+    rows = list(parts())
     for name, script, text, states, wanted, said in rows:
         status, lines, message = verdict(fixcheck, script, text, "--states", str(states))
         counts.want((status, message) == (wanted, "") and said in "".join(lines[:1]), f"{name}: status {status}, {lines[:1]}, and not {wanted}", script, text)
@@ -239,7 +309,7 @@ def check_parts(fixcheck, counts):
 
 def check_sizes(fixcheck, counts):
     """Texts of each size are legal."""
-    cases = list(fixcheck_rows.sizes())
+    cases = list(sizes())
     for (name, *_), (status, _, message) in zip(cases, in_parallel(lambda it: verdict(fixcheck, it[1], it[2]), cases)):
         counts.want((status, message) == (LEGAL, ""), f"{name}: status {status} and {message!r}")
     counts.want(len(cases) == LEGAL_SIZES, f"{len(cases)} texts of sizes were looked at, and not {LEGAL_SIZES}")
@@ -267,16 +337,14 @@ class InTurns(Player):
 def check_played(fixcheck, counts):
     """Texts that workers wrote in turns are legal, with few states."""
     for workers, slots, chains, members, seed in PLAYED:
-        rng = random.Random(seed)
-        script = measure_fixcheck.one(rng, slots, chains, lambda rng, most=members: rng.randint(1, most)).encode()
-        text, what = InTurns(parsed(script).files, workers, rng).play(parsed(script).commands), f"chains of {workers} workers at {slots} slots"
+        [(_, script)] = random_scripts("busy", seed, 1, slots=(slots,), chains=(chains,), members=range(1, members + 1))
+        text, what = InTurns(parsed(script).files, workers, random.Random(seed)).play(parsed(script).commands), f"chains of {workers} workers at {slots} slots"
         is_legal(fixcheck, counts, script, text, what)
         is_legal_within(PLAYED_STATES, fixcheck, counts, script, text, what)
 
 
 def check_contended(fixcheck, counts, fixfiles):
-    for seed in range(CONTENDED):
-        script = measure_fixcheck.one(random.Random(seed), measure_fixcheck.SLOTS, CONTENDING_CHAINS, lambda _: measure_fixcheck.MEMBERS).encode()
+    for _, script in random_scripts("busy", 1, CONTENDED, chains=(CONTENDING_CHAINS,)):
         _, text, _ = run([fixfiles, "--workers", "1"], script)
         is_legal_within(CONTENDED_STATES, fixcheck, counts, script, text, "chains that contend, by one worker")
 
