@@ -252,7 +252,13 @@ enum {
                                    * which a request may install it */
     YACHT_RULE_MISSES = 26,       /* a file that was installed (premise) was never at a slot at which
                                    * no request may install it */
-    YACHT_RULE_EXISTED = 27       /* a file was installed before it was closed: first */
+    YACHT_RULE_EXISTED = 27,      /* a file was installed before it was closed: first */
+    YACHT_RULE_FAILS = 28,        /* the file of a member that failed is never installed, so not
+                                   * before an event: first, and the member's answer second */
+    YACHT_RULE_UNKNOWN = 29,      /* a file was installed (premise), and no call before that may
+                                   * install it */
+    YACHT_RULE_CUT = 30           /* a member is canceled although the answer of the member before it
+                                   * severs nothing, or isn't although it does: first, second */
 };
 
 /* A step of a reason: by its rule, the point `from` comes before the point `to` in each flight. The

@@ -41,9 +41,14 @@ call 12 open a at 1
 done 12.1 0 61
 call 13 open a any
 done 13.1 2
+call 14 close 1 link ; read 1 0 1
+done 14.1 -9
+done 14.2 -125
+closed 3.1.0 a
 """
 A, B = (2, 1, 0), (4, 1, 0)
 OPENED, LOOKED, UPDATED, FOUND, CLOSED, READ = (5, 6), (7, 8), (9, 10), (11, 12), (16, 17), (18, 19)
+PUT_NONE = PUT, (0, 0, 0)
 PUT_A, PUT_B, GONE_A, GONE_B = (PUT, A), (PUT, B), (GONE, A, 0), (GONE, B, 0)
 
 
@@ -118,7 +123,7 @@ NO_LANDING = [step("follows", LOOKED, PUT_A, access(8)), step("calls", (28,), ev
 # steps that come first, the last one, and others in its place, or what of it is another
 ROWS = [
     ([], of_lines(5, 6),
-     [of_lines(6, 5), of_lines(6, 6), of_lines(4, 5), of_lines(1, 5), of_lines(35, 36), of_lines(0, 5),
+     [of_lines(6, 5), of_lines(6, 6), of_lines(4, 5), of_lines(1, 5), of_lines(39, 40), of_lines(0, 5),
       step("events", (5, 6), event(5), event(6), is_strict=False), step("events", (5, 6), event(5), event(7))]),
     ([], begins(OPENED), [begins((5, 8)), begins(OPENED, 1), begins((6, 6)), begins((5, 5)), begins((24, 25)), dict(before=access(6), after=event(5))]),
     ([], ends(UPDATED, 1), [ends(UPDATED, 2), ends((9, 12)), ends((24, 25)), dict(after=event(11))]),
@@ -158,6 +163,14 @@ ROWS = [
     ([], *never("cant-answer", (32, 33)), never("cant-answer", (32, 29))),
     ([], *never("cant-answer", (34, 35)), never("cant-answer", (34, 33))),
     ([], *never("cant-answer", (28, 31)), never("cant-answer", UPDATED)),
+    # the second member of call 10 is canceled, so it installs nothing, and the third one is not
+    ([], step("fails", (5, 30), event(5), (PUT, (10, 2, 0))),
+     [dict(lines=(5, 29)), dict(lines=(5, 31)), dict(lines=(1, 30), before=event(1)), dict(after=PUT_A), dict(is_strict=False)]),
+    ([], *never("cut", (29, 30)), never("cut", (30, 29), (29, 31), (6, 10), (37, 38), (14, 30))),
+    ([], *never("cut", (30, 31)), [dict(before=event(30))]),
+    # call 3 is a look
+    ([step("existed", (39,), PUT_NONE, event(39)), step("existed", (14,), PUT_A, event(14))], step("unknown", (), PUT_NONE, PUT_NONE, premises=(0,)),
+     [dict(premises=(1,), before=PUT_A, after=PUT_A), dict(is_strict=False), dict(after=event(39)), dict(premises=(2,))]),
     # slot 1 never had a file, and one of slot 0 was replaced; without its access, more may be there
     ([], step("holds", (26, 27), access(27), access(27)),
      [step("holds", lines, access(lines[1]), access(lines[1])) for lines in (CLOSED, READ, (24, 25), (26, 17), OPENED)]),

@@ -297,6 +297,27 @@ class Reason:
         want(not self.log.may_answer(self.log.request(call, member), result, more), "the request may have this answer")
         return (EVENT, lines[1]), (EVENT, lines[1]), True
 
+    def _fails(self, lines, access, premises, points):
+        file, (call, member, result, _) = points[1][1], self.log.answer_at(lines[1])
+        want(lines[0] in self.log.events and file[:2] == (call, member) and result < 0, "the member of the file didn't fail")
+        return (EVENT, lines[0]), (PUT, file), True
+
+    def _unknown(self, lines, access, premises, points):
+        ((put, event, is_before),) = premises
+        file = is_put(put)
+        want(is_before and event[0] == EVENT, "the file isn't known to be installed")
+        want(all(own != file for *_, own in self.log.changes(event[1])), "a call may install the file")
+        return put, put, True
+
+    def _cut(self, lines, access, premises, points):
+        (call, member, result, _), (other, after, last, _) = map(self.log.answer_at, lines)
+        want(call == other and after == member + 1, "the answers aren't those of members that follow each other")
+        request = self.log.request(call, member)
+        is_short = request.kind == "read" and result < request.count
+        cancels = result == CANCELED or (request.link == "link" and (result < 0 or is_short))
+        want(cancels != (last == CANCELED), "the answers agree")
+        return (EVENT, lines[1]), (EVENT, lines[1]), True
+
     def _holds(self, lines, access, premises, points):
         z, (before, after) = (ACCESS, lines[1], access), points
         own = next((it[1:] for it in points if it[0] in (PUT, GONE)), (None,))

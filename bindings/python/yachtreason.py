@@ -5,10 +5,15 @@ from __future__ import annotations
 from collections.abc import Iterable, Iterator, Sequence
 from typing import TYPE_CHECKING
 
+from yachtlines import NO_FILE
 from yachtsteps import Point, Step
 
 if TYPE_CHECKING:
     from yachtlines import Event, Lines, Mark
+
+
+# the result of a request that an earlier one of its chain cancels
+CANCELED = -125
 
 
 def name_of(mark: Mark) -> str:
@@ -144,8 +149,7 @@ class Words:
         return f"{self._who(it.lines[0])} held {file} from line {it.lines[0]} on, and it was closed by line {it.lines[1]}"
 
     def _cant_answer(self, it: Step) -> str:
-        result = self._log.answers[self._events[it.lines[1]].call, self._events[it.lines[1]].member].result
-        return f"{self._who(it.lines[1])} answered {result} at line {it.lines[1]}, which such a request never answers"
+        return f"{self._answered(it.lines[1])}, which such a request never answers"
 
     def _holds(self, it: Step) -> str:
         found = f"{self._who(it.lines[1])} found a file at slot {it.slot} by line {it.lines[1]}"
@@ -164,6 +168,25 @@ class Words:
 
     def _existed(self, it: Step) -> str:
         return f"{name_of(it.before.file)} was installed before it was closed by line {it.lines[0]}"
+
+    def _answered(self, line: int) -> str:
+        """Returns the member that a line answers, and its result."""
+        event = self._events[line]
+        return f"{self._who(line)} answered {self._log.answers[event.call, event.member].result} at line {line}"
+
+    def _fails(self, it: Step) -> str:
+        return f"{self._answered(it.lines[1])}, so it installed nothing"
+
+    def _unknown(self, it: Step) -> str:
+        *_, last = self._parts(it.premises[0])
+        file = "a file" if it.before.file == NO_FILE else name_of(it.before.file)
+        return f"line {last.lines[-1]} says that {file} was installed, and no call before it can have installed that file"
+
+    def _cut(self, it: Step) -> str:
+        first, second = map(self._answered, it.lines)
+        event = self._events[it.lines[1]]
+        is_canceled = self._log.answers[event.call, event.member].result == CANCELED
+        return f"{second}, although {first}, which {'does not cancel' if is_canceled else 'cancels'} the next request"
 
     def _stays(self, it: Step) -> str:
         return f"no call before line {it.lines[0]} can have taken {name_of(it.after.file)} from slot {it.after.slot}"

@@ -173,8 +173,13 @@ RULES = [
     ("lands", (), put, gone, "2.1.0 was installed at slot 0"),
     ("misses", (), gone, put, "no call before can have installed 2.1.0 at slot 0"),
     ("existed", (13,), put, event, "2.1.0 was installed before it was closed by line 13"),
+    ("fails", (13, 12), event, other, "close 4.2 answered 0 at line 12, so it installed nothing"),
+    ("cut", (11, 12), event, event, "close 4.2 answered 0 at line 12, although open 4.1 answered 0 at line 11, which cancels the next request"),
 ]
 for rule, lines, before, after, words in RULES:
     sentences = yachtreason.Words(told, told.events, [Step(rule, lines, 0, (), before, after, True)]).sentences()
     want(sentences == [words], f"the words of {rule} are {sentences}")
+existed, unknown = Step("existed", (13,), 0, (), put, event, True), Step("unknown", (), 0, (0,), put, put, True)
+sentences = yachtreason.Words(told, told.events, [existed, unknown]).sentences()
+want(sentences == ["line 13 says that 2.1.0 was installed, and no call before it can have installed that file"], f"the words of unknown are {sentences}")
 end()

@@ -94,6 +94,12 @@ rules! {
     Misses,
     /// A file was installed before it was closed.
     Existed,
+    /// The file of a member that failed is never installed.
+    Fails,
+    /// A contradiction: a file was installed that no call before may install.
+    Unknown,
+    /// A contradiction: a member is canceled, or isn't, against the answer of the member before it.
+    Cut,
 }
 
 /// A step of a reason: a point comes before another one in each flight. `first`, `second`,

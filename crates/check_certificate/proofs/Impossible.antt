@@ -22,11 +22,11 @@ error_Decides c errno = Decides-like (is_error c errno)
     (λ is. (ap (λ (d : Completed). d.res) is, ap (λ (d : Completed). length d.got) is))
     (Decides-and _ _ (Decides-int_eq c.res (negated errno)) (Decides-eqb (length c.got) 0))
 
-or_left : (a b : Bool) → a ≡ true → (a || b) ≡ true
+pub or_left : (a b : Bool) → a ≡ true → (a || b) ≡ true
 or_left true b is = refl
 or_left false b is = absurd (false≢true is)
 
-or_right : (a b : Bool) → b ≡ true → (a || b) ≡ true
+pub or_right : (a b : Bool) → b ≡ true → (a || b) ≡ true
 or_right true b is = refl
 or_right false b is = is
 

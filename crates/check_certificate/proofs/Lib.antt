@@ -14,3 +14,4 @@ pub mod Called
 pub mod Holders
 pub mod Walks
 pub mod Takers
+pub mod Cutting

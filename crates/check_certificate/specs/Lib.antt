@@ -8,6 +8,7 @@ pub mod Rules
 pub mod Holds
 pub mod Leaves
 pub mod Walks
+pub mod Cut
 pub mod Right
 pub mod Absent
 pub mod Taken

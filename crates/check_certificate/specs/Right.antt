@@ -8,6 +8,8 @@ use Rattle.fx_flight.specs.Faults.{IsFaultless}
 use Rattle.fx_flight.specs.declared.event.LogEvent.{LogEvent}
 use Rattle.fx_order.specs.declared.slots.Slots.{Slots}
 use Rattle.check_certificate.specs.Forced.{is_of_no_call}
+use Rattle.check_certificate.specs.Cut.{cut}
+use Rattle.check_certificate.specs.Holds as hold
 use Rattle.check_certificate.specs.Holds.{is_some_so}
 use Rattle.check_certificate.specs.Rules as rule
 use Rattle.check_certificate.specs.Said.{◌>>=◌, Given}
@@ -72,6 +74,9 @@ order_added g known (kind.FindsClosed close answer) = rule.finds_closed g close 
 order_added g known (kind.ClosesTwice first second) = rule.closes_twice g first second
 order_added g known (kind.ClosesHeld answer close) = rule.closes_held g answer close
 order_added g known (kind.CantAnswer call answer) = rule.cant_answer g call answer
+order_added g known (kind.Fails event answer file) = hold.fails g event answer file
+order_added g known (kind.Unknown installed) = slice_get known installed >>= walk.unknown g known
+order_added g known (kind.Cut call first answer) = cut g call first answer
 
 -- the order says that a point comes before itself
 abbrev pub is_contradiction : PointOrder → Bool

@@ -10,7 +10,8 @@ use Rattle.fx_flight.specs.Events.{Happening, Called}
 use Rattle.check_certificate.specs.Holds.{finds_file, installs_none, is_empty_at_first}
 use Rattle.check_certificate.specs.Leaves.{takes_none}
 use Rattle.check_certificate.specs.Made.{intended, made}
-use Rattle.check_certificate.specs.Rules.{before, not_after, same_point, event_of, gone_of, put_of}
+use Rattle.check_certificate.specs.Rules.{before, not_after, same_point, event_of, gone_of, joined}
+use Rattle.check_certificate.specs.Rules.{put_of}
 use Rattle.check_certificate.specs.Said.{◌>>=◌, Given, slots_of, only_if, same_file, call_of}
 use Rattle.check_certificate.specs.Said.{event_at}
 use Rattle.check_certificate.specs.Walked.{end_of, member_of}
@@ -125,6 +126,14 @@ module _ (g : Given) (known : List PointOrder) where
     call ← call_of l.file
     only_if (nat_lt l.until (length g.events) && is_walked (Misses l))
         (not_after (Gone l.file l.slot) (Put l.file))
+
+  -- a file that was installed before an event, by no call before the event
+  unfoldable pub unknown : PointOrder → Option PointOrder
+  unknown installed = do
+    l ← landing installed 0
+    placed ← lands l
+    left ← misses l
+    joined placed left
 
   unfoldable pub stays : ℕ → PointOrder → Option PointOrder
   stays until there = do

@@ -64,10 +64,10 @@ pub(crate) fn is_failure(c: &Completion) -> bool
 }
 
 impl LogBeginning<'_> {
-    // Returns the order of an event and the installation of a file that no access installs: the
-    // event at `own` is the failure of the file's member.
+    /// Returns the order of an event and the installation of a file that no access installs: the
+    /// event at `own` is the failure of the file's member.
     #[tactic(auto, unfolding(crate::specs::Holds::fails))]
-    fn fails(&self, event: usize, own: usize, file: File) -> Option<PointOrder>
+    pub(crate) fn fails(&self, event: usize, own: usize, file: File) -> Option<PointOrder>
         ensures sound { IfSome result (IsForced self.now) }
         ensures exact { result ≡ hold.fails (said.given_of self.now) event own file }
     {

@@ -281,4 +281,29 @@ pub enum Step {
         /// The position of the answer.
         answer: usize,
     },
+    /// The file of a member that failed is never installed: `Event(event) < Put(file)`.
+    Fails {
+        /// The position of an event.
+        event: usize,
+        /// The position of the member's answer.
+        answer: usize,
+        /// A file with the member's mark.
+        file: File,
+    },
+    /// A contradiction: a file was installed before an event, and no call before the event may
+    /// install it.
+    Unknown {
+        /// The order `Put(file) < Event(until)`.
+        installed: usize,
+    },
+    /// A contradiction: a member is canceled although the member before it goes on with the chain,
+    /// or isn't canceled although that one severs the chain or is canceled itself.
+    Cut {
+        /// The position of the call.
+        call: usize,
+        /// The position of the answer of the member before.
+        before: usize,
+        /// The position of the member's answer.
+        answer: usize,
+    },
 }

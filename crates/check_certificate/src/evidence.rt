@@ -70,8 +70,8 @@ pub fn evidence_of(intent: Intent, c: &Completion) -> Evidence
     }
 }
 
-// Returns the member of a chain with this number, from 1.
-fn member_of(chain: &[Request], member: u32) -> Option<&Request>
+/// Returns the member of a chain with this number, from 1.
+pub(crate) fn member_of(chain: &[Request], member: u32) -> Option<&Request>
     ensures { option_map (λ request. asked_of request.now) result
         ≡ slice_get (all_asked chain.now) (member - 1) }
 {

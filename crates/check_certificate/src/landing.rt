@@ -1,6 +1,6 @@
 //! The rule of a file that was installed: at the only slot at which a call may install it.
 ghost use Rattle.std.specs.Prelude.{◌≡◌, All, IfSome, IsTrue};
-ghost use Rattle.check_certificate.specs.Forced.{IsForced};
+ghost use Rattle.check_certificate.specs.Forced.{IsForced, IsForcedBy};
 ghost use Rattle.check_certificate.specs.Landed.{IsInstalledBefore, LandsThere, MissesThere};
 ghost use Rattle.check_certificate.specs.Said as said;
 ghost use Rattle.check_certificate.specs.Walks as walk;
@@ -82,5 +82,23 @@ impl LogBeginning<'_> {
             return None;
         }
         Some(not_after(Point::Gone(l.file, l.slot), Point::Put(l.file)))
+    }
+
+    /// Returns a contradiction: by `installed` a file was installed before an event, and no call
+    /// before the event may install it, whatever the slot.
+    #[tactic(auto, unfolding(crate::specs::Walks::unknown))]
+    pub(crate) fn unknown(
+        &self,
+        installed: &PointOrder,
+        known: &[PointOrder],
+    ) -> Option<PointOrder>
+        requires { All (IsForced self.now) known.now }
+        ensures sound { IfSome result (IsForcedBy self.now installed.now) }
+        ensures exact { result ≡ walk.unknown (said.given_of self.now) known.now installed.now }
+    {
+        let l = self.landing(installed, 0)?;
+        let placed = self.lands(l, known)?;
+        let gone = self.misses(l, known)?;
+        self.joined(&placed, &gone)
     }
 }

@@ -9,6 +9,7 @@ mod absence;
 mod answers;
 mod beginning;
 mod certificate;
+mod cut;
 mod events;
 mod evidence;
 mod exclusion;

@@ -161,6 +161,17 @@ impl LogBeginning<'_> {
             Step::ClosesTwice { first, second } => self.closes_twice(first, second),
             Step::ClosesHeld { answer, close } => self.closes_held(answer, close),
             Step::CantAnswer { call, answer } => self.cant_answer(call, answer),
+            Step::Fails {
+                event,
+                answer,
+                file,
+            } => self.fails(event, answer, file),
+            Step::Unknown { installed } => self.unknown(order_at(known, installed)?, known),
+            Step::Cut {
+                call,
+                before,
+                answer,
+            } => self.cut(call, before, answer),
         }
     }
 

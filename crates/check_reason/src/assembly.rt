@@ -49,6 +49,7 @@ fn set_premises(step: &mut Step, first: usize, second: usize) {
         Step::Lands { installed, .. } => *installed = first,
         Step::Precedes { there, .. } => *there = first,
         Step::Stays { there, .. } => *there = first,
+        Step::Unknown { installed } => *installed = first,
         Step::Differs { order, .. } => *order = first,
         _ => {}
     }

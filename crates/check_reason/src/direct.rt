@@ -3,19 +3,21 @@
 use crate::assembly::ReasonStep;
 use crate::reading::Reading;
 use crate::shown::ShownAccess;
-use check_certificate::{Evidence, Point, PointOrder, Step, is_impossible, was_freed};
+use check_certificate::{
+    Evidence, Point, PointOrder, Step, is_cut_wrongly, is_impossible, was_freed,
+};
 use fx_base::{Closed as File, NoMemory};
-use fx_chain::Completion;
+use fx_chain::{Completion, Place};
 use fx_flight::LogEvent;
 
-// Returns the contradiction of a look that finds a file at a position.
+// Returns the contradiction of a look that finds a file at a position, if the file was closed.
 fn by_found(log: &Reading<'_>, answer: usize, file: File) -> Option<Step> {
     let close = log.close_of(0, file)?;
     (close < answer).then_some(Step::FindsClosed { close, answer })
 }
 
-// Returns the contradiction of the answer of a request at a position.
-fn by_answer(log: &Reading<'_>, answer: usize, c: &Completion) -> Option<Step> {
+// Returns the contradiction of the answer of a request at a position, by the request alone.
+fn by_request(log: &Reading<'_>, answer: usize, c: &Completion) -> Option<Step> {
     let call = log.call(c.place.submission)?.at;
     let request = log.request(c.place)?;
     let shown = log.shown_at(answer, 0).map(|it| it.shown);
@@ -24,6 +26,25 @@ fn by_answer(log: &Reading<'_>, answer: usize, c: &Completion) -> Option<Step> {
         return None;
     }
     Some(Step::CantAnswer { call, answer })
+}
+
+// Returns the contradiction of the answer of a request at a position, by that of the member before.
+fn by_member(log: &Reading<'_>, answer: usize, c: &Completion) -> Option<Step> {
+    let call = log.call(c.place.submission)?.at;
+    let place = Place {
+        member: c.place.member.checked_sub(1)?,
+        ..c.place
+    };
+    let before = log.answer_of(place)?;
+    let Some(LogEvent::Done(earlier)) = log.events.get(before) else {
+        return None;
+    };
+    let request = log.request(place)?;
+    is_cut_wrongly(request, earlier, c).then_some(Step::Cut {
+        call,
+        before,
+        answer,
+    })
 }
 
 // Returns the contradiction of the close of a file after these events.
@@ -54,53 +75,138 @@ fn step_of(step: Step, from: Point, to: Point, strict: bool) -> ReasonStep {
     ReasonStep { step, order }
 }
 
-/// Returns the steps of a contradiction: the last event answers a look by a file that no call
-/// before it installs at the slot of the look.
-pub(crate) fn missing(log: &Reading<'_>) -> Result<Vec<ReasonStep>, NoMemory> {
-    let last = log.events.len().saturating_sub(1);
-    if let Some(look) = log.shown_at(last, 0)
+// Appends the steps of a contradiction to those by which a file was installed before the event at
+// `last`: no call installs it, or its member failed. Removes all steps if there is none.
+fn push_missing(
+    log: &Reading<'_>,
+    last: usize,
+    file: File,
+    steps: &mut Vec<ReasonStep>,
+) -> Result<(), NoMemory> {
+    let installed = steps.len().saturating_sub(1);
+    let (put, event) = (Point::Put(file), Point::Event(last));
+    if !log.may_install(file) {
+        steps.push(step_of(Step::Unknown { installed }, put, put, true))?;
+        return Ok(());
+    }
+    match log.failure_of(file) {
+        Some(answer) => {
+            let fails = Step::Fails {
+                event: last,
+                answer,
+                file,
+            };
+            steps.push(step_of(fails, event, put, true))?;
+            let joined = then(installed, installed.saturating_add(1));
+            steps.push(step_of(joined, put, put, true))?;
+        }
+        None => steps.clear(),
+    }
+    Ok(())
+}
+
+// Returns the steps of a contradiction: the file that is closed last was never installed.
+fn closed_in_vain(log: &Reading<'_>, last: usize, file: File) -> Result<Vec<ReasonStep>, NoMemory> {
+    let (put, event) = (Point::Put(file), Point::Event(last));
+    let existed = step_of(Step::Existed { close: last }, put, event, true);
+    let mut steps = Vec::from_slice(log.alloc, &[existed])?;
+    push_missing(log, last, file, &mut steps)?;
+    Ok(steps)
+}
+
+// Returns the steps of a contradiction: the file that is found last was never installed, or not at
+// the slot of the look.
+fn found_in_vain(log: &Reading<'_>, last: usize, file: File) -> Result<Vec<ReasonStep>, NoMemory> {
+    let Some(look) = log.shown_at(last, 0) else {
+        return Ok(Vec::new(log.alloc));
+    };
+    let mut steps = Vec::from_slice(log.alloc, &steps_before(&look, file))?;
+    push_missing(log, last, file, &mut steps)?;
+    if steps.is_empty()
         && let Evidence::Finds(slot, file) = look.shown
         && log.slot_of(file) != Some(slot)
     {
-        return Ok(Vec::from_slice(log.alloc, &steps_missing(&look, slot, file))?);
+        steps = Vec::from_slice(log.alloc, &steps_before(&look, file))?;
+        for step in steps_missing(&look, slot, file) {
+            steps.push(step)?;
+        }
     }
-    Ok(Vec::new(log.alloc))
+    Ok(steps)
 }
 
-// Returns the steps of that contradiction.
-fn steps_missing(look: &ShownAccess, slot: u32, file: File) -> [ReasonStep; 7] {
+// Returns the steps by which the file that a look finds was installed before its answer.
+fn steps_before(look: &ShownAccess, file: File) -> [ReasonStep; 3] {
     let (call, answer, access) = (look.call, look.answer, look.access);
-    let (put, gone) = (Point::Put(file), Point::Gone(file, slot));
-    let (found, event) = (Point::Access(answer, 0), Point::Event(answer));
+    let (put, found, event) = (
+        Point::Put(file),
+        Point::Access(answer, 0),
+        Point::Event(answer),
+    );
     let ends = Step::Ends {
         call,
         answer,
         access,
     };
-    let misses = Step::Misses { slot, installed: 2 };
     [
         step_of(Step::Follows { call, answer }, put, found, true),
         step_of(ends, found, event, true),
         step_of(then(0, 1), put, event, true),
-        step_of(misses, gone, put, false),
+    ]
+}
+
+// Returns the steps of a contradiction after them: no call installs the file at the look's slot.
+fn steps_missing(look: &ShownAccess, slot: u32, file: File) -> [ReasonStep; 4] {
+    let (call, answer) = (look.call, look.answer);
+    let (put, gone, found) = (
+        Point::Put(file),
+        Point::Gone(file, slot),
+        Point::Access(answer, 0),
+    );
+    [
+        step_of(
+            Step::Misses { slot, installed: 2 },
+            gone,
+            put,
+            false,
+        ),
         step_of(Step::Finds { call, answer }, found, gone, true),
         step_of(then(0, 4), put, gone, true),
         step_of(then(5, 3), put, put, true),
     ]
 }
 
-/// Returns the contradiction of the last event with those before it.
-pub(crate) fn direct(log: &Reading<'_>) -> Option<ReasonStep> {
-    let (event, before) = log.events.split_last()?;
+// Returns the contradiction of the last event with those before it, if it is one step.
+fn one_step(log: &Reading<'_>, event: &LogEvent, before: &[LogEvent]) -> Option<Step> {
     let last = before.len();
-    let step = match event {
+    match event {
         LogEvent::Found {
             file: Some(file),
             ..
-        } => by_found(log, last, *file)?,
-        LogEvent::Closed(file) => by_closed(log, before, *file)?,
-        LogEvent::Done(c) => by_answer(log, last, c)?,
-        _ => return None,
+        } => by_found(log, last, *file),
+        LogEvent::Closed(file) => by_closed(log, before, *file),
+        LogEvent::Done(c) => by_request(log, last, c).or(by_member(log, last, c)),
+        _ => None,
+    }
+}
+
+/// Returns the steps of a contradiction of the last event with those before it, none if no such
+/// contradiction is found.
+pub(crate) fn direct(log: &Reading<'_>) -> Result<Vec<ReasonStep>, NoMemory> {
+    let Some((event, before)) = log.events.split_last() else {
+        return Ok(Vec::new(log.alloc));
     };
-    Some(step_of(step, Point::Event(last), Point::Event(last), true))
+    let last = before.len();
+    if let Some(step) = one_step(log, event, before) {
+        let end = Point::Event(last);
+        let steps = [step_of(step, end, end, true)];
+        return Ok(Vec::from_slice(log.alloc, &steps)?);
+    }
+    match event {
+        LogEvent::Found {
+            file: Some(file),
+            ..
+        } => found_in_vain(log, last, *file),
+        LogEvent::Closed(file) => closed_in_vain(log, last, *file),
+        _ => Ok(Vec::new(log.alloc)),
+    }
 }

@@ -5,7 +5,7 @@ use crate::removals::Remover;
 use crate::shown::ShownAccess;
 use check_certificate::Evidence;
 use fx_base::{Catalogue, Closed as File, Mark, NoMemory};
-use fx_chain::Place;
+use fx_chain::{Intent, Place, intent_of};
 use fx_flight::LogEvent;
 use std::alloc::Global;
 
@@ -132,11 +132,40 @@ impl<'a> Reading<'a> {
         }
     }
 
+    /// Returns the position of the answer of a member.
+    pub(crate) fn answer_of(&self, place: Place) -> Option<usize> {
+        let call = self.call(place.submission)?;
+        let answer = call.answers.get((place.member as usize).checked_sub(1)?)?;
+        Some(*answer)
+    }
+
+    /// Returns the position of the answer of the member that installs a file, if the member failed.
+    pub(crate) fn failure_of(&self, file: File) -> Option<usize> {
+        let answer = self.answer_of(place_of(file)?)?;
+        let is_failure = matches!(self.events.get(answer), Some(LogEvent::Done(c)) if c.res < 0);
+        is_failure.then_some(answer)
+    }
+
+    /// Checks whether some call may install a file.
+    pub(crate) fn may_install(&self, file: File) -> bool {
+        let Some(place) = place_of(file) else {
+            return true;
+        };
+        let Some(request) = self.request(place) else {
+            return false;
+        };
+        (0..request.accesses()).any(|access| {
+            match intent_of(self.catalogue, self.size, place, request, access) {
+                Some(Intent::Put(_, own)) => own == file,
+                Some(Intent::Allocate(own)) => own == file,
+                _ => false,
+            }
+        })
+    }
+
     /// Returns the access that installed a file, if its answer shows it.
     pub(crate) fn install_of(&self, file: File) -> Option<ShownAccess> {
-        let place = place_of(file)?;
-        let call = self.call(place.submission)?;
-        let answer = *call.answers.get((place.member as usize).checked_sub(1)?)?;
+        let answer = self.answer_of(place_of(file)?)?;
         for access in 0..self.accesses_at(answer) {
             if let Some(shown) = self.shown_at(answer, access)
                 && let Evidence::Installs(_, other) = shown.shown

@@ -8,7 +8,7 @@ ghost use Rattle.fx_flight.specs.Flight.{IsLegalLog};
 ghost use Rattle.check_certificate.specs.Right.{IsRightCertificate};
 
 use crate::assembly::{ReasonStep, certificate_of};
-use crate::direct::{direct, missing};
+use crate::direct::direct;
 use crate::problem::Problem;
 use crate::reading::Reading;
 use crate::window::Window;
@@ -54,10 +54,7 @@ fn propose(log: &Reading<'_>, width: usize) -> Result<Vec<ReasonStep>, NoMemory>
 // each window, until a window is the whole log. It is empty if the search finds none.
 fn search(log: &Reading<'_>, attempt: usize) -> Result<Vec<ReasonStep>, NoMemory> {
     let Some(last) = attempt.checked_sub(1) else {
-        return match direct(log) {
-            Some(step) => Ok(Vec::from_slice(log.alloc, &[step])?),
-            None => missing(log),
-        };
+        return direct(log);
     };
     let is_whole = WIDTHS
         .iter()

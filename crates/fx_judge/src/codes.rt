@@ -208,3 +208,12 @@ pub const RULE_MISSES: u32 = 26;
 
 /// A file was installed before it was closed.
 pub const RULE_EXISTED: u32 = 27;
+
+/// The file of a member that failed is never installed.
+pub const RULE_FAILS: u32 = 28;
+
+/// A contradiction: no call before an event may install a file that was installed before it.
+pub const RULE_UNKNOWN: u32 = 29;
+
+/// A contradiction: a member is canceled, or isn't, against the answer of the member before it.
+pub const RULE_CUT: u32 = 30;

@@ -3,10 +3,10 @@ ghost use Rattle.std.specs.Prelude.{◌≡◌, length};
 
 use crate::codes::{
     POINT_ACCESS, POINT_EVENT, POINT_GONE, POINT_PUT, RULE_BEGINS, RULE_CALLS, RULE_CANT_ANSWER,
-    RULE_CLOSES, RULE_CLOSES_HELD, RULE_CLOSES_TWICE, RULE_DIFFERS, RULE_DISPLACES, RULE_EMPTIES,
-    RULE_ENDS, RULE_EVENTS, RULE_EXISTED, RULE_FINDS, RULE_FINDS_CLOSED, RULE_FOLLOWS, RULE_HOLDS,
-    RULE_INSTALLS, RULE_LANDS, RULE_MISSES, RULE_OUTLIVES, RULE_PLACES, RULE_PRECEDES,
-    RULE_SETTLES, RULE_STAYS, RULE_TAKEN_BY, RULE_TAKES, RULE_THEN,
+    RULE_CLOSES, RULE_CLOSES_HELD, RULE_CLOSES_TWICE, RULE_CUT, RULE_DIFFERS, RULE_DISPLACES,
+    RULE_EMPTIES, RULE_ENDS, RULE_EVENTS, RULE_EXISTED, RULE_FAILS, RULE_FINDS, RULE_FINDS_CLOSED,
+    RULE_FOLLOWS, RULE_HOLDS, RULE_INSTALLS, RULE_LANDS, RULE_MISSES, RULE_OUTLIVES, RULE_PLACES,
+    RULE_PRECEDES, RULE_SETTLES, RULE_STAYS, RULE_TAKEN_BY, RULE_TAKES, RULE_THEN, RULE_UNKNOWN,
 };
 use check_certificate::{Holding, Point, Step};
 use check_reason::ReasonStep;
@@ -39,7 +39,7 @@ pub struct YachtPoint {
 #[repr(C)]
 #[derive(Drop)]
 pub struct YachtStep {
-    /// One of `RULE_EVENTS` to `RULE_EXISTED`.
+    /// One of `RULE_EVENTS` to `RULE_CUT`.
     pub rule: u32,
     /// 1 if `from` comes before `to`; 0 if it comes before or at the same time.
     pub is_strict: u32,
@@ -222,6 +222,17 @@ fn applied_by(step: &Step) -> Applied {
             slot: 0,
         },
         Step::CantAnswer { call, answer } => of_events(RULE_CANT_ANSWER, call, answer),
+        Step::Fails {
+            event,
+            answer,
+            file: _,
+        } => of_events(RULE_FAILS, event, answer),
+        Step::Unknown { installed } => of_steps(RULE_UNKNOWN, 0, installed, 0),
+        Step::Cut {
+            call: _,
+            before,
+            answer,
+        } => of_events(RULE_CUT, before, answer),
         Step::Lands { slot: _, installed } => of_steps(RULE_LANDS, 0, installed, 0),
         Step::Misses { slot: _, installed } => of_steps(RULE_MISSES, 0, installed, 0),
         Step::Existed { close } => of_events(RULE_EXISTED, close, 0),
