@@ -25,7 +25,7 @@ COUNT, SEED = 10_000, 1
 # the least number of tiny logs of updates, in 1,000, that are legal, and not by whole updates
 SPLIT = 8
 # the least share of the tiny logs that are not legal that must have a reason, in percent
-CERTIFIED = 89
+CERTIFIED = 93
 # the number of logs of each rule, and of each wrong recorder but the rarely wrong one
 LOGS, WRONG_LOGS = 1_000, 20
 # the number of logs of a recorder of which fewer than half have calls that overlap

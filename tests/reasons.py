@@ -153,7 +153,7 @@ class Log:
         if refusal:
             return result == refusal
         if kind == "read":
-            return result == -9 or result >= 0 and request.slot < self.size
+            return not more if result == -9 else result == len(more) // 2 and request.slot < self.size
         if request.slot is None:
             return result == -23 or 0 <= result < self.size
         return result in {"open": (0,), "close": (0, -9), "update": (len(request.entries),)}[kind]

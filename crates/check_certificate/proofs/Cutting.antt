@@ -1,12 +1,14 @@
--- The answers of a chain: after a member that severs it, or that is canceled, each one is canceled, and no other one is.
+-- The answers of a chain: after a member that severs it, or that is canceled, each one is canceled,
+-- and no other one is.
 use Rattle.check_certificate.proofs.Words.{◌≡◌, ℕ, zero, suc, ◌+◌, ◌-◌, ◌<◌, List, [], ◌∷◌, refl, sym, ap, ◌∙◌, arith, inl, inr, subst, Some, None}
 use Rattle.check_certificate.proofs.Words.{Option, slice_get, Access, Asked, Place, Completed, FileEntry, IsChainDone, IsRequestDone, Bool, true, false}
-use Rattle.check_certificate.proofs.Words.{refusal, ECANCELED, either_option, either_way, severs, next_member, canceled, Answered, Called, cases_Bool, ⊎_elim}
+use Rattle.check_certificate.proofs.Words.{refusal, ECANCELED, either_option, either_way, severs, next_member, canceled, Answered, Called, cases_Bool, by_equality}
+use Rattle.check_certificate.proofs.Words.{Happening, LookCalled, LookAnswered, Freed, FileClosed, AllSettled}
 use Rattle.check_certificate.proofs.Called.{answer_is}
 use Rattle.check_certificate.proofs.Forcing.{strict_from}
 use Rattle.check_certificate.proofs.Impossible.{error_Decides, or_left, or_right}
 use Rattle.check_certificate.proofs.Orders.{here, may_at}
-use Rattle.check_certificate.specs.Cut.{is_cut_wrongly}
+use Rattle.check_certificate.specs.Cut.{asked_by, is_cut_wrongly, is_next}
 use Rattle.check_certificate.specs.Evidence.{IsEventAt, slot_count}
 use Rattle.check_certificate.specs.Forced.{IsForced, TimedFlight}
 use Rattle.check_certificate.specs.declared.beginning.LogBeginning.{LogBeginning}
@@ -21,9 +23,9 @@ use Rattle.fx_chain.specs.Operation.{Operation, Opens, Reads, Closes, Updates}
 use Rattle.fx_chain.specs.Refusal.{refusal_of}
 use Rattle.fx_chain.specs.declared.request.Target.TheVariants.{Any, Slot}
 use Rattle.fx_flight.specs.Events.{first_of_call}
-use Rattle.fx_order.proofs.Words.{false≢true}
+use Rattle.fx_order.proofs.Words.{Decides-eqb, false≢true}
 use Rattle.fx_order.specs.Requests.{IsDoneAtTable, IsRefused}
-use Rattle.std.proofs.lemmas.Bool.{not-true}
+use Rattle.std.proofs.lemmas.Bool.Decides.{Decides-and, Decides-ltb}
 use Rattle.std.specs.Prelude.{MatchOption, if◌then◌else◌, not, ◌||◌}
 
 -- no request is refused as canceled
@@ -61,14 +63,16 @@ canceled_get place (r ∷ rs) zero c is =
 canceled_get place (r ∷ rs) (suc n) c is = canceled_get (next_member place) rs n c is
 
 cut_so : (a e f : Bool) → (a || e) ≡ true → f ≡ true → (if a || e then not f else f) ≡ true → ⊥
-cut_so true e true yes so wrong = false≢true wrong
-cut_so false true true yes so wrong = false≢true wrong
-cut_so false false true yes so wrong = false≢true yes
-cut_so a e false yes so wrong = false≢true so
+cut_so a e f one is wrong =
+    false≢true (subst (λ (x : Bool). (if x then false else true) ≡ true) one (subst (λ (x : Bool). (if a || e then not x else x) ≡ true) is wrong))
+
+never_true : (b : Bool) → (b ≡ true → ⊥) → b ≡ false
+never_true true is = absurd (is refl)
+never_true false is = refl
 
 uncut_so : (a e f : Bool) → a ≡ false → e ≡ false → f ≡ false → (if a || e then not f else f) ≡ true → ⊥
-uncut_so a e f p q r wrong = false≢true (subst (λ (x : Bool). (if x || e then not f else f) ≡ true) p (subst (λ (x : Bool). (if a || x then not f else f) ≡ true) q
-    (subst (λ (x : Bool). (if a || e then not x else x) ≡ true) r wrong)))
+uncut_so a e f p q r wrong = false≢true (subst (λ (x : Bool). (if x || false then true else false) ≡ true) p
+    (subst (λ (x : Bool). (if a || x then true else false) ≡ true) q (subst (λ (x : Bool). (if a || e then not x else x) ≡ true) r wrong)))
 
 module _ (catalogue : List FileEntry) (size : ℕ) where
   -- a request that isn't canceled has another answer
@@ -105,7 +109,7 @@ module _ (catalogue : List FileEntry) (size : ℕ) where
       let other : y.2 ≡ d = cc in
       let is : severs r c ≡ false = rw (same, asks) at goes in
       uncut_so (severs r c) (is_error c ECANCELED) (is_error d ECANCELED) is
-      (not-true (λ so. not_so place q.operation x.0 c (rw same at x.6) so)) (not-true (λ so. not_so (next_member place) p.operation y.0 d (rw other at y.6) so)) wrong) x.7
+      (never_true (is_error c ECANCELED) (λ so. not_so place q.operation x.0 c (rw same at x.6) so)) (never_true (is_error d ECANCELED) (λ so. not_so (next_member place) p.operation y.0 d (rw other at y.6) so)) wrong) x.7
   answers_agree place (q ∷ requests) accesses cs x (suc n) r s c d asked next own after wrong =
       let one : slice_get x.3 n ≡ Some c = rw x.5 at own in
       let two : slice_get x.3 (suc n) ≡ Some d = rw x.5 at after in
@@ -123,3 +127,26 @@ cut_forced b call id first answer requests r s c d called one two asked next low
     let e : d.place.member - 1 ≡ suc (c.place.member - 1) = omega (arith, low, after) in
     absurd (answers_agree b.catalogue.now (slot_count b) (first_of_call id) requests begun.0 (f.legal.answers id) begun.1 (c.place.member - 1) r s c d asked
     (rw e at next) (answer_is f first id c one) (rw e at (answer_is f answer id d two)) wrong)
+
+asked_so : (id : ℕ) (requests : List Asked) (c : Completed) (r : Asked) → Some r ≡ asked_by (Called id requests) c
+    → (c.place.submission ≡ id) × (slice_get requests (c.place.member - 1) ≡ Some r)
+asked_so id requests c r is = by_equality c.place.submission id
+    (λ b. Some r ≡ (if b then slice_get requests (c.place.member - 1) else None) → (c.place.submission ≡ id) × (slice_get requests (c.place.member - 1) ≡ Some r))
+    (λ same h. (same, sym h)) (λ _ h. absurd (cc)) is
+
+-- the answers of a call contradict each other
+pub cut_said : (b : LogBeginning) (call first answer : ℕ) (e : Happening) (r s : Asked) (c d : Completed) → IsEventAt b call e
+    → IsEventAt b first (Answered c.place.submission c) → IsEventAt b answer (Answered d.place.submission d) → Some r ≡ asked_by e c → Some s ≡ asked_by e d
+    → is_next c d ≡ true → is_cut_wrongly r c d ≡ true → IsForced b (strict_from (Event answer) (Event answer))
+cut_said b call first answer (Called id requests) r s c d called one two asks asked next wrong =
+    let x = asked_so id requests c r asks in
+    let y = asked_so id requests d s asked in
+    let places = (Decides-and _ _ (Decides-ltb 0 c.place.member) (Decides-eqb d.place.member (c.place.member + 1))).0 next in
+    cut_forced b call id first answer requests r s c d called (subst (λ (n : ℕ). IsEventAt b first (Answered n c)) x.0 one)
+    (subst (λ (n : ℕ). IsEventAt b answer (Answered n d)) y.0 two) x.1 y.1 places.0 places.1 wrong
+cut_said b call first answer (Answered n a) r s c d called one two asks asked next wrong = absurd (cc)
+cut_said b call first answer (LookCalled n slot) r s c d called one two asks asked next wrong = absurd (cc)
+cut_said b call first answer (LookAnswered n found) r s c d called one two asks asked next wrong = absurd (cc)
+cut_said b call first answer (Freed n) r s c d called one two asks asked next wrong = absurd (cc)
+cut_said b call first answer (FileClosed file) r s c d called one two asks asked next wrong = absurd (cc)
+cut_said b call first answer AllSettled r s c d called one two asks asked next wrong = absurd (cc)

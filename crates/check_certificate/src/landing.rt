@@ -87,11 +87,7 @@ impl LogBeginning<'_> {
     /// Returns a contradiction: by `installed` a file was installed before an event, and no call
     /// before the event may install it, whatever the slot.
     #[tactic(auto, unfolding(crate::specs::Walks::unknown))]
-    pub(crate) fn unknown(
-        &self,
-        installed: &PointOrder,
-        known: &[PointOrder],
-    ) -> Option<PointOrder>
+    pub(crate) fn unknown(&self, installed: &PointOrder, known: &[PointOrder]) -> Option<PointOrder>
         requires { All (IsForced self.now) known.now }
         ensures sound { IfSome result (IsForcedBy self.now installed.now) }
         ensures exact { result ≡ walk.unknown (said.given_of self.now) known.now installed.now }

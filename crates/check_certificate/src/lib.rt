@@ -24,6 +24,7 @@ mod walk;
 
 pub use answers::is_impossible;
 pub use certificate::{Holding, OnlyFile, Point, PointOrder, Step};
+pub use cut::is_cut_wrongly;
 pub use events::{was_closed, was_freed};
 pub use evidence::{Evidence, evidence_of};
 pub use refuted::is_refuted;

@@ -163,12 +163,7 @@ fn steps_missing(look: &ShownAccess, slot: u32, file: File) -> [ReasonStep; 4] {
         Point::Access(answer, 0),
     );
     [
-        step_of(
-            Step::Misses { slot, installed: 2 },
-            gone,
-            put,
-            false,
-        ),
+        step_of(Step::Misses { slot, installed: 2 }, gone, put, false),
         step_of(Step::Finds { call, answer }, found, gone, true),
         step_of(then(0, 4), put, gone, true),
         step_of(then(5, 3), put, put, true),
