@@ -56,7 +56,7 @@ fn serve(ring: Ring, slots: u32, folder: PathBuf) -> Result<Counts, Box<dyn Erro
         }
         let (ringing, handle) = (bell.clone(), table.handle()?);
         let (lives, counts, unread) = (Lives::new(ring, slots)?, Counts::default(), Box::default());
-        let releases = lives.releases(move || ringing.ring());
+        let releases = lives.slots().releases(move || ringing.ring());
         let it = Server {
             lives,
             handle,

@@ -210,7 +210,7 @@ impl Server {
     // Takes what other threads left: users that are gone, and answers.
     fn woken(&mut self) -> Done {
         self.listen_for(self.bell.fd(), WAKE);
-        for key in self.lives.collect(&self.releases)? {
+        for key in self.lives.slots().collect(&self.releases)? {
             self.lives.release(key)?;
         }
         while let Ok(job) = self.answered.try_recv() {

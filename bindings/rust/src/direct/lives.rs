@@ -1,5 +1,5 @@
 //! A ring and its slots in one.
-use super::errors::{OpenError, OtherSlots, Refusal, ReserveError};
+use super::errors::{OpenError, Refusal, ReserveError};
 use super::key::Key;
 use super::releases::{Releases, User};
 use super::ring::{Completion, Entry, Request, Ring};
@@ -117,7 +117,7 @@ impl<T: Default, R: Ring> Lives<T, R> {
         (self.listener, self.accepts, self.kept) = (listener, accepts, kept);
     }
 
-    /// Returns the slots, for questions.
+    /// Returns the slots, for questions and for a queue of [`Releases`].
     pub fn slots(&self) -> &Slots<T> {
         &self.slots
     }
@@ -139,20 +139,6 @@ impl<T: Default, R: Ring> Lives<T, R> {
     pub fn live(&mut self, key: Key) -> Option<&mut T> {
         let is_live = matches!(self.slots.phase(key), Some(Phase::Live { .. }));
         self.slots.get_mut(key).filter(|_| is_live)
-    }
-
-    /// Makes a queue of releases, as [`Slots::releases`].
-    pub fn releases(&self, wake: impl Fn() + Send + Sync + 'static) -> Releases {
-        self.slots.releases(wake)
-    }
-
-    /// Returns the keys of the users that were dropped, as [`Slots::collect`].
-    ///
-    /// # Errors
-    ///
-    /// As of [`Slots::collect`].
-    pub fn collect(&self, releases: &Releases) -> Result<Vec<Key>, OtherSlots> {
-        self.slots.collect(releases)
     }
 
     /// Counts a user in any thread, as [`Slots::hold_by`].
