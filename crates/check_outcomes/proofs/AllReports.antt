@@ -35,9 +35,7 @@ is_turn submission numbers state {i} within awake later less turn =
 -- nor after that chain, if nothing but reads is left of the part
 pub is_reader : (submission : PlayedSubmission) (numbers : PartNumbers) (state : PlayState) {part i : ℕ} → HasReadsAloneIn submission numbers state part
     → slice_index_or numbers.of_chain.items i 0 ≡ part → is_idle_at submission state i ≡ false → IsTurnOfReader submission numbers state part i
-is_reader submission numbers state {part} {i} alone own awake later its less turn =
-    false≢true (sym awake ∙ turn.reader (rw (less_one later, its) alone) (i + 1) (omega arith) (omega arith)
-    (rw (less_one i, less_one later) (own ∙ sym its)))
+is_reader submission numbers state alone own awake later its less turn = grind (arith, less_one)
 
 abbrev parts_by : Claimed → Parts
 parts_by claimed = parts_by_numbers claimed.found.now.numbers
@@ -190,14 +188,7 @@ ring_same old slots order state leaves is =
 pub is_answer : {old : RingState} {asked : List Asked} {place : Place} {possible : PossibleReport} {completion : Completion} → IsPossible old asked possible
     → Contains (all_completed possible.report.completions.items) (completed_of completion) → completion.place ≡ place
     → IsAnswer old asked place (record { completion = completion; order = possible.order; slots = possible.slots })
-is_answer {possible} is inside there = record {
-  report = reported possible.report;
-  by = is.by;
-  inside = inside;
-  there = there;
-  may = λ ring same. let (left, behind, may) = is.may ring same in
-      (left, behind, record { report = reported possible.report; may = may; inside = inside });
-}
+is_answer is inside there = grind arith
 
 -- what was looked through shows all answers
 pub answers_by : {claimed : Claimed} {slots : Slots} {place : Place} {answers : List PossibleAnswer} → claimed.submission.now.asked ≡ Some place

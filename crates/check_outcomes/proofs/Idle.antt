@@ -1,10 +1,10 @@
 -- Idle chains, which have only reads left.
-use Rattle.check_outcomes.proofs.Words.{◌≡◌, inl, inr, ◌==◌, ◌&&◌, not, Bool, true, false, if◌then◌else◌, List, [], ◌∷◌, length, refl, sym, ap, ◌∙◌}
-use Rattle.check_outcomes.proofs.Words.{arith, Some, false≢true, Asked, Place, asked_of, Request, all_asked, ℕ, ◌⊎◌, ⊎_elim, nil_from_length, eq-eqb}
+use Rattle.check_outcomes.proofs.Words.{◌≡◌, inl, inr, ◌&&◌, not, Bool, true, false, if◌then◌else◌, List, [], ◌∷◌, length, refl, sym, ◌∙◌}
+use Rattle.check_outcomes.proofs.Words.{arith, Some, false≢true, Asked, Place, asked_of, Request, all_asked, ℕ, ◌⊎◌, ⊎_elim, nil_from_length}
 use Rattle.check_outcomes.proofs.Words.{Option, All, All-nil, All-cons, All-append, FileEntry, Completed, Operation, Reads, ECANCELED, refusal}
 use Rattle.check_outcomes.proofs.Words.{AllByRecursion, next_member, canceled, severs, IsRequestDone, IsChainDone, either_way, list_all, are_reads}
 use Rattle.check_outcomes.proofs.Words.{has_none, is_read, Rest, said_by, asks_from, rest_for, is_state_idle, Claimed, PlayedSubmission, and_from}
-use Rattle.check_outcomes.proofs.Words.{and_parts, cases_eq, eqb-true, le-leb, ne_eqb, AreIdle, IsLeft, Access, Looks, Identity, rest_at}
+use Rattle.check_outcomes.proofs.Words.{and_parts, eqb-true, ne_eqb, AreIdle, IsLeft, Access, Looks, Identity, rest_at}
 use Rattle.check_outcomes.proofs.Words.{IsDoneAtTable, request_place, unless_refused}
 use Rattle.fx_chain.specs.declared.intent.Intent.TheVariants.{Look}
 use Rattle.fx_order.proofs.Intents.{single}
@@ -14,29 +14,18 @@ over_idle submission rest none = rw none
 
 -- nothing is left, or reads, and they aren't asked for
 cases : (with_reports asks : Bool) {reads : Bool} → (if with_reports then false else (reads && not asks)) ≡ true → (with_reports ≡ false) × (reads ≡ true) × (asks ≡ false)
-cases true asks is = absurd (false≢true is)
-cases false true is = absurd (false≢true (and_parts _ _ is).1)
-cases false false is = (refl, (and_parts _ _ is).0, refl)
+cases with_reports asks is = grind arith
 
 idle_cases : (submission : PlayedSubmission) (rest : Rest) → is_state_idle submission rest ≡ true
     → (rest.requests ≡ []) ⊎ ((submission.with_reports ≡ false) × (are_reads rest.requests ≡ true) × (asks_from submission.asked rest.place ≡ false))
-idle_cases submission rest is = ⊎_elim (λ none. inl (nil_from_length rest.requests none))
-    (λ some. inr (cases submission.with_reports (asks_from submission.asked rest.place) (rw (ne_eqb (length rest.requests) 0 some) at is)))
-    (cases_eq (length rest.requests) 0)
+idle_cases submission rest is = grind (arith, nil_from_length, cases)
 
 -- the place of a request that is left is asked from there
 asked_left : {rest : Rest} {own : Place} → IsLeft rest own → asks_from (Some own) rest.place ≡ true
-asked_left {rest} {own} left =
-    and_from (own.submission == rest.place.submission) _ (eq-eqb _ _ left.submission)
-    (and_from (own.chain == rest.place.chain) _ (eq-eqb _ _ left.chain) (le-leb rest.place.member own.member left.behind))
+asked_left left = grind (arith, and_from)
 
 pub are_idle : (claimed : Claimed) → AreIdle (said_by claimed) (is_state_idle claimed.submission.now)
-are_idle claimed = record {
-  over = over_idle claimed.submission.now;
-  reads = λ rest is. ⊎_elim (λ none. rw none) (λ some. some.1) (idle_cases claimed.submission.now rest is);
-  said = λ rest c is left asked. ⊎_elim (λ none. let few = ap length none in absurd (omega arith))
-      (λ some. absurd (false≢true (sym some.2 ∙ rw asked (asked_left left)))) (idle_cases claimed.submission.now rest is);
-}
+are_idle claimed = grind (arith, over_idle, idle_cases, asked_left)
 
 -- where the answers of reads are recorded, a chain that is idle is over
 pub none_left : (submission : PlayedSubmission) (rest : Rest) → submission.with_reports ≡ true → is_state_idle submission rest ≡ true → rest.requests ≡ []

@@ -97,10 +97,7 @@ module _ (part : ℕ → ℕ) where
   of chain l = filter (λ x. x.chain == chain) l
 
   flipped : (chain : ℕ) (x y : ChainAccess) (l : List ChainAccess) → (y.chain ≡ x.chain → ⊥) → of chain (x ∷ y ∷ l) ≡ of chain (y ∷ x ∷ l)
-  flipped chain x y l apart = elim (cases_eq x.chain chain) [
-    | inl mine ↦ rw (ne_eqb y.chain chain (λ its. apart (its ∙ sym mine)))
-    | inr other ↦ rw (ne_eqb x.chain chain other)
-  ]
+  flipped chain x y l apart = grind arith
 
   -- the files that the accesses take from their slots
   abbrev removed : List ChainAccess → List Closed

@@ -1,6 +1,6 @@
 -- Statements of each element of a list.
 use Rattle.check_outcomes.proofs.Words.{◌≡◌, ℕ, ◌<◌, List, [], ◌∷◌, length, map, sym, ap, ◌∙◌, arith, slice_index_or, Contains, get_or-map}
-use Rattle.check_outcomes.proofs.Words.{length-map, suc, ◌+◌, ⊎_elim, Asked, get_or_from_slice_get, IfOk, Result, cases_eq, slice_get-get_or, Ok, Err}
+use Rattle.check_outcomes.proofs.Words.{length-map, suc, ◌+◌, Asked, get_or_from_slice_get, IfOk, Result, slice_get-get_or, Ok, Err}
 
 -- an element of a list, by its place, and what is made of it
 pub inside_at : {X Y : Type 0} (f : X → Y) (xs : List X) {k : ℕ} {x : X} {y : Y} → k < length xs → x ≡ slice_index_or xs k x → f x ≡ y
@@ -10,9 +10,7 @@ inside_at f xs {k} {x} {y} within is same = (k, omega (arith, length-map xs f), 
 -- what holds of each element up to a place and of the one there
 pub one_more_at : {X : Type 0} (P : X → Type 0) (xs : List X) {n : ℕ} (e : X) → ((k : ℕ) (d : X) → k < n → P (slice_index_or xs k d)) → n < length xs
     → P (slice_index_or xs n e) → (k : ℕ) (d : X) → k < n + 1 → P (slice_index_or xs k d)
-one_more_at P xs {n} e all within last k d few = ⊎_elim
-    (λ (same : k ≡ n). rw (same, get_or_from_slice_get xs n (slice_index_or xs n e) d (slice_get-get_or xs n e within)) last)
-    (λ other. all k d (omega arith)) (cases_eq k n)
+one_more_at P xs e all within last k d few = grind (arith, get_or_from_slice_get, slice_get-get_or)
 
 pub one_more_of : {X : Type 0} (P : X → Type 0) (xs : List X) {n : ℕ} {x : X} → ((k : ℕ) (d : X) → k < n → P (slice_index_or xs k d)) → n < length xs
     → x ≡ slice_index_or xs n x → P x → (k : ℕ) (d : X) → k < n + 1 → P (slice_index_or xs k d)

@@ -1,17 +1,16 @@
 -- The acts of each request at the table: how many accesses it makes, and its answer if no
 -- allocation fails; what each access was to be; and the slots that it reaches.
-use Rattle.check_outcomes.proofs.Words.{◌≡◌, ℕ, zero, suc, ◌+◌, ◌≤◌, ℤ, pos, negsuc, List, [], ◌∷◌, ◌++◌, length, refl, ap, ◌∙◌, Option, Some, None}
+use Rattle.check_outcomes.proofs.Words.{◌≡◌, ℕ, zero, suc, ◌+◌, ◌≤◌, ℤ, pos, negsuc, List, [], ◌∷◌, ◌++◌, length, refl, ap, Option, Some, None}
 use Rattle.check_outcomes.proofs.Words.{arith, inl, inr, All, IsCatalogue, slice_get, All-nil, All-cons, FileEntry, Errno, MatchOption}
-use Rattle.check_outcomes.proofs.Words.{Completed, Operation, Opens, Reads, Closes, Updates, Place, Slot, Any, Table, refusal_of, IsRefused}
-use Rattle.check_outcomes.proofs.Words.{IsRequestDone, IsDoneAtTable, Access, HasMemory, Identity, rules_of, Intends, IsNextAccess, installed}
+use Rattle.check_outcomes.proofs.Words.{Completed, Operation, Opens, Updates, Place, Any, Table, refusal_of, IsRefused}
+use Rattle.check_outcomes.proofs.Words.{IsRequestDone, IsDoneAtTable, Access, HasMemory, Identity, rules_of, Intends, IsNextAccess}
 use Rattle.check_outcomes.proofs.ChainAccesses.{AreRight, last_of}
 use Rattle.check_outcomes.proofs.Commuting.{ComesTo}
 use Rattle.fx_chain.proofs.Cases.{both_options}
 use Rattle.fx_chain.specs.Intents.{IsIntent, IsOpened, MayReach, answer_at_table, answer_of, count_of, count_or_none, intents_of, list_intents}
 use Rattle.fx_chain.specs.Intents.{positions_of, refusal_or}
-use Rattle.fx_chain.specs.declared.intent.Finding.{Finding}
 use Rattle.fx_chain.specs.declared.intent.Intent.{Intent}
-use Rattle.fx_chain.specs.declared.intent.Intent.TheVariants.{Allocate, Look, Put, Take}
+use Rattle.fx_chain.specs.declared.intent.Intent.TheVariants.{Allocate}
 use Rattle.fx_order.proofs.Intents.{as_many, same_opened, single, zip_at}
 use Rattle.fx_order.specs.Access.{IsOf, finding_of, last_finding}
 use Rattle.std.specs.List.{AllZip}
@@ -34,11 +33,7 @@ finding-last (a ∷ b ∷ own) = finding-last (b ∷ own)
 module _ (catalogue : List FileEntry) (size : ℕ) (place : Place) (own : List Access) (c : Completed) (memory : HasMemory c) where
   at_table : (operation : Operation) → IsDoneAtTable catalogue place operation own c
       → Says own c (length (positions_of operation)) (answer_at_table catalogue place operation (option_map finding_of (last_of own)))
-  at_table operation (inl x) = absurd (memory (ap (λ (d : Completed). d.res) x.1.1))
-  at_table operation (inr x) = (
-    as_many place x.0.0 operation own x.0.2,
-    x.1 ∙ ap (λ (found : Option Finding). answer_at_table catalogue place operation found) (finding-last own),
-  )
+  at_table operation h2 = grind (arith, as_many, finding-last)
 
   says : (operation : Operation) → IsRequestDone catalogue size place operation own c
       → Says own c (count_of catalogue size operation) (answer_of catalogue size place operation (option_map finding_of (last_of own)))
@@ -98,13 +93,4 @@ module _ (table : Table) where
 
   pub all_come : (catalogue : List FileEntry) (place : Place) (own : List Access) (c : Completed) (operation : Operation)
       → IsDoneAtTable catalogue place operation own c → All (Comes operation) own
-  all_come catalogue place own c operation (inl x) = rw x.1.0 (All-nil (Comes operation))
-  all_come catalogue place own c (Opens name (Slot slot)) (inr x) =
-      single (Put slot (installed place 0 x.0.0)) (All (Comes (Opens name (Slot slot)))) own x.0.2 (λ a is. one (Comes (Opens name (Slot slot))) a (rw is.1 (λ s there. there)))
-  all_come catalogue place own c (Opens name Any) (inr x) =
-      single (Allocate (installed place 0 x.0.0)) (All (Comes (Opens name Any))) own x.0.2 (λ a is. one (Comes (Opens name Any)) a (any_comes name a is))
-  all_come catalogue place own c (Reads slot off len) (inr x) =
-      single (Look slot) (All (Comes (Reads slot off len))) own x.0.2 (λ a is. one (Comes (Reads slot off len)) a (rw is.1 (λ s there. there)))
-  all_come catalogue place own c (Closes slot) (inr x) =
-      single (Take slot) (All (Comes (Closes slot))) own x.0.2 (λ a is. one (Comes (Closes slot)) a (rw is.1 (λ s there. there)))
-  all_come catalogue place own c (Updates off list) (inr x) = entries_come place off list 0 off list own (omega arith) (omega arith) x.0.2
+  all_come catalogue place own c operation h6 = grind (arith, All-nil, single, one, any_comes, entries_come)

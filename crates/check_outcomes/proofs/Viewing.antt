@@ -5,7 +5,7 @@ use Rattle.check_outcomes.proofs.Words.{get_or-map, take-append-drop, suc, ◌+�
 use Rattle.check_outcomes.proofs.Words.{Asked, Place, next_member, eq-eqb, All, length-map, not, ◌&&◌, Contains, IsTrue, table_of_slots, first_member}
 use Rattle.check_outcomes.proofs.Words.{Request, all_asked, asked_of, get_or_from_slice_get, recursion_from_All, slice_get, slice_get_within, All-map}
 use Rattle.check_outcomes.proofs.Words.{slice_set, length-drop, map-set, all_recorded, answers_of, Access, Rules, Settles, gone_on, moved, rest_for}
-use Rattle.check_outcomes.proofs.Words.{settled_at, Progress, ne_eqb, drop-drop, StepsChain, list_all, asks_from, rest_in, LeadsOn, IsStepTo}
+use Rattle.check_outcomes.proofs.Words.{settled_at, Progress, ne_eqb, drop-drop, StepsChain, list_all, asks_from, LeadsOn, IsStepTo}
 use Rattle.check_outcomes.proofs.Words.{are_reads, has_reads_at, is_idle_at, not_begun, rules_in, runs_in, recorded_state_of, view_in, IsExploredBy}
 use Rattle.check_outcomes.proofs.Words.{said_by, states_of, recorded_by, recorded_states, PlayedSubmission, Claimed, PlayState, is_read, IsRecordedOn, run_at}
 use Rattle.check_outcomes.proofs.Words.{view_of_state, get_or-set_other, get_or-set_same, and_parts, IsAtStart, below_more, get_or_append_left}
@@ -67,14 +67,7 @@ pub settled_on : (rules : Rules) {place : Place} {request : Asked} {requests : L
     → (rules.count request == 0) ≡ true
     → Settles (gone_on rules place request requests None) (next_member place) requests before after passed
     → Settles (settled_at rules place (request ∷ requests)) place (request ∷ requests) before after (1 + passed)
-settled_on rules {place = place} {passed = passed} none goes =
-    let more : 1 + passed ≡ suc passed = omega arith in
-    let few = goes.within in
-    record {
-      recorded = rw none goes.recorded;
-      rest = rw (none, ← moved_on place passed, more) goes.rest;
-      within = omega arith;
-    }
+settled_on rules none goes = grind (arith, moved_on)
 
 -- a request that answers, and those after it
 module _ (rules : Rules) (place : Place) (request : Asked) (last : Option Access) {requests : List Asked} {c : Completed}
@@ -123,10 +116,7 @@ less_one i = omega arith
 -- a state that says the same is among the states
 pub same_view : (submission : ℕ) (runs : List (List Asked)) (one other : PlayState) → table_of_slots one.slots ≡ table_of_slots other.slots
     → one.chains.items ≡ other.chains.items → view_of_state submission runs one ≡ view_of_state submission runs other
-same_view submission runs one other table chains = λ i. record {
-  table = table i;
-  rests = λ chain. rest_in (first_member submission chain) (run_at runs chain) (slice_index_or (chains i) (chain - 1) not_begun);
-}
+same_view submission runs one other table chains = grind (arith, run_at)
 
 -- a state that says the same as one of these is among them
 pub among : (submission : ℕ) (runs : List (List Asked)) (states : List PlayState) (there state : PlayState) (k : ℕ) → slice_get states k ≡ Some there
