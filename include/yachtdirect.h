@@ -218,10 +218,11 @@ int yacht_direct_release(yacht_direct *machine, uint64_t key, uint32_t *slot);
  * chain's life ends where the chain ends: YACHT_DIRECT_DONE. */
 int yacht_direct_end(yacht_direct *machine, uint64_t key, uint32_t *slot);
 
-/* Stops the machine, for a shutdown: no life begins any more, and each life that becomes live is
- * ended at once. A life that is reserved goes on: its open is submitted, or yacht_direct_opened
- * takes a failure. The caller ends each live life: a walk by yacht_direct_key_in. Once each call
- * was completed and each user was released, yacht_direct_len is 0. */
+/* Stops the machine, for a shutdown: no slot is reserved any more, and each life that becomes live,
+ * also by yacht_direct_adopt, is ended at once. A life that is reserved goes on: its open is
+ * submitted, or yacht_direct_opened takes a failure. The caller ends each live life: a walk by
+ * yacht_direct_key_in. Once each call was completed and each user was released, yacht_direct_len
+ * is 0. */
 void yacht_direct_stop(yacht_direct *machine);
 
 /* Takes the completion of a close after which the slot is empty: it succeeded, or its result is

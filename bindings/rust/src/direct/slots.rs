@@ -142,7 +142,8 @@ impl<T> Slots<T> {
 
     /// Opens slots as [`Slots::new`]. `range` is the ring's allocation range
     /// (`io_uring_register_file_alloc_range`), in which the kernel chooses slots: there no life is
-    /// reserved, and [`Slots::adopt`] takes the files.
+    /// reserved, and [`Slots::adopt`] takes the files. Slots of the range beyond the last one of
+    /// these are ignored.
     ///
     /// # Errors
     ///
@@ -224,7 +225,9 @@ impl<T> Slots<T> {
     /// # Errors
     ///
     /// The slot isn't in the range, has a life with a file, or has had its last life. Then `make`
-    /// isn't called. If `make` panics, the life is live and has no value.
+    /// isn't called. If `make` panics, the life goes on without a value: [`Slots::key_at`] returns
+    /// its key. After [`Slots::stop`] the caller then closes the slot. [`Slots::closed`] ends the
+    /// life and, since there is no value, returns [`Refusal::Stale`].
     pub fn adopt_with(
         &mut self,
         slot: u32,
@@ -387,10 +390,11 @@ impl<T> Slots<T> {
         self.machine.end(key)
     }
 
-    /// Stops the slots, for a shutdown: no life begins any more, and each life that becomes live is
-    /// ended at once. A life that is reserved goes on: its open is submitted, or [`Slots::opened`]
-    /// takes a failure. The caller ends each live life: a walk by [`Slots::key_in`]. Once each call
-    /// was completed and each user was released, [`Slots::len`] is 0.
+    /// Stops the slots, for a shutdown: none is reserved any more, and each life that becomes live,
+    /// also by [`Slots::adopt`], is ended at once. A life that is reserved goes on: its open is
+    /// submitted, or [`Slots::opened`] takes a failure. The caller ends each live life: a walk by
+    /// [`Slots::key_in`]. Once each call was completed and each user was released, [`Slots::len`]
+    /// is 0.
     ///
     /// ```
     /// use yachtbanyan::direct::{After, Next, PhaseName, Slots};
