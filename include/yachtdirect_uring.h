@@ -59,7 +59,8 @@ typedef struct yacht_uring {
 
 /* Registers a sparse table of 1 to YACHT_DIRECT_MOST_SLOTS slots with it->ring, which the caller
  * has opened by io_uring_queue_init, and opens the machine. Sets zero_copy to 0.
- * Returns 0 or a negative error number. */
+ * Returns 0; or a negative error number: then the caller closes the ring by io_uring_queue_exit,
+ * and not by yacht_uring_close. */
 static inline int yacht_uring_open(yacht_uring *it, uint32_t slots) {
     int answer, error = io_uring_register_files_sparse(&it->ring, slots);
     if (error < 0) return error;
@@ -153,7 +154,8 @@ static inline void yacht_uring_end(yacht_uring *it, uint64_t key) {
  * a hard one, so that the next one runs whatever its result is. Without `closes` the life goes on.
  * Returns YACHT_DIRECT_DONE; or YACHT_DIRECT_FULL; or YACHT_DIRECT_STOPPED, after yacht_uring_stop;
  * or YACHT_DIRECT_BAD_ARGUMENT, if there is no entry, or the submission queue is shorter than the
- * chain, or a kind is the layer's. */
+ * chain, or a kind is the layer's, or the ring has failed: then yacht_uring_next returns the
+ * error. */
 static inline int yacht_uring_chain(yacht_uring *it, const struct io_uring_sqe *entries,
                                     uint32_t count, int closes, uint64_t *key) {
     const uint32_t links = IOSQE_IO_LINK | IOSQE_IO_HARDLINK, most = it->ring.sq.ring_entries;
@@ -295,7 +297,8 @@ static inline int yacht_uring_completed(yacht_uring *it, const struct io_uring_c
 }
 
 /* Submits what is queued, waits for the next event, and writes it. Returns 1; or 0 after
- * yacht_uring_stop once each life is over; or the negative error number of a lasting error. */
+ * yacht_uring_stop once each life is over, though requests of yacht_uring_push may be in flight; or
+ * the negative error number of a lasting error. */
 static inline int yacht_uring_next(yacht_uring *it, yacht_uring_event *event) {
     for (;;) {
         struct io_uring_cqe *cqe;

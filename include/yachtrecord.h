@@ -25,9 +25,9 @@ typedef struct {
     void (*rest)(void *handle);                                       /* waits until each removed value is dropped; may be NULL */
 } yacht_calls;
 
-/* Each of `threads` makes `calls` calls in each of `rounds`, at the slots 0 to slots - 1. After a
- * round all threads rest, and the log has a `settled` line. The log ends early if no call begins or
- * returns for `silence` seconds. */
+/* Each of `threads` makes `calls` calls in each of `rounds`, at the slots 0 to slots - 1, of which
+ * there is at least one. After a round all threads rest, and the log has a `settled` line. The log
+ * ends early if no call begins or returns for `silence` seconds. */
 typedef struct { uint64_t seed, threads, rounds, calls, slots, silence; } yacht_plan;
 typedef struct { uint64_t ticket, call, number; const char *format; } yacht_record_line;
 typedef struct { yacht_record_line *lines; uint64_t length, random; } yacht_record_thread;

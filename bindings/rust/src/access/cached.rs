@@ -72,7 +72,8 @@ impl<T> Kept<T> {
 }
 
 /// A slot that a [`Reader`] reads again and again, as a configuration. It keeps one seat, and the
-/// value that it found last: while the slot has this value, [`Cached::get`] is one load.
+/// value that it found last: while the slot has this value, [`Cached::get`] is one load. While the
+/// slot is empty, each `get` is a look-up.
 ///
 /// ```
 /// use yachtbanyan::Table;

@@ -155,9 +155,10 @@ impl<T> Handle<T> {
         replaced
     }
 
-    /// Installs what `f` makes of the value at a slot, in place of that value and no other: if
-    /// others replaced it meanwhile, `f` is called again with the value that is there then. Returns
-    /// the new key, what became of the old value, and how often `f` was called.
+    /// Replaces the value at a slot by the value that `f` returns for it. If the slot has another
+    /// value by then, `f` is called again with that one: so an `f` that always replaces the slot's
+    /// value is called without end. Returns the new key, what became of the old value, and the
+    /// number of calls of `f`.
     ///
     /// # Errors
     /// `Empty` if the slot has no value, `NoSlot` and `NoSeat` as of [`Handle::get_at`], `Stale` if

@@ -81,7 +81,7 @@ pub struct Lives<T, R: Ring> {
 }
 
 impl<T: Default, R: Ring> Lives<T, R> {
-    /// Opens the slots of a ring's table, whose number of slots is this one.
+    /// Opens the slots of a ring whose table has `slots` slots, all of them empty.
     ///
     /// # Errors
     ///
@@ -364,11 +364,12 @@ impl<T: Default, R: Ring> Lives<T, R> {
     }
 
     /// Submits what is queued, and returns the next event, for which it waits. Returns `None` after
-    /// [`Lives::stop`] once each life is over.
+    /// [`Lives::stop`] once each life is over, though requests of [`Lives::push_other`] may be in
+    /// flight.
     ///
     /// # Errors
     ///
-    /// The ring is of no use any more.
+    /// The ring is of no use any more. Another call may wait for ever.
     #[allow(clippy::should_implement_trait)]
     pub fn next(&mut self) -> io::Result<Option<Event<T>>> {
         loop {
