@@ -33,7 +33,7 @@ enum {
     YACHT_URING_ACCEPT = 15,
     YACHT_URING_OPENED = 16,  /* an accept succeeded; or a chain's open was completed */
     YACHT_URING_OVER = 17,    /* the life is over, and nothing of it is in flight */
-    YACHT_URING_STOPPED = 18, /* an accept failed for a lasting reason: no other is submitted */
+    YACHT_URING_STOPPED = 18, /* an accept failed: none is submitted until yacht_uring_accept */
     YACHT_URING_OTHER = 19,   /* a request of yacht_uring_push was completed */
     YACHT_URING_CANCEL = 0xffffff /* the data of the layer's own cancels */
 };

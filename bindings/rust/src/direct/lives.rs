@@ -50,7 +50,8 @@ pub enum Event<T> {
     },
     /// The life is over, and nothing of it is in flight. Its value is returned.
     Over(Key, T),
-    /// An accept failed for a lasting reason, and no other is submitted.
+    /// An accept failed with this error, which isn't that of one connection. No other is submitted
+    /// until [`Lives::accept`] is called again.
     Stopped(i32),
     /// A request without a key was completed.
     Other(Completion),
