@@ -136,9 +136,9 @@ static inline unsigned yacht_direct_kind_of(uint64_t data) { return (unsigned)(d
 
 /* Opens a machine of 1 to YACHT_DIRECT_MOST_SLOTS free slots: those from 0 of the table that the
  * caller registers with the ring. (A sparse table has at most RLIMIT_NOFILE slots.) The ring's
- * allocation range (io_uring_register_file_alloc_range) has the slot `first` and `length` slots in
- * all; a `length` of 0 says that no slot of the machine is in it. No other call allocates, and each
- * other call but yacht_direct_key_in takes constant time.
+ * allocation range (io_uring_register_file_alloc_range) begins at slot `first` and has `length`
+ * slots; a `length` of 0 means that no slot of the machine is in it. No other call allocates, and
+ * each other call but yacht_direct_key_in takes constant time.
  * Returns YACHT_DIRECT_DONE and writes *machine; or YACHT_DIRECT_BAD_ARGUMENT at any other number
  * of slots; or YACHT_DIRECT_NO_MEMORY. */
 int yacht_direct_open(yacht_direct *machine, uint32_t slots, uint32_t first, uint32_t length);
