@@ -276,7 +276,7 @@ typedef struct yacht_direct_queue {
     void *slots;
 } yacht_direct_queue;
 
-/* Returns an empty queue of a machine. No other machine takes it. */
+/* Returns an empty queue of a machine. While that one is open, no other machine takes it. */
 static inline yacht_direct_queue yacht_direct_queue_of(yacht_direct machine) {
     yacht_direct_queue queue = {NULL, machine.slots};
     return queue;
