@@ -286,7 +286,7 @@ static inline yacht_direct_queue yacht_direct_queue_of(yacht_direct machine) {
  * Returns what yacht_direct_hold returns, or YACHT_DIRECT_OTHER_MACHINE. */
 int yacht_direct_hold_by(yacht_direct *machine, uint64_t key, yacht_direct_queue *queue, yacht_direct_note *note);
 
-/* Posts a note to its queue, whose it stays until it is collected. It allocates nothing and never
+/* Posts a note to its queue, which owns it until it is collected. It allocates nothing and never
  * waits for a thread that is stopped. This is not proved.
  * Returns 1 if the queue was empty: then the caller wakes the ring's thread. */
 int yacht_direct_post(yacht_direct_note *note);

@@ -1,6 +1,7 @@
-/* A ring of liburing and its machine of lives (yachtdirect.h) in one: what each server with direct
- * descriptors would write around both. All of it is inline, over liburing 2.3 or later. Programs
- * that don't include this header need no liburing. C11 or C++17. Link with -lyachtdirect -luring.
+/* A ring of liburing and its machine of lives (yachtdirect.h) in one: the code that each server
+ * with direct descriptors needs around both. All of it is inline, over liburing 2.3 or later.
+ * Programs that don't include this header need no liburing. C11 or C++17. Link with -lyachtdirect
+ * -luring.
  * docs/use/DIRECT.md has programs over it.
  *
  * The caller prepares each entry by a function of liburing, with 0 in place of the file, and passes
@@ -42,7 +43,7 @@ enum {
 typedef struct yacht_uring_event {
     uint64_t key;   /* of the life; of YACHT_URING_OTHER the data of the request */
     uint32_t kind;  /* the caller's own, or one from YACHT_URING_OPENED to YACHT_URING_OTHER */
-    int32_t result; /* of the completion; so are the flags */
+    int32_t result; /* the completion's, as the flags */
     uint32_t flags;
     int is_last;    /* 0 if another completion of the request follows */
 } yacht_uring_event;
