@@ -1,10 +1,10 @@
 -- Each access, and the end of a call's accesses, keeps what is sound.
-use Rattle.fx_direct.proofs.Words.{arith, ◌≡◌, ◌≢◌, ℕ, ◌+◌, ◌<◌, ◌≤◌, ◌==◌, Bool, true, false, List, [], ◌∷◌, ◌++◌, length, refl, sym, ap, inl, inr, ◌⊎◌, if◌then◌else◌}
+use Rattle.fx_direct.proofs.Words.{arith, ◌≡◌, ◌≢◌, ℕ, ◌+◌, ◌<◌, ◌≤◌, Bool, true, false, List, [], ◌∷◌, ◌++◌, length, refl, sym, ap, inl, inr, ◌⊎◌, if◌then◌else◌}
 use Rattle.fx_direct.proofs.Words.{AllByRecursion, ◌∙◌, subst, Option, Some, None, cases_eq, append-nil, ne_eqb, eq-eqb, File, LifeKey, Phase, Slot, State, Member, Open, Request, CloseMember, bit, requests_in, is_chained}
 use Rattle.fx_direct.proofs.Words.{slot_numbered, phase_at, life_at, is_closing, is_opening, DirectCall, OpenAt, UseOf, CloseOf, key_of_call, CallStage, Waits, Made, Quit, Pending, pending, DirectMoment, Accesses, Quits, Others}
 use Rattle.fx_direct.proofs.Words.{Action, Look, Put, Release, Take, Allows, changed_at, table_after, Makes, Stops, IsElsewhere, HasItsTurn, waits_for, files_under, has_chain, same_key}
 use Rattle.fx_direct.proofs.Calls.{place_of, is_member, at_slot, tally, at_same, at_other, tally-mid, count_in, each-out, each-in, each-map, each-both, none_at, same_keys}
-use Rattle.fx_direct.proofs.Calls.{Fate, Expected, Missing, There, Gone, not_gone, Has, fits, suits, fits_same, has_same, opened_fits, closed_fits, no_open, expected_opens, unchained_due, is_bound}
+use Rattle.fx_direct.proofs.Calls.{Fate, Expected, Missing, There, Gone, not_gone, Has, fits, suits, fits_same, has_same, opened_fits, closed_fits, no_open, expected_opens, unchained_due}
 use Rattle.fx_direct.proofs.Words.{Allocate, Chooses}
 use Rattle.fx_direct.proofs.Calls.{Foreign, NextHas, Ranged, is_foreign, is_reserved, left_plain, next_none, none_next, next_same, ranged_same, none_if, not_true}
 use Rattle.fx_direct.proofs.Calls.{chosen_plain, chosen_gone, chosen_suits, chosen_counts, chosen_fits}
@@ -53,17 +53,7 @@ module _ {fate : ℕ → Fate} {slots : List Slot} {table : State} {calls : List
       → ((x : Member) (s : ℕ) → tally x s calls' ≡ tally x s calls)
       → AllByRecursion (Fitting slots fate) calls'
       → Sound fate slots table' calls' (m ∷ h)
-  quiet table' calls' m size range at files linked count fits = record {
-    inside = rw size sound.inside;
-    counted = λ x s. count x s ∙ sound.counted x s;
-    suit = sound.suit;
-    has = λ s lt. has_same {fate = fate s} refl (at s lt) (files (life_at slots s)) (sound.has s lt);
-    linked = λ s c. linked (life_at slots s) ∙ sound.linked s c;
-    fits = fits;
-    next = λ s lt. next_same {fate = fate s} refl (at s lt) (files (next_at slots s)) (sound.next s lt);
-    ranged = λ s. ranged_same table table' s (fate s) (phase_at slots s) range (sound.ranged s);
-    unborn = λ k later far. files k ∙ sound.unborn k later far;
-  }
+  quiet table' calls' m size range h6 files linked count fits = grind (arith, has_same, next_same, ranged_same)
 
   -- the call that makes the access, at its slot
   module _ (x y : Pending) (front rest : List Pending) (was : calls ≡ front ++ x ∷ rest) (same : y.call ≡ x.call) (bound : y.linked ≡ x.linked) where
@@ -77,23 +67,15 @@ module _ {fate : ℕ → Fate} {slots : List Slot} {table : State} {calls : List
     all = each-out (Fitting slots fate) front rest x (subst (AllByRecursion (Fitting slots fate)) was sound.fits)
 
     counts : (m : Member) (s : ℕ) → tally m s (front ++ y ∷ rest) ≡ tally m s calls
-    counts m s =
-        let e1 = tally-mid m s front rest y in let e2 = tally-mid m s front rest x in
-        let e3 : at_slot m s y ≡ at_slot m s x = ap (λ (c : DirectCall). if (key_of_call c).slot == s then is_member m c else 0) same in
-        let e4 : tally m s calls ≡ tally m s (front ++ x ∷ rest) = ap (tally m s) was in omega arith
+    counts m s = grind (arith, tally-mid, at_slot)
 
     -- the others of its kind at its slot
     alone : (m : Member) → is_member m x.call ≡ 1 → count_in m (phase_at slots s0) ≤ 1 → (count_in m (phase_at slots s0) ≡ 1) × (tally m s0 others ≡ 0)
-    alone m own few =
-        let e2 = tally-mid m s0 front rest x in let e3 = at_same m s0 x refl in
-        let e4 : tally m s0 calls ≡ tally m s0 (front ++ x ∷ rest) = ap (tally m s0) was in let e5 = sound.counted m s0 in (omega arith, omega arith)
+    alone m own few = grind (arith, tally-mid, at_same)
 
     -- the call after its access
     refits : (fate' : ℕ → Fate) → fits x.call y.stage (fate' s0) ≡ true → Fitting slots fate' y
-    refits fate' fit =
-        subst (λ (c : DirectCall). ((key_of_call c).slot < length slots) × ((slot_numbered slots (key_of_call c).slot).number ≡ (key_of_call c).number)
-        × (fits c y.stage (fate' (key_of_call c).slot) ≡ true) × (is_chained (phase_at slots (key_of_call c).slot) ≡ true → is_bound c y.linked ≡ true)) (sym same)
-        (all.0.0, all.0.1, fit, λ c. ap (is_bound x.call) bound ∙ all.0.3 c)
+    refits fate' fit = grind (arith, fits, all)
 
     -- the access changes nothing but the call
     pub only : (table' : State) (m : DirectMoment) → table'.size ≡ table.size → table'.range ≡ table.range → ((s : ℕ) → s < length slots → table'.at s ≡ table.at s)

@@ -1,7 +1,7 @@
 -- A call's transitions, and the close that is asked for then.
 use Rattle.fx_direct.proofs.Words.{arith, ◌≡◌, ◌<◌, ◌&&◌, List, ◌∷◌, length, subst, get_or-set_same, length-set, refl, sym, ap, ◌∙◌, Option, Some, None, Slot, Transition, Phase, Ending, Closing, ℕ}
 use Rattle.fx_direct.proofs.Words.{AdvancesAndAsks, with_phase, Asks, key_concerned, IsEnabled, AreEnabled, phase_at, phase_after, slots_with, slots_left_by, is_live}
-use Rattle.fx_direct.proofs.Words.{Bool, true, false, LifeKey, Member, Open, Request, CloseMember, NamesLastLife, FitsPhase, Opens, Finishes, Closes, FailsToClose}
+use Rattle.fx_direct.proofs.Words.{Bool, true, false, LifeKey, Member, NamesLastLife, FitsPhase, Closes}
 use Rattle.std.proofs.lemmas.List.{set-set}
 use Rattle.fx_direct.specs.Transitions.{completion, may_end, when_ended, machine_with, AdvancesBy, becomes_live, unless_live, and_ends}
 use Rattle.fx_direct.proofs.Words.{◌≤◌, ◌+◌, ◌⊎◌, inl, inr, Free, Live, Adopts, life_at, slot_numbered}
@@ -45,8 +45,7 @@ module _ (range : SlotRange) (old : List Slot) (d : Transition) (can : IsEnabled
 
   -- the transition, and perhaps the end of its life after it
   ends_may : (b : Bool) → (b ≡ true → is_live (phase_after d (phase_at old k.slot)) ≡ true) → AreEnabled old (and_ends b d)
-  ends_may true live = ((tt, can), (names, live_ends (phase_at (slots_with old d) k.slot) (ap is_live here ∙ live refl)))
-  ends_may false live = (tt, can)
+  ends_may b live = grind (arith, names, live_ends, here)
 
   pub ends_leaves : (b : Bool) → slots_left_by old (and_ends b d) ≡ with_phase old k (unless_live b (phase_after d (phase_at old k.slot)))
   ends_leaves true = ap (λ (p : Phase). with_phase (slots_with old d) k (when_ended p)) here ∙ set-set old k.slot _ _
@@ -87,18 +86,14 @@ module _ (range : SlotRange) (old : List Slot) (d : Transition) (can : IsEnabled
 pub completes : (range : SlotRange) (old : List Slot) (stopped : Bool) (k : LifeKey) (m : Member) (succeeded : Bool) (phase : Phase) (ask : Option ℕ) (new : List Slot) → NamesLastLife old k
     → FitsPhase (completion k m succeeded) (phase_at old k.slot) → phase_left stopped (completion k m succeeded) (phase_at old k.slot) ≡ phase
     → WritesPhase old k phase ask new → AdvancesAndAsks (machine_with old range stopped) (completion k m succeeded) ask (machine_with new range stopped)
-completes range old stopped k Open succeeded phase ask new names may leaves writes = asks range old (Opens k succeeded) (names, may) stopped phase ask new leaves writes
-completes range old stopped k Request succeeded phase ask new names may leaves writes = asks range old (Finishes k) (names, may) stopped phase ask new leaves writes
-completes range old stopped k CloseMember true phase ask new names may leaves writes = asks range old (Closes k) (names, may) stopped phase ask new leaves writes
-completes range old stopped k CloseMember false phase ask new names may leaves writes = asks range old (FailsToClose k) (names, may) stopped phase ask new leaves writes
+completes range old stopped k m succeeded phase ask new names may leaves writes = grind (arith, asks)
 
 -- an adoption, after the close of the slot's earlier life if that was closing
 adoptable : (p : Phase) → is_adoptable p ≡ true → (p ≡ Free) ⊎ (p ≡ Closing)
 adoptable p may = grind arith
 
 write_over : (old : List Slot) (j k : LifeKey) (r p : Phase) (ask : Option ℕ) (new : List Slot) → j.slot ≡ k.slot → WritesPhase old k p ask new → WritesPhase (with_phase old j r) k p ask new
-write_over old j k r p None new e writes = (writes.0 ∙ sym (written_over old j k r p e), writes.1)
-write_over old j k r p (Some slot) new e writes = (writes.0, writes.1, writes.2 ∙ sym (written_over old j k r Closing e))
+write_over old j k r p ask new e writes = grind (arith, written_over)
 
 pub adopts : (range : SlotRange) (old : List Slot) (k : LifeKey) (stopped : Bool) (phase : Phase) (ask : Option ℕ) (new : List Slot) → k.slot < length old
     → k.number ≡ (slot_numbered old k.slot).number + 1 → k.number ≤ MOST_LIVES → is_adoptable (phase_at old k.slot) ≡ true → unless_live stopped (Live 0 0) ≡ phase

@@ -51,11 +51,7 @@ module _ (slots : List Slot) (order : Order) (machine : IsMachine slots order) (
 
   -- no slot is vacated
   stays : (q : Phase) → HasLife slots k → is_free q ≡ false → Vacates order order k q
-  stays q life busy s lt = elim (cases_eq s k.slot) [
-    | inl e ↦ subst (λ (y : ℕ). is_among_vacant order y ≡ (if y == k.slot then (is_free q && nat_lt k.number MOST_LIVES) && not (is_ranged order.range k.slot) else is_among_vacant order y)) (sym e)
-        (machine.ordered k.slot inside ∙ not_vacant _ _ _ life.1 ∙ sym (if_same k.slot k.slot _ _ refl ∙ ap (λ (b : Bool). (b && nat_lt k.number MOST_LIVES) && not (is_ranged order.range k.slot)) busy))
-    | inr ne ↦ sym (if_other s k.slot _ _ ne)
-  ]
+  stays q life busy s lt = grind (arith, is_free, not_vacant, if_same, if_other)
 
   pub written : (q : Phase) (ask : Option ℕ) (new : List Slot) → HasLife slots k → is_free q ≡ false → WritesPhase slots k q ask new → IsMachine new order
   written q None new life busy writes = subst (λ (xs : List Slot). IsMachine xs order) (sym writes.0) (kept order q (number_fits life) refl refl (stays q life busy))

@@ -4,7 +4,7 @@ use Rattle.fx_direct.proofs.Words.{Option, Some, None, cases_eq, cases_lt, ◌�
 use Rattle.fx_direct.proofs.Words.{Free, Ending, Closing, slot_numbered, phase_at, requests_in, users_in, is_live, is_installed, is_chained, bit}
 use Rattle.fx_direct.proofs.Words.{key_concerned, HasLife, FitsPhase, IsEnabled, phase_after, slots_with, AreEnabled, slots_left_by, Advances, AdvancesAndAsks, with_phase}
 use Rattle.fx_direct.specs.Counts.{times, chains, opens, starts, finishes, holds, releases, ends, asks, closes, fails, is_early, phase_of, IsBalanced}
-use Rattle.fx_direct.specs.Transitions.{DirectMachine, becomes_live, unless_live, and_ends}
+use Rattle.fx_direct.specs.Transitions.{DirectMachine, becomes_live, and_ends}
 use Rattle.fx_direct.specs.Lives.{NoCloseIsDue, NeverAsks, IsMachineCall, NoCloseIsLate, EachCloseIsAskedForOnce, StaleKeysStayStale}
 use Rattle.fx_direct.proofs.Counting.{Kept, IsProper, is_unopened, kept_always, possible, phase_else, phase_here}
 use Rattle.fx_direct.proofs.Asking.{phase_left, at_key, ends_leaves}
@@ -20,8 +20,7 @@ early_small : (p : Phase) → is_early p ≡ true → (is_unopened p ≡ true) �
 early_small p e = grind arith
 
 bit_of : (b : Bool) → (b ≡ true) ⊎ (bit b ≡ 0)
-bit_of true = inl refl
-bit_of false = inr refl
+bit_of b = grind arith
 
 -- an ended life with no request and no user, whose close isn't due, has asked for it
 none_left : (p : Phase) → IsProper p → requests_in p ≡ 0 → users_in p ≡ 0 → (p ≡ Ending 0 0 → ⊥) → is_unopened p ≡ false → is_live p ≡ false
@@ -37,29 +36,16 @@ module _ (h : List Transition) (k : LifeKey) (number : ℕ) (p : Phase) (kept : 
 
   -- where a close was early, no file was opened, and there was a chain
   early_close : (bit (is_early p) ≡ 0) ⊎ ((bit (is_early p) ≡ 1) × (times (opens k) h ≡ 0) × (1 ≤ times (chains k) h) × (bit (is_chained p) ≡ 1))
-  early_close = elim (bit_of (is_early p)) [
-    | inl e ↦ inr (ap bit e, (kept.begun.unopened (early_small p e).0).0, kept.begun.chained (early_small p e).1, ap bit (early_small p e).1)
-    | inr e ↦ inl e
-  ]
+  early_close = grind (arith, bit_of, early_small)
 
   few : (times (opens k) h ≤ 1) × (times (asks k) h ≤ 1 + times (fails k) h)
       × (times (asks k) h ≤ times (opens k) h + times (chains k) h + times (fails k) h)
       × (times (closes k) h ≤ 1) × (times (closes k) h ≤ times (opens k) h + bit (is_chained p))
-  few =
-      let f2 = b.asked in let f3 = b.opened in let f4 = b.once in let f5 = b.closed in
-      elim early_close [
-        | inl e ↦ (omega arith, omega arith, omega arith, omega arith, omega arith)
-        | inr e ↦ (omega arith, omega (arith, e.0, e.1), omega (arith, e.0, e.1, e.2), omega (arith, e.0, e.1), omega (arith, e.0, e.1, e.3))
-      ]
+  few = grind (arith, early_close)
 
   asked : (p ≡ Ending 0 0 → ⊥) → 0 < times (opens k) h → 0 < times (ends k) h → times (starts k) h ≡ times (finishes k) h
       → times (holds k) h ≡ times (releases k) h → times (asks k) h ≡ 1 + times (fails k) h
-  asked due some_open ended requests users =
-      let f1 = b.ended some_open in let f3 = b.opened in let f4 = b.once in
-      let opened : is_unopened p ≡ false = not_true (is_unopened p) (λ e. let o = (kept.begun.unopened e).0 in omega arith) in
-      let live : is_live p ≡ false = not_true (is_live p) (λ e. let o = ap bit e in omega arith) in
-      let none = none_left p kept.proper (omega (arith, b.requests)) (omega (arith, b.users)) due opened live in
-      omega (arith, b.asked, ap bit none.0, ap bit none.1, f1, ap bit live)
+  asked due some_open ended requests users = grind (arith, not_true, none_left)
 
 pub each_close_is_asked_for_once : EachCloseIsAskedForOnce
 each_close_is_asked_for_once start h k free can =
@@ -82,8 +68,7 @@ calm_unlive : (t : Transition) (p : Phase) → NeverAsks t → FitsPhase t p →
 calm_unlive t p calm may = grind arith
 
 first_may : (old : List Slot) (t : Transition) (b : Bool) → AreEnabled old (and_ends b t) → IsEnabled old t
-first_may old t true may = may.0.1
-first_may old t false may = may.1
+first_may old t b may = grind arith
 
 -- the slot of a call, and its phase then: its close is asked for, or isn't due
 pub record Leaves (old : DirectMachine) (t : Transition) (new : DirectMachine) : Type 0 where
@@ -94,13 +79,7 @@ pub record Leaves (old : DirectMachine) (t : Transition) (new : DirectMachine) :
   pub same : new.stopped ≡ old.stopped
 
 by_calm : (old new : DirectMachine) (t : Transition) → NeverAsks t → Advances old t new → Leaves old t new
-by_calm old new t calm turns = let p = phase_at old.list (key_concerned t).slot in let may = possible old.list t turns.0 in record {
-  can = turns.0;
-  phase = phase_after t p;
-  list = ap (λ (m : DirectMachine). m.list) turns.1;
-  left = inr (ap (λ (b : Bool). unless_live (b && old.stopped) (phase_after t p)) (sym (calm_unlive t p calm may)), never t p calm may);
-  same = ap (λ (m : DirectMachine). m.stopped) turns.1;
-}
+by_calm old new t calm turns = grind (arith, possible, calm_unlive, never)
 
 by_asking : (old new : DirectMachine) (t : Transition) (ask : Option ℕ) → AdvancesAndAsks old t ask new → Leaves old t new
 by_asking old new t None turns =

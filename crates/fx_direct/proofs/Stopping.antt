@@ -57,10 +57,7 @@ module _ (old new : DirectMachine) (t : Transition) (leaves : Leaves old t new) 
   away s ne = ap (λ (xs : List Slot). slot_numbered xs s) leaves.list ∙ get_or-set_other old.list k.slot s _ unused ne
 
   proper_here : IsProper p → IsProper leaves.phase
-  proper_here proper = elim leaves.left [
-    | inl e ↦ subst IsProper (sym e) tt
-    | inr e ↦ subst IsProper (sym e.0) (proper_left old.stopped t p (possible old.list t leaves.can) proper)
-  ]
+  proper_here proper = grind (arith, proper_left, possible)
 
   settled : Settled old → Settled new
   settled was = record {
@@ -74,13 +71,7 @@ module _ (old new : DirectMachine) (t : Transition) (leaves : Leaves old t new) 
   -- a life that is live after a call was so before
   was_live : old.stopped ≡ true → is_live leaves.phase ≡ true
       → (is_live p ≡ true) × ((slot_numbered old.list k.slot).number ≡ k.number) × ((j : LifeKey) → ends j t ≡ 0)
-  was_live stopped live = elim leaves.left [
-    | inl e ↦ absurd (let c = ap is_live e in cc)
-    | inr e ↦
-        let both = left_live p (phase_after t p) (ap (λ (b : Bool). is_live (phase_left b t p)) (sym stopped) ∙ ap is_live (sym e.0) ∙ live) in
-        let number : (slot_numbered old.list k.slot).number ≡ k.number = elim (number_before old.list t leaves.can) [ inl n ↦ n | inr f ↦ absurd (let c = ap is_live f.1 in let b = both.0 in cc) ] in
-        (both.0, number, λ j. no_end j t p (possible old.list t leaves.can) both.0 both.1)
-  ]
+  was_live stopped live = grind (arith, left_live, number_before, no_end, possible)
 
   remains : (stops : List Slot) (h : List Transition) → old.stopped ≡ true → Remains stops h old.list → Remains stops (t ∷ h) new.list
   remains stops h stopped was s live = elim (cases_eq s k.slot) [

@@ -39,8 +39,7 @@ module _ {fate : ℕ → Fate} {slots : List Slot} {table : State} {calls : List
 
   -- a life that was chained is a chain's
   linked : (is_chained (phase_after d p) ≡ true → is_chained p ≡ true) → is_chained (phase_after d p) ≡ true → has_chain k (Does d ∷ h) ≡ true
-  linked was chained = has_linked k d h
-      (ap (λ (n : ℕ). has_chain (record { slot = k.slot; number = n }) h) (sym names.1) ∙ sound.linked k.slot (was chained))
+  linked was chained = grind (arith, has_linked)
 
   -- a call that was linked is
   bound : (is_chained (phase_after d p) ≡ true → is_chained p ≡ true) → (x : Pending) → Fitting slots fate x → Binds sound d names.0 x

@@ -4,7 +4,8 @@
 //! A flight assumes this of the kernel and of the program: a completion comes once and brings its
 //! user data back; an open succeeds if and only if it put its file at its slot, and a close if and
 //! only if it took a file from its slot; a member of a chain makes its access after that of its
-//! predecessor, or makes none; and nobody else writes these slots.
+//! predecessor, or makes none; the kernel chooses slots in its allocation range alone, and a slot is
+//! adopted where it has put a file; and nobody else writes these slots.
 ghost use Rattle.std.specs.Prelude.{◌≡◌, ◌-◌, ◌^◌};
 ghost use Rattle.fx_direct.specs.Counts.{EachKeyIsBalanced, NothingIsLeftOfALife, KeysAreGivenOnce};
 ghost use Rattle.fx_direct.specs.Haste.{ChainIsNotAnOpen, HasteIsWrong, RangeIsTheKernels};
@@ -24,8 +25,8 @@ pub fn limits_are_numbers()
 {}
 
 /// States that in every flight an open finds its slot empty, and that each request and each close
-/// finds the file that the open of its own key installed. In a chain whose open installed nothing
-/// they find an empty slot.
+/// finds the file that the open of its own key installed, or that was adopted under its key. In a
+/// chain whose open installed nothing they find an empty slot.
 #[tactic(auto, using(crate::proofs::Reach::each_access_finds_its_own))]
 pub fn each_access_finds_its_own()
     ensures { EachAccessFindsItsOwn }
