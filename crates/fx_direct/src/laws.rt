@@ -4,8 +4,8 @@
 //! A flight assumes this of the kernel and of the program: a completion comes once and brings its
 //! user data back; an open succeeds if and only if it put its file at its slot, and a close if and
 //! only if it took a file from its slot; a member of a chain makes its access after that of its
-//! predecessor, or makes none; the kernel chooses slots in its allocation range alone, and a slot is
-//! adopted where it has put a file; and nobody else writes these slots.
+//! predecessor, or makes none; the kernel chooses slots in its allocation range alone, and a slot
+//! is adopted where it has put a file; and nobody else writes these slots.
 ghost use Rattle.std.specs.Prelude.{◌≡◌, ◌-◌, ◌^◌};
 ghost use Rattle.fx_direct.specs.Counts.{EachKeyIsBalanced, NothingIsLeftOfALife, KeysAreGivenOnce};
 ghost use Rattle.fx_direct.specs.Haste.{ChainIsNotAnOpen, HasteIsWrong, RangeIsTheKernels};
