@@ -383,7 +383,7 @@ fn each_step_has_the_numbers_of_the_library() {
         return;
     }
     let mut rules = HashMap::new();
-    for count in [0, 27, 4_096, 5_000] {
+    for count in [0, 30, 4_096, 5_000] {
         let found = Log::new(&[], count as u32).judge_whole_updates(Limits::default());
         let Ok(LogVerdict::NotLegal { at: 7, reason: steps }) = found else {
             panic!("{found:?} of a log without events");
@@ -396,10 +396,10 @@ fn each_step_has_the_numbers_of_the_library() {
             let points = [point(nth as u32 + 6), point(nth as u32 + 60)];
             assert_eq!([it.before, it.after], points);
             let rule = format!("{:?}", it.rule);
-            assert_eq!(*rules.entry(nth % 27).or_insert(rule.clone()), rule);
+            assert_eq!(*rules.entry(nth % 30).or_insert(rule.clone()), rule);
         }
     }
-    assert_eq!((&rules[&0][..], &rules[&26][..]), ("Events", "Existed"));
+    assert_eq!((&rules[&0][..], &rules[&29][..]), ("Events", "Cut"));
     let verdict = rows().iter().find(|it| !it.lines.is_empty()).map(|it| {
         let log = read(it);
         log.judge_whole_updates(it.limits())
