@@ -62,8 +62,8 @@ SPOILED = (
     ("FIXFILES", "tests/check-workers SPOIL --few", 1 / 4, "byte line status words"),
     # texts of another program aren't legal; a byte less may be legal too
     ("FIXFILES", "tests/check-fixcheck FIXCHECK SPOIL 2 --few", 1, "line byte"),
-    # the chart of times is drawn of a kept run, and the phases of a slot of nothing
-    ("FIXCHECK", "tests/check-pictures SPOIL", -2, CHANGES),
+    # the pictures of histories; the others are drawn of a kept run, of logs and of the crates
+    ("FIXCHECK", "tests/check-pictures SPOIL", 10, CHANGES),
     # a few of the cases count verdicts, or look at a part of the help or of a message
     ("FIXCHECK", "tests/check-verdicts SPOIL --few", 3 / 4, CHANGES),
     # a spoiled text may be undecided, and a text that isn't legal has another status anyhow
