@@ -27,7 +27,8 @@ typedef struct {
 
 /* Each of `threads` makes `calls` calls in each of `rounds`, at the slots 0 to slots - 1, of which
  * there is at least one. After a round all threads rest, and the log has a `settled` line. The log
- * ends early if no call begins or returns for `silence` seconds. */
+ * ends early if no call begins or returns for `silence` seconds. `seed` is any number, and
+ * threads * (rounds + 1) * (calls + 1) and `silence` are at most 2^50. Each of them may be 0. */
 typedef struct { uint64_t seed, threads, rounds, calls, slots, silence; } yacht_plan;
 typedef struct { uint64_t ticket, call, number; const char *format; } yacht_record_line;
 typedef struct { yacht_record_line *lines; uint64_t length, random; } yacht_record_thread;
@@ -103,14 +104,17 @@ static inline void *yacht_record_play(void *of) {
 }
 /* Stops a thread that crashed, by a signal or, in C++, by an exception, which aborts. */
 static inline void yacht_record_crash(int number) {
-    signal(number, SIG_DFL);
-    if (pthread_equal(pthread_self(), yacht_recorded.owner)) return;
+    if (pthread_equal(pthread_self(), yacht_recorded.owner)) {
+        signal(number, SIG_DFL);
+        return;
+    }
     YACHT_RECORD_SET(yacht_recorded.has_crashed, 1);
     for (;;) poll(NULL, 0, -1);
 }
 /* Plays a plan on a table, and prints the log. Returns the exit status: 0; 1 if a call crashes or
  * never returns, or a thread gets no handle: the log ends there, standard error says why, and the
- * table must not be freed; 4 if the log can't be printed; 5 if an allocation fails. */
+ * table must not be freed; 2 if the plan has no slot: nothing is played or printed; 4 if the log
+ * can't be printed; 5 if an allocation fails. */
 static inline int yacht_record(void *table, yacht_calls its, yacht_plan plan) {
     static const int signals[] = {SIGABRT, SIGSEGV, SIGBUS, SIGFPE, SIGILL};
     struct yacht_recording *it = &yacht_recorded;
@@ -120,6 +124,7 @@ static inline int yacht_record(void *table, yacht_calls its, yacht_plan plan) {
     yacht_record_line *lines = (yacht_record_line *)calloc(2 * (room * plan.threads + calls + 4), sizeof *lines);
     yacht_record_line *sorted = lines + room * plan.threads, closed = {0, 0, 0, "closed %llu.1.0 v\n"};
     it->values = (yacht_value *)calloc(calls + 2, sizeof *it->values), it->its = its, it->plan = plan, it->table = table, it->owner = thread, it->last = 1;
+    if (!plan.slots) return free(all), free(lines), free(it->values), 2;
     if (!all || !lines || !it->values) return 5;
     for (at = 0; at < 5; at++) signal(signals[at], yacht_record_crash);
     for (own = all; own < all + plan.threads; own++) {

@@ -165,12 +165,22 @@ ends_example() {
     [ $? -eq 1 ] && grep -qF "recorder: $2; the log ends there" "$room/found" && [ "$(wc -l < "$room/log")" -lt 12000 ] && judged legal
 }
 
+# refuses_slots: a plan of no slots plays nothing
+refuses_slots() {
+    makes_example C 's/SLOTS, 20}/0, 20}/' || return 1
+    plays_example 1
+    [ $? -eq 2 ] && [ ! -s "$room/log" ]
+}
+
 recorded_in_c() {
     local take='^    int was_full = swap(slot, NULL);' drop='^    yacht_record_drop(it->value);' crashed='a call crashed, or a thread had no handle'
     want 'a log of a right table in C is not legal' legal_example C
     want 'a stale look of 10,000 in C is not noticed' found_example C 10000
     want 'a call in C that aborts leaves no log' ends_example C "$crashed" "s/$take/    if (++looks == 500) abort();\n&/"
     want 'a call in C that uses memory wrongly leaves no log' ends_example C "$crashed" "s/$take/    if (++looks == 500) *(volatile int *)8 = 1;\n&/"
+    want 'calls in C that crash in all threads leave no log' ends_example C "$crashed" \
+        's/^static int take.*/&\n    if (__atomic_add_fetch(\&looks, 1, __ATOMIC_SEQ_CST) > 400) *(volatile int *)8 = 1;/'
+    want 'a plan in C without a slot is not refused' refuses_slots
     want 'a call in C++ that throws leaves no log' ends_example C++ "$crashed" "s/$take/    if (++looks == 500) throw 1;\n&/"
     want 'a call in C that never returns leaves no log' ends_example C 'no call began or ended in time' \
         "s/$take/    if (++looks == 500) for (;;) poll(NULL, 0, -1);\n&/; s/SLOTS, 20}/SLOTS, 2}/"
