@@ -53,6 +53,7 @@ int main(void) {
         if (event.kind == YACHT_URING_OTHER) yacht_uring_stop(&ring); /* the input has ended */
         else if (event.kind == YACHT_URING_OPENED) opened++, receive(event.key);
         else if (event.kind == YACHT_URING_OVER) closed++;
+        else if (event.kind == YACHT_URING_STOPPED) return fprintf(stderr, "echo: accept: %s\n", strerror(-event.result)), 1;
         else completed(event.key, event.kind, event.result);
     }
     yacht_uring_close(&ring);
