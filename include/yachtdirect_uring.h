@@ -90,7 +90,8 @@ static inline int yacht_uring_has_room(yacht_uring *it, uint32_t count) {
 }
 
 /* Queues a request without a key, on a file of the process or on none. Its user_data is `data`,
- * below YACHT_URING_CANCEL. */
+ * below YACHT_URING_CANCEL. A link in its flags stays: the next entry, also one of the layer's, is
+ * then of the chain. */
 static inline void yacht_uring_push(yacht_uring *it, const struct io_uring_sqe *entry,
                                     uint64_t data) {
     struct io_uring_sqe *to;
@@ -265,6 +266,7 @@ static inline void yacht_uring_finished(yacht_uring *it, const yacht_uring_event
     const uint64_t key = event->key;
     const int32_t result = event->result;
     int answer;
+    if (yacht_direct_phase(&it->machine, key, &requests, &users) == YACHT_DIRECT_STALE) return;
     if (kind == YACHT_URING_OPEN) member = YACHT_DIRECT_OPEN_OF_CHAIN;
     if (kind == YACHT_URING_CLOSE) {
         member = YACHT_DIRECT_CLOSE_OF_CHAIN;
@@ -315,7 +317,7 @@ static inline int yacht_uring_next(yacht_uring *it, yacht_uring_event *event) {
         }
         if (it->is_ending && !yacht_direct_len(&it->machine)) return 0;
         yacht_uring_accept_more(it);
-        int error = io_uring_submit_and_wait(&it->ring, 1);
+        int error = it->error ? it->error : io_uring_submit_and_wait(&it->ring, 1);
         if (error < 0 && error != -EINTR && error != -EAGAIN && error != -EBUSY) it->error = error;
         if (it->error) return it->error;
     }
