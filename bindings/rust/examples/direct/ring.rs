@@ -217,14 +217,14 @@ impl direct::Ring for Ring {
         Ok(())
     }
 
-    fn make_room(&mut self, entries: usize) -> Result<()> {
+    fn make_room(&mut self, entries: usize) -> Result<bool> {
         if entries > self.entries as usize {
-            return Err(ErrorKind::InvalidInput.into());
+            return Ok(false);
         }
         while self.queued as usize + entries > self.entries as usize {
             self.enter(0)?;
         }
-        Ok(())
+        Ok(true)
     }
 
     fn completion(&mut self) -> Option<Completion> {

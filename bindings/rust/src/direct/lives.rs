@@ -2,7 +2,7 @@
 use super::errors::{OpenError, Refusal, ReserveError};
 use super::key::Key;
 use super::releases::{Releases, User};
-use super::ring::{Completion, Entry, Request, Ring};
+use super::ring::{copy_of, Completion, Entry, Request, Ring};
 use super::slots::{After, Member, Next, Phase, PhaseName, Slots};
 use std::{fmt, io};
 
@@ -244,9 +244,13 @@ impl<T: Default, R: Ring> Lives<T, R> {
     ) -> Result<Key, (ReserveError, T)> {
         assert!(requests.iter().all(|it| it.0 <= MOST_OWN_KIND), "a kind is at most 11");
         let mut left = requests.len() + usize::from(closes);
-        if let Err(error) = self.ring.make_room(left + 1) {
-            assert!(error.kind() != io::ErrorKind::InvalidInput, "the queue is too short");
-            self.error.get_or_insert(error);
+        match self.ring.make_room(left + 1) {
+            Ok(is_long_enough) => assert!(is_long_enough, "the queue is too short"),
+            Err(error) => {
+                self.error.get_or_insert(error);
+            }
+        }
+        if self.error.is_some() {
             return Err((ReserveError::Stopped, value));
         }
         let mut value = Some(value);
@@ -267,8 +271,8 @@ impl<T: Default, R: Ring> Lives<T, R> {
     }
 
     fn accept_more(&mut self) {
-        while self.accepting < self.accepts {
-            if self.slots.len() + self.kept >= self.slots.slots() {
+        while self.error.is_none() && self.accepting < self.accepts {
+            if self.slots.len().saturating_add(self.kept) >= self.slots.slots() {
                 return;
             }
             let Ok(key) = self.slots.reserve() else {
@@ -370,7 +374,7 @@ impl<T: Default, R: Ring> Lives<T, R> {
     ///
     /// # Errors
     ///
-    /// The ring is of no use any more. Another call may wait for ever.
+    /// The ring is of no use any more: each later call without an event returns the error, too.
     #[allow(clippy::should_implement_trait)]
     pub fn next(&mut self) -> io::Result<Option<Event<T>>> {
         loop {
@@ -387,10 +391,12 @@ impl<T: Default, R: Ring> Lives<T, R> {
                 return Ok(None);
             }
             self.accept_more();
-            if let Some(error) = self.error.take() {
-                return Err(error);
+            if self.error.is_none() {
+                self.error = self.ring.wait().err();
             }
-            self.ring.wait()?;
+            if let Some(error) = &self.error {
+                return Err(copy_of(error));
+            }
         }
     }
 }

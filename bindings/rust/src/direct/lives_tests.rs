@@ -3,11 +3,24 @@ use super::*;
 use std::collections::VecDeque;
 use std::io;
 
-/// What was queued, and the completions to come. A wait without one is an error.
+/// What was queued, the completions to come, and the number of the error that the ring has, if it
+/// is not 0. A wait completes a request without a key.
 #[derive(Default)]
 struct Script {
     queued: Vec<Entry<&'static str>>,
     completions: VecDeque<Completion>,
+    error: i32,
+}
+
+const WAIT: Completion = Completion { user_data: 0, result: 0, flags: 0 };
+
+impl Script {
+    fn unless_broken<T>(&self, value: T) -> io::Result<T> {
+        if self.error != 0 {
+            return Err(io::Error::from_raw_os_error(self.error));
+        }
+        Ok(value)
+    }
 }
 
 impl Ring for Script {
@@ -15,14 +28,11 @@ impl Ring for Script {
 
     fn push(&mut self, entry: Entry<&'static str>) -> io::Result<()> {
         self.queued.push(entry);
-        Ok(())
+        self.unless_broken(())
     }
 
-    fn make_room(&mut self, entries: usize) -> io::Result<()> {
-        if entries > 8 {
-            return Err(io::ErrorKind::InvalidInput.into());
-        }
-        Ok(())
+    fn make_room(&mut self, entries: usize) -> io::Result<bool> {
+        self.unless_broken(entries <= 8)
     }
 
     fn completion(&mut self) -> Option<Completion> {
@@ -30,7 +40,8 @@ impl Ring for Script {
     }
 
     fn wait(&mut self) -> io::Result<()> {
-        Err(io::ErrorKind::WouldBlock.into())
+        self.completions.push_back(WAIT);
+        self.unless_broken(())
     }
 }
 
@@ -43,7 +54,13 @@ fn lives(slots: u32) -> Tested {
 /// Lets a request be completed, and returns the events until the layer waits.
 fn complete(lives: &mut Tested, user_data: u64, result: i32, flags: u32) -> Vec<Event<u32>> {
     lives.ring().completions.push_back(Completion { user_data, result, flags });
-    std::iter::from_fn(|| lives.next().ok().flatten()).collect()
+    let events = std::iter::from_fn(|| lives.next().unwrap());
+    events.take_while(|event| *event != Event::Other(WAIT)).collect()
+}
+
+/// Lets the layer wait, without an event before.
+fn wait(lives: &mut Tested) {
+    assert_eq!(lives.next().unwrap(), Some(Event::Other(WAIT)));
 }
 
 /// Returns what was queued since the last call.
@@ -54,7 +71,7 @@ fn queued(lives: &mut Tested) -> Vec<Entry<&'static str>> {
 /// Accepts a connection, and returns its key.
 fn accepted(lives: &mut Tested) -> Key {
     lives.accept(5, 1, 0);
-    assert!(lives.next().is_err());
+    wait(lives);
     let data = queued(lives)[0].user_data;
     let key = Key::from_bits(data).0;
     lives.accept(5, 0, 0);
@@ -66,7 +83,7 @@ fn accepted(lives: &mut Tested) -> Key {
 fn accepts_are_kept_in_flight() {
     let mut it = lives(8);
     it.accept(5, 3, 4);
-    assert!(it.next().is_err());
+    wait(&mut it);
     let first = queued(&mut it);
     assert_eq!(first.len(), 3);
     for entry in &first {
@@ -83,6 +100,10 @@ fn accepts_are_kept_in_flight() {
     let again = queued(&mut it);
     assert_eq!(again.len(), 1);
     assert_eq!(complete(&mut it, again[0].user_data, -22, 0), [Event::Stopped(-22)]);
+    assert_eq!(queued(&mut it).len(), 0);
+    // all slots are left to chains
+    it.accept(5, 3, u32::MAX);
+    wait(&mut it);
     assert_eq!(queued(&mut it).len(), 0);
 }
 
@@ -139,6 +160,9 @@ fn a_life_ends_by_a_shutdown_and_a_close() {
         assert_eq!(over.len(), usize::from(result == -9));
     }
     assert!(it.slots().is_empty());
+    // a second last completion, of a kind that zero_copy lacks: the life was over once
+    let late = complete(&mut it, key.to_bits(2), 0, 8);
+    assert!(matches!(late[..], [Event::Completed { is_last: true, .. }]), "{late:?}");
 }
 
 #[test]
@@ -180,7 +204,7 @@ fn nothing_is_left_after_a_stop() {
     let key = accepted(&mut it);
     let chain = it.chain(7, "open", vec![], true).unwrap();
     it.accept(5, 1, 0);
-    assert!(it.next().is_err());
+    wait(&mut it);
     let accept = queued(&mut it).pop().unwrap();
     it.stop();
     assert!(it.chain(8, "open", vec![], true).is_err());
@@ -199,5 +223,33 @@ fn nothing_is_left_after_a_stop() {
     }
     assert_eq!(complete(&mut it, chain.to_bits(14), -2, 0), [Event::Opened(chain, -2)]);
     assert_eq!(complete(&mut it, chain.to_bits(13), -125, 0), [Event::Over(chain, 7)]);
-    assert!(matches!(it.next(), Ok(None)));
+    for _ in 0..2 {
+        assert!(matches!(it.next(), Ok(None)));
+    }
+}
+
+#[test]
+fn an_error_stays() {
+    const EINVAL: i32 = 22;
+    let breaks: [fn(&mut Tested); 3] = [
+        |it| assert_eq!(it.chain(7, "open", vec![], true), Err((ReserveError::Stopped, 7))),
+        |it| it.push_other("read", 1),
+        |it| assert!(it.next().is_err()),
+    ];
+    for breaks in breaks {
+        let mut it = lives(4);
+        it.ring().error = EINVAL;
+        breaks(&mut it);
+        it.ring().error = 0;
+        it.ring().completions.clear();
+        queued(&mut it);
+        it.accept(5, 1, 0);
+        for _ in 0..3 {
+            assert_eq!(it.next().unwrap_err().raw_os_error(), Some(EINVAL));
+        }
+        assert_eq!(it.chain(7, "open", vec![], true), Err((ReserveError::Stopped, 7)));
+        assert_eq!(queued(&mut it), []);
+        it.stop();
+        assert!(matches!(it.next(), Ok(None)));
+    }
 }

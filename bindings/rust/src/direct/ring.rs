@@ -56,12 +56,13 @@ pub trait Ring {
     /// The ring is of no use any more: [`Lives::next`](super::Lives::next) returns the error.
     fn push(&mut self, entry: Entry<Self::Request>) -> io::Result<()>;
 
-    /// Makes room for this number of entries, so that they are submitted together.
+    /// Makes room for this number of entries, so that they are submitted together. Returns whether
+    /// the queue is long enough for them.
     ///
     /// # Errors
     ///
-    /// As of [`Ring::push`]; or the queue is shorter, of the kind [`io::ErrorKind::InvalidInput`].
-    fn make_room(&mut self, entries: usize) -> io::Result<()>;
+    /// As of [`Ring::push`].
+    fn make_room(&mut self, entries: usize) -> io::Result<bool>;
 
     /// Returns the next completion, or `None` if no completion is there.
     fn completion(&mut self) -> Option<Completion>;
@@ -72,4 +73,10 @@ pub trait Ring {
     ///
     /// As of [`Ring::push`].
     fn wait(&mut self) -> io::Result<()>;
+}
+
+// Returns an error of the same number, or of the same kind and words.
+pub(super) fn copy_of(error: &io::Error) -> io::Error {
+    let described = || io::Error::new(error.kind(), error.to_string());
+    error.raw_os_error().map_or_else(described, io::Error::from_raw_os_error)
 }
