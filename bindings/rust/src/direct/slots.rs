@@ -143,7 +143,7 @@ impl<T> Slots<T> {
     /// Opens slots as [`Slots::new`]. `range` is the ring's allocation range
     /// (`io_uring_register_file_alloc_range`), in which the kernel chooses slots: there no life is
     /// reserved, and [`Slots::adopt`] takes the files. Slots of the range beyond the last one of
-    /// these are ignored.
+    /// these are ignored. A range that ends before it begins is empty.
     ///
     /// # Errors
     ///
@@ -514,7 +514,7 @@ impl<T> Slots<T> {
 
 /// A chain that is being submitted. Each member that it submits is counted, and no other one: it
 /// ends by [`Chain::close`], or without a close when it is dropped. A member whose closure panics
-/// is taken as not submitted.
+/// is taken as not submitted. Don't forget a chain (`std::mem::forget`): then no member is counted.
 #[must_use = "a chain without a close ends here"]
 pub struct Chain<'a> {
     machine: &'a mut Machine,

@@ -352,6 +352,9 @@ fn numbers_of_slots_out_of_range() {
         assert!(!std::mem::replace(&mut seen[key.slot() as usize], true));
         assert_eq!(Key::from_bits(key.to_bits(15)), (key, 15));
     }
+    // a range that ends before it begins is empty
+    let mut slots = Slots::<()>::with_range(4, std::ops::Range { start: 3, end: 1 }).unwrap();
+    assert_eq!((0..5).filter(|_| slots.reserve().is_ok()).count(), 4);
 }
 
 #[test]
