@@ -6,7 +6,9 @@
 //! | `Releases` | always | always | yes | | always |
 //! | `User` | always | always | no | | always |
 //! | `Key`, `Next`, `Phase`, `PhaseName`, `Member`, errors | always | always | yes | | always |
+//! | `Lives<T, R>` | `T` and `R` are | never | no | covariant | never: an `io::Error` isn't |
 //! | `After<T>`, `Adopted<T>` | `T: Send` | `T: Sync` | `T: Clone` | covariant | `T: UnwindSafe` |
+//! | `Event<T>` | `T: Send` | `T: Sync` | `T: Clone` | covariant | `T: UnwindSafe` |
 //!
 //! Each pair of programs below differs by one token ([`pair`]). These must compile: one thread has
 //! the slots, so a value that threads may not share does no harm; and values have a shorter
@@ -18,16 +20,27 @@
 //! fn plain<T: Send + Sync + UnwindSafe + RefUnwindSafe>() {}
 //! plain::<(Key, Next, Phase, PhaseName, Member, After<u8>, Adopted<u8>)>();
 //! plain::<(OpenError, ReserveError, AdoptError, OtherSlots, Refusal)>();
-//! plain::<(Releases, User)>();
+//! plain::<(Releases, User, Event<u8>)>();
 //! fn send<T: Send>() {}
 //! send::<Slots<std::cell::Cell<u8>>>();
 //! fn with<'a>(it: Slots<&'static str>) -> Slots<&'a str> { it }
+//! fn lives<'a, R: Ring>(it: Lives<&'static str, R>) -> Lives<&'a str, R> { it }
 //! ```
 include!("../pairs.rs");
 
 bounds! {
-    "use yachtbanyan::direct::*;
-type Staying = std::rc::Rc<u8>;"
+    "use {std::{io, panic::*}, yachtbanyan::direct::*};
+type Staying = std::rc::Rc<u8>;
+struct On<T>(T);
+impl<T> Ring for On<T> {
+    type Request = u8;
+    fn push(&mut self, _: Entry<u8>) -> io::Result<()> { Ok(()) }
+    fn make_room(&mut self, _: usize) -> io::Result<()> { Ok(()) }
+    fn completion(&mut self) -> Option<Completion> { None }
+    fn wait(&mut self) -> io::Result<()> { Ok(()) }
+}
+type Of<T> = Lives<T, On<u8>>;
+type Over<R> = Lives<u8, On<R>>;"
     Send: Slots<{Staying u8}>;
     {Sync Send}: Slots<u8>;
     {Clone Send}: Slots<u8>;
@@ -37,6 +50,14 @@ type Staying = std::rc::Rc<u8>;"
     Clone: After<{User Key}>;
     Send: Adopted<{Staying u8}>;
     Clone: Adopted<{User Key}>;
+    Send: Event<{Staying u8}>;
+    Clone: Event<{User Key}>;
+    Send: Of<{Staying u8}>;
+    Send: Over<{Staying u8}>;
+    {Sync Send}: Of<u8>;
+    {Clone Send}: Of<u8>;
+    {UnwindSafe Send}: Of<u8>;
+    {RefUnwindSafe Send}: Of<u8>;
     // the completions of a chain come in any order
     {PartialOrd PartialEq}: Member;
 }
@@ -62,7 +83,7 @@ slots.opened(key, 0).unwrap();
 println!(\"{value:?}\");"));
 // a walk goes by the name of a phase, and not by its counts
 pair!("compile_fail,E0308" ("let slots = yachtbanyan::direct::Slots::<u8>::new(1).unwrap();
-slots.key_in(yachtbanyan::direct::") {Next PhaseName} ("::Closing, 0);"));
+slots.key_in(yachtbanyan::direct::") {Phase PhaseName} ("::Closing, 0);"));
 // no member of a chain follows its close
 pair!("compile_fail,E0599" ("let mut slots = yachtbanyan::direct::Slots::<u8>::new(1).unwrap();
 let key = slots.reserve().unwrap();
