@@ -7,6 +7,7 @@ mod access;
 #[cfg(doctest)]
 mod bounds;
 pub mod direct;
+pub mod docs;
 mod errors;
 mod iter;
 mod key;
