@@ -35,7 +35,7 @@ struct On<T>(T);
 impl<T> Ring for On<T> {
     type Request = u8;
     fn push(&mut self, _: Entry<u8>) -> io::Result<()> { Ok(()) }
-    fn make_room(&mut self, _: usize) -> io::Result<()> { Ok(()) }
+    fn make_room(&mut self, _: usize) -> io::Result<bool> { Ok(true) }
     fn completion(&mut self) -> Option<Completion> { None }
     fn wait(&mut self) -> io::Result<()> { Ok(()) }
 }
