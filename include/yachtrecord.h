@@ -102,10 +102,13 @@ static inline void *yacht_record_play(void *of) {
     YACHT_RECORD_NEXT(*(handle ? &it->ended : &it->has_crashed));
     return NULL;
 }
+/* The C library's signal, which keeps the handler: under -std=c11 the name stands for one that
+ * resets it at each delivery, so that a second thread's crash would end the process. */
+extern void (*yacht_record_signal(int number, void (*handler)(int)))(int) __asm__("signal");
 /* Stops a thread that crashed, by a signal or, in C++, by an exception, which aborts. */
 static inline void yacht_record_crash(int number) {
     if (pthread_equal(pthread_self(), yacht_recorded.owner)) {
-        signal(number, SIG_DFL);
+        yacht_record_signal(number, SIG_DFL);
         return;
     }
     YACHT_RECORD_SET(yacht_recorded.has_crashed, 1);
@@ -126,7 +129,7 @@ static inline int yacht_record(void *table, yacht_calls its, yacht_plan plan) {
     it->values = (yacht_value *)calloc(calls + 2, sizeof *it->values), it->its = its, it->plan = plan, it->table = table, it->owner = thread, it->last = 1;
     if (!plan.slots) return free(all), free(lines), free(it->values), 2;
     if (!all || !lines || !it->values) return 5;
-    for (at = 0; at < 5; at++) signal(signals[at], yacht_record_crash);
+    for (at = 0; at < 5; at++) yacht_record_signal(signals[at], yacht_record_crash);
     for (own = all; own < all + plan.threads; own++) {
         own->lines = lines + room * (own - all), own->random = plan.seed * 1000 + (own - all);
         if (pthread_create(&thread, NULL, yacht_record_play, own) || pthread_detach(thread)) YACHT_RECORD_SET(it->has_crashed, 1);
@@ -136,7 +139,7 @@ static inline int yacht_record(void *table, yacht_calls its, yacht_plan plan) {
         at = YACHT_RECORD_GET(it->clock), quiet = at == before ? quiet + 1 : 0, before = at;
     }
     YACHT_RECORD_SET(it->is_cut, YACHT_RECORD_GET(it->ended) < plan.threads);
-    for (at = 0; at < 5 && !it->is_cut; at++) signal(signals[at], SIG_DFL);
+    for (at = 0; at < 5 && !it->is_cut; at++) yacht_record_signal(signals[at], SIG_DFL);
     end = YACHT_RECORD_NEXT(it->clock);
     for (own = all; own < all + plan.threads; own++)
         for (at = YACHT_RECORD_GET(own->length); at--;)

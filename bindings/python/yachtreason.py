@@ -43,12 +43,7 @@ class Words:
         return [*self._derived(), self._cycle()[0]]
 
     def _derived(self) -> list[Step]:
-        return [it for it in self._steps[:-1] if it.premises and it.rule != "then" and not self._is_strange(it)]
-
-    def _is_strange(self, step: Step) -> bool:
-        """Checks whether a step says when a file was installed, or at which slot, that no call of the log installs."""
-        files = [it.file for it in (step.before, step.after) if it.kind in ("put", "gone")]
-        return step.rule in ("follows", "existed", "misses") and any(self._log.file_of(it) < 0 for it in files)
+        return [it for it in self._steps[:-1] if it.premises and it.rule != "then"]
 
     def _premises(self, step: Step) -> str:
         """Returns the orders that a step follows from."""
@@ -94,7 +89,7 @@ class Words:
 
     def _link(self, step: Step) -> str:
         """Returns the order of a step in words, or nothing: lines have numbers."""
-        if step.rule == "events" or step.rule != "misses" and self._is_strange(step):
+        if step.rule == "events":
             return ""
         return str(getattr(self, f"_{step.rule.replace('-', '_')}")(step))
 
@@ -162,8 +157,6 @@ class Words:
         return f"{name_of(it.after.file)} was installed at slot {it.after.slot}"
 
     def _misses(self, it: Step) -> str:
-        if self._is_strange(it):
-            return f"no call of the log installed {name_of(it.before.file)}"
         return f"no call before can have installed {name_of(it.before.file)} at slot {it.before.slot}"
 
     def _existed(self, it: Step) -> str:

@@ -86,7 +86,7 @@ early = log(*opened, "call 3 look 0", "call 4 close 0", "done 4.1 0", "done 3.1 
 want(reason_of(early) == ["look 3 held 2.1.0 from line 10 on, and it was closed by line 11"], f"the reason of an early close is {reason_of(early)}")
 # a file whose call isn't in the log keeps its mark, and isn't told to be installed
 foreign = log("call 2 look 0", "done 2.1 0 7.1.0")
-want(reason_of(foreign) == ["look 2 found 7.1.0 at slot 0; but no call of the log installed 7.1.0"],
+want(reason_of(foreign) == ["line 6 says that 7.1.0 was installed, and no call before it can have installed that file"],
      f"the reason of a foreign file is {reason_of(foreign)}")
 want(reasons.complaint(foreign.source, reasons.facts_of(foreign.judge().reason)) == "", "the reason of a foreign file doesn't follow")
 both = log("call 2 look 0", "call 3 look 0", "done 2.1 0 7.1.0", "done 3.1 0 8.1.0")

@@ -126,8 +126,6 @@ yachtlog s/len(sentences) - SENTENCES, 0/len(sentences) - SENTENCES, 1/
 yachtlog s/left = 0 if is_full/left = 1 if is_full/
 yachtevents s/calls = \[it.call for it in events if it.word == "call"\]/calls = sorted(it.call for it in events if it.word == "call")/
 yachtevents s/return \[0, .*$/return [0, *calls]/
-yachtreason s/ and not self._is_strange(it))$/)/
-yachtreason s/step.rule != "misses" and self/False and self/
 yachtevents s/"hardlink": 8/"hardlink": 4/
 yachtevents s/FILE.pack(\*self._keep(name.encode())/FILE.pack(*self._keep(b"a")/
 yachtevents s/self._keep(bytes.fromhex(log.contents\[at\]))/self._keep(b"")/
