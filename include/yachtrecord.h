@@ -20,7 +20,7 @@ typedef struct {
     yacht_value *(*get)(void *handle, uint64_t slot);                 /* holds the value at a slot, or returns NULL: the slot is empty */
     void (*release)(void *handle, yacht_value *value);                /* ends the hold that get began */
     void (*put)(void *handle, uint64_t slot, yacht_value *value);     /* replaces what is at the slot; NULL: the table chooses its slots */
-    int (*put_any)(void *handle, yacht_value *value, uint64_t *slot); /* fills an empty slot, or returns 0: there is none */
+    int (*put_any)(void *handle, yacht_value *value, uint64_t *slot); /* fills an empty slot, or returns 0: all are full */
     int (*take)(void *handle, uint64_t slot);                         /* empties a slot, or returns 0: it was empty */
     void (*rest)(void *handle);                                       /* waits until each removed value is dropped; may be NULL */
 } yacht_calls;
