@@ -1,8 +1,8 @@
 //! One call in a loop of one thread. `bench/measure-calls` counts its instructions and its locked
 //! steps, and for look-ups at random the cache lines that they wait for.
-use crate::bindings::{Lasting, LastingKeys};
+use crate::bindings::{CachedSlot, Lasting, LastingKeys};
 use crate::exports::Exports;
-use crate::others::Swaps;
+use crate::others::{CachedSwap, Swaps};
 use crate::slabs::Keys;
 use crate::table::{File, Shape, Table};
 use crate::work::next;
@@ -101,6 +101,8 @@ pub fn run(table: &str, calls: &str, times: usize) {
         ("crate by key", "replace") => replace_by_key(times),
         ("crate by key", _) => repeat::<LastingKeys>(calls, times),
         ("core", _) => repeat::<Exports>(calls, times),
+        ("crate cached", _) => repeat::<CachedSlot>(calls, times),
+        ("arc-swap cache", _) => repeat::<CachedSwap>(calls, times),
         ("arc-swap load", _) => repeat::<Swaps<false>>(calls, times),
         ("sharded-slab", _) => repeat::<Keys>(calls, times),
         _ => repeat::<Lasting>(calls, times),

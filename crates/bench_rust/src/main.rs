@@ -18,10 +18,10 @@ mod tails;
 mod timing;
 mod work;
 
-use bindings::{Lasting, LastingKeys};
+use bindings::{CachedSlot, Lasting, LastingKeys};
 use exports::{Exports, WORKERS};
 use lasting_words::LastingWords;
-use others::{Epochs, Swaps};
+use others::{CachedSwap, Epochs, Swaps};
 use slabs::{Keys, Slabs};
 use timing::time;
 use work::{Row, Work};
@@ -29,6 +29,8 @@ use work::{Row, Work};
 const ROWS: &str = include_str!("../../../bench/rows.txt");
 
 const LARGE_ROWS: &str = include_str!("../../../bench/large_rows.txt");
+
+const CACHED_ROWS: &str = "a cached slot: look 1";
 
 /// The function that measures and prints one round of a row, by its name, the row and the number of
 /// threads.
@@ -74,6 +76,16 @@ fn large_round(name: &str, row: Row, threads: usize) {
     print(name, threads, &times);
 }
 
+/// Measures what reads one slot again and again.
+fn cached_round(name: &str, row: Row, threads: usize) {
+    let times = [
+        ("Rust crate cached", time::<CachedSlot>(row, threads)),
+        ("arc-swap cache", time::<CachedSwap>(row, threads)),
+        ("arc-swap load", time::<Swaps<false>>(row, threads)),
+    ];
+    print(name, threads, &times);
+}
+
 /// Measures `rounds` rounds of each row whose name contains a text.
 fn measure(rows: &str, round: Round, threads: usize, rounds: usize, part: &str) {
     for (name, words) in rows.lines().filter_map(|it| it.split_once(": ")) {
@@ -103,5 +115,6 @@ fn main() {
     for threads in [1, 2, 4] {
         measure(ROWS, round, threads, rounds, &part);
         measure(LARGE_ROWS, large_round, threads, rounds, &part);
+        measure(CACHED_ROWS, cached_round, threads, rounds, &part);
     }
 }

@@ -1,6 +1,6 @@
 //! The same table on arc-swap, with two kinds of look-up, and on crossbeam-epoch.
 use crate::table::{read_entry, File, Line, Shape, Table, FILE};
-use arc_swap::ArcSwapOption;
+use arc_swap::{ArcSwapOption, Cache};
 use crossbeam_epoch::{self as epoch, Atomic, Owned};
 use std::sync::atomic::Ordering::SeqCst;
 use std::sync::Arc;
@@ -62,6 +62,26 @@ impl<const FULL: bool> Table for Swaps<FULL> {
 
     fn take(&self, _: &mut (), slot: usize) {
         drop(self.0[slot].0.swap(None));
+    }
+}
+
+/// A place on arc-swap that each thread reads again and again.
+pub struct CachedSwap(Arc<ArcSwapOption<File>>);
+
+impl Table for CachedSwap {
+    type Pass = Cache<Arc<ArcSwapOption<File>>, Option<Arc<File>>>;
+
+    fn open(_: Shape) -> CachedSwap {
+        CachedSwap(Arc::new(ArcSwapOption::from_pointee(FILE)))
+    }
+
+    fn pass(&self, _: usize) -> Self::Pass {
+        Cache::new(self.0.clone())
+    }
+
+    fn look(&self, cache: &mut Self::Pass, _: usize) -> u64 {
+        let file = cache.load().as_ref();
+        file.map_or(0, |file| u64::from(file.entry))
     }
 }
 

@@ -1,6 +1,6 @@
 //! How long the crate needs to find an empty slot of a table with two of them: the median and the
 //! mean of many pairs of an installation and a removal, by the handle that installs or by another
-//! one.
+//! one; and how much longer 16 handles in turn need to fill a table than one.
 use std::time::Instant;
 use yachtbanyan::{Handle, Key, Table};
 
@@ -9,6 +9,9 @@ const SLOTS: [u32; 3] = [4096, 65_536, 1_048_576];
 
 /// The number of slots without a value.
 const FREE: u32 = 2;
+
+/// The number of times that each table is filled.
+const FILLS: usize = 5;
 
 /// The number of pairs.
 const PAIRS: usize = 10_000;
@@ -44,6 +47,34 @@ fn print(name: &str, slots: u32, who: &str, mut times: Vec<u128>) {
     );
 }
 
+/// Returns the nanoseconds of an insertion while handles in turn fill a table.
+fn fill(slots: u32, handles: usize) -> f64 {
+    let table = Table::<u64>::with_slots(slots).expect("memory");
+    let by: Vec<_> = (0..handles)
+        .map(|_| table.handle().expect("a handle"))
+        .collect();
+    let begun = Instant::now();
+    for number in 0..slots as usize {
+        by[number % handles].insert(1).expect("an empty slot");
+    }
+    begun.elapsed().as_nanos() as f64 / f64::from(slots)
+}
+
+/// Prints the time of an insertion while 16 handles fill a table, and while one does.
+fn print_fills() {
+    for slots in (12..=20).map(|bits| 1 << bits) {
+        let [all, one] = [16, 1].map(|handles| {
+            let mut times: Vec<_> = (0..FILLS).map(|_| fill(slots, handles)).collect();
+            times.sort_unstable_by(f64::total_cmp);
+            times[FILLS / 2]
+        });
+        let ratio = all / one;
+        println!(
+            "searches: fill {slots} slots by 16 handles: {all:.1} ns each, {ratio:.2} of one's"
+        );
+    }
+}
+
 /// Prints the times for each number of slots.
 pub fn print_all() {
     for slots in SLOTS {
@@ -59,4 +90,5 @@ pub fn print_all() {
             }
         }
     }
+    print_fills();
 }

@@ -27,7 +27,8 @@ pub struct Shape {
     pub threads: usize,
 }
 
-/// A table as it is measured: a call that opens together with the one that ends it.
+/// A table as it is measured: a call that opens together with the one that ends it. One of which a
+/// single slot is read again and again has no other calls.
 pub trait Table: Sync + Sized {
     /// A thread's access to the table.
     type Pass;
@@ -42,16 +43,24 @@ pub trait Table: Sync + Sized {
 
     /// Looks a slot up, reads from its file and releases it. Each entry of the catalogue is the
     /// bytes of a file.
-    fn read(&self, pass: &mut Self::Pass, slot: usize, catalogue: &[Vec<u8>], into: &mut Vec<u8>);
+    fn read(&self, _: &mut Self::Pass, _slot: usize, _catalogue: &[Vec<u8>], _into: &mut Vec<u8>) {
+        unimplemented!()
+    }
 
     /// Installs a file at a slot, and retires the file that was there.
-    fn put(&self, pass: &mut Self::Pass, slot: usize, file: File);
+    fn put(&self, _: &mut Self::Pass, _slot: usize, _file: File) {
+        unimplemented!()
+    }
 
     /// Installs a file at an empty slot, and returns the slot.
-    fn put_any(&self, pass: &mut Self::Pass, file: File) -> Option<usize>;
+    fn put_any(&self, _: &mut Self::Pass, _file: File) -> Option<usize> {
+        unimplemented!()
+    }
 
     /// Empties a slot and retires the file that was there.
-    fn take(&self, pass: &mut Self::Pass, slot: usize);
+    fn take(&self, _: &mut Self::Pass, _slot: usize) {
+        unimplemented!()
+    }
 }
 
 /// Reads the first bytes of a file by its entry.

@@ -1,19 +1,13 @@
 -- The calls of a log that make the accesses of a flight, and the answers of their members.
-use Rattle.check_certificate.proofs.Words.{◌≡◌, ℕ, ◌+◌, ◌-◌, ◌<◌, List, [], ◌∷◌, ◌++◌, length, refl, sym, ap, ◌∙◌, arith, ⊎_elim}
-use Rattle.check_certificate.proofs.Words.{append_assoc, Option, Some, slice_get, Moment, Logged, Accesses, IsOlderPart, Access, IsAccessAt, Identity}
-use Rattle.check_certificate.proofs.Words.{Happening, Completed, Contains-append_right, IsBegun, MayAccess, contains_tail, WasLogged, Called}
-use Rattle.check_certificate.proofs.Words.{Answered, made_by, Asked, Contains, Looks, take}
+use Rattle.check_certificate.proofs.Words.{◌≡◌, ℕ, ◌+◌, ◌-◌, ◌<◌, List, [], ◌∷◌, ◌++◌, length, refl, sym, arith, ⊎_elim, append_assoc, Option, Some}
+use Rattle.check_certificate.proofs.Words.{slice_get, Moment, Logged, Accesses, IsOlderPart, Access, IsAccessAt, Identity, Happening, Completed, take}
+use Rattle.check_certificate.proofs.Words.{Contains-append_right, IsBegun, MayAccess, contains_tail, WasLogged, Called, Answered, made_by, Asked}
+use Rattle.check_certificate.proofs.Words.{Contains, Looks, IsEventAt, slot_count, TimedFlight, LogBeginning, answer_place, in_log, first_of_call}
+use Rattle.check_certificate.proofs.Words.{slice_get_read}
 use Rattle.check_certificate.proofs.Intended.{IsIntended, intended}
 use Rattle.check_certificate.proofs.Orders.{IsHere, flies, here, may_at, older, ring, s}
 use Rattle.check_certificate.proofs.Parts.{get_front, part_of_part}
-use Rattle.check_certificate.specs.Evidence.{IsEventAt, slot_count}
-use Rattle.check_certificate.specs.Forced.{TimedFlight}
-use Rattle.check_certificate.specs.declared.beginning.LogBeginning.{LogBeginning}
-use Rattle.fx_flight.proofs.Chains.{answer_place}
-use Rattle.fx_flight.proofs.InTime.{in_log}
 use Rattle.fx_flight.proofs.Submission.{got_next}
-use Rattle.fx_flight.specs.Events.{first_of_call}
-use Rattle.std.proofs.lemmas.Option.{slice_get_read}
 
 module _ {b : LogBeginning} (f : TimedFlight b) where
   -- the call of an access before an event, in the log
@@ -58,5 +52,4 @@ module _ {b : LogBeginning} (f : TimedFlight b) where
       let place = answer_place (ring f).catalogue (ring f).size (first_of_call id) (take (length member.earlier + 1) may.0) member.own
       (member.earlier ++ c ∷ []) member.earlier c [] member.done refl in
       let got : slice_get (f.legal.answers id) (length member.earlier) ≡ Some c = rw member.answer (got_next member.earlier c member.later) in
-      let number : c.place.member - 1 ≡ length member.earlier = omega arith in
-      ap (slice_get (f.legal.answers id)) number ∙ got
+      grind arith

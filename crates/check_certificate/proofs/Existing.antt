@@ -1,20 +1,14 @@
 -- Each flight has times of all points.
-use Rattle.check_certificate.proofs.Words.{◌≡◌, ◌⊎◌, ℕ, zero, ◌≤◌, List, [], ◌∷◌, ◌++◌, length, refl, sym, ap, ◌∙◌, arith, inl, inr, suc, ⊎_elim}
-use Rattle.check_certificate.proofs.Words.{append_assoc, length-append, Some, Moment, Logged, Accesses, IsOlderPart, Access, IsPut, IsLeftAt}
-use Rattle.check_certificate.proofs.Words.{IsEventTime, IsPutTime, IsGoneTime, AreTimes, Identity, Completed, IsFlight, FlightSetting, RingState}
-use Rattle.check_certificate.proofs.Words.{Table, table_of, table_left_by, log_of, Happening, MayFollow, Puts, Allocates, Looks, Clears, Takes}
-use Rattle.check_certificate.proofs.Words.{FindsFull, cases_Bool}
+use Rattle.check_certificate.proofs.Words.{◌≡◌, ◌⊎◌, ℕ, zero, ◌≤◌, List, [], ◌∷◌, ◌++◌, length, refl, sym, ap, ◌∙◌, arith, inl, inr, suc, ⊎_elim, Put}
+use Rattle.check_certificate.proofs.Words.{append_assoc, length-append, Some, Moment, Logged, Accesses, IsOlderPart, Access, IsPut, IsLeftAt, Table}
+use Rattle.check_certificate.proofs.Words.{IsEventTime, IsPutTime, IsGoneTime, AreTimes, Identity, Completed, IsFlight, FlightSetting, RingState, At}
+use Rattle.check_certificate.proofs.Words.{table_of, table_left_by, log_of, Happening, MayFollow, Puts, Allocates, Looks, Clears, Takes, FindsFull}
+use Rattle.check_certificate.proofs.Words.{cases_Bool, Point, Event, Gone, lasts, first_of_call, file_Decides, option_Decides, same_file, front_is}
+use Rattle.check_certificate.proofs.Words.{false≢true}
 use Rattle.check_certificate.proofs.Life.{IsPutAt, put_later}
 use Rattle.check_certificate.proofs.Marks.{put_once}
 use Rattle.check_certificate.proofs.Members.{access_times}
 use Rattle.check_certificate.proofs.Parts.{before_end, one_more, same_or_not, part_cases, part_is_flight, part_length, whole}
-use Rattle.check_certificate.specs.declared.certificate.Point.{Point}
-use Rattle.check_certificate.specs.declared.certificate.Point.TheVariants.{Event, Gone, Put, Access as At}
-use Rattle.fx_flight.proofs.Beginnings.{lasts}
-use Rattle.fx_flight.specs.Events.{first_of_call}
-use Rattle.fx_order.proofs.Apart.{file_Decides, option_Decides, same_file}
-use Rattle.fx_order.proofs.ChainsFront.{front_is}
-use Rattle.fx_order.proofs.Words.{false≢true}
 use Rattle.std.specs.Option.{option_eq}
 
 -- Positions of a list.
@@ -42,8 +36,7 @@ event_at (Logged d ∷ flight) front e rest is =
     (λ some. let all : log_of flight ++ d ∷ [] ≡ (front ++ e ∷ some.0) ++ some.1 ∷ [] =
     is ∙ (ap (λ l. front ++ e ∷ l) some.2 ∙ sym (append_assoc front (e ∷ some.0) (some.1 ∷ []))) in
     let last : (log_of flight ≡ front ++ e ∷ some.0) × (d ≡ some.1) = lasts (log_of flight) (front ++ e ∷ some.0) all in
-    let at = event_at flight front e some.0 last.0 in
-    (at.0, one_more (Logged d) at.1, at.2))
+    grind (arith, one_more, event_at flight front e some.0 last.0))
     (last_of rest)
 
 -- whether an access installs a file
@@ -141,10 +134,7 @@ module _ (old : RingState) (answers : ℕ → List Completed) (flight : List Mom
         length at.0,
         times.0,
         λ front e rest so few.
-            let mine = front_is p.0 (p.1 ∷ p.2) (log_of flight) i p.3 p.4 in
-            let own = front_is front (e ∷ rest) (log_of flight) i so few in
-            let both : p.1 ∷ p.2 ≡ e ∷ rest = sym mine.1 ∙ own.1 in
-            moved s flight p.0 front p.1 e (length at.0) times.0 (sym mine.0 ∙ own.0) (cc) one,
+            grind (arith, moved, front_is p.0 (p.1 ∷ p.2) (log_of flight) i p.3 p.4, front_is front (e ∷ rest) (log_of flight) i so few),
       ))
       (λ past. (0, (λ _. 0), λ front e rest so few. let long = ap length so in let more = length-append front (e ∷ rest) in absurd (omega arith)))
       (parts_at (log_of flight) i)

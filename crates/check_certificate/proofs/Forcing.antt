@@ -1,40 +1,23 @@
 -- Each rule of certificates adds an order that every flight keeps.
-use Rattle.check_certificate.proofs.Words.{◌≡◌, ℕ, ◌+◌, ◌<◌, ◌≤◌, List, [], ◌∷◌, ◌++◌, length, take, refl, sym, ap, ◌∙◌, arith, Some, None}
-use Rattle.check_certificate.proofs.Words.{Option, ⊎_elim, Contains, contains_head, cases_lt, slice_get, Moment, Logged, Accesses, Access, IsLeftAt}
-use Rattle.check_certificate.proofs.Words.{true, false, Identity, IsOlderPart, Table, table_with, table_left_by, Happening, WasLogged, Permits}
-use Rattle.check_certificate.proofs.Words.{Answered, Called, LookAnswered, LookCalled, Freed, FileClosed, AllSettled}
-use Rattle.check_certificate.proofs.Words.{Looks, zero, suc, contains_tail, subst}
+use Rattle.check_certificate.proofs.Words.{common_steps, ◌≡◌, ℕ, ◌+◌, ◌<◌, ◌≤◌, List, [], ◌∷◌, ◌++◌, length, take, refl, sym, ap, ◌∙◌, arith, Some}
+use Rattle.check_certificate.proofs.Words.{None, Option, ⊎_elim, Contains, contains_head, cases_lt, slice_get, Moment, Logged, Accesses, Access, true}
+use Rattle.check_certificate.proofs.Words.{IsLeftAt, false, Identity, IsOlderPart, Table, table_with, table_left_by, Happening, WasLogged, Permits}
+use Rattle.check_certificate.proofs.Words.{Answered, Called, LookAnswered, LookCalled, Freed, FileClosed, AllSettled, Looks, zero, suc, contains_tail}
+use Rattle.check_certificate.proofs.Words.{subst, IsForced, IsOfCall, IsContradicted, IsInOrder, TimedFlight, gap_of, log_of_beginning, IsEventAt, At}
+use Rattle.check_certificate.proofs.Words.{ring_of_beginning, IsAccessMade, IsEvident, left_at, slot_count, LogBeginning, Point, Event, Gone, Put}
+use Rattle.check_certificate.proofs.Words.{PointOrder, Evidence, Empties, Finds, Full, Installs, Never, Sees, Removes, logged, in_log, size_stays}
+use Rattle.check_certificate.proofs.Words.{IsCallOf, Asked, all_asked, asked_of, Request, all_happenings, happening_of, LogEvent, at_itself, front_is}
+use Rattle.check_certificate.proofs.Words.{nat_tests, length-map, slice_get-get_or, slice_get-map, slice_get_past, slice_get_read, list_any, All, map}
+use Rattle.check_certificate.proofs.Words.{IfSome, option_map, slice_index_or, Bool}
 use Rattle.check_certificate.proofs.Existing.{times_of_flight}
-use Rattle.check_certificate.proofs.Leaving.{same_chain, taken_gone, there_after, there_or_taken}
+use Rattle.check_certificate.proofs.Leaving.{same_moment, taken_gone, there_after, there_or_taken}
 use Rattle.check_certificate.proofs.Life.{IsPutAt, is_gone, put_before, put_here}
 use Rattle.check_certificate.proofs.Marks.{mark_at}
 use Rattle.check_certificate.proofs.Orders.{IsHere, IsSaid, call_before, event_order, here, may_at, new_file, older, ring, s, said, said_may, table}
 use Rattle.check_certificate.proofs.Parts.{by_put, part_length, part_of_part, shorter}
-use Rattle.check_certificate.specs.Forced.{IsForced, IsOfCall, IsContradicted, IsInOrder, TimedFlight, gap_of, log_of_beginning, ring_of_beginning}
-use Rattle.check_certificate.specs.Evidence.{IsEventAt, IsAccessMade, IsEvident, left_at, slot_count}
-use Rattle.check_certificate.specs.declared.beginning.LogBeginning.{LogBeginning}
-use Rattle.check_certificate.specs.declared.certificate.Point.{Point}
-use Rattle.check_certificate.specs.declared.certificate.Point.TheVariants.{Event, Gone, Put, Access as At}
-use Rattle.check_certificate.specs.declared.certificate.PointOrder.{PointOrder}
-use Rattle.check_certificate.specs.declared.evidence.Evidence.{Evidence}
-use Rattle.check_certificate.specs.declared.evidence.Evidence.TheVariants.{Empties, Finds, Full, Installs, Never, Sees, Removes}
-use Rattle.fx_flight.proofs.Beginnings.{logged}
-use Rattle.fx_flight.proofs.InTime.{in_log, size_stays}
-use Rattle.fx_flight.specs.Laws.{IsCallOf}
-use Rattle.fx_chain.specs.Operation.{Asked, all_asked, asked_of}
-use Rattle.fx_chain.specs.declared.request.Request.{Request}
 use Rattle.fx_table.proofs.SumLemmas.{contains_map}
-use Rattle.fx_flight.specs.Events.{all_happenings, happening_of}
-use Rattle.fx_flight.specs.declared.event.LogEvent.{LogEvent}
-use Rattle.fx_order.proofs.Accesses.{at_itself}
-use Rattle.fx_order.proofs.ChainsFront.{front_is}
-use Rattle.fx_order.proofs.Words.{nat_tests}
-use Rattle.std.proofs.lemmas.List.{length-map}
 use Rattle.std.proofs.lemmas.List.Folds.{list_any_at}
-use Rattle.std.proofs.lemmas.Option.{slice_get-get_or, slice_get-map, slice_get_past, slice_get_read}
 use Rattle.std.specs.Borrow.{Bor}
-use Rattle.std.specs.List.{list_any}
-use Rattle.std.specs.Prelude.{All, IfSome, map, option_map, slice_index_or, Bool}
 use Rattle.std.specs.Slice.{IsItemAt}
 
 abbrev pub strict_from : Point → Point → PointOrder
@@ -61,43 +44,21 @@ apart clock from to low = omega arith
 pub weaker : (clock : Point → ℕ) (o : PointOrder) → IsInOrder clock o → clock o.from ≤ clock o.to
 weaker clock o is = let low = is in omega arith
 
-pub strictly : (clock : Point → ℕ) (o : PointOrder) → o.strict ≡ true → IsInOrder clock o → clock o.from < clock o.to
-strictly clock o so is = let gap : clock o.from + gap_of true ≤ clock o.to = rw so at is in omega arith
-
 -- what an access leaves at its slot
 pair_of : (p q : ℕ × Option Identity) → Some p ≡ Some q → (p.0 ≡ q.0) × (p.1 ≡ q.1)
 pair_of p q is = let same : p ≡ q = cc in (ap (λ (r : ℕ × Option Identity). r.0) same, ap (λ (r : ℕ × Option Identity). r.1) same)
 
 left_so : (t : Table) (a : Access) (evidence : Evidence) (slot : ℕ) (left : Option Identity) → IsEvident a evidence → left_at evidence ≡ Some (slot, left) → Permits t a
     → (table_with t a).at slot ≡ left
-left_so t a Full slot left is so may = absurd (cc)
-left_so t a (Sees own) slot left is so may = absurd (cc)
-left_so t a (Removes own) slot left is so may =
-    let p = pair_of (own, None) (slot, left) so in
-    subst (λ k. (table_with t a).at k ≡ None) p.0 (subst (λ x. (table_with t x).at own ≡ None) (sym is.1) (at_itself own None (t.at own))) ∙ p.1
-left_so t a Never slot left is so may = absurd is
-left_so t a (Empties own) slot left is so may =
-    let p = pair_of (own, None) (slot, left) so in subst (λ k. (table_with t a).at k ≡ None) p.0 (is t may) ∙ p.1
-left_so t a (Installs own file) slot left is so may =
-    let p = pair_of (own, Some file) (slot, left) so in subst (λ k. (table_with t a).at k ≡ Some file) p.0 (there_after t a own file is) ∙ p.1
-left_so t a (Finds own file) slot left is so may =
-    let p = pair_of (own, Some file) (slot, left) so in
-    let found : Permits t (Looks own (Some file)) = rw is at may in
-    subst (λ k. (table_with t a).at k ≡ Some file) p.0 (subst (λ x. (table_with t x).at own ≡ Some file) (sym is) (sym found.1)) ∙ p.1
+left_so t a evidence slot left is so may = grind (arith, pair_of, at_itself, there_after)
 
 -- an event calls one call
 pub call_id : (e : Happening) (one other : ℕ) → IsCallOf one e → IsCallOf other e → one ≡ other
-call_id (Called n requests) one other is so = sym is ∙ so
-call_id (LookCalled n slot) one other is so = sym is ∙ so
-call_id (Answered n c) one other is so = absurd is
-call_id (LookAnswered n found) one other is so = absurd is
-call_id (Freed n) one other is so = absurd is
-call_id (FileClosed file) one other is so = absurd is
-call_id AllSettled one other is so = absurd is
+call_id e one other is so = grind arith
 
 module _ (b : LogBeginning) where
   -- a file that was installed before the end of a part, and isn't there after it, has left the slot
-  gone_by : (f : TimedFlight b) (slot : ℕ) (file : Identity) (part : List Moment) → IsOlderPart part f.legal.flight → f.at (Put file) < length part
+  pub gone_by : (f : TimedFlight b) (slot : ℕ) (file : Identity) (part : List Moment) → IsOlderPart part f.legal.flight → f.at (Put file) < length part
       → (IsLeftAt (table f) part slot file → ⊥) → f.at (Gone file slot) < length part
   gone_by f slot file =
       is_gone (table f) slot file f.legal.flight (f.at (Put file)) (f.times.put file) (f.at (Gone file slot)) (f.times.gone file slot)
@@ -109,8 +70,7 @@ module _ (b : LogBeginning) where
 
   pub ends_forced : (call answer k : ℕ) (evidence : Evidence) (o : PointOrder) → o ≡ strict_from (At answer k) (Event answer)
       → IsAccessMade b call answer k evidence → IsForced b o
-  ends_forced call answer k evidence o is made f =
-      let x = said f made in rw is (strict_order f.at (At answer k) (Event answer) x.before)
+  ends_forced call answer k evidence o is made f = grind (arith, said, strict_order, said f made)
 
   pub calls_forced : (i id : ℕ) (e : Happening) (file : Identity) → IsEventAt b i e → IsCallOf id e → IsOfCall id file
       → IsForced b (strict_from (Event i) (Put file))
@@ -143,8 +103,7 @@ module _ (b : LogBeginning) where
 
   module _ (call answer k slot : ℕ) (file : Identity) (evidence : Evidence) (o : PointOrder) where
     found_there : (f : TimedFlight b) (x : IsSaid f call answer k (Finds slot file)) → IsLeftAt (table f) x.time.0 slot file
-    found_there f x =
-        let found : Permits (table_left_by (table f) x.time.0) (Looks slot (Some file)) = rw x.is at (said_may f x) in sym found.1
+    found_there f x = grind (arith, table, said_may, table f, said_may f x)
 
     pub follows_forced : (id : ℕ) → o ≡ strict_from (Put file) (At answer k) → evidence ≡ Finds slot file → IsAccessMade b call answer k evidence
         → IsOfCall id file → IsForced b o
@@ -168,8 +127,7 @@ module _ (b : LogBeginning) where
   closed_gone : (close id slot : ℕ) (file : Identity) (f : TimedFlight b) (x : IsHere f close (FileClosed file)) → IsOfCall id file
       → (f.at (Put file) < length x.earlier) × (IsLeftAt (table f) x.earlier slot file → ⊥)
   closed_gone close id slot file f x of =
-      let may = may_at f x in
-      taken_gone (s f) f.legal.flight f.legal.is file (new_file f file id of) (f.at (Put file)) (f.times.put file) x.earlier (older f x.inside) may.removed slot
+      taken_gone (s f) f.legal.flight f.legal.is file (new_file f file id of) (f.at (Put file)) (f.times.put file) x.earlier (older f x.inside) (may_at f x).removed slot
 
   pub closes_forced : (close id slot : ℕ) (file : Identity) (o : PointOrder) → o ≡ strict_from (Gone file slot) (Event close)
       → IsEventAt b close (FileClosed file) → IsOfCall id file → IsForced b o
@@ -221,8 +179,7 @@ module _ (b : LogBeginning) where
       let m : Moment = Accesses (record { chain = x.id; access = x.access }) in
       let now : IsLeftAt t (m ∷ x.time.0) slot file → ⊥ =
       λ there. other (sym (left_so (table_left_by t x.time.0) x.access evidence slot left x.is so (said_may f x)) ∙ there) in
-      let count = x.time.2 in
-      let low = gone_by f slot file (m ∷ x.time.0) x.time.1 (omega arith) now in omega arith
+      grind (arith, x.time.2, gone_by f slot file (m ∷ x.time.0) x.time.1 (omega arith) now)
 
   pub empties_forced : (call answer k slot : ℕ) (evidence : Evidence) (left : Option Identity) (file : Identity) → IsAccessMade b call answer k evidence
       → left_at evidence ≡ Some (slot, left) → (left ≡ Some file → ⊥) → (o : PointOrder) → o.from ≡ Put file → o.to ≡ At answer k → IsForced b o
@@ -241,26 +198,14 @@ module _ (b : LogBeginning) where
   -- if the file was installed before another one that was at the slot, it has left the slot by then
   displaced : (slot id : ℕ) (file other : Identity) → IsOfCall id other → (other ≡ file → ⊥)
       → (f : TimedFlight b) → f.at (Put other) < f.at (Gone other slot) → f.at (Put file) ≤ f.at (Put other) → f.at (Gone file slot) ≤ f.at (Put other)
-  displaced slot id file other of differs f placed early =
-      let t = table f in
-      let new = new_file f other id of slot in
-      ⊎_elim (λ never. absurd (omega arith))
-      (λ last. let put = put_here t slot other f.legal.flight (f.at (Put other)) (f.times.put other) new last.0 last.1 last.2 in
-      let m : Moment = Accesses (record { chain = put.0; access = put.1 }) in
-      let count = put.3.2 in
-      let now : IsLeftAt t (m ∷ put.3.0) slot file → ⊥ = λ there.
-      let both : Some other ≡ Some file = sym (there_after (table_left_by t put.3.0) put.1 slot other put.2) ∙ there in
-      let same : other ≡ file = cc in differs same in
-      let low = gone_by f slot file (m ∷ put.3.0) (part_of_part last.1 put.3.1) (omega arith) now in omega arith)
-      (f.times.gone other slot).there
+  displaced slot id file other of differs f placed early = grind (arith, new_file, put_here, there_after, gone_by, part_of_part)
 
   pub displaces_forced : (slot id : ℕ) (file other : Identity) → IsOfCall id other → (other ≡ file → ⊥) → (o : PointOrder) → o.from ≡ Put file
       → o.to ≡ Put other → IsForced b o → IsForced b (strict_from (Put other) (Gone other slot))
       → IsForced b (not_after (Gone file slot) (Put other))
   displaces_forced slot id file other of differs o from to known placed f =
       let early = rw (from, to) at (weaker f.at o (known f)) in
-      let there = apart f.at (Put other) (Gone other slot) (placed f) in
-      loose_order f.at (Gone file slot) (Put other) (displaced slot id file other of differs f there early)
+      loose_order f.at (Gone file slot) (Put other) (displaced slot id file other of differs f (apart f.at (Put other) (Gone other slot) (placed f)) early)
 
   pub outlives_forced : (slot id : ℕ) (file other : Identity) → IsOfCall id other → (other ≡ file → ⊥)
       → IsForced b (strict_from (Put other) (Gone file slot)) → IsForced b (strict_from (Put other) (Gone other slot))
@@ -294,8 +239,8 @@ module _ (b : LogBeginning) where
       → answer < close → (Contains (take close (log_of_beginning b)) (Freed id) → ⊥) → IsForced b (strict_from (Event close) (Event close))
   closes_held answer close id file first second low held f =
       let x = here f second in
-      let freed = (may_at f x).unheld id (is_earlier answer close (LookAnswered id (Some file)) (FileClosed file) first low f x) in
-      absurd (held (rw (front_is x.front (FileClosed file ∷ x.rest) (log_of_beginning b) close x.parts x.few).0 (rw x.same at (in_log x.earlier (Freed id) freed))))
+      absurd (held (rw (front_is x.front (FileClosed file ∷ x.rest) (log_of_beginning b) close x.parts x.few).0 (rw x.same at (in_log x.earlier (Freed id)
+      ((may_at f x).unheld id (is_earlier answer close (LookAnswered id (Some file)) (FileClosed file) first low f x))))))
 
   -- accesses of different calls are at different times
   pub differs_forced : (call answer k other later j : ℕ) (one two : Evidence) (id jd : ℕ) (d e : Happening) → IsAccessMade b call answer k one → IsAccessMade b other later j two
@@ -307,22 +252,13 @@ module _ (b : LogBeginning) where
       let low = rw (from, to) at (weaker f.at o (known f)) in
       unless_after f.at (At answer k) (At later j) (λ high.
       let time : f.at (At answer k) ≡ f.at (At later j) = omega arith in
-      let same : x.id ≡ y.id = same_chain f.legal.flight (f.at (At later j)) x.id y.id x.access y.access (rw time at x.time) y.time in
-      let event_x : Some x.begins ≡ Some d = sym x.called ∙ d_at in
-      let event_y : Some y.begins ≡ Some e = sym y.called ∙ e_at in
-      let begins_x : x.begins ≡ d = cc in
-      let begins_y : y.begins ≡ e = cc in
-      differ (call_id d id x.id d_is (rw begins_x at x.own) ∙ (same ∙ sym (call_id e jd y.id e_is (rw begins_y at y.own)))))
+      grind (arith, call_id, y.id, (same_moment f.legal.flight (f.at (At later j)) x.id y.id x.access y.access (rw time at x.time) y.time).0, x.called, y.called, x.own, y.own))
 
   -- no access installs a file past the last slot
   pub outside : (call answer slot : ℕ) (file : Identity) → IsAccessMade b call answer 0 (Installs slot file) → (slot < slot_count b → ⊥)
       → IsForced b (strict_from (Event answer) (Event answer))
   outside call answer slot file made past f =
-      let x = said f made in
-      let t = table f in
-      let low = by_put slot file (λ (a : Access). Permits (table_left_by t x.time.0) a → slot < (table_left_by t x.time.0).size) (λ _ may. may.0)
-      (λ may. may.0.0) x.access x.is (said_may f x) in
-      let size = size_stays t x.time.0 in absurd (past (rw (← size) low))
+      let x = said f made in grind (arith, by_put, size_stays, said_may f x)
 
   pub cant_answer : (call answer : ℕ) → IsAccessMade b call answer 0 Never → IsForced b (strict_from (Event answer) (Event answer))
   cant_answer call answer made f = let x = said f made in absurd x.is
@@ -339,7 +275,7 @@ refuted b o strict same forced submissions registrations sound legal =
       at = times.0;
       times = times.1;
     } in
-    let low = strictly f.at o strict (forced f) in let one = ap f.at same in omega arith
+    let low : f.at o.from + gap_of true ≤ f.at o.to = rw strict at (forced f) in let one = ap f.at same in omega arith
 
 -- an event of a list, by its place
 pub event_is : (events : List LogEvent) (k : ℕ) (event : LogEvent) → k < length events → event ≡ slice_index_or events k event
@@ -349,13 +285,7 @@ event_is events k event low is =
 
 -- what follows from a claim of an option's value holds of it too
 pub some_weaker : {X : Type 0} (o : Option X) (P Q : X → Type 0) → ((x : X) → P x → Q x) → IfSome o P → IfSome o Q
-some_weaker None P Q more is = is
-some_weaker (Some x) P Q more is = more x is
-
--- each known order is forced
-pub known_forced : (b : LogBeginning) (known : List PointOrder) (k : ℕ) (o : PointOrder) → All (IsForced b) known → k < length known
-    → o ≡ slice_index_or known k o → IsForced b o
-known_forced b known k o all low is = subst (IsForced b) (sym is) (all k o low)
+some_weaker o P Q more is = grind arith
 
 -- the event at a position of the log
 pub event_at : (b : LogBeginning) (p : ℕ) → p < length b.events.now → (e : Happening) × IsEventAt b p e
@@ -366,28 +296,21 @@ event_at b p inside =
 
 pub positions_forced : (b : LogBeginning) (i j : ℕ) (o : PointOrder) → o ≡ strict_from (Event i) (Event j) → i < j → j < length b.events.now
     → IsForced b o
-positions_forced b i j o is low inside f =
-    let e = event_at b i (omega arith) in let d = event_at b j inside in rw is (strict_order f.at (Event i) (Event j) (event_order f e.1 d.1 low))
+positions_forced b i j o is low inside f = grind (arith, event_at, strict_order, event_order, event_at b i (omega arith), event_at b j inside)
 
 -- an event of the log is one that a test finds
 pub logged_any : (test : LogEvent → Bool) (events : List LogEvent) (event : Happening) → ((e : LogEvent) → happening_of e ≡ event → test e ≡ true)
     → Contains (all_happenings events) event → list_any test events ≡ true
-logged_any test events event finds inside =
-    let (x, (k, low, is), same) = contains_map happening_of events event inside in
-    list_any_at test events k x low (finds (slice_index_or events k x) (ap happening_of is ∙ sym same))
+logged_any test events event finds inside = grind (arith, list_any_at, contains_map happening_of events event inside)
 
 -- a read of a list, seen through a function
 pub got_mapped : {A B : Type 0} (f : A → B) (xs : List A) (k : ℕ) (found : Option (Bor A)) → IsItemAt xs k found
     → option_map (λ (x : Bor A). f x.now) found ≡ slice_get (map f xs) k
-got_mapped f xs k None is =
-    let past : length xs ≤ k = grind (arith, nat_tests, is.0) in sym (slice_get-map f xs k ∙ ap (option_map f) (slice_get_past xs k past))
+got_mapped f xs k None is = grind (arith, common_steps, slice_get_past)
 got_mapped f xs k (Some x) is = sym (slice_get-map f xs k ∙ ap (option_map f) (slice_get_read xs (length xs) k x.now refl is.3.0 is.1))
 
 pub request_is : (chain : List Request) (k m : ℕ) (r : Request) (request : Asked) → k ≡ m → k < length chain → r ≡ slice_index_or chain k r
     → slice_get (all_asked chain) m ≡ Some request → asked_of r ≡ request
 request_is chain k m r request same low is asked =
     let here : slice_get (all_asked chain) k ≡ Some (asked_of r) =
-    slice_get-map asked_of chain k ∙ ap (option_map asked_of) (slice_get_read chain (length chain) k r refl low is) in
-    let there : slice_get (all_asked chain) k ≡ Some request = ap (slice_get (all_asked chain)) same ∙ asked in
-    let both : Some (asked_of r) ≡ Some request = sym here ∙ there in
-    cc
+    slice_get-map asked_of chain k ∙ ap (option_map asked_of) (slice_get_read chain (length chain) k r refl low is) in grind arith

@@ -1,49 +1,30 @@
 -- An access that finds a file at its slot: some file was installed there before.
-use Rattle.check_certificate.proofs.Words.{◌≡◌, ℕ, ◌+◌, ◌-◌, ◌<◌, ◌≤◌, List, [], ◌∷◌, ◌++◌, refl, sym, ◌∙◌, arith, subst, ⊎_elim}
-use Rattle.check_certificate.proofs.Words.{append_assoc, Option, Some, None, slice_get, Moment, Logged, Accesses, IsOlderPart, Access, IsAccessAt}
-use Rattle.check_certificate.proofs.Words.{IsPut, Identity, Table, table_with, table_left_by, Happening, Completed, Answered, made_by, Permits, Looks}
-use Rattle.check_certificate.proofs.Words.{Takes, FindsFull, Puts, Allocates, Clears, Submitted, true, Has, placed}
+use Rattle.check_certificate.proofs.Words.{◌≡◌, ℕ, ◌+◌, ◌-◌, ◌<◌, ◌≤◌, List, [], ◌∷◌, ◌++◌, refl, sym, ◌∙◌, arith, subst, ⊎_elim, append_assoc, Some}
+use Rattle.check_certificate.proofs.Words.{Option, None, slice_get, Moment, Logged, Accesses, IsOlderPart, Access, IsAccessAt, IsPut, Identity, Table}
+use Rattle.check_certificate.proofs.Words.{table_with, table_left_by, Happening, Completed, Answered, made_by, Permits, Looks, Takes, FindsFull, Puts}
+use Rattle.check_certificate.proofs.Words.{Allocates, Clears, Submitted, true, Has, placed, IsAccessMade, IsEventAt, IsEvident, IsForced, IsOfCall, ℤ}
+use Rattle.check_certificate.proofs.Words.{TimedFlight, FindsFile, IsOnlyFile, is_negative, IsEmptyAtFirst, IsWalked, Aimed, LogBeginning, Holding}
+use Rattle.check_certificate.proofs.Words.{Event, Gone, Put, At, Evidence, Empties, Finds, Full, Installs, Never, Sees, Removes, IsCatalogue, negsuc}
+use Rattle.check_certificate.proofs.Words.{size_stays, first_of_call, false≢true, pos, IsSome}
 use Rattle.check_certificate.proofs.Forcing.{loose_order, not_after, strict_from, strict_order}
 use Rattle.check_certificate.proofs.Intended.{chain_number, may_install}
-use Rattle.check_certificate.proofs.Leaving.{same_access, same_slot}
+use Rattle.check_certificate.proofs.Leaving.{same_moment, same_slot}
 use Rattle.check_certificate.proofs.Life.{put_here, was_put}
 use Rattle.check_certificate.proofs.Marks.{has_in, mark_at, no_look, of_chain}
 use Rattle.check_certificate.proofs.Orders.{flies, here, new_file, older, ring, said, said_may, table}
 use Rattle.check_certificate.proofs.Parts.{access_of_part, before_end, part_length, same_or_not, shorter}
-use Rattle.check_certificate.specs.Evidence.{IsAccessMade, IsEventAt, IsEvident}
-use Rattle.check_certificate.specs.Forced.{IsForced, IsOfCall, TimedFlight}
 use Rattle.check_certificate.proofs.Called.{answer_is, of_log}
-use Rattle.check_certificate.specs.Absent.{FindsFile, IsOnlyFile, is_negative, IsEmptyAtFirst}
-use Rattle.check_certificate.specs.Walked.{IsWalked}
 use Rattle.check_certificate.specs.declared.certificate.OnlyFile.TheVariants.{GoneAfter, Nothing, PutBefore}
-use Rattle.check_certificate.specs.declared.walk.WalkAim.TheVariants.{Finds as Aimed}
-use Rattle.check_certificate.specs.declared.beginning.LogBeginning.{LogBeginning}
-use Rattle.check_certificate.specs.declared.certificate.Holding.{Holding}
-use Rattle.check_certificate.specs.declared.certificate.Point.TheVariants.{Event, Gone, Put, Access as At}
-use Rattle.check_certificate.specs.declared.evidence.Evidence.{Evidence}
-use Rattle.check_certificate.specs.declared.evidence.Evidence.TheVariants.{Empties, Finds, Full, Installs, Never, Sees, Removes}
-use Rattle.fx_base.specs.Catalogue.{IsCatalogue}
-use Rattle.fx_flight.proofs.InTime.{size_stays}
-use Rattle.fx_flight.specs.Events.{first_of_call}
-use Rattle.fx_order.proofs.Words.{false≢true, negsuc, pos, ℤ}
-use Rattle.std.specs.Prelude.{IsSome}
 
 -- a number below 0
 negative : (r : ℤ) → is_negative r ≡ true → (n : ℕ) × (r ≡ negsuc n)
-negative (pos n) is = absurd (false≢true is)
-negative (negsuc n) is = (n, refl)
+negative r is = grind arith
 
 some_of : (o : Option Identity) → IsSome o → (file : Identity) × (o ≡ Some file)
-some_of None is = absurd (false≢true is)
-some_of (Some file) is = (file, refl)
+some_of o is = grind arith
 
 same_range : (t : Table) (a : Access) → (table_with t a).range ≡ t.range
-same_range t (Looks slot found) = refl
-same_range t (Puts slot file removed) = refl
-same_range t (Clears slot removed) = refl
-same_range t (Takes slot removed) = refl
-same_range t (Allocates slot file) = refl
-same_range t FindsFull = refl
+same_range t a = grind arith
 
 range_stays : (t : Table) (flight : List Moment) → (table_left_by t flight).range ≡ t.range
 range_stays t [] = refl
@@ -55,22 +36,7 @@ module _ (b : LogBeginning) where
   found_by : (evidence : Evidence) (slot : ℕ) (flight : List Moment) (a : Access) (f : TimedFlight b) → Permits (table_left_by (table f) flight) a
       → IsEvident a evidence → FindsFile b evidence slot
       → (file : Identity) × ((table_left_by (table f) flight).at slot ≡ Some file)
-  found_by (Removes own) slot flight a f may is finds =
-      let here : Permits (table_left_by (table f) flight) (Takes own (Some is.0)) = rw is.1 at may in
-      (is.0, subst (λ (k : ℕ). (table_left_by (table f) flight).at k ≡ Some is.0) finds (sym here.1))
-  found_by (Sees own) slot flight a f may is finds =
-      let here : Permits (table_left_by (table f) flight) (Looks own (Some is.0)) = rw is.1 at may in
-      (is.0, subst (λ (k : ℕ). (table_left_by (table f) flight).at k ≡ Some is.0) finds (sym here.1))
-  found_by Full slot flight a f may is finds =
-      let t = table f in
-      let here : Permits (table_left_by t flight) FindsFull = rw is at may in
-      let size = size_stays t flight in
-      let range = range_stays t flight in
-      some_of ((table_left_by t flight).at slot) (here slot (rw size finds.0) (rw range (finds.1, finds.2)))
-  found_by (Empties own) slot flight a f may is finds = absurd finds
-  found_by (Installs own file) slot flight a f may is finds = absurd finds
-  found_by (Finds own file) slot flight a f may is finds = absurd finds
-  found_by Never slot flight a f may is finds = absurd finds
+  found_by evidence slot flight a f may is finds = grind (arith, size_stays, range_stays, some_of)
 
   module _ (f : TimedFlight b) where
     module _ (h : Holding) (evidence : Evidence) (made : IsAccessMade b h.call h.answer h.access evidence) (finds : FindsFile b evidence h.slot)
@@ -105,17 +71,12 @@ module _ (b : LogBeginning) where
             file = found.0;
             early = omega arith;
             late = omega arith;
-            other = λ differs. walks f.sound.catalogue i.p was.1.0 i.requests i.low i.called i.by.n i.by.request i.by.asked i.by.k i.by.intent i.by.is found.0
-                (may_install i.by.intent was.1.1 h.slot found.0 i.by.of was.1.2) differs f (omega arith) (omega arith);
+            other = grind (arith, may_install i.by.intent was.1.1 h.slot found.0 i.by.of was.1.2);
           }
 
       pub holder_is : (file : Identity) → ((other : Identity) → IsOnlyFile h.found other → file ≡ other)
           → (f.at (Put file) < f.at (At h.answer h.access)) × (f.at (At h.answer h.access) ≤ f.at (Gone file h.slot))
-      holder_is file only =
-          let x = holder in
-          let same : file ≡ x.file = ⊎_elim (λ same. same) (λ other. absurd (x.other (λ held. other (only x.file held)))) (same_or_not file x.file) in
-          subst (λ (g : Identity). (f.at (Put g) < f.at (At h.answer h.access)) × (f.at (At h.answer h.access) ≤ f.at (Gone g h.slot))) (sym same)
-          (x.early, x.late)
+      holder_is file only = grind (arith, holder, same_or_not)
 
       pub no_holder : ((file : Identity) → IsOnlyFile h.found file → ⊥) → ⊥
       no_holder none = let x = holder in x.other (none x.file)
@@ -144,8 +105,7 @@ module _ (b : LogBeginning) where
       let put = put_here t slot file f.legal.flight (f.at (Put file)) (f.times.put file) new last.0 last.1 last.2 in
       let there : IsAccessAt f.legal.flight put.0 put.1 (f.at (Put file)) = access_of_part put.0 put.1 (f.at (Put file)) last.1 put.3 in
       let time = (f.times.put file).each x.id own (f.at (At answer k)) x.access x.is x.time in
-      let one : x.access ≡ put.1 = same_access f.legal.flight (f.at (Put file)) x.id put.0 x.access put.1 (rw time at x.time) there in
-      absurd (other (same_slot x.access put.1 own slot file one x.is put.2)))
+      grind (arith, same_slot, put.1, (same_moment f.legal.flight (f.at (Put file)) x.id put.0 x.access put.1 (rw time at x.time) there).1))
       (f.times.gone file slot).there
 
   -- a file whose member failed is not installed

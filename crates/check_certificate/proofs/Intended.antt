@@ -1,28 +1,14 @@
 -- An access of a chain is one that a member of it intends; a member that fails installs no file.
-use Rattle.check_certificate.proofs.Words.{◌≡◌, ◌⊎◌, ℕ, zero, suc, ◌+◌, List, [], ◌∷◌, ◌++◌, length, refl, sym, ap, ◌∙◌, arith, inl, inr, subst}
-use Rattle.check_certificate.proofs.Words.{⊎_elim, Option, Some, None, slice_get, Access, Asked, Place, Completed, FileEntry, IsChainDone, IsRequestDone}
-use Rattle.check_certificate.proofs.Words.{Has, placed, placed-append, Closed, Submitted, either_option, either_way, severs, next_member, Identity, IsPut}
-use Rattle.check_certificate.proofs.Words.{Allocates, Looks, Clears, Takes, FindsFull}
+use Rattle.check_certificate.proofs.Words.{◌≡◌, length, ⊎_elim, Option, Access, Identity, IsIntent, IsOpened, none_if, opened_by, Operation, Allocate}
+use Rattle.check_certificate.proofs.Words.{◌⊎◌, suc, ◌+◌, ◌∷◌, ◌++◌, refl, sym, ap, ◌∙◌, inl, inr, Some, None, Has, Look, Clear, Take, IsOf, pos}
+use Rattle.check_certificate.proofs.Words.{ℕ, IsRequestDone, placed-append, either_option, both_options, entry_opened, option_and_then, IsDoneAtTable}
+use Rattle.check_certificate.proofs.Words.{zero, IsChainDone, either_way, next_member, MayInstall, IsCatalogue, same_opened, each_placed, MatchOption}
+use Rattle.check_certificate.proofs.Words.{List, slice_get, Completed, FileEntry, Submitted, Allocates, FindsFull, intents_of, refusal_of, has_either}
+use Rattle.check_certificate.proofs.Words.{[], arith, subst, Asked, Place, placed, Closed, severs, IsPut, Looks, Clears, Takes, Errno, Intent, zip_at}
 use Rattle.check_certificate.proofs.Marks.{IsOfChain, chain_own}
 use Rattle.check_certificate.proofs.Parts.{none_of}
-use Rattle.check_certificate.specs.Absent.{MayInstall}
-use Rattle.fx_base.specs.Catalogue.{IsCatalogue}
-use Rattle.fx_chain.proofs.Cases.{both_options}
-use Rattle.fx_base.specs.declared.errno.Errno.{Errno}
-use Rattle.fx_chain.specs.Intents.{IsIntent, IsOpened, intents_of, none_if}
-use Rattle.fx_chain.specs.Operation.{Operation}
-use Rattle.fx_chain.specs.Refusal.{refusal_of}
-use Rattle.fx_chain.specs.declared.intent.Intent.{Intent}
-use Rattle.fx_chain.specs.declared.intent.Intent.TheVariants.{Look, Put, Clear, Take, Allocate}
-use Rattle.fx_order.proofs.Intents.{same_opened, zip_at}
-use Rattle.fx_order.proofs.Placed.{has_either}
-use Rattle.fx_order.proofs.RequestCases.{each_placed}
-use Rattle.fx_order.proofs.Words.{IsOf, pos}
+use Rattle.fx_chain.specs.declared.intent.Intent.TheVariants.{Put}
 use Rattle.check_certificate.specs.Made.{intended as found_intent}
-use Rattle.fx_chain.proofs.MayAnswer.{entry_opened}
-use Rattle.fx_chain.specs.Intents.{opened_by}
-use Rattle.std.specs.Prelude.{MatchOption, option_and_then}
-use Rattle.fx_order.specs.Requests.{IsDoneAtTable}
 
 -- an element of a list of two parts is in one of them
 split : {X : Type 0} (xs ys front : List X) (a : X) (rest : List X) → xs ++ ys ≡ front ++ a ∷ rest
@@ -31,17 +17,14 @@ split [] ys front a rest is = inr (front, is)
 split (x ∷ xs) ys [] a rest is = let same : x ≡ a = cc in inl (xs, ap (λ z. z ∷ xs) same)
 split (x ∷ xs) ys (f ∷ front) a rest is =
     let head : x ≡ f = cc in
-    let tail : xs ++ ys ≡ front ++ a ∷ rest = cc in
-    ⊎_elim (λ p. inl (p.0, λ i. head i ∷ p.1 i)) (λ p. inr p) (split xs ys front a rest tail)
+    let tail : xs ++ ys ≡ front ++ a ∷ rest = cc in grind (arith, split xs ys front a rest tail)
 
 abbrev pub moved : Place → ℕ → Place
 moved place n = record place { member = place.member + n }
 
 pub intent_once : (catalogue : List FileEntry) (size : ℕ) (place : Place) (operation : Operation) (k : ℕ) (x y : Option Intent) → IsCatalogue catalogue
     → IsIntent catalogue size place operation k x → IsIntent catalogue size place operation k y → x ≡ y
-intent_once catalogue size place operation k x y is one other = both_options {R = x ≡ y} (refusal_of catalogue size operation)
-    (λ p q. p.2 ∙ (ap (λ (e : ℕ). slice_get (intents_of place e operation) k) (same_opened is operation p.0 q.0 p.1 q.1) ∙ sym q.2))
-    (λ errno p q. p ∙ sym q) one other
+intent_once catalogue size place operation k x y is one other = grind (arith, both_options, same_opened)
 
 -- what a request intends is what its definition finds
 pub intended_is : (catalogue : List FileEntry) (size : ℕ) (place : Place) (operation : Operation) (k : ℕ) (x : Option Intent) → IsCatalogue catalogue
@@ -52,22 +35,11 @@ intended_is catalogue size place operation k x is one = by_refusal (refusal_of c
     by_refusal : (refused : Option Errno)
         → MatchOption refused ((entry : ℕ) × IsOpened catalogue operation entry × (x ≡ slice_get (intents_of place entry operation) k)) (λ errno. x ≡ None)
         → x ≡ option_and_then (λ entry. none_if refused (slice_get (intents_of place entry operation) k)) (opened_by catalogue operation)
-    by_refusal None one =
-        one.2 ∙ sym (ap (option_and_then (λ entry. slice_get (intents_of place entry operation) k)) (entry_opened catalogue operation one.0 is one.1))
-    by_refusal (Some errno) none = none ∙ nothing (opened_by catalogue operation)
-      where
-        nothing : (found : Option ℕ) → None ≡ option_and_then (λ (entry : ℕ). none_if (Some errno) (slice_get (intents_of place entry operation) k)) found
-        nothing None = refl
-        nothing (Some entry) = refl
+    by_refusal refused h2 = grind (arith, entry_opened, none_if)
 
 -- an access of an intent that installs a file
 pub may_install : (intent : Intent) (a : Access) (slot : ℕ) (file : Identity) → IsOf intent a → IsPut a slot file → MayInstall intent slot file
-may_install (Put own f) a slot file is put = rw is.1 at put
-may_install (Allocate f) a slot file (inl is) put = let own : IsPut (Allocates is.0 f) slot file = rw is.1 at put in own.1
-may_install (Allocate f) a slot file (inr is) put = let own : IsPut FindsFull slot file = rw is at put in absurd own
-may_install (Look own) a slot file is put = let none : IsPut (Looks own is.0) slot file = rw is.1 at put in absurd none
-may_install (Clear own) a slot file is put = let none : IsPut (Clears own is.0) slot file = rw is.1 at put in absurd none
-may_install (Take own) a slot file is put = let none : IsPut (Takes own is.0) slot file = rw is.1 at put in absurd none
+may_install intent a slot file h5 put = grind arith
 
 module _ (catalogue : List FileEntry) (size : ℕ) where
   -- an access is the one with a number of those that a member of the chain intends, which has an
@@ -122,22 +94,7 @@ module _ (catalogue : List FileEntry) (size : ℕ) where
   next : (place : Place) (request : Asked) (requests : List Asked) (a : Access) (d : Completed) (cs : List Completed) (less number : ℕ)
       → IsIntended (next_member place) requests a cs less → IsIntended place (request ∷ requests) a (d ∷ cs) number
   next place request requests a d cs less number x =
-      let e : place.member + 1 + x.n ≡ place.member + suc x.n = omega arith in record {
-        n = suc x.n;
-        request = x.request;
-        asked = x.asked;
-        k = x.k;
-        intent = x.intent;
-        is = subst (λ (m : ℕ). IsIntent catalogue size (record place { member = m }) x.request.operation x.k (Some x.intent)) e x.is;
-        of = x.of;
-        c = x.c;
-        answer = x.answer;
-        at = x.at;
-        front = x.front;
-        rest = x.rest;
-        done = x.done;
-        first = λ zero. absurd (omega (arith, zero));
-      }
+      let e : place.member + 1 + x.n ≡ place.member + suc x.n = omega arith in grind arith
 
   pub intended : (place : Place) (requests : List Asked) (front : List Access) (a : Access) (rest : List Access) (cs : List Completed)
       → IsChainDone catalogue size place requests (front ++ a ∷ rest) cs → IsIntended place requests a cs (length front)

@@ -1,20 +1,16 @@
 -- A file that was taken from its slot is at no slot afterwards; one that is installed and wasn't
 -- taken is there.
-use Rattle.check_certificate.proofs.Words.{◌≡◌, ◌⊎◌, ℕ, ◌<◌, List, [], ◌∷◌, ◌++◌, length, refl, sym, ap, arith, inl, inr, Some}
-use Rattle.check_certificate.proofs.Words.{None, Option, ⊎_elim, Contains, contains_cases, contains_none, Moment, Logged, Accesses, IsOlderPart, Access, ChainAccess, IsPut}
-use Rattle.check_certificate.proofs.Words.{IsLeftAt, IsAccessAt, IsPutTime, Table, table_with, table_left_by, taken_in, file_removed_by, option_to_list}
-use Rattle.check_certificate.proofs.Words.{Identity, IsFlight, FlightSetting, table_of, Permits}
-use Rattle.check_certificate.proofs.Words.{Contains-append_left, Contains-append_right, Contains-append_cases, contains_head, length-append}
-use Rattle.check_certificate.proofs.Life.{IsPutAt, put_before, put_here, stays}
+use Rattle.check_certificate.proofs.Words.{◌≡◌, ◌⊎◌, ℕ, ◌<◌, List, [], ◌∷◌, ◌++◌, length, refl, sym, ap, arith, inl, inr, Some, None, Option, ⊎_elim}
+use Rattle.check_certificate.proofs.Words.{Contains, contains_cases, contains_none, Moment, Logged, Accesses, IsOlderPart, Access, ChainAccess, IsPut}
+use Rattle.check_certificate.proofs.Words.{IsLeftAt, IsAccessAt, IsPutTime, Table, table_with, table_left_by, taken_in, file_removed_by, Identity}
+use Rattle.check_certificate.proofs.Words.{option_to_list, IsFlight, FlightSetting, table_of, Permits, Contains-append_left, Contains-append_right}
+use Rattle.check_certificate.proofs.Words.{Contains-append_cases, contains_head, length-append, at_itself, emptied, left_or_removed}
+use Rattle.check_certificate.proofs.Life.{IsPutAt, put_before, put_here, stays, put_of}
 use Rattle.check_certificate.proofs.Parts.{by_put, one_more, part_is_flight, part_length, part_of_part, shorter, whole}
-use Rattle.fx_order.proofs.Accesses.{at_itself}
-use Rattle.fx_order.proofs.Placed.{emptied, left_or_removed}
-use Rattle.check_certificate.proofs.Life.{put_of}
 
 -- an access that installs a file leaves it there
 pub there_after : (t : Table) (a : Access) (slot : ℕ) (file : Identity) → IsPut a slot file → (table_with t a).at slot ≡ Some file
-there_after t a slot file = by_put slot file (λ (x : Access). (table_with t x).at slot ≡ Some file) (λ _. at_itself slot (Some file) (t.at slot))
-    (at_itself slot (Some file) (t.at slot)) a
+there_after t a slot file = grind (arith, by_put, at_itself)
 
 -- an access that took the file from its slot
 pub record Taking (flight : List Moment) (file : Identity) : Type 0 where
@@ -26,8 +22,7 @@ pub record Taking (flight : List Moment) (file : Identity) : Type 0 where
 
 pub taking : (flight : List Moment) (file : Identity) → Contains (taken_in flight) file → Taking flight file
 taking [] file has = absurd (contains_none file has)
-taking (Logged e ∷ flight) file has =
-    let t = taking flight file has in record { id = t.id; access = t.access; earlier = t.earlier; inside = one_more (Logged e) t.inside; takes = t.takes }
+taking (Logged e ∷ flight) file has = grind (arith, taking flight file has, one_more)
 taking (Accesses x ∷ flight) file has =
     ⊎_elim
     (λ here. record { id = x.chain; access = x.access; earlier = flight; inside = whole (Accesses x ∷ flight); takes = one (file_removed_by x.access) here })
@@ -40,7 +35,7 @@ taking (Accesses x ∷ flight) file has =
     one (Some f) inside = ⊎_elim (λ same. ap Some (sym same)) (λ none. absurd (contains_none file none)) (contains_cases f [] file inside)
 
 -- accesses at one time are one
-same_moment : (flight : List Moment) (time id jd : ℕ) (a b : Access) → IsAccessAt flight id a time → IsAccessAt flight jd b time → (id ≡ jd) × (a ≡ b)
+pub same_moment : (flight : List Moment) (time id jd : ℕ) (a b : Access) → IsAccessAt flight id a time → IsAccessAt flight jd b time → (id ≡ jd) × (a ≡ b)
 same_moment flight time id jd a b one other =
     let x : Moment = Accesses (record { chain = id; access = a }) in
     let y : Moment = Accesses (record { chain = jd; access = b }) in
@@ -56,12 +51,6 @@ same_moment flight time id jd a b one other =
         let same : x ≡ y = cc in
         (ap (λ (z : ChainAccess). z.chain) same, ap (λ (z : ChainAccess). z.access) same)
     only (m ∷ k) l r is few = let long = ap length is in let more = length-append k (Accesses (record { chain = jd; access = b }) ∷ r) in absurd (omega arith)
-
-pub same_access : (flight : List Moment) (time id jd : ℕ) (a b : Access) → IsAccessAt flight id a time → IsAccessAt flight jd b time → a ≡ b
-same_access flight time id jd a b one other = (same_moment flight time id jd a b one other).1
-
-pub same_chain : (flight : List Moment) (time id jd : ℕ) (a b : Access) → IsAccessAt flight id a time → IsAccessAt flight jd b time → id ≡ jd
-same_chain flight time id jd a b one other = (same_moment flight time id jd a b one other).0
 
 -- an access installs a file at one slot
 pub same_slot : (a b : Access) (one other : ℕ) (file : Identity) → a ≡ b → IsPut a one file → IsPut b other file → one ≡ other
@@ -87,8 +76,7 @@ module _ (s : FlightSetting) (flight : List Moment) (is : IsFlight s flight) (fi
             ⊎_elim
             (λ other. let here = put_here (table_of s.old) slot file flight put is_put (new slot) t.earlier older other.1 in
             let there_too = put_here (table_of s.old) e.slot file flight put is_put (new e.slot) t.earlier older e.was in
-            let same : here.1 ≡ there_too.1 = same_access t.earlier put here.0 there_too.0 here.1 there_too.1 here.3 there_too.3 in
-            other.0 (same_slot here.1 there_too.1 slot e.slot file same here.2 there_too.2))
+            grind (arith, same_slot, there_too.1, (same_moment t.earlier put here.0 there_too.0 here.1 there_too.1 here.3 there_too.3).1))
             (λ placed. let again = is_put.each t.id slot (length t.earlier) t.access (put_of t.access slot file placed) (t.earlier, within, refl) in omega arith)
             (e.after slot file now),
       )

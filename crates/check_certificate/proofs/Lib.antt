@@ -15,3 +15,4 @@ pub mod Holders
 pub mod Walks
 pub mod Takers
 pub mod Cutting
+pub mod Bytes

@@ -1,20 +1,12 @@
 -- The life of a file at a slot: from the access that installs it on, until it is gone.
-use Rattle.check_certificate.proofs.Words.{◌≡◌, ◌⊎◌, ℕ, ◌<◌, ◌≤◌, List, [], ◌∷◌, ◌++◌, length, refl, arith, inl, inr, Some}
-use Rattle.check_certificate.proofs.Words.{⊎_elim, length-append, cases_lt, Moment, Logged, Accesses, IsOlderPart, Access, IsPut, IsLeftAt, IsAccessAt}
-use Rattle.check_certificate.proofs.Words.{IsPutTime, IsGoneTime, Table, table_left_by, step_from, Has, placed_by, Puts, Allocates, Clears, Takes, Looks}
-use Rattle.check_certificate.proofs.Words.{FindsFull, Identity}
+use Rattle.check_certificate.proofs.Words.{◌≡◌, ◌⊎◌, ℕ, ◌<◌, ◌≤◌, [], ◌∷◌, ◌++◌, refl, arith, inl, inr, Some, IsPut, Table, Has, Puts, Takes, Looks}
+use Rattle.check_certificate.proofs.Words.{List, ⊎_elim, cases_lt, Moment, Logged, Accesses, Access, IsLeftAt, Allocates, Clears, FindsFull, Identity}
+use Rattle.check_certificate.proofs.Words.{length, length-append, IsOlderPart, IsAccessAt, IsPutTime, IsGoneTime, table_left_by, step_from, placed_by}
 use Rattle.check_certificate.proofs.Parts.{access_of_part, before_end, one_more, shorter, whole}
 
 -- a file that an access placed was installed by it
 pub put_of : (a : Access) (slot : ℕ) (file : Identity) → Has (placed_by a) slot file → IsPut a slot file
-put_of (Puts own f removed) slot file (inl same) = ((λ i. (same i).0), (λ i. (same i).1))
-put_of (Puts own f removed) slot file (inr none) = absurd none
-put_of (Allocates own f) slot file (inl same) = ((λ i. (same i).0), (λ i. (same i).1))
-put_of (Allocates own f) slot file (inr none) = absurd none
-put_of (Looks own found) slot file has = absurd has
-put_of (Clears own removed) slot file has = absurd has
-put_of (Takes own removed) slot file has = absurd has
-put_of FindsFull slot file has = absurd has
+put_of a slot file h4 = grind arith
 
 -- an access of a flight installed the file at the slot at this time
 abbrev pub IsPutAt : List Moment → ℕ → Identity → ℕ → Type 0
@@ -65,22 +57,18 @@ module _ (table : Table) (slot : ℕ) (file : Identity) where
     is_gone gone is part inside early none =
         ⊎_elim (λ never. omega arith)
         (λ last. ⊎_elim (λ low. let same = last.3 in omega arith)
-        (λ high. let more : IsOlderPart part last.0 = shorter last.0 part last.1 inside high in
-        absurd (none (stays more.0 part (rw more.1 at last.1) early (rw more.1 at last.2))))
+        (λ high. grind (arith, stays, shorter last.0 part last.1 inside high, last.2))
         (cases_lt (length last.0) (length part))) is.there
 
     -- the file was installed before it was at the slot
     pub put_before : (table.at slot ≡ Some file → ⊥) → (part : List Moment) → IsOlderPart part flight → IsLeftAt table part slot file → put < length part
     put_before new part inside there =
         let was = was_put new part there in
-        let same = is_put.each was.1.0 slot was.0 was.1.1 was.1.2 (access_of_part was.1.0 was.1.1 was.0 inside was.1.3) in
-        let low = before_end part was.1.0 was.1.1 was.0 was.1.3 in
-        omega arith
+        grind (arith, access_of_part, is_put.each was.1.0 slot was.0 was.1.1 was.1.2 (access_of_part was.1.0 was.1.1 was.0 inside was.1.3), before_end part was.1.0 was.1.1 was.0 was.1.3)
 
     -- it is installed at the slot at which it is found
     pub put_here : (table.at slot ≡ Some file → ⊥) → (part : List Moment) → IsOlderPart part flight → IsLeftAt table part slot file
         → IsPutAt part slot file put
     put_here new part inside there =
         let was = was_put new part there in
-        let same : was.0 ≡ put = is_put.each was.1.0 slot was.0 was.1.1 was.1.2 (access_of_part was.1.0 was.1.1 was.0 inside was.1.3) in
-        rw same at was.1
+        grind (arith, access_of_part, is_put.each was.1.0 slot was.0 was.1.1 was.1.2 (access_of_part was.1.0 was.1.1 was.0 inside was.1.3))

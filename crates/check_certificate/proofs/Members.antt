@@ -1,14 +1,11 @@
 -- The accesses of a member, or of a look, whose answer is in a flight, and their times.
-use Rattle.check_certificate.proofs.Words.{◌≡◌, ◌⊎◌, ℕ, zero, ◌+◌, ◌-◌, ◌<◌, List, [], ◌∷◌, ◌++◌, length, take, refl, sym, ap, ◌∙◌, arith, inl, inr, suc}
-use Rattle.check_certificate.proofs.Words.{⊎_elim, append_assoc, append-nil, Option, Some, None, slice_get, subst, Moment, Logged, Accesses}
-use Rattle.check_certificate.proofs.Words.{Access, IsAccessAt, AreAccessTimes, Asked, Place}
-use Rattle.check_certificate.proofs.Words.{Completed, IsChainDone, IsRequestDone, FlightSetting, MayFollow, FileEntry, RingState, either_way, severs}
-use Rattle.check_certificate.proofs.Words.{next_member, made_by, by_equality, canceled, refusal, ECANCELED, if◌then◌else◌, Happening, Answered, Called}
-use Rattle.check_certificate.proofs.Words.{LookAnswered, LookCalled, Freed, FileClosed, AllSettled}
+use Rattle.check_certificate.proofs.Words.{◌≡◌, ◌⊎◌, ℕ, zero, ◌+◌, ◌-◌, ◌<◌, List, [], ◌∷◌, ◌++◌, length, take, refl, sym, ap, ◌∙◌, arith, inl, inr}
+use Rattle.check_certificate.proofs.Words.{suc, ⊎_elim, append_assoc, append-nil, Option, Some, None, slice_get, subst, Moment, Logged, Accesses}
+use Rattle.check_certificate.proofs.Words.{Access, IsAccessAt, AreAccessTimes, Asked, Place, Completed, IsChainDone, IsRequestDone, FlightSetting}
+use Rattle.check_certificate.proofs.Words.{MayFollow, FileEntry, RingState, either_way, severs, next_member, made_by, by_equality, canceled, refusal}
+use Rattle.check_certificate.proofs.Words.{ECANCELED, if◌then◌else◌, Happening, Answered, Called, LookAnswered, LookCalled, Freed, FileClosed}
+use Rattle.check_certificate.proofs.Words.{AllSettled, answer_place, first_of_call, request_place}
 use Rattle.check_certificate.proofs.Parts.{get_front, none_of, one_more}
-use Rattle.fx_flight.proofs.Chains.{answer_place}
-use Rattle.fx_flight.specs.Events.{first_of_call}
-use Rattle.fx_order.proofs.RequestCases.{request_place}
 
 canceled_at : (place : Place) (requests : List Asked) (k : ℕ) (front : List Completed) (c : Completed) (rest : List Completed)
     → canceled place (take k requests) ≡ front ++ c ∷ rest
@@ -47,17 +44,7 @@ module _ (catalogue : List FileEntry) (size : ℕ) where
       let tail : x.3 ≡ earlier ++ c ∷ [] = cc (x.5) in
       let long : length earlier ≡ n = omega arith in
       either_way {R = MemberPart (request ∷ requests) own (suc n) c} (severs request x.2)
-      (λ _ y. let cut = canceled_at (next_member place) requests (suc n) earlier c [] (sym y.1 ∙ tail) in
-      record {
-        request = cut.0;
-        asked = rw long at cut.1;
-        front = own;
-        mine = [];
-        rest = [];
-        accesses = sym (append-nil own);
-        done = inl (cut.2, omega arith);
-        none = λ zero. absurd (omega (arith, zero));
-      })
+      (grind (arith, next_member, canceled_at (next_member place) requests (suc n) earlier c))
       (λ _ y. let part = member_part (next_member place) requests x.1 earlier c n long (rw tail at y) in
       record {
         request = part.request;

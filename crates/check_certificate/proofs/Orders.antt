@@ -1,23 +1,15 @@
 -- The rules of certificates: what each flight's times are like.
-use Rattle.check_certificate.proofs.Words.{◌≡◌, ℕ, zero, ◌<◌, List, [], ◌∷◌, ◌++◌, length, refl, sym, ap, ◌∙◌, arith, suc, Some, None}
-use Rattle.check_certificate.proofs.Words.{Option, ⊎_elim, length-append, Contains, contains_head, Contains-append_right, subst, cases_lt, slice_get}
-use Rattle.check_certificate.proofs.Words.{Moment, Logged, IsOlderPart, Access, IsAccessAt, AreAccessTimes, IsEventTime, Identity, FlightSetting}
-use Rattle.check_certificate.proofs.Words.{IsFlight, Table, table_of, log_of, made_by, Happening, MayFollow, MayAccess, WasLogged, Answered, Called}
-use Rattle.check_certificate.proofs.Words.{LookAnswered, LookCalled, Permits, Submitted, table_left_by}
+use Rattle.check_certificate.proofs.Words.{◌≡◌, ℕ, zero, ◌<◌, List, [], ◌∷◌, ◌++◌, length, refl, sym, ap, ◌∙◌, arith, suc, Some, None, Option, ⊎_elim}
+use Rattle.check_certificate.proofs.Words.{length-append, Contains, contains_head, Contains-append_right, cases_lt, slice_get, Moment, Logged, Access}
+use Rattle.check_certificate.proofs.Words.{IsOlderPart, IsAccessAt, AreAccessTimes, IsEventTime, Identity, FlightSetting, IsFlight, Table, table_of}
+use Rattle.check_certificate.proofs.Words.{log_of, made_by, Happening, MayFollow, MayAccess, WasLogged, Answered, Called, LookAnswered, LookCalled}
+use Rattle.check_certificate.proofs.Words.{Permits, table_left_by, Asked, ◌-◌, IsOfCall, TimedFlight, is_of_no_call, is_registered, log_of_beginning}
+use Rattle.check_certificate.proofs.Words.{ring_of_beginning, IsEventAt, IsAccessMade, IsEvident, IsShownBy, slot_count, IsMemberDoneBy, LogBeginning}
+use Rattle.check_certificate.proofs.Words.{Event, At, Evidence, in_log, log_of-parts, first_of_call, IsCallOf, true, slice_index_or, list_all}
 use Rattle.check_certificate.proofs.Parts.{access_of_part, before_end, part_is_flight, part_of_part, shorter}
-use Rattle.check_certificate.specs.Forced.{IsOfCall, TimedFlight, is_of_no_call, is_registered, log_of_beginning, ring_of_beginning}
-use Rattle.check_certificate.specs.Evidence.{IsEventAt, IsAccessMade, IsEvident, IsShownBy}
-use Rattle.check_certificate.specs.declared.beginning.LogBeginning.{LogBeginning}
-use Rattle.check_certificate.specs.declared.certificate.Point.TheVariants.{Event, Access as At}
-use Rattle.check_certificate.specs.declared.evidence.Evidence.{Evidence}
-use Rattle.fx_flight.proofs.InTime.{in_log, log_of-parts}
 use Rattle.fx_flight.proofs.Numbers.{new_number, one_call}
-use Rattle.fx_flight.specs.Events.{first_of_call}
-use Rattle.fx_flight.specs.Laws.{IsCallOf}
 use Rattle.fx_ring.specs.Ring.{RingState}
-use Rattle.fx_order.proofs.Words.{true, false≢true, slice_index_or}
 use Rattle.std.proofs.lemmas.Bool.{and_parts}
-use Rattle.std.specs.List.{list_all}
 
 -- the parts of a list around one of its positions
 get_parts : {X : Type 0} (xs : List X) (i : ℕ) (x : X) → slice_get xs i ≡ Some x
@@ -65,28 +57,13 @@ module _ {b : LogBeginning} (f : TimedFlight b) where
   flies {part} inside = part_is_flight s f.legal.flight part inside f.legal.is
 
   pub new_file : (file : Identity) → (id : ℕ) → IsOfCall id file → (slot : ℕ) → table.at slot ≡ Some file → ⊥
-  new_file file id of slot there =
-      let here : is_of_no_call (Some file) ≡ true =
-      subst (λ (o : Option Identity). is_of_no_call o ≡ true) there (each_of_no_call b.slots.now.at.items slot f.sound.marks) in
-      let no : is_registered (Submitted id of.0 of.1 of.2) ≡ true = rw of.3 at here in
-      false≢true no
+  new_file file id of slot there = grind (arith, is_registered, each_of_no_call b.slots.now.at.items slot f.sound.marks, of.3)
 
   pub here : {i : ℕ} {e : Happening} → IsEventAt b i e → IsHere i e
   here {i} {e} is =
       let p = get_parts log i e is in
       let time : IsEventTime s f.legal.flight p.0 e (f.at (Event i)) (λ k. f.at (At i k)) =
-      rw p.3 at (f.times.event p.0 e p.1 (f.legal.same ∙ p.2)) in
-      record {
-        front = p.0;
-        rest = p.1;
-        parts = p.2;
-        few = p.3;
-        earlier = time.earlier;
-        inside = time.part;
-        same = time.same;
-        count = time.count;
-        accesses = time.accesses;
-      }
+      rw p.3 at (f.times.event p.0 e p.1 (f.legal.same ∙ p.2)) in grind arith
 
   pub may_at : {i : ℕ} {e : Happening} (h : IsHere i e) → MayFollow s h.earlier e
   may_at h = (flies h.inside).1
@@ -115,8 +92,7 @@ module _ {b : LogBeginning} (f : TimedFlight b) where
       let count = x.count in let time_is = access.2 in
       ⊎_elim (λ low. omega arith)
       (λ high. let more = shorter x.earlier access.0 (older x.inside) (older access.1) high in
-      let there : WasLogged x.earlier own.0 = rw more.1 (Contains-append_right more.0 access.0 (Logged own.0) own.2) in
-      let inside : Contains x.front own.0 = rw x.same at (in_log x.earlier own.0 there) in
+      let inside : Contains x.front own.0 = rw x.same at (in_log x.earlier own.0 (rw more.1 (Contains-append_right more.0 access.0 (Logged own.0) own.2))) in
       absurd (new_number id 0 [] x.front x.rest e own.0 (rw x.parts at f.sound.faultless) inside own.1 call))
       (cases_lt (length x.earlier) (length access.0))
 
@@ -124,6 +100,13 @@ module _ {b : LogBeginning} (f : TimedFlight b) where
   abbrev pub IsFirst : Happening → Type 0
   IsFirst (Answered id c) = c.place.member ≡ 1
   IsFirst event = ⊥
+
+  -- a member makes the access, by the call and the answer
+  abbrev pub IsOfMember : Happening → Happening → ℕ → Access → Type 0
+  IsOfMember (Called id requests) (Answered other c) k a =
+      (request : Asked) × (slice_get requests (c.place.member - 1) ≡ Some request) × (accesses : List Access)
+      × IsMemberDoneBy b.catalogue.now (slot_count b) c request accesses × (slice_get accesses k ≡ Some a)
+  IsOfMember begins ends k a = Unit {0}
 
   -- an access of which an answer says something
   pub record IsSaid (call answer k : ℕ) (evidence : Evidence) : Type 0 where
@@ -138,6 +121,7 @@ module _ {b : LogBeginning} (f : TimedFlight b) where
     pub ends : Happening
     pub answered : IsEventAt b answer ends
     pub first : IsFirst ends → length (made_by id time.0) ≡ k
+    pub one : IsOfMember begins ends k access
 
   contained : (i : ℕ) (e : Happening) → IsEventAt b i e → Contains log e
   contained i e is = let p = get_parts log i e is in rw p.2 (Contains-append_right p.0 (e ∷ p.1) e (contains_head e p.1))
@@ -145,9 +129,8 @@ module _ {b : LogBeginning} (f : TimedFlight b) where
   -- a call in the flight is that of the log
   same_call : (i id : ℕ) (e d : Happening) (part : List Moment) → IsEventAt b i e → IsCallOf id e → IsOlderPart part f.legal.flight
       → WasLogged part d → IsCallOf id d → d ≡ e
-  same_call i id e d part is call inside there call_d =
-      let all : WasLogged f.legal.flight d = rw inside.1 (Contains-append_right inside.0 part (Logged d) there) in
-      one_call id 0 [] log d e f.sound.faultless (rw f.legal.same at (in_log f.legal.flight d all)) (contained i e is) call_d call
+  same_call i id e d part is call inside there call_d = one_call id 0 [] log d e f.sound.faultless
+      (rw f.legal.same at (in_log f.legal.flight d (rw inside.1 (Contains-append_right inside.0 part (Logged d) there)))) (contained i e is) call_d call
 
   said_by : (call answer k : ℕ) (evidence : Evidence) (begins ends : Happening) → IsEventAt b call begins → IsEventAt b answer ends → (h : IsHere answer ends)
       → IsShownBy b begins ends k evidence → IsSaid call answer k evidence
@@ -173,30 +156,16 @@ module _ {b : LogBeginning} (f : TimedFlight b) where
         ends = Answered other c;
         answered = at;
         first = λ first. member.first first k one.0 one.1;
+        one = (member.request, rw list at member.asked, member.accesses, member.done, one.1);
       }
   said_by call answer k evidence (LookCalled id slot) (LookAnswered other found) is at h shows =
       let look = h.accesses in
       let same : LookCalled other look.slot ≡ LookCalled id slot =
-      same_call call id (LookCalled id slot) (LookCalled other look.slot) h.earlier is refl (older h.inside)
-      look.called shows.0 in
+      grind (arith, older, same_call call id (LookCalled id slot) (LookCalled other look.slot) h.earlier is refl (older h.inside)) in
       let own : look.slot ≡ slot = cc in
       let one = shows.1 look.accesses (rw own at look.done) in
       let time = look.made k one.0 one.1 in
-      let before = before_end h.earlier other one.0 (f.at (At answer k)) time in
-      let count = h.count in
-      record {
-        id = other;
-        begins = LookCalled id slot;
-        called = is;
-        own = sym shows.0;
-        access = one.0;
-        time = access_of_part other one.0 (f.at (At answer k)) (older h.inside) time;
-        before = omega arith;
-        is = one.2;
-        ends = LookAnswered other found;
-        answered = at;
-        first = λ none. absurd none;
-      }
+      grind (arith, older, before_end h.earlier other one.0 (f.at (At answer k)) time, shows.0, access_of_part other one.0 (f.at (At answer k)) (older h.inside) time, one.2)
   said_by call answer k evidence begins ends is at h shows = absurd shows
 
   pub said : {call answer k : ℕ} {evidence : Evidence} → IsAccessMade b call answer k evidence → IsSaid call answer k evidence

@@ -1,10 +1,7 @@
 -- Parts of a flight: its oldest moments.
-use Rattle.check_certificate.proofs.Words.{◌≡◌, ◌⊎◌, ℕ, ◌<◌, ◌≤◌, List, [], ◌∷◌, ◌++◌, length, refl, sym, ap, ◌∙◌, arith, inl, inr}
-use Rattle.check_certificate.proofs.Words.{append_assoc, length-append, Moment, IsOlderPart, Access, Accesses, IsAccessAt, FlightSetting, IsFlight}
-use Rattle.check_certificate.proofs.Words.{Some, Option, Identity, IsPut, Puts, Allocates, Looks, Clears, Takes, FindsFull, cases_Bool, slice_get, zero}
-use Rattle.check_certificate.proofs.Words.{suc, ⊎_elim}
-use Rattle.fx_order.proofs.Apart.{file_Decides, same_file}
-use Rattle.fx_order.proofs.Words.{false≢true}
+use Rattle.check_certificate.proofs.Words.{◌≡◌, ◌⊎◌, ◌<◌, ◌≤◌, List, [], ◌∷◌, ◌++◌, refl, sym, ap, ◌∙◌, inl, inr, Some, Puts, Looks, Takes, zero, suc}
+use Rattle.check_certificate.proofs.Words.{ℕ, append_assoc, length-append, IsOlderPart, IsAccessAt, FlightSetting, Allocates, FindsFull, file_Decides}
+use Rattle.check_certificate.proofs.Words.{length, arith, Moment, Access, Accesses, IsFlight, Option, Identity, IsPut, Clears, slice_get, same_file}
 
 pub whole : (flight : List Moment) → IsOlderPart flight flight
 whole flight = ([], refl)
@@ -55,18 +52,12 @@ get_front (y ∷ xs) ys (suc k) x is = get_front xs ys k x is
 
 -- two files are one, or they aren't
 pub same_or_not : (a b : Identity) → (a ≡ b) ⊎ (a ≡ b → ⊥)
-same_or_not a b = ⊎_elim (λ yes. inl ((file_Decides a b).0 yes)) (λ no. inr (λ same. false≢true (sym no ∙ (file_Decides a b).1 same)))
-    (cases_Bool (same_file a b))
+same_or_not a b = grind (arith, file_Decides, same_file)
 
 -- an access that installs a file is of one of two kinds
 pub by_put : (slot : ℕ) (file : Identity) (P : Access → Type 0) → ((removed : Option Identity) → P (Puts slot file removed))
     → P (Allocates slot file) → (a : Access) → IsPut a slot file → P a
-by_put slot file P puts allocates (Puts own f removed) is = rw (is.0, is.1) (puts removed)
-by_put slot file P puts allocates (Allocates own f) is = rw (is.0, is.1) allocates
-by_put slot file P puts allocates (Looks own found) is = absurd is
-by_put slot file P puts allocates (Clears own removed) is = absurd is
-by_put slot file P puts allocates (Takes own removed) is = absurd is
-by_put slot file P puts allocates FindsFull is = absurd is
+by_put slot file P puts allocates a is = grind arith
 
 pub access_of_part : {flight part : List Moment} (id : ℕ) (a : Access) (time : ℕ) → IsOlderPart part flight → IsAccessAt part id a time
     → IsAccessAt flight id a time

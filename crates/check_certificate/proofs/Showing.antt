@@ -1,24 +1,11 @@
 -- Evidence in the result of a request for its accesses.
-use Rattle.check_certificate.proofs.Words.{◌≡◌, ◌⊎◌, ℕ, zero, suc, ◌+◌, ◌<◌, List, [], ◌∷◌, length, refl, sym, ap, arith, inl, inr}
-use Rattle.check_certificate.proofs.Words.{Some, None, Option, ⊎_elim, slice_get, Access, Identity, Asked, Place, Completed, FileEntry}
-use Rattle.check_certificate.proofs.Words.{refusal, ECANCELED, Puts, Allocates, Looks, Clears, Takes, FindsFull, either_way}
-use Rattle.check_certificate.specs.Evidence.{IsEvident, IsEvidentOf, IsEvidentByLook, IsEvidentByMember, evidence_of}
-use Rattle.check_certificate.specs.declared.evidence.Evidence.{Evidence}
-use Rattle.check_certificate.specs.declared.evidence.Evidence.TheVariants.{Empties}
-use Rattle.fx_base.specs.Catalogue.{IsCatalogue}
-use Rattle.fx_base.specs.declared.errno.Errno.TheVariants.{ENOMEM}
-use Rattle.fx_chain.proofs.Cases.{both_options}
-use Rattle.fx_chain.specs.Intents.{IsIntent, IsOpened, answer_at_table, intents_of, list_intents}
-use Rattle.fx_chain.specs.Operation.{Operation, Opens, Reads, Closes}
-use Rattle.fx_chain.specs.Refusal.{refusal_of}
-use Rattle.fx_chain.specs.declared.intent.Intent.{Intent}
-use Rattle.fx_chain.specs.declared.intent.Intent.TheVariants.{Look, Put, Clear, Take, Allocate}
-use Rattle.fx_chain.specs.declared.request.Target.TheVariants.{Any, Slot}
-use Rattle.fx_order.proofs.Intents.{by_intents, same_opened}
-use Rattle.fx_order.proofs.Accesses.{at_itself}
-use Rattle.fx_order.proofs.Words.{AllZip, IsOf, installed, last_finding, ℤ, pos, negsuc}
-use Rattle.std.proofs.lemmas.Bool.{leb-true}
-use Rattle.std.specs.Prelude.{nat_le}
+use Rattle.check_certificate.proofs.Words.{◌≡◌, ◌⊎◌, ℕ, zero, suc, ◌+◌, ◌<◌, List, [], ◌∷◌, length, refl, sym, arith, inl, inr, Some, None, Option, ℤ}
+use Rattle.check_certificate.proofs.Words.{⊎_elim, slice_get, Access, Identity, Asked, Place, Completed, FileEntry, refusal, ECANCELED, Puts, Looks}
+use Rattle.check_certificate.proofs.Words.{Allocates, Clears, Takes, FindsFull, either_way, IsEvident, IsEvidentOf, IsEvidentByLook, evidence_of, Any}
+use Rattle.check_certificate.proofs.Words.{IsEvidentByMember, Evidence, Empties, IsCatalogue, ENOMEM, both_options, IsIntent, IsOpened, intents_of}
+use Rattle.check_certificate.proofs.Words.{answer_at_table, list_intents, Operation, Opens, Reads, Closes, refusal_of, Intent, Look, Clear, Take, pos}
+use Rattle.check_certificate.proofs.Words.{Allocate, Slot, by_intents, same_opened, at_itself, AllZip, IsOf, installed, last_finding, negsuc}
+use Rattle.fx_chain.specs.declared.intent.Intent.TheVariants.{Put}
 
 -- an access that empties its slot leaves it empty
 emptied_so : (a : Access) (slot : ℕ) (removed : Option Identity) → (a ≡ Clears slot removed) ⊎ (a ≡ Takes slot removed) → IsEvident a (Empties slot)
@@ -66,19 +53,12 @@ module _ (catalogue : List FileEntry) (place : Place) (is : IsCatalogue catalogu
       × AllZip IsOf (intents_of place entry operation) own) → AreEvident operation own
   operation_evident operation own x = by_intents catalogue place AreEvident
       (λ name slot entry removed named k intent other opened so.
-      let same : other ≡ entry = same_opened is (Opens name (Slot slot)) other entry opened named in
-      single_evident (Puts slot (installed place 0 entry) removed) (Put slot (installed place 0 other)) (pos 0)
-      (refl, ap (λ e. installed place 0 e) (sym same)) k intent so)
+      grind (arith, same_opened is (Opens name (Slot slot)) other entry opened named, single_evident (Puts slot (installed place 0 entry) removed) (Put slot (installed place 0 other)) (pos 0)))
       (λ name slot entry named k intent other opened so.
-      let same : other ≡ entry = same_opened is (Opens name Any) other entry opened named in
-      single_evident (Allocates slot (installed place 0 entry)) (Allocate (installed place 0 other)) (pos slot)
-      (refl, ap (λ e. installed place 0 e) (sym same)) k intent so)
+      grind (arith, same_opened is (Opens name Any) other entry opened named, single_evident (Allocates slot (installed place 0 entry)) (Allocate (installed place 0 other)) (pos slot)))
       (λ name entry named k intent other opened so. single_evident FindsFull (Allocate (installed place 0 other)) (negsuc 22) refl k intent so)
-      (λ slot off len found k intent other opened so. single_evident (Looks slot found) (Look slot)
-      (answer_at_table catalogue place (Reads slot off len) (last_finding (Looks slot found ∷ []))).res (read_evident slot off len found) k intent so)
-      (λ slot found k intent other opened so. single_evident (Takes slot found) (Take slot)
-      (answer_at_table catalogue place (Closes slot) (last_finding (Takes slot found ∷ []))).res
-      (close_evident slot found) k intent so)
+      (λ slot off len found k intent other opened so. grind (arith, single_evident (Looks slot found) (Look slot), read_evident slot off len found))
+      (λ slot found k intent other opened so. grind (arith, single_evident (Takes slot found) (Take slot), close_evident slot found))
       (λ off list l fits k intent other opened so. list_evident (pos (length list)) 0 off list l fits k intent so)
       operation own x
 
@@ -91,13 +71,10 @@ evident_member catalogue size c request k intent is intended running fed accesse
     both_options {R = IsEvidentOf accesses k (evidence_of intent c.res)} (refusal_of catalogue size request.operation)
     (λ mine at_table. ⊎_elim
     (λ lacks. absurd (fed lacks.1.1))
-    (λ made. rw (ap (λ (d : Completed). d.res) made.1)
-    (operation_evident catalogue c.place is request.operation accesses made.0 k intent mine.0 mine.1 mine.2)) at_table)
+    (λ made. grind (arith, operation_evident catalogue c.place is request.operation accesses made.0 k intent mine.0 mine.1 mine.2)) at_table)
     (λ errno none refused. absurd (cc none)) intended done
 
 -- and that of a look
 pub evident_look : (size slot : ℕ) (found : Option Identity) → slot < size → (evidence : Evidence) → IsEvident (Looks slot found) evidence
     → IsEvidentByLook size slot found 0 evidence
-evident_look size slot found inside evidence is accesses done =
-    either_way {R = IsEvidentOf accesses 0 evidence} (nat_le size slot) (λ past y. absurd (omega (arith, leb-true size slot past)))
-    (λ _ y. rw y (Looks slot found, refl, is)) done
+evident_look size slot found inside evidence is accesses done = grind (arith, either_way)

@@ -1,9 +1,13 @@
 -- A file that leaves its slot is taken by an access: which one it can be.
-use Rattle.check_certificate.proofs.Words.{◌≡◌, ℕ, ◌+◌, ◌-◌, ◌<◌, ◌≤◌, List, [], ◌∷◌, ◌++◌, length, refl, sym, ap, ◌∙◌, arith, inl, inr, subst}
-use Rattle.check_certificate.proofs.Words.{⊎_elim, cases_lt, length-append, Option, Some, None, slice_get, Moment, Logged, Accesses, IsOlderPart}
-use Rattle.check_certificate.proofs.Words.{Access, IsAccessAt, IsPut, IsLeftAt, Identity, Table, table_with, table_left_by, Happening, Completed}
-use Rattle.check_certificate.proofs.Words.{FileEntry, Answered, made_by, by_equality, if◌then◌else◌, Permits, Place, IsRequestDone, true, Looks}
-use Rattle.check_certificate.proofs.Words.{Takes, FindsFull, Puts, Allocates, Clears, either_option}
+use Rattle.check_certificate.proofs.Words.{◌≡◌, ℕ, ◌+◌, ◌-◌, ◌<◌, ◌≤◌, List, [], ◌∷◌, ◌++◌, length, refl, sym, ap, ◌∙◌, arith, inl, inr, subst, Some}
+use Rattle.check_certificate.proofs.Words.{⊎_elim, cases_lt, length-append, Option, None, slice_get, Moment, Logged, Accesses, IsOlderPart, Access}
+use Rattle.check_certificate.proofs.Words.{IsAccessAt, IsPut, IsLeftAt, Identity, Table, table_with, table_left_by, Happening, Completed, FileEntry}
+use Rattle.check_certificate.proofs.Words.{Answered, made_by, by_equality, Permits, Place, IsRequestDone, true, Looks, Takes, FindsFull, Puts, Clears}
+use Rattle.check_certificate.proofs.Words.{Allocates, either_option, IsInEach, MayInstall, is_negative, IsAccessMade, IsEventAt, IsForced, IsOfCall}
+use Rattle.check_certificate.proofs.Words.{TimedFlight, IsNoOther, IsTakenThen, IsTaking, TakesNone, slot_taken, IsWalked, LogBeginning, Point, Event}
+use Rattle.check_certificate.proofs.Words.{PointOrder, Gone, Put, At, Evidence, Leaves, Lands, Misses, IsCatalogue, answer_at_table, close_answer}
+use Rattle.check_certificate.proofs.Words.{Operation, Found, Intent, Install, Clear, Take, Look, Allocate, made_by-parts, IsCallOf, by_intents, IsOf}
+use Rattle.check_certificate.proofs.Words.{false≢true, last_finding, AreIntended}
 use Rattle.check_certificate.proofs.Called.{IsOfLog, answer_is, of_log}
 use Rattle.check_certificate.proofs.Forcing.{apart, call_id, event_at, loose_order, not_after, strict_from, strict_order, unless_after, weaker}
 use Rattle.check_certificate.proofs.Intended.{may_install}
@@ -12,33 +16,10 @@ use Rattle.check_certificate.proofs.Life.{put_here}
 use Rattle.check_certificate.proofs.Marks.{no_look as installs_not}
 use Rattle.check_certificate.proofs.Orders.{IsHere, call_before, flies, here, new_file, older, said, table}
 use Rattle.check_certificate.proofs.Parts.{access_of_part, none_of, one_more, part_cases, part_length, part_of_part, shorter, whole}
-use Rattle.check_certificate.specs.Absent.{IsInEach, MayInstall, is_negative}
-use Rattle.check_certificate.specs.Evidence.{IsAccessMade, IsEventAt}
-use Rattle.check_certificate.specs.Forced.{IsForced, IsOfCall, TimedFlight}
 use Rattle.check_certificate.specs.Landed.{IsInstalledBefore, LandsThere, MissesThere}
-use Rattle.check_certificate.specs.Taken.{IsNoOther, IsTakenThen, IsTaking, TakesNone, slot_taken}
-use Rattle.check_certificate.specs.Walked.{IsWalked}
-use Rattle.check_certificate.specs.declared.beginning.LogBeginning.{LogBeginning}
-use Rattle.check_certificate.specs.declared.certificate.Point.{Point}
-use Rattle.check_certificate.specs.declared.certificate.PointOrder.{PointOrder}
-use Rattle.check_certificate.specs.declared.certificate.Point.TheVariants.{Event, Gone, Put, Access as At}
-use Rattle.check_certificate.specs.declared.evidence.Evidence.{Evidence}
 use Rattle.check_certificate.specs.declared.walk.Landing.{Landing}
 use Rattle.check_certificate.specs.declared.walk.Leaving.{Leaving}
-use Rattle.check_certificate.specs.declared.walk.WalkAim.TheVariants.{Leaves, Lands, Misses}
-use Rattle.fx_base.specs.Catalogue.{IsCatalogue}
-use Rattle.fx_chain.specs.Intents.{answer_at_table, close_answer}
-use Rattle.fx_chain.specs.Operation.{Operation}
-use Rattle.fx_chain.specs.Refusal.{refusal_of}
-use Rattle.fx_chain.specs.declared.intent.Finding.TheVariants.{At as Found}
-use Rattle.fx_chain.specs.declared.intent.Intent.{Intent}
-use Rattle.fx_chain.specs.declared.intent.Intent.TheVariants.{Put as Install, Clear, Take, Look, Allocate}
-use Rattle.fx_flight.proofs.InTime.{made_by-parts}
-use Rattle.fx_flight.specs.Laws.{IsCallOf}
-use Rattle.fx_order.proofs.Intents.{by_intents}
-use Rattle.fx_order.proofs.Words.{IsOf, false≢true, last_finding}
 use Rattle.fx_order.specs.Access.{with_file}
-use Rattle.fx_order.specs.Requests.{AreIntended}
 
 -- The next moment of a flight after a part.
 
@@ -59,9 +40,7 @@ fewer flight id jd a b time late x y lt =
     let n : Moment = Accesses (record { chain = jd; access = b }) in
     let few = x.2 in let few_too = y.2 in
     let more : IsOlderPart (m ∷ x.0) y.0 = shorter y.0 (m ∷ x.0) (part_of_part y.1 (n ∷ [], refl)) x.1 (omega arith) in
-    let made : made_by id (m ∷ x.0) ≡ made_by id x.0 ++ a ∷ [] =
-    by_equality id id (λ c. (if c then made_by id x.0 ++ a ∷ [] else made_by id x.0) ≡ made_by id x.0 ++ a ∷ []) (λ _. refl)
-    (λ other. absurd (other refl)) in
+    let made : made_by id (m ∷ x.0) ≡ made_by id x.0 ++ a ∷ [] = grind (arith, by_equality) in
     let all : made_by id y.0 ≡ (made_by id x.0 ++ a ∷ []) ++ made_by id more.0 =
     ap (made_by id) more.1 ∙ (made_by-parts id more.0 (m ∷ x.0) ∙ ap (λ l. l ++ made_by id more.0) made) in
     let sum = ap length all in
@@ -88,14 +67,7 @@ put_there t own slot new file same is = grind arith
 
 pub takes_it : (t : Table) (a : Access) (slot : ℕ) (file : Identity) → Permits t a → t.at slot ≡ Some file
     → ((table_with t a).at slot ≡ Some file → ⊥) → IsTaking a slot file
-takes_it t (Looks own found) slot file may was gone = absurd (gone was)
-takes_it t (Puts own new removed) slot file may was gone =
-    let here = at_slot t own slot removed (Some new) file may.1 was gone in (here.0, here.1, λ same. gone (put_there t own slot new file here.0 same))
-takes_it t (Clears own removed) slot file may was gone = at_slot t own slot removed None file may.1 was gone
-takes_it t (Takes own removed) slot file may was gone = at_slot t own slot removed None file may.1 was gone
-takes_it t (Allocates own new) slot file may was gone =
-    let here = at_slot t own slot None (Some new) file may.0.1 was gone in let none = here.1 in cc
-takes_it t FindsFull slot file may was gone = absurd (gone was)
+takes_it t a slot file may was gone = grind (arith, at_slot, put_there)
 
 -- A member that failed takes no file.
 
@@ -115,25 +87,11 @@ module _ (catalogue : List FileEntry) (place : Place) where
   closed_none own (Some other) slot file low takes = false≢true low
 
   took_none_at_table : (operation : Operation) (accesses : List Access) → AreIntended catalogue place operation accesses → TookNone operation accesses
-  took_none_at_table operation accesses made = by_intents catalogue place TookNone
-      (λ name own entry taken named front a rest slot file is low takes. false≢true low)
-      (λ name own entry named front a rest slot file is low takes. false≢true low)
-      (λ name entry named front a rest slot file is low takes.
-      let none : IsTaking FindsFull slot file = subst (λ (x : Access). IsTaking x slot file) (sym (only FindsFull front a rest is)) takes in none)
-      (λ own off len found front a rest slot file is low takes.
-      let none : IsTaking (Looks own found) slot file = subst (λ (x : Access). IsTaking x slot file) (sym (only (Looks own found) front a rest is)) takes in none)
-      (λ own found front a rest slot file is low takes. closed_none own found slot file low (subst (λ (x : Access). IsTaking x slot file) (sym (only (Takes own found) front a rest is)) takes))
-      (λ off list l fits front a rest slot file is low takes. false≢true low)
-      operation accesses made
+  took_none_at_table operation accesses made = grind (arith, by_intents, only, closed_none)
 
 pub took_none : (catalogue : List FileEntry) (size : ℕ) (place : Place) (operation : Operation) (front : List Access) (a : Access) (rest : List Access) (c : Completed)
     → IsRequestDone catalogue size place operation (front ++ a ∷ rest) c → is_negative c.res ≡ true → (slot : ℕ) (file : Identity) → IsTaking a slot file → ⊥
-took_none catalogue size place operation front a rest c done low slot file takes =
-    either_option {R = ⊥} (refusal_of catalogue size operation)
-    (λ _ at_table. ⊎_elim (λ lacks. none_of front a rest (sym lacks.1.0))
-    (λ made. took_none_at_table catalogue place operation (front ++ a ∷ rest) made.0 front a rest slot file refl
-    (ap (λ (d : Completed). is_negative d.res) (sym made.1) ∙ low) takes) at_table)
-    (λ errno refused. none_of front a rest (sym refused.0)) done
+took_none catalogue size place operation front a rest c done low slot file takes = grind (arith, either_option, none_of, took_none_at_table)
 
 -- an order with these points
 pub same_order : (o : PointOrder) (from to : Point) → o.strict ≡ true → o.from ≡ from → o.to ≡ to → o ≡ strict_from from to
@@ -240,8 +198,7 @@ module _ {b : LogBeginning} (f : TimedFlight b) where
       ⊎_elim (λ never. omega arith)
       (λ last. let put = put_here (table f) l.slot l.file f.legal.flight (f.at (Put l.file)) (f.times.put l.file)
       (new_file f l.file id of l.slot) last.0 last.1 last.2 in
-      let at : IsAccessAt f.legal.flight put.0 put.1 (f.at (Put l.file)) = access_of_part put.0 put.1 (f.at (Put l.file)) last.1 put.3 in
-      let i = installed_by l.until e there put.0 l.slot (f.at (Put l.file)) put.1 l.file put.2 at early in
+      let i = installed_by l.until e there put.0 l.slot (f.at (Put l.file)) put.1 l.file put.2 (access_of_part put.0 put.1 (f.at (Put l.file)) last.1 put.3) early in
       absurd (not_there l i.by.intent (walked i.p put.0 i.requests i.low i.called i.by.n i.by.request i.by.asked i.by.k i.by.intent i.by.is)
       (may_install i.by.intent put.1 l.slot l.file i.by.of put.2)))
       (f.times.gone l.file l.slot).there
@@ -298,16 +255,13 @@ module _ (b : LogBeginning) where
   pub lands_forced : (l : Landing) → l.until < length b.events.now → (IsCatalogue b.catalogue.now → IsWalked b (Lands l)) → IsInstalledBefore b l
       → IsForced b (strict_from (Put l.file) (Gone l.file l.slot))
   lands_forced l inside walks installed f =
-      let e = event_at b l.until inside in
-      strict_order f.at (Put l.file) (Gone l.file l.slot)
-      (landed f l e.0 e.1 (walks f.sound.catalogue) (apart f.at (Put l.file) (Event l.until) (installed f)))
+      let e = event_at b l.until inside in grind (arith, strict_order, landed, apart)
 
   pub misses_forced : (l : Landing) (id : ℕ) → l.until < length b.events.now → (IsCatalogue b.catalogue.now → IsWalked b (Misses l)) → IsOfCall id l.file
       → IsInstalledBefore b l → IsForced b (not_after (Gone l.file l.slot) (Put l.file))
   misses_forced l id inside walks of installed f =
       let e = event_at b l.until inside in
-      loose_order f.at (Gone l.file l.slot) (Put l.file)
-      (missed f l e.0 id e.1 (walks f.sound.catalogue) of (apart f.at (Put l.file) (Event l.until) (installed f)))
+      grind (arith, apart, loose_order f.at (Gone l.file l.slot) (Put l.file), missed f l e.0 id e.1 (walks f.sound.catalogue) of (apart f.at (Put l.file) (Event l.until) (installed f)))
 
   pub not_before : (one other : Point) (o : PointOrder) → o ≡ not_after one other → IsInEach b (λ at. at one ≡ at other) → IsForced b o
   not_before one other o is same f = let one_time = same f in rw is (loose_order f.at one other (omega arith))
@@ -322,26 +276,6 @@ module _ (b : LogBeginning) where
   the_taker l point is f same = rw is same
 
   module _ (l : Leaving) (place : Place) (operation : Operation) (k : ℕ) where
-    -- An access of another slot, or of none.
-
-    taken_slot : (intent : Intent) (a : Access) (slot : ℕ) (file : Identity) → IsOf intent a → IsTaking a slot file → slot_taken intent ≡ Some slot
-    taken_slot (Install own new) a slot file of takes =
-        let here : IsTaking (Puts own new of.0) slot file = rw of.1 at takes in ap Some here.0
-    taken_slot (Clear own) a slot file of takes = let here : IsTaking (Clears own of.0) slot file = rw of.1 at takes in ap Some here.0
-    taken_slot (Take own) a slot file of takes = let here : IsTaking (Takes own of.0) slot file = rw of.1 at takes in ap Some here.0
-    taken_slot (Look own) a slot file of takes = let none : IsTaking (Looks own of.0) slot file = rw of.1 at takes in absurd none
-    taken_slot (Allocate new) a slot file (inl is) takes = let none : IsTaking (Allocates is.0 new) slot file = rw is.1 at takes in absurd none
-    taken_slot (Allocate new) a slot file (inr is) takes = let none : IsTaking FindsFull slot file = rw is at takes in absurd none
-
-    pub no_slot_takes_none : (intent : Intent) → slot_taken intent ≡ None → TakesNone b l place operation k intent
-    no_slot_takes_none intent none f a of takes made =
-        let both : None ≡ Some l.slot = sym none ∙ taken_slot intent a l.slot l.file of takes in absurd (cc)
-
-    pub other_slot_takes_none : (intent : Intent) (slot : ℕ) → slot_taken intent ≡ Some slot → (slot ≡ l.slot → ⊥) → TakesNone b l place operation k intent
-    other_slot_takes_none intent slot own other f a of takes made =
-        let both : Some slot ≡ Some l.slot = sym own ∙ taken_slot intent a l.slot l.file of takes in
-        let same : slot ≡ l.slot = cc in absurd (other same)
-
     pub put_itself : (own : ℕ) (file : Identity) → file ≡ l.file → TakesNone b l place operation k (Install own file)
     put_itself own file same f a of takes made =
         let here : IsTaking (Puts own file of.0) l.slot l.file = rw of.1 at takes in absurd (here.2 same)
@@ -350,9 +284,7 @@ module _ (b : LogBeginning) where
 
     pub put_takes_none : (own : ℕ) (file : Identity) → IsNoOther b l (Put file) → TakesNone b l place operation k (Install own file)
     put_takes_none own file other f a of takes made =
-        let put : IsPut a own file = rw of.1 (refl, refl) in
-        let same = (f.times.put file).each place.submission own (f.at (Gone l.file l.slot)) a put made.at in
-        other f (sym same)
+        let put : IsPut a own file = rw of.1 (refl, refl) in other f (sym ((f.times.put file).each place.submission own _ a put made.at))
 
     pub first_takes_none : (call answer : ℕ) (evidence : Evidence) (e : Happening) (c : Completed) (intent : Intent) → IsAccessMade b call answer k evidence
         → IsEventAt b call e → IsCallOf place.submission e → IsEventAt b answer (Answered place.submission c) → c.place ≡ place → place.member ≡ 1
@@ -366,25 +298,15 @@ module _ (b : LogBeginning) where
         let ends : x.ends ≡ Answered place.submission c = cc in
         let first : c.place.member ≡ 1 = ap (λ (p : Place). p.member) at_place ∙ member in
         let number = x.first (rw ends first) in
-        let time : f.at (At answer k) ≡ f.at (Gone l.file l.slot) = same_number f.legal.flight x.id place.submission same x.access a (f.at (At answer k))
-        (f.at (Gone l.file l.slot)) x.time made.at (number ∙ sym (made.first member)) in
-        other f time
+        other f (same_number f.legal.flight x.id place.submission same x.access a _ _ x.time made.at (number ∙ sym (made.first member)))
 
     pub later_takes_none : (call : ℕ) (e : Happening) (intent : Intent) → IsEventAt b call e → IsCallOf place.submission e
         → IsForced b (strict_from (Gone l.file l.slot) (Event call)) → TakesNone b l place operation k intent
     later_takes_none call e intent called own known f a of takes made =
-        let low = apart f.at (Gone l.file l.slot) (Event call) (known f) in
-        let late = call_before f called own made.at in absurd (omega arith)
+        grind (arith, apart f.at (Gone l.file l.slot) (Event call) (known f), call_before f called own made.at)
 
     -- An access of a member that failed.
 
     pub failed_takes_none : (answer : ℕ) (c : Completed) (intent : Intent) → IsEventAt b answer (Answered place.submission c) → c.place ≡ place
         → is_negative c.res ≡ true → TakesNone b l place operation k intent
-    failed_takes_none answer c intent answered at_place failed f a of takes made =
-        let got = answer_is f answer place.submission c answered in
-        let mine : slice_get (f.legal.answers place.submission) (place.member - 1) ≡ Some c =
-        ap (λ (p : Place). slice_get (f.legal.answers place.submission) (p.member - 1)) (sym at_place) ∙ got in
-        let both : Some made.c ≡ Some c = sym made.answer ∙ mine in
-        let same : made.c ≡ c = cc in
-        absurd (took_none b.catalogue.now (length b.slots.now.at.items) made.own operation made.front a made.rest made.c made.done
-        (ap (λ (d : Completed). is_negative d.res) same ∙ failed) l.slot l.file takes)
+    failed_takes_none answer c intent answered at_place failed f a of takes made = grind (arith, answer_is, took_none)

@@ -1,36 +1,17 @@
 -- The walk over all accesses that calls intend: its steps.
-use Rattle.check_certificate.proofs.Words.{◌≡◌, ℕ, ◌+◌, ◌<◌, ◌≤◌, List, length, sym, ap, ◌∙◌, arith, Some, Option, ⊎_elim, cases_lt, subst}
-use Rattle.check_certificate.proofs.Words.{slice_get, slice_index_or, Asked, Place, Called, Happening, FileEntry, either_option}
-use Rattle.check_certificate.proofs.Words.{Bool, true, false, suc, zero, refl, None, ◌-◌, if◌then◌else◌}
-use Rattle.check_certificate.specs.Holds.{first_answer, is_answered_at}
-use Rattle.check_certificate.specs.Said.{Given}
+use Rattle.check_certificate.proofs.Words.{◌≡◌, ℕ, ◌+◌, ◌<◌, ◌≤◌, List, length, sym, ap, ◌∙◌, arith, Some, Option, ⊎_elim, cases_lt, subst, slice_get}
+use Rattle.check_certificate.proofs.Words.{slice_index_or, Asked, Place, Called, Happening, FileEntry, either_option, Bool, true, false, suc, zero}
+use Rattle.check_certificate.proofs.Words.{refl, None, ◌-◌, first_answer, is_answered_at, Given, AreAllRuledOut, AreRuledOut, AreRuledOutTo, end_of}
+use Rattle.check_certificate.proofs.Words.{IsCallRuledOut, IsRuledOut, member_of, all_below, IsEventAt, slot_count, log_of_beginning, LogBeginning}
+use Rattle.check_certificate.proofs.Words.{WalkAim, IsCatalogue, IsIntent, intents_of, positions_of, Operation, all_asked, asked_of, refusal_of, ◌&&◌}
+use Rattle.check_certificate.proofs.Words.{Intent, Request, happening_of, LogEvent, as_many_intents, slice_get_within, length-map, slice_get-map, not}
+use Rattle.check_certificate.proofs.Words.{slice_get_read, ◌||◌, option_map}
 use Rattle.check_certificate.proofs.Forcing.{event_is, request_is}
 use Rattle.check_certificate.proofs.Intended.{intent_once}
-use Rattle.check_certificate.specs.Walked.{AreAllRuledOut, AreRuledOut, AreRuledOutTo, IsCallRuledOut, IsRuledOut, end_of, member_of}
-use Rattle.check_certificate.specs.Walks.{all_below}
-use Rattle.check_certificate.specs.Evidence.{IsEventAt, slot_count}
-use Rattle.check_certificate.specs.Forced.{log_of_beginning}
-use Rattle.check_certificate.specs.declared.beginning.LogBeginning.{LogBeginning}
-use Rattle.check_certificate.specs.declared.walk.WalkAim.{WalkAim}
-use Rattle.fx_base.specs.Catalogue.{IsCatalogue}
-use Rattle.fx_chain.specs.Intents.{IsIntent, intents_of, positions_of}
-use Rattle.fx_chain.specs.Operation.{Operation, all_asked, asked_of}
-use Rattle.fx_chain.specs.Refusal.{refusal_of}
-use Rattle.fx_chain.specs.declared.intent.Intent.{Intent}
-use Rattle.fx_chain.specs.declared.request.Request.{Request}
-use Rattle.fx_flight.specs.Events.{happening_of}
-use Rattle.fx_flight.specs.declared.event.LogEvent.{LogEvent}
-use Rattle.fx_order.proofs.Intents.{as_many_intents}
-use Rattle.fx_order.proofs.Words.{slice_get_within}
-use Rattle.std.proofs.lemmas.List.{length-map}
-use Rattle.std.proofs.lemmas.Option.{slice_get-map, slice_get_read}
-use Rattle.std.specs.Prelude.{◌&&◌, ◌||◌, not, option_map}
 
 -- a test of each number below a number, one more, and one that fails
 pub all_more : (test : ℕ → Bool) (n : ℕ) → test n ≡ true → all_below n test ≡ true → all_below (n + 1) test ≡ true
-all_more test n here before =
-    let next : n + 1 ≡ suc n = omega arith in
-    let both : all_below (suc n) test ≡ true = ap (λ (b : Bool). b && all_below n test) here ∙ before in rw next both
+all_more test n here before = grind arith
 
 pub not_all : (test : ℕ → Bool) (n k : ℕ) → k < n → test k ≡ false → all_below n test ≡ false
 not_all test zero k low here = absurd (omega arith)
@@ -42,10 +23,6 @@ not_all test (suc n) k low here = ⊎_elim
     and_false : (b : Bool) → (b && false) ≡ false
     and_false true = refl
     and_false false = refl
-
-pub or_true : (a b : Bool) → b ≡ true → (a || b) ≡ true
-or_true true b is = refl
-or_true false b is = is
 
 pub or_false : (a b : Bool) → a ≡ true → b ≡ false → (not a || b) ≡ false
 or_false true b early is = is
@@ -59,15 +36,11 @@ asked_at chain n r low is = slice_get-map asked_of chain n ∙ ap (option_map as
 -- the search for the answer of a member: at an event, past it, and at the end
 module _ (g : Given) (place : Place) (at : ℕ) where
   pub answer_here : at < length g.events → is_answered_at g at place ≡ true → first_answer g place (length g.events - at) at ≡ Some at
-  answer_here low here =
-      let left : length g.events - at ≡ suc (length g.events - (at + 1)) = omega arith in
-      rw left (ap (λ (b : Bool). if b then Some at else first_answer g place (length g.events - (at + 1)) (at + 1)) here)
+  answer_here low here = grind arith
 
   pub answer_later : at < length g.events → is_answered_at g at place ≡ false
       → first_answer g place (length g.events - at) at ≡ first_answer g place (length g.events - (at + 1)) (at + 1)
-  answer_later low here =
-      let left : length g.events - at ≡ suc (length g.events - (at + 1)) = omega arith in
-      rw left (ap (λ (b : Bool). if b then Some at else first_answer g place (length g.events - (at + 1)) (at + 1)) here)
+  answer_later low here = grind arith
 
   pub answer_none : length g.events ≤ at → first_answer g place (length g.events - at) at ≡ None
   answer_none past = let left : length g.events - at ≡ 0 = omega arith in rw left refl
@@ -85,12 +58,7 @@ module _ (b : LogBeginning) (aim : WalkAim) where
       → IsIntent b.catalogue.now (slot_count b) place operation access found
       → ((own : Intent) → found ≡ Some own → IsRuledOut b aim place operation access own)
       → AreRuledOutTo b aim place operation access → AreRuledOutTo b aim place operation (access + 1)
-  next_intent place operation access found is intended out before k intent low of =
-      ⊎_elim (λ early. before k intent early of)
-      (λ late. let same : k ≡ access = omega arith in
-      subst (λ (i : ℕ). IsRuledOut b aim place operation i intent) (sym same) (out intent (intent_once b.catalogue.now (slot_count b) place operation access found (Some intent) is intended
-      (subst (λ (i : ℕ). IsIntent b.catalogue.now (slot_count b) place operation i (Some intent)) same of))))
-      (cases_lt k access)
+  next_intent place operation access found is intended out before k intent low of = grind (arith, intent_once)
 
   pub all_intents : (place : Place) (operation : Operation) (end : ℕ) → length (positions_of operation) ≤ end
       → AreRuledOutTo b aim place operation end → AreRuledOut b aim place operation
@@ -103,25 +71,14 @@ module _ (b : LogBeginning) (aim : WalkAim) where
       → (k : ℕ) (request : Asked) → k < n + 1 → slice_get (all_asked chain) k ≡ Some request → AreRuledOut b aim (member_of id k) request.operation
   next_member id n chain r inside is out before k request low asked =
       ⊎_elim (λ early. before k request early asked)
-      (λ late. let same : n ≡ k = omega arith in
-      let own : asked_of r ≡ request = request_is chain n k r request same inside is asked in
-      subst (λ (i : ℕ). AreRuledOut b aim (member_of id i) request.operation) same
-      (subst (λ (a : Asked). AreRuledOut b aim (member_of id n) a.operation) own out))
+      (λ late. let same : n ≡ k = omega arith in grind (arith, request_is chain n k r request same inside is asked))
       (cases_lt k n)
 
   pub next_call : (at : ℕ) (event : LogEvent) → at < length b.events.now → event ≡ slice_index_or b.events.now at event
       → (at < end_of aim → IsCallRuledOut b aim (happening_of event))
       → ((p id : ℕ) (requests : List Asked) → p < at → p < end_of aim → IsEventAt b p (Called id requests) → AreAllRuledOut b aim id requests)
       → (p id : ℕ) (requests : List Asked) → p < at + 1 → p < end_of aim → IsEventAt b p (Called id requests) → AreAllRuledOut b aim id requests
-  next_call at event inside is out before p id requests low sooner there =
-      ⊎_elim (λ early. before p id requests early sooner there)
-      (λ late. let same : at ≡ p = omega arith in
-      let here : slice_get (log_of_beginning b) at ≡ Some (happening_of event) = event_is b.events.now at event inside is in
-      let called : slice_get (log_of_beginning b) at ≡ Some (Called id requests) = ap (slice_get (log_of_beginning b)) same ∙ there in
-      let both : Some (happening_of event) ≡ Some (Called id requests) = sym here ∙ called in
-      let one : happening_of event ≡ Called id requests = cc in
-      out (omega arith) id requests one)
-      (cases_lt p at)
+  next_call at event inside is out before p id requests low sooner there = grind (arith, event_is)
 
   -- an event at a position is one of the log
   pub event_inside : (p : ℕ) (event : Happening) → IsEventAt b p event → p < length b.events.now

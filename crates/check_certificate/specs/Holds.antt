@@ -4,7 +4,7 @@ use Rattle.std.specs.Prelude.{ℕ, ◌+◌, ◌-◌, ◌==◌, zero, suc, nat_lt
 use Rattle.std.specs.Prelude.{◌&&◌, ◌||◌, List, length, slice_index_or, Option, Some, None}
 use Rattle.std.specs.Prelude.{if◌then◌else◌}
 use Rattle.std.specs.List.{list_any}
-use Rattle.std.specs.Option.{is_none}
+use Rattle.std.specs.Option.{is_none, is_some}
 use Rattle.fx_base.specs.Identity.{Identity}
 use Rattle.fx_base.specs.declared.mark.Mark.{Mark}
 use Rattle.fx_base.specs.declared.mark.Mark.TheVariants.{Registered, Submitted}
@@ -13,6 +13,7 @@ use Rattle.fx_chain.specs.declared.completion.Place.{Place}
 use Rattle.fx_chain.specs.declared.intent.Intent.{Intent}
 use Rattle.fx_chain.specs.declared.intent.Intent.TheVariants.{Allocate, Put as Install}
 use Rattle.check_certificate.specs.Absent.{is_negative}
+use Rattle.check_certificate.specs.Contents.{other_read}
 use Rattle.check_certificate.specs.Made.{made}
 use Rattle.check_certificate.specs.Rules.{before, not_after, same_point, joined, events_in_order}
 use Rattle.check_certificate.specs.Rules.{begins, ends, installs, empties}
@@ -88,7 +89,7 @@ module _ (g : Given) where
   abbrev pub is_answered_at : ℕ → Place → Bool
   is_answered_at at place = is_some_so (done_at g at) (λ c. same_place c.place place)
 
-  -- the first one of so many events from a position on that is
+  -- the first one among `count` events from a position on that is
   abbrev pub first_answer : Place → ℕ → ℕ → Option ℕ
   first_answer place zero at = None
   first_answer place (suc count) at =
@@ -150,6 +151,7 @@ module _ (g : Given) where
   unfoldable pub is_absent : Holding → List PointOrder → MemberAccess → Identity → Bool
   is_absent h known by file =
       is_held h.found file || list_any (λ order. shows_absent order h file) known
+      || is_some (other_read g h file)
       || is_some_so (absence h by file) (λ order. shows_absent order h file)
 
   -- an access that is intended installs no file at the slot but absent ones

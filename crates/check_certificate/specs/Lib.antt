@@ -5,10 +5,11 @@ pub mod Answers
 pub mod Said
 pub mod Made
 pub mod Rules
+pub mod Cut
+pub mod Contents
 pub mod Holds
 pub mod Leaves
 pub mod Walks
-pub mod Cut
 pub mod Right
 pub mod Absent
 pub mod Taken

@@ -1,5 +1,5 @@
 //! The beginning of a log that is to be refuted.
-ghost use Rattle.std.specs.Prelude.{◌≡◌, length};
+ghost use Rattle.std.specs.Prelude.{◌≡◌, length, map};
 ghost use Rattle.fx_base.specs.Catalogue.{IsCatalogue};
 
 use fx_base::Catalogue;
@@ -17,6 +17,10 @@ pub(crate) struct LogBeginning<'a> {
     pub(crate) size: u32,
     /// The events of the beginning.
     pub(crate) events: &'a [LogEvent],
+    /// The bytes of each entry of the catalogue.
+    pub(crate) contents: &'a [Vec<u8>],
     ghost is_catalogue: { IsCatalogue catalogue.now },
     ghost is_size: { size ≡ length slots.now.at.items },
+    ghost are_contents: { map (λ own. own.items) contents.now
+        ≡ map (λ file. file.bytes) catalogue.now },
 }

@@ -193,7 +193,7 @@ pub enum Step {
         second: usize,
     },
     /// An access finds a file at a slot, and each other file isn't there, by a known order or by
-    /// the answer of its member.
+    /// the answer of its member, or has other bytes than the read answered.
     Holds(Holding),
     /// A file that was installed before an event is then at the only slot at which a request may
     /// install it: `Put(file) < Gone(file, slot)`.

@@ -16,8 +16,8 @@ use fx_base::Errno;
 use fx_chain::{Completion, Request};
 use fx_flight::LogEvent;
 
-// Returns the request of a call that an answer of the call answers.
-fn asked_by<'e>(begins: &'e LogEvent, c: &Completion) -> Option<&'e Request>
+/// Returns the request of a call that an answer of the call answers.
+pub(crate) fn asked_by<'e>(begins: &'e LogEvent, c: &Completion) -> Option<&'e Request>
     ensures { option_map (λ request. asked_of request.now) result
         ≡ rule.asked_by (happening_of begins.now) (completed_of c.now) }
 {

@@ -93,6 +93,9 @@ impl LogBeginning<'_> {
         if is_held(h.found, file) || is_known_absent(known, h, file) {
             return true;
         }
+        if self.other_read(h, file).is_some() {
+            return true;
+        }
         match self.absence(h, by, file) {
             Some(order) => shows_absent(&order, h, file),
             None => false,

@@ -9,6 +9,7 @@ mod absence;
 mod answers;
 mod beginning;
 mod certificate;
+mod contents;
 mod cut;
 mod events;
 mod evidence;
@@ -24,6 +25,7 @@ mod walk;
 
 pub use answers::is_impossible;
 pub use certificate::{Holding, OnlyFile, Point, PointOrder, Step};
+pub use contents::contents_of;
 pub use cut::is_cut_wrongly;
 pub use events::{was_closed, was_freed};
 pub use evidence::{Evidence, evidence_of};

@@ -15,6 +15,7 @@ ghost use Rattle.check_certificate.specs.declared.beginning.LogBeginning.{LogBeg
 
 use crate::beginning::LogBeginning;
 use crate::certificate::{PointOrder, Step};
+use crate::contents::contents_of;
 use fx_base::{Catalogue, Closed as File, Mark, NoMemory};
 use fx_flight::{LogEvent, fault_of_log};
 use fx_order::Slots;
@@ -226,11 +227,13 @@ pub fn is_refuted(
     if !log {
         return Ok(false);
     }
+    let contents = contents_of(alloc, catalogue)?;
     let beginning = LogBeginning {
         catalogue,
         slots,
         size,
         events: &events[..count],
+        contents: &contents,
     };
     let yes = beginning.refutes(alloc, certificate)?;
     Ok(yes)

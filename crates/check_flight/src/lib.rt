@@ -5,6 +5,8 @@
 //! `verdict.rt`.
 #![tactic(auto)]
 
+mod act;
+mod by_slot;
 mod call;
 mod explore;
 mod front;
@@ -20,6 +22,7 @@ mod propose;
 mod reached;
 mod refute;
 mod search;
+mod slot_run;
 mod state;
 mod step;
 mod turn;

@@ -21,7 +21,7 @@ fn is_found_at(events: &[LogEvent], position: usize, look: u32, found: Option<Cl
     }
 }
 
-impl JudgedLog<'_> {
+impl<'a> JudgedLog<'a> {
     // Returns an answer of the log: the one at a place, if there is one.
     fn answer_at(&self, place: Place) -> Option<&Completion>
         ensures { IfSome result (λ c. Contains (log_in self.now)
@@ -42,6 +42,28 @@ impl JudgedLog<'_> {
             Some(LogEvent::Found { id, file }) if *id == look => Some(*file),
             _ => None,
         }
+    }
+
+    /// Returns the event that calls the call with this number, from 1.
+    pub(crate) fn call(&self, id: u32) -> Option<&'a LogEvent> {
+        let at = self.positions.calls.get((id as usize).checked_sub(1)?)?;
+        self.events.get(*at)
+    }
+
+    /// Returns the answer at a place before a position, if there is one.
+    pub(crate) fn answer_before(&self, place: Place, at: usize) -> Option<&'a Completion> {
+        let answer = self.positions.answer_of(place.submission, place.member);
+        match self.events.get(answer) {
+            Some(LogEvent::Done(c)) if answer < at => Some(c),
+            _ => None,
+        }
+    }
+
+    /// Returns the file that a look found before a position, or none. `None` if it has no answer
+    /// there.
+    pub(crate) fn found_before(&self, look: u32, at: usize) -> Option<Option<Closed>> {
+        let found = self.found_by(look)?;
+        (self.positions.answer_of(look, 1) < at).then_some(found)
     }
 
     /// Checks whether the log has another answer of a look that finds this.

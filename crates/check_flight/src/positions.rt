@@ -15,9 +15,14 @@ struct FilePositions {
     found: Vec<u32>,
 }
 
+// The number of the last looks that are gone over.
+const LAST_LOOKS: usize = 32;
+
 /// The positions of answers, closes and holds in a log.
 #[derive(Drop)]
 pub(crate) struct LogPositions {
+    /// The positions of the calls.
+    pub(crate) calls: Vec<usize>,
     /// The positions of the answers, by call and member. A look has that of its answer, and that of
     /// the end of its hold.
     pub(crate) answers: Vec<Vec<usize>>,
@@ -41,6 +46,18 @@ pub(crate) fn file_number(file: Closed) -> u64
             let place = member % 64 * 64 + entry % 64;
             submission as u64 * 4096 + place as u64
         }
+    }
+}
+
+/// Returns the call and the member that install a file, both 0 for a file of a registration.
+pub(crate) fn install_place(file: Closed) -> (u32, u32) {
+    match file.mark {
+        Mark::Submitted {
+            submission,
+            member,
+            ..
+        } => (submission, member),
+        Mark::Registered { .. } => (0, 0),
     }
 }
 
@@ -70,6 +87,7 @@ impl LogPositions {
     fn add(&mut self, alloc: Global, event: &LogEvent, at: usize) -> Result<(), NoMemory> {
         match event {
             LogEvent::Call { .. } | LogEvent::Look { .. } => {
+                self.calls.push(at)?;
                 self.answers.push(Vec::new(alloc))?;
                 Ok(())
             }
@@ -118,6 +136,18 @@ impl LogPositions {
         None
     }
 
+    /// Checks whether a look finds the file that is called from a position on, and answered before
+    /// another one. It goes over the last looks that found the file.
+    pub(crate) fn is_found_after(&self, file: Closed, at: usize, end: usize) -> bool {
+        let Some(own) = self.of(file) else {
+            return false;
+        };
+        own.found.iter().rev().take(LAST_LOOKS).any(|look| {
+            let call = self.calls.get((*look as usize).saturating_sub(1));
+            call.is_some_and(|call| *call >= at) && self.answer_of(*look, 1) < end
+        })
+    }
+
     /// Returns the position of an answer, by its call and its member, or a very large number. The
     /// end of a look's hold is its member 2.
     pub(crate) fn answer_of(&self, id: u32, member: u32) -> usize {
@@ -148,6 +178,7 @@ impl LogPositions {
 /// Returns the positions of answers, closes and holds among the events.
 pub(crate) fn positions_in(alloc: Global, events: &[LogEvent]) -> Result<LogPositions, NoMemory> {
     let mut positions = LogPositions {
+        calls: Vec::new(alloc),
         answers: Vec::new(alloc),
         numbers: IndexSet::new(alloc),
         files: Vec::new(alloc),

@@ -71,7 +71,8 @@ pub(crate) struct Search {
     dead_until: usize,
 }
 
-// Returns an access as a move, and the state to which it leads, if it is allowed.
+// Returns an access as a move, and the state to which it leads, if it is allowed and takes no file
+// that a later look finds.
 fn lead_by(
     log: &JudgedLog<'_>,
     calls: &[ChainCall<'_>],
@@ -82,6 +83,12 @@ fn lead_by(
 ) -> Result<Option<Lead>, NoMemory> {
     let i = state.base.saturating_add(j);
     if i >= calls.len() {
+        return Ok(None);
+    }
+    let end = log.events.len();
+    if let Some(file) = access.removed()
+        && log.positions.is_found_after(file, at, end)
+    {
         return Ok(None);
     }
     let call = i.saturating_add(1).min(u32::MAX as usize) as u32;

@@ -1,4 +1,4 @@
-//! Where an access leads from a state.
+//! The state that an access leads to.
 ghost use Rattle.std.specs.Prelude.{◌≡◌, ◌+◌, ◌++◌, ◌<◌, [], IfOk, IfSome, IsPermutation};
 ghost use Rattle.std.specs.Prelude.{length, slice_index_or, slice_set};
 ghost use Rattle.std.specs.Option.{option_to_list};

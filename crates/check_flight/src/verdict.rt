@@ -12,6 +12,7 @@ ghost use Rattle.check_flight.specs.States.{HasNoFlightBy};
 ghost use Rattle.check_flight.specs.declared.verdict.FlightVerdict.TheVariants.{Faulty, Legal, NotLegal};
 ghost use Rattle.check_reason.specs.declared.reason.LogReason.{LogReason};
 
+use crate::by_slot::wrong_by_slot;
 use crate::judged::JudgedLog;
 use crate::player::is_flight;
 use crate::positions::positions_in;
@@ -59,6 +60,8 @@ fn room_for(slots: &Slots, limits: Limits) -> usize {
 const FIRST_STATES: usize = 10_000;
 // The same of the second search.
 const SECOND_STATES: usize = 100_000;
+// The largest number of states at an event by which a beginning is refuted at once.
+const FEW_STATES: usize = 1_000;
 
 // The number of events from the front that is saved to the one after which no state is left.
 const SAVED_BEFORE: usize = 1_000;
@@ -241,6 +244,30 @@ fn decide_wholly(
     }
 }
 
+// Returns the verdict on a log of which a search found no flight of the first `count` events, and
+// none of the first `high`.
+fn explained_first(
+    log: &JudgedLog<'_>,
+    slots: &Slots,
+    count: usize,
+    high: usize,
+) -> Result<FlightVerdict, NoMemory>
+    requires { IsTableOf log.now slots.now }
+    ensures { IfOk result (IsRight log.now slots.now) }
+{
+    let verdict = explained(log, slots, count, false)?;
+    if count >= high || !matches!(verdict, FlightVerdict::Undecided) {
+        return Ok(verdict);
+    }
+    if is_refuted_alone(log, slots, count, FEW_STATES)? {
+        return explained(log, slots, count, true);
+    }
+    if high < log.events.len() {
+        return explained(log, slots, high, false);
+    }
+    Ok(verdict)
+}
+
 // Decides whether the log has a flight, by searches with at most `quick` states and a certificate.
 // If nothing was shown, the hint is the number of events of a beginning of which they found none.
 fn decide_quickly(
@@ -257,8 +284,11 @@ fn decide_quickly(
     if yes {
         return Ok(FlightVerdict::Legal);
     }
-    *hint = wrong_beginning(log, slots, &search, quick)?;
-    explained(log, slots, *hint, false)
+    let (by_slot, all) = (wrong_by_slot(log, slots)?, log.events.len());
+    let is_by_slot = search.furthest < by_slot && by_slot <= all;
+    let high = if is_by_slot { by_slot } else { all };
+    *hint = wrong_beginning(log, slots, &search, high, quick)?;
+    explained_first(log, slots, *hint, high)
 }
 
 // Decides whether the log has a flight, by quick searches first.

@@ -57,15 +57,20 @@ fn is_possible(
 }
 
 // Returns the number of events of the shortest beginning without a flight that a search finds, if a
-// search of the log reached `low` events, and no further. It tries numbers near `low` first.
+// search of the log reached `low` events, and no further, and `high` events have no flight. It
+// tries one less than `high` first, and then numbers near `low`.
 fn shortest_wrong(
     log: &JudgedLog<'_>,
     calls: &[ChainCall<'_>],
     start: &Start,
-    low: usize,
+    (low, high): (usize, usize),
     most: usize,
 ) -> Result<usize, NoMemory> {
-    let (mut low, mut high, mut ahead) = (low, log.events.len(), 0usize);
+    let last = high.saturating_sub(1);
+    if last > low && is_possible(log, calls, start, last, most)? {
+        return Ok(high);
+    }
+    let (mut low, mut high, mut ahead) = (low, high, 0usize);
     for _ in 0..128 {
         let left = high.saturating_sub(low);
         if left < 2 {
@@ -83,11 +88,12 @@ fn shortest_wrong(
 }
 
 /// Returns the number of events of the shortest beginning without a flight that searches find.
-/// `search` is one that found no flight of the log.
+/// `search` is one that found no flight of the log. The first `high` events have none.
 pub(crate) fn wrong_beginning(
     log: &JudgedLog<'_>,
     slots: &Slots,
     search: &Search,
+    high: usize,
     most: usize,
 ) -> Result<usize, NoMemory> {
     let alloc = log.setting.alloc;
@@ -98,7 +104,7 @@ pub(crate) fn wrong_beginning(
         }
     }
     let start = start_of(log, slots, search)?;
-    shortest_wrong(log, &calls, &start, search.furthest, most)
+    shortest_wrong(log, &calls, &start, (search.furthest, high), most)
 }
 
 /// Checks whether the states that flights of the first `count` events reach refute them, with at

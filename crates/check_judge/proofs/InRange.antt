@@ -5,12 +5,11 @@ use Rattle.check_judge.proofs.Words.{All-head, All-nil, All-tail, FileEntry, Err
 use Rattle.check_judge.proofs.Words.{Asked, Operation, Place, accesses_of, accesses_of_chain, Access, ChainAccess, IsRequestDone, IsChainDone}
 use Rattle.check_judge.proofs.Words.{AreChainsDone, either_way, AreFiles, length-drop, get_or-drop, get_or-take, get_or_past, length-take}
 use Rattle.check_judge.proofs.Words.{IsCompletionInRange, IsPlaceInRange, cases_lt, refusal, bytes_at, part_of, Allocates, both_parts, ◌==◌, not}
-use Rattle.check_judge.proofs.Words.{filter, map, sym, ap, slice_get-get_or, slice_index_or, option_map, All-map, tag_completion, tags_of, Closed}
-use Rattle.check_judge.proofs.Words.{IsFileInRange, runs_of, each_all, RingState, Reported, IsOneOrder, table_of, lines_of, named_close, RingSlots}
-use Rattle.check_judge.proofs.Words.{MayBeClosed, ring_with_slots, name_of, IsTrue, unwrap_or, AreLinesInRange, IsCloseInRange, is_without}
-use Rattle.check_judge.proofs.Words.{All-filter, AllByRecursion, completion_so, name_without_end, IsBytes, IsAllocationInRange}
+use Rattle.check_judge.proofs.Words.{filter, map, slice_get-get_or, All-map, tag_completion, tags_of, Closed, IsFileInRange, runs_of, each_all}
+use Rattle.check_judge.proofs.Words.{RingState, Reported, IsOneOrder, table_of, lines_of, named_close, RingSlots, MayBeClosed, ring_with_slots}
+use Rattle.check_judge.proofs.Words.{name_of, IsTrue, AreLinesInRange, IsCloseInRange, is_without, All-filter, AllByRecursion, completion_so}
+use Rattle.check_judge.proofs.Words.{name_without_end, IsBytes, IsAllocationInRange}
 use Rattle.fx_base.specs.declared.catalogue.TheConstants.{LONGEST_ENTRY}
-use Rattle.fx_base.specs.declared.errno.Errno.TheVariants.{ENOENT}
 use Rattle.fx_base.specs.declared.tag_completion.TagCompletion.{TagCompletion}
 use Rattle.check_lines.proofs.CompletionTexts.{no_bytes}
 use Rattle.check_judge.proofs.StrandClaims.{possible_of_chain}
@@ -49,8 +48,7 @@ given {catalogue} entry off len are = of (slice_get catalogue entry) refl
         }
 
 error : {place : Place} → IsPlaceInRange place → (errno : Errno) → IsCompletionInRange (refusal place errno)
-error {place} is ENOENT = record { place = is; res = omega arith; got = no_bytes }
-error {place} is _ = record { place = is; res = omega arith; got = no_bytes }
+error is errno = grind (arith, no_bytes)
 
 number_in_range : {n : ℕ} {place : Place} → IsPlaceInRange place → n < 2 ^ 31 → IsCompletionInRange (completed place (pos n) [])
 number_in_range {place} is few = record { place = is; res = few; got = no_bytes }
@@ -110,10 +108,7 @@ no_entry = record { name = []; bytes = [] }
 -- the name of an entry has no line end
 name_fits : {catalogue : List FileEntry} {entry : ℕ} → AreFiles catalogue → entry < length catalogue → IsTrue (is_without 10 (name_of catalogue entry))
 name_fits {catalogue} {entry} are inside =
-    let name = (slice_index_or catalogue entry no_entry).name in
-    let is : name ≡ name_of catalogue entry =
-    sym (ap (λ x. unwrap_or (option_map (λ file. file.name) x) []) (slice_get-get_or catalogue entry no_entry inside)) in
-    subst (λ (l : List ℕ). IsTrue (is_without 10 l)) is (name_without_end name (are.catalogue.named entry no_entry inside))
+    grind (arith, name_without_end, slice_get-get_or catalogue entry no_entry inside, are.catalogue.named entry no_entry inside)
 
 abbrev IsSmall : ℕ → Type 0
 IsSmall tag = tag < 2 ^ 64

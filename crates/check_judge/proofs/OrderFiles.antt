@@ -4,12 +4,11 @@ use Rattle.check_judge.proofs.Words.{Submitted, Completed, next_member, first_me
 use Rattle.check_judge.proofs.Words.{IsRequestDone, IsChainDone, AreChainsDone, either_way, by_equality, Installed, OneInstalled, Closed, sym, ap}
 use Rattle.check_judge.proofs.Words.{◌∙◌, ◌^◌, All, Contains, subst, All-map, AreInRange, IsFileInRange, IsAccepted, IsChain, members_of, runs_of}
 use Rattle.check_judge.proofs.Words.{Chain, each_all, RingState, Reported, accesses_of, RingSlots, IsOneOrder, table_of, ring_with_slots, AreFrom}
-use Rattle.check_judge.proofs.Words.{IsFileAtSlot, MayBeClosed, ◌⊎◌, All-weaker, HasNone, MayCloseAll, removes_contained}
-use Rattle.check_judge.proofs.Words.{files_removed_in, fault_of, IsRingKept, MOST_SUBMISSIONS, None, false, zero, suc, map, drop, refl, Some}
-use Rattle.check_judge.proofs.Words.{slice_index_or, length-map, slice_get-get_or, is_lt, name_at, all_completed, all_asked, Slots, named_close_of}
-use Rattle.check_judge.proofs.Words.{named_close, named_closes, ClosedLine, AreApart, name_of, drop_all, get_or-map, get_or_default, HasDistinctMarks}
-use Rattle.check_judge.proofs.Words.{each_placed, Contains-permutation, IsPermutation-sym, Request, chains_of, accepted-chains, members-are-runs}
-use Rattle.check_judge.proofs.Words.{are_runs}
+use Rattle.check_judge.proofs.Words.{IsFileAtSlot, MayBeClosed, ◌⊎◌, All-weaker, MayCloseAll, removes_contained, files_removed_in, fault_of}
+use Rattle.check_judge.proofs.Words.{IsRingKept, MOST_SUBMISSIONS, None, false, zero, suc, map, drop, refl, Some, slice_index_or, length-map}
+use Rattle.check_judge.proofs.Words.{slice_get-get_or, is_lt, name_at, all_completed, all_asked, Slots, named_close_of, named_close, named_closes}
+use Rattle.check_judge.proofs.Words.{ClosedLine, AreApart, name_of, drop_all, get_or-map, get_or_default, HasDistinctMarks, each_placed}
+use Rattle.check_judge.proofs.Words.{Contains-permutation, IsPermutation-sym, Request, chains_of, accepted-chains, members-are-runs, are_runs}
 use Rattle.check_lines.proofs.Marks.{neither_below, same_cmp}
 use Rattle.fx_base.specs.CloseList.{IsInOrderOfMark}
 use Rattle.fx_chain.specs.declared.completion.Completion.{Completion}
@@ -99,13 +98,8 @@ module _ {catalogue : List FileEntry} {old : RingSlots} {asked : List Asked} (s 
   abbrev known : AreKnown before asked report.closes.files
   known = each_closed_file_is_known before asked report left s.kept.is_ring s.accepted one
 
-  -- a mark of the next submission is of no file at a slot
-  none_next : {file : Closed} → IsOfNext before asked file → HasNone old.slots file.mark
-  none_next next slot g h4 same = grind arith
-
   may_close : {file : Closed} → IsThere before file ⊎ IsOfNext before asked file → MayBeClosed catalogue old.slots file
-  may_close {file} = ⊎_elim (λ there. record { inside = s.kept.is_ring.entries there.0 file there.2; from = inl (there.0, there.2) })
-      (λ next. record { inside = next.inside; from = inr (next.untagged, none_next next) })
+  may_close = grind arith
 
   pub may_close_all : MayCloseAll catalogue old.slots report.closes.files
   may_close_all = record {
@@ -118,10 +112,7 @@ module _ {catalogue : List FileEntry} {old : RingSlots} {asked : List Asked} (s 
   placed_installed : (slot : ℕ) (f : Closed) → Has (placed (accesses_of one.order)) slot f → OneInstalled asked report.completions f.mark
   placed_installed slot f has =
       let at = has_in_chain (length catalogue) AnyPlace report.submission (length (runs_of asked)) one.order one.is.chains slot f has in
-      let high = at.2 in
-      subst (λ (l : List Asked). OneInstalled l report.completions f.mark) (are_runs asked).whole
-      (chains_installed slot f catalogue (length old.slots.at.items) report.submission 1 (runs_of asked) one.order report.completions
-      one.is.done at.1 (omega arith) at.3)
+      grind (arith, are_runs, chains_installed)
 
   pub are_from : AreFrom old.slots asked report.completions report.closes.files
   are_from = each_all (λ file. IsFileAtSlot old.slots file ⊎ OneInstalled asked report.completions file.mark) report.closes.files (λ file has.
@@ -172,8 +163,7 @@ module _ (catalogue : List FileEntry) (slots : Slots) (apart : AreApart catalogu
 
   -- where a file at a slot has the mark, it is that one
   pub same_file : {other : Closed} → other.mark ≡ mark → IsFileAtSlot slots other → other ≡ file
-  same_file {other} is there = ⊎_elim (λ here. apart.marks other file there here (is ∙ sym marks))
-      (λ new. absurd (new.1 there.0 other there.1 (is ∙ sym marks))) may.from
+  same_file is there = grind arith
 
 -- the line of one of several files
 pub close_at : (catalogue : List FileEntry) (files : List Closed) (lines : List ClosedLine) {i : ℕ} {line : ClosedLine} (d : Closed)

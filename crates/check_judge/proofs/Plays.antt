@@ -3,8 +3,8 @@ use Rattle.check_judge.proofs.Words.{◌≡◌, ◌≤◌, List, sym, subst, IsA
 use Rattle.check_judge.proofs.Words.{each_order_is_a_history, NonePast, ring_with_files, shows_ring, ◌↔◌, ◌-◌, ℕ, ◌++◌, drop, length, length-append}
 use Rattle.check_judge.proofs.Words.{take, ap, ◌∙◌, arith, length-take-le, take-append-drop, FileEntry, RingContents, Instruction, Prints, RingSlots}
 use Rattle.check_judge.proofs.Words.{BeginsWith, IsMet, ContinuesText, IsStep, ring_with_slots, inl, inr, ⊎_elim, ◌⊎◌, Some, None, ENOMEM, MOST_SLOTS}
-use Rattle.check_judge.proofs.Words.{LeadsNowhere, table_of_slots, result_line, negated, AreInRange, IsRingKept, suc, ◌+◌, ◌<◌, []}
-use Rattle.check_judge.proofs.Words.{◌∷◌, refl, slice_index_or, Option, append-nil, append_assoc, length-drop, option_to_list, take_all, new_ring}
+use Rattle.check_judge.proofs.Words.{LeadsNowhere, table_of_slots, result_line, negated, AreInRange, IsRingKept, suc, ◌+◌, ◌<◌, [], ◌∷◌, refl}
+use Rattle.check_judge.proofs.Words.{slice_index_or, Option, append-nil, append_assoc, length-drop, option_to_list, take_all, new_ring}
 use Rattle.check_judge.proofs.Words.{instruction_of, instructions_of, MayPrintBy, LeadsTo, Fault, Order, add-zero, zero-add, add-one, HasNoCloses}
 use Rattle.check_judge.proofs.Words.{Meaning, MayPrintAllBy, PrintsAllBy, mapped_at, shown}
 use Rattle.check_judge.specs.Judged.{IsBrokenFrom, IsJudged, IsJudgedFrom, MayPrintFront, PrintsBeginning}
@@ -107,8 +107,7 @@ module _ (catalogue : List FileEntry) (old : RingSlots) (command : Instruction) 
           }) met
 
       pub never : memory_word before command ≡ None → LeadsNowhere before command text
-      never none next others g =
-          ⊎_elim (not_found g) (λ f. never_fails before command none f.0 f.1.0) ((answers_at g.ring next g.line g.same).0 g.prints)
+      never none next others g = grind (arith, not_found, never_fails, answers_at)
 
 -- the properties of a ring that are kept hold after a call
 pub call_keeps : (catalogue : List FileEntry) (old new : RingSlots) (command : Instruction) → IsRingKept catalogue old
@@ -186,7 +185,7 @@ at_start start all text = record { along = λ aim more can. rw zero-add at can; 
 -- a judgement from a ring without a table is one on the script
 pub judged_script : (script : Meaning) (text : List ℕ) (judgement : Judgement) → IsJudgedFrom (new_ring script.catalogue) script.commands text judgement
     → IsJudged script text judgement
-judged_script script text judgement h4 = grind (arith, all_printed)
+judged_script script text judgement holds = grind (arith, all_printed)
 
 module _ {start : RingState} {all : List Instruction} {text : List ℕ} {done at : ℕ} {orders : List Order} {now : RingState}
     (so_far : GoesWith start all text done at orders now) where
@@ -226,23 +225,13 @@ module _ {start : RingState} {all : List Instruction} {text : List ℕ} {done at
         (λ more left can. absurd (omega arith))
 
     pub ended : PrintsEnd now (drop at text) → MayPrintAllBy start all text orders
-    ended end =
-        printed Whole all (drop at text) text (take_all done all past) (take-append-drop at text)
-        (λ ring same. (subst (λ (r : RingState). PrintsEnd r (drop at text)) (sym same) end, refl))
+    ended end = grind (arith, Whole, past, printed Whole all (drop at text) text (take_all done all past) (take-append-drop at text))
 
   module _ {command : Instruction} (is : drop done all ≡ command ∷ drop (done + 1) all) where
     played : (aim : Aim) (more : ℕ) → CanPrint aim start (take (done + suc more) all) text
         → (next : RingContents) × (others : List ℕ) × ContinuesText now command (drop at text) next others
         × PrintsTo aim next (take more (drop (done + 1) all)) others
-    played aim more can =
-        let here = so_far.along aim (suc more) can in
-        let later = take more (drop (done + 1) all) in
-        let (next, line, others, prints, split, rest) = parts aim here.ring command later (rw is at here.prints) in (
-          next,
-          others,
-          record { ring = here.ring; line = line; same = here.same; prints = prints; split = split; behind = no_closes aim next later rest },
-          rest,
-        )
+    played aim more can = grind (arith, parts, no_closes, so_far.along aim (suc more) can)
 
     pub stops : (ring : RingSlots) (fault : Fault) → at ≤ length text → LeadsNowhere now command (drop at text)
         → IsBrokenFrom start all text (record { commands = done; at = at; ring = ring; fault = fault })

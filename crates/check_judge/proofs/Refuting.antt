@@ -1,12 +1,12 @@
 -- Reports that no order leads to.
-use Rattle.check_judge.proofs.Words.{◌≡◌, inl, inr, ℕ, zero, suc, ◌+◌, ◌≤◌, List, [], ◌∷◌, length, sym, ◌∙◌, arith, All-contains}
-use Rattle.check_judge.proofs.Words.{Contains, Option, Some, None, slice_index_or, Vec, AllZip, Closed, by_equality, Table, Permits, PermitsAll}
-use Rattle.check_judge.proofs.Words.{table_with, accesses_of, accesses_of_chain, contains_head, contains_tail, Access, ChainAccess, Fits, found_by}
-use Rattle.check_judge.proofs.Words.{left_by, HasNoOrder, Claim, table_of_slots, slice_get_cases}
-use Rattle.check_judge.proofs.Words.{Brings, contains_none, Slots, ap, AllByRecursion, all_completed, Asked, RingState, IsRing}
-use Rattle.check_judge.proofs.Words.{files_removed_in, Allocates, IsOneOrder, table_of, AreDone, AreClaims, IsAllocationInRange, IfRefuted, same_size}
-use Rattle.check_judge.proofs.Words.{◌-◌, Removes, emptied, removes_contained, IsBrought, IsKnown, IsPermutation-sym, Contains-permutation, runs_of}
-use Rattle.check_judge.proofs.Words.{IsRecordedOutcome, recorded_report, Recorded, no_file_that_stays_is_closed}
+use Rattle.check_judge.proofs.Words.{◌≡◌, inl, inr, ℕ, zero, suc, ◌+◌, ◌≤◌, List, [], ◌∷◌, length, sym, ◌∙◌, arith, All-contains, Contains, Option}
+use Rattle.check_judge.proofs.Words.{Some, None, slice_index_or, Vec, AllZip, Closed, by_equality, Table, Permits, PermitsAll, table_with}
+use Rattle.check_judge.proofs.Words.{accesses_of, accesses_of_chain, contains_head, contains_tail, Access, ChainAccess, Fits, found_by, left_by}
+use Rattle.check_judge.proofs.Words.{HasNoOrder, Claim, table_of_slots, slice_get_cases, Brings, contains_none, Slots, ap, AllByRecursion}
+use Rattle.check_judge.proofs.Words.{all_completed, Asked, RingState, IsRing, files_removed_in, IsOneOrder, table_of, AreDone, AreClaims}
+use Rattle.check_judge.proofs.Words.{IsAllocationInRange, IfRefuted, same_size, ◌-◌, Removes, emptied, removes_contained, IsBrought, IsKnown}
+use Rattle.check_judge.proofs.Words.{IsPermutation-sym, Contains-permutation, runs_of, IsRecordedOutcome, recorded_report, Recorded}
+use Rattle.check_judge.proofs.Words.{no_file_that_stays_is_closed}
 use Rattle.check_judge.specs.declared.part.PartVerdict.{PartVerdict}
 use Rattle.check_judge.specs.declared.part.PartVerdict.TheVariants.{Refuted}
 use Rattle.check_judge.proofs.RequestClaims.{at_after, found_at, some_or_none, untouched, same_range}
@@ -18,7 +18,7 @@ module _ (closes : List Closed) (file : Closed) where
   FindsIt a = left_by a ≡ Some file → found_by a ≡ Some file
 
   finds : (a : Access) (claim : Claim) → Fits closes claim a → (Brings claim file → ⊥) → FindsIt a
-  finds a claim h3 none = grind arith
+  finds a claim holds none = grind arith
 
   -- each access of a chain fits one of its claims
   fitting : (claims : List Claim) (accesses : List Access) {a : Access} → AllZip (Fits closes) claims accesses → Contains accesses a
@@ -71,17 +71,12 @@ never_known {closes} {file} slots chains has not =
 
 -- If there is no order of a table's accesses, no order leads to the report.
 
-possible_one : (table : Table) {size : ℕ} {range : ℕ × ℕ} (a : Access) → table.size ≡ size → table.range ≡ range → Permits table a
-    → IsAllocationInRange size range a
-possible_one table (Allocates s file) is are may = (rw is at may.0.0, rw are at may.1.0, rw are at may.1.1)
-possible_one table a is are may = tt
-
 -- an access that a table permits is possible there
 pub possible_all : (table : Table) (size : ℕ) (range : ℕ × ℕ) (accesses : List Access) → table.size ≡ size → table.range ≡ range → PermitsAll table accesses
     → AllByRecursion (IsAllocationInRange size range) accesses
 possible_all table size range [] is are may = tt
 possible_all table size range (a ∷ accesses) is are may =
-    (possible_one table a is are may.0, possible_all (table_with table a) size range accesses (same_size table a ∙ is) (same_range table a ∙ are) may.1)
+    grind (arith, same_size, same_range, possible_all (table_with table a) size range accesses (same_size table a ∙ is) (same_range table a ∙ are) may.1)
 
 module _ (old : RingState) (requests : List Asked) (recorded : Recorded) where
   abbrev pub IsDone : List ChainAccess → Type 0

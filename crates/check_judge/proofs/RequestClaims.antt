@@ -1,14 +1,13 @@
 -- The claims of requests, by what they intend, and the accesses that fit them.
-use Rattle.check_judge.proofs.Words.{FileEntry, bytes_at, Closed, installed, Completed, completed_of, Opens, Operation, operation_of, Place}
-use Rattle.check_judge.proofs.Words.{AreAppended, Concludes, Fits, IsAllocationInRange, IsAnsweredBy, LeavesSo, Possibly, Expected, found_by, left_by}
-use Rattle.check_judge.proofs.Words.{touched, cells_after, IsCell, ShowsFile, Cell, Claim, At, Full, Leaves, Empty, Same, Resident, Condition}
-use Rattle.check_judge.proofs.Words.{Permits, Table, file_removed_by, table_with, FindsFull, Looks, Takes, Access, by_equality, unchanged}
-use Rattle.check_judge.proofs.Words.{changed_at, has_slot, All, Contains, Err, IsSome, List, None, Ok, Option, Result, Some, [], ap, append_assoc}
-use Rattle.check_judge.proofs.Words.{arith, false, if◌then◌else◌, inl, inr, int_lt, is_some, length, map, negsuc, pos, refl, slice_get, subst}
-use Rattle.check_judge.proofs.Words.{suc, sym, take, true, zero, ℕ, ℤ, ◌++◌, ◌+◌, ◌<◌, ◌||◌, ◌∙◌, ◌∷◌, ◌≡◌, ◌⊎◌, true≢false, and_from}
-use Rattle.check_judge.proofs.Words.{take_more, All-head, All-map, All-tail, All-weaker, slice_get_within, same_Some}
-use Rattle.check_judge.proofs.Words.{get_or_from_slice_get, AllByRecursion, AllZip, same_size, list_all-from_AllPass, IsDecided, IsMade, answer}
-use Rattle.check_judge.proofs.Words.{IsOpened, Closes, Reads, Updates, nat_tests, all_zipped_more}
+use Rattle.check_judge.proofs.Words.{FileEntry, bytes_at, Closed, Completed, completed_of, Opens, Operation, operation_of, Place, AreAppended}
+use Rattle.check_judge.proofs.Words.{Concludes, Fits, IsAllocationInRange, IsAnsweredBy, LeavesSo, Possibly, Expected, found_by, left_by, touched}
+use Rattle.check_judge.proofs.Words.{cells_after, IsCell, ShowsFile, Cell, Claim, At, Full, Leaves, Empty, Same, Resident, Condition, Permits, Table}
+use Rattle.check_judge.proofs.Words.{file_removed_by, table_with, FindsFull, Looks, Takes, Access, by_equality, unchanged, changed_at, has_slot, All}
+use Rattle.check_judge.proofs.Words.{Contains, List, None, Option, Result, Some, [], ap, append_assoc, arith, false, if◌then◌else◌, inl, inr, int_lt}
+use Rattle.check_judge.proofs.Words.{length, map, negsuc, pos, refl, slice_get, subst, suc, sym, take, true, zero, ℕ, ℤ, ◌++◌, ◌+◌, ◌<◌, ◌||◌, ◌∙◌}
+use Rattle.check_judge.proofs.Words.{◌∷◌, ◌≡◌, ◌⊎◌, true≢false, and_from, take_more, All-head, All-map, All-tail, All-weaker, slice_get_within}
+use Rattle.check_judge.proofs.Words.{same_Some, get_or_from_slice_get, AllByRecursion, AllZip, same_size, list_all-from_AllPass, IsDecided, IsMade}
+use Rattle.check_judge.proofs.Words.{answer, IsOpened, Closes, Reads, Updates, nat_tests, all_zipped_more}
 use Rattle.check_judge.specs.declared.answered.AnsweredRequest.{AnsweredRequest}
 use Rattle.check_judge.specs.declared.judgement.Stop.{Stop}
 use Rattle.check_search.specs.Machine.{allows, cell_at, cell_with, is_same, is_taken, may_leave, suits}
@@ -17,7 +16,7 @@ use Rattle.fx_base.proofs.Entries.{entry_named}
 use Rattle.fx_chain.specs.Intents.{answer_at_table, bytes_read, intents_of, list_intents}
 use Rattle.fx_chain.specs.declared.intent.Finding.{Finding}
 use Rattle.fx_chain.specs.declared.intent.Intent.{Intent}
-use Rattle.fx_chain.specs.declared.intent.Intent.TheVariants.{Allocate, Look, Take}
+use Rattle.fx_chain.specs.declared.intent.Intent.TheVariants.{Look, Take}
 use Rattle.fx_chain.specs.declared.request.Target.TheVariants.{Any, Slot}
 use Rattle.fx_order.proofs.Intents.{single}
 use Rattle.fx_order.specs.Access.{IsOf}
@@ -26,8 +25,7 @@ use Rattle.fx_chain.specs.declared.intent.Finding.TheVariants.{At as FoundAt}
 -- what was decided of all b is decided of all a, if each a has its b
 pub decides_by : (A B X : Type 0) (P : A → Type 0) (Q : B → Type 0) (IsRight : X → A → Type 0) (WasRight : X → B → Type 0) (r : Result X Stop)
     → ((a : A) → P a → (b : B) × Q b × ((x : X) → WasRight x b → IsRight x a)) → Concludes B X Q WasRight r → Concludes A X P IsRight r
-decides_by A B X P Q IsRight WasRight (Ok x) so right = λ a done. let own = so a done in own.2 x (right own.0 own.1)
-decides_by A B X P Q IsRight WasRight (Err stop) so none = λ refutes a done. let own = so a done in none refutes own.0 own.1
+decides_by A B X P Q IsRight WasRight r so holds = grind arith
 
 -- The claims of a request's accesses, one after another.
 
@@ -78,8 +76,7 @@ pub untouched : (table : Table) (a : Access) → touched a ≡ None → (table_w
 untouched table a is = grind arith
 
 pub same_range : (table : Table) (a : Access) → (table_with table a).range ≡ table.range
-same_range table (Looks s found) = refl
-same_range table a = refl
+same_range table a = grind arith
 
 -- a cell after an access, with the file at its slot then
 pub moved : (table : Table) (closes : List Closed) (a : Access) (cell : Cell) (file : Option Resident) → IsCell table closes cell
@@ -105,11 +102,8 @@ module _ (closes : List Closed) where
       → may_leave shown ≡ true
   leaving found shown shows closed = grind arith
 
-  shown_some : (found : Option Closed) (shown : Option Resident) → ShowsFile closes found shown → IsSome found → is_some shown ≡ true
-  shown_some found shown shows some = grind arith
-
   taken : (table : Table) (cell : Cell) → IsCell table closes cell → Permits table FindsFull → is_taken cell ≡ true
-  taken table cell is may = grind (arith, shown_some)
+  taken table cell is may = grind arith
 
   module _ (table : Table) (cells : List Cell) (a : Access) (all : All (IsCell table closes) cells) (may : Permits table a)
       (seen : has_slot cells (touched a) ≡ true) (closed : (f : Closed) → file_removed_by a ≡ Some f → Contains closes f) where
@@ -133,10 +127,7 @@ module _ (closes : List Closed) where
 
     all_kept : {slot : ℕ} (file : Option Resident) → touched a ≡ Some slot → ShowsFile closes (left_by a) file
         → All (IsCell (table_with table a) closes) (map (cell_with slot file) cells)
-    all_kept {slot} file is shows =
-        All-map (IsCell (table_with table a) closes) (cell_with slot file) cells
-        (All-weaker (IsCell table closes) (λ cell. IsCell (table_with table a) closes (cell_with slot file cell))
-        (λ cell now. kept_cell file is shows now) cells all)
+    all_kept {slot} file is shows = grind (arith, All-weaker, kept_cell, All-map (IsCell (table_with table a) closes) (cell_with slot file) cells)
 
     pub cells_follow : (claim : Claim) → Fits closes claim a → All (IsCell (table_with table a) closes) (cells_after cells claim)
     cells_follow claim fits = grind (arith, at_after, unchanged, found_at, All-weaker, moved, all_kept)
@@ -174,14 +165,6 @@ module _ (catalogue : List FileEntry) (place : Place) (entry : ℕ) where
       → IsDecided place (by operation) x
   decided operation made got = subst (IsDecidedAt (by operation)) got (all_decided operation made)
 
-  -- one access, or the answer doesn't depend on what is found
-  shape : (operation : Operation) → ((x : Intent) × (intents_of place entry operation ≡ x ∷ [])) ⊎ ((found : Option Finding) → by operation found ≡ by operation None)
-  shape (Opens name (Slot slot)) = inr (λ _. refl)
-  shape (Opens name Any) = inl (Allocate (installed place 0 entry), refl)
-  shape (Reads slot off len) = inl (Look slot, refl)
-  shape (Closes slot) = inl (Take slot, refl)
-  shape (Updates off list) = inr (λ _. refl)
-
 -- so the completion is the answer by what each access found
 module _ (it : AnsweredRequest) where
   abbrev pub intents : List Intent
@@ -195,7 +178,7 @@ module _ (it : AnsweredRequest) where
   same_made said (x ∷ xs) [] inside fits = absurd fits
 
   pub all_made : (own : List Access) → Possibly it.setting.size it.setting.range (IsAnsweredBy it) own → AllZip (IsMade it) intents own
-  all_made own done = grind (arith, single, answer, same_made, shape)
+  all_made own done = grind (arith, single, answer, same_made)
 
 -- the bytes of the answer by a file that is found
 pub got_by_entry : (catalogue : List FileEntry) (place : Place) (operation : Operation) (file : Closed)
@@ -234,5 +217,4 @@ module _ (it : AnsweredRequest) {slot : ℕ} where
 -- an entry of the catalogue alone has the name of a request
 pub only_so : (catalogue : List FileEntry) (operation : Operation) (entry : ℕ) → IsOpened catalogue operation entry
     → ((k : ℕ) → k < length catalogue → IsOpened catalogue operation k → k ≡ entry) → (other : ℕ) → IsOpened catalogue operation other → other ≡ entry
-only_so catalogue (Opens name target) entry is each other named = each other (entry_named catalogue other name named) named
-only_so catalogue operation entry is each other opened = opened ∙ sym is
+only_so catalogue operation entry is each other holds = grind (arith, entry_named)

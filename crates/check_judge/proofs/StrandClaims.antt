@@ -3,14 +3,14 @@ use Rattle.check_judge.proofs.Words.{inl, inr, ℕ, List, [], ◌∷◌, sym, su
 use Rattle.check_judge.proofs.Words.{contains_tail, Access, ChainAccess, IsAllocationInRange, of_chain, own_first, contains_cases, contains_none, ◌≡◌}
 use Rattle.check_judge.proofs.Words.{◌⊎◌, zero, suc, ◌+◌, ◌≤◌, Bool, true, false, ◌++◌, length, filter, cond, refl, ap, ◌∙◌, arith, slice_get, Some}
 use Rattle.check_judge.proofs.Words.{if◌then◌else◌, Vec, AllZip, append-nil, Closed, by_equality, AreClaims, Fits, touched, AreStrands, keeps, seen}
-use Rattle.check_judge.proofs.Words.{slot_claimed, strand_for, Cell, Claim, At, Full, Strand, ⊎_elim, nil_from_length, AllZip-long, ◌<◌, map, drop}
-use Rattle.check_judge.proofs.Words.{All, slice_index, slice_set, Option, option_to_list, length-map, length-set, All-contains}
-use Rattle.check_judge.proofs.Words.{Contains-append_right, slice_get_within, Table, Permits, PermitsAll, table_with, table_after, file_removed_by}
-use Rattle.check_judge.proofs.Words.{files_removed_in, Standing, HasNoOrder, table_of_slots, eq-eqb, IsEndOfClaims, Ends, cells_after}
-use Rattle.check_judge.proofs.Words.{is_staying, may_stay, next, IsCell, ShowsFile, has_slot, Resident, All-weaker, true≢false, length-drop}
-use Rattle.check_judge.proofs.Words.{drop_more, drop_all, cases_Bool, list_all-from_AllPass, same_Some, slice_get_cases, slice_get_past, not_own}
-use Rattle.check_judge.proofs.Words.{Slots, each_set, Completed, next_member, first_member, severs, Asked, Place, AreDone, AreMembersDone, Possibly}
-use Rattle.check_judge.proofs.Words.{IsRequestDone, take, both_parts, parts_of}
+use Rattle.check_judge.proofs.Words.{slot_claimed, strand_for, Cell, Claim, Strand, ⊎_elim, nil_from_length, AllZip-long, ◌<◌, map, drop, All}
+use Rattle.check_judge.proofs.Words.{slice_index, slice_set, Option, option_to_list, length-map, length-set, All-contains, Contains-append_right}
+use Rattle.check_judge.proofs.Words.{slice_get_within, Table, Permits, PermitsAll, table_with, table_after, file_removed_by, files_removed_in}
+use Rattle.check_judge.proofs.Words.{Standing, HasNoOrder, table_of_slots, eq-eqb, IsEndOfClaims, Ends, cells_after, is_staying, may_stay, next}
+use Rattle.check_judge.proofs.Words.{IsCell, ShowsFile, has_slot, Resident, All-weaker, true≢false, length-drop, drop_more, drop_all, cases_Bool}
+use Rattle.check_judge.proofs.Words.{list_all-from_AllPass, same_Some, slice_get_cases, slice_get_past, not_own, Slots, each_set, Completed}
+use Rattle.check_judge.proofs.Words.{next_member, first_member, severs, Asked, Place, AreDone, AreMembersDone, Possibly, IsRequestDone, take}
+use Rattle.check_judge.proofs.Words.{both_parts, parts_of}
 use Rattle.check_search.proofs.Uneven.{slots_after}
 use Rattle.check_search.specs.Machine.{HasNoEnd}
 use Rattle.check_search.specs.Starts.{starting}
@@ -40,8 +40,7 @@ of_its_chain (y ∷ order) {x} has = elim (contains_cases y order x has) [
 
 -- a claim is of the slot of its access
 same_slot : (closes : List Closed) (claim : Claim) (a : Access) → Fits closes claim a → touched a ≡ slot_claimed claim
-same_slot closes (At slot condition leaves) a fits = fits.0
-same_slot closes Full a fits = ap touched fits
+same_slot closes claim a fits = grind arith
 
 -- the claims of these slots are those of the accesses there
 pub zip_kept : (closes : List Closed) (cells : List Cell) (claims : List Claim) (accesses : List Access) → AllZip (Fits closes) claims accesses

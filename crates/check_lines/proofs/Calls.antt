@@ -1,28 +1,20 @@
 -- The calls between submissions: the rings that they leave, and their lines.
-use Rattle.check_lines.proofs.Words.{Instruction, SetsRange, SubmitsAll, RingSlots, Slots}
-use Rattle.check_lines.proofs.Words.{after_call, call_of, unless_refused, IsCall, accepted_following, word_unless, memory_word, append_assoc}
-use Rattle.check_lines.proofs.Words.{both_options, List, None, Option, Some, [], ap, arith, refl, subst, sym, ℕ, ◌∙◌, ◌≡◌, ◌≤◌, FileEntry, Bool}
-use Rattle.check_lines.proofs.Words.{MatchBool, if◌then◌else◌, inl, inr, nat_le, true, ◌+◌, Errno, registered_rings, updated_rings}
-use Rattle.check_lines.proofs.Words.{counted_still, none_rings, Table, ring_with_slots, table_of_slots, IsRing}
-use Rattle.check_lines.proofs.Words.{RingState, HasClosed, RingContents, ring_of, MOST_REGISTRATIONS, MOST_SUBMISSIONS}
-use Rattle.check_lines.proofs.Words.{AreInRange, ◌<◌, ◌^◌, pos, negsuc, ◌++◌, All, IfSome, unwrap_or, ⊎_elim, ◌↔◌, ◌⊎◌, append-nil, nil_from_length}
-use Rattle.check_lines.proofs.Words.{length_permutation, CloseListView, ENOMEM, Closed, negated, closes_text, result_line}
-use Rattle.check_lines.proofs.Words.{MatchOption, fault_of, CutFault, MOST_SLOTS, CallAnswers, IsCallRefused, Prints}
+use Rattle.check_lines.proofs.Words.{Instruction, SetsRange, SubmitsAll, RingSlots, Slots, after_call, call_of, unless_refused, IsCall}
+use Rattle.check_lines.proofs.Words.{memory_word, append_assoc, both_options, List, None, Option, Some, [], ap, arith, subst, sym, ℕ, ◌∙◌, ◌≡◌, ◌≤◌}
+use Rattle.check_lines.proofs.Words.{FileEntry, inl, inr, Errno, registered_rings, updated_rings, counted_still, none_rings, Table, ring_with_slots}
+use Rattle.check_lines.proofs.Words.{table_of_slots, IsRing, RingState, HasClosed, RingContents, ring_of, MOST_REGISTRATIONS, AreInRange, ◌<◌, ◌^◌}
+use Rattle.check_lines.proofs.Words.{pos, ◌++◌, All, IfSome, unwrap_or, ⊎_elim, ◌↔◌, ◌⊎◌, append-nil, nil_from_length, length_permutation}
+use Rattle.check_lines.proofs.Words.{CloseListView, ENOMEM, Closed, negated, closes_text, result_line, MatchOption, fault_of, MOST_SLOTS}
+use Rattle.check_lines.proofs.Words.{IsCallRefused, Prints}
 use Rattle.check_lines.proofs.Entries.{none_holds, inside_of, IsAtOne, all_in_order, all_removed, closes_printed}
 pub use Rattle.check_lines.specs.Calls.{AnswersFound, Call, IsLineOf, IsNoSubmission, YieldsCall as Tells, YieldsClosed}
 use Rattle.check_lines.proofs.Decimals.{one_result}
-
--- what holds of the ring of a call, whether or not it is refused
-unless_so : (P : RingState → Type 0) (x : Option Errno) {old left : RingState} → P old → (x ≡ None → P left) → P (unless_refused x old left)
-unless_so P (Some errno) so goes = so
-unless_so P None so goes = goes refl
 
 -- so it holds of it if it holds of the ring before the call, and of what the call leaves that isn't
 -- refused
 pub still : (P : RingState → Type 0) {ring : RingState} (command : Instruction) → P ring
     → ((call_of ring command).refusal ≡ None → P (call_of ring command).left) → P (after_call ring command)
-still P (SubmitsAll asked) so goes = so
-still P {ring} command so goes = unless_so P (call_of ring command).refusal so goes
+still P command so goes = grind arith
 
 -- the files of a copy, and of slots without files, are in range
 
@@ -43,25 +35,16 @@ none_in_range slots none slot file is = let e : None ≡ Some file = sym (ap (λ
 ranged : {ring : RingState} (range : ℕ × ℕ) → IsRing ring → IsRing (record ring { range = range })
 ranged range is = grind (arith, counted_still)
 
-left_ring : {ring : RingState} (command : Instruction) → IsRing ring → (call_of ring command).refusal ≡ None → IsRing (call_of ring command).left
-left_ring command is none = grind (arith, none_rings, registered_rings, none_holds, ranged, updated_rings)
-
 pub called_ring : {ring : RingState} (command : Instruction) → IsRing ring → IsRing (after_call ring command)
-called_ring command is = still IsRing command is (left_ring command is)
+called_ring command is = grind (arith, still, none_rings, registered_rings, none_holds, ranged, updated_rings)
 
 -- a call counts no submission, and is refused where no registration is counted any more
 pub called_submissions : (ring : RingState) (command : Instruction) → (after_call ring command).submissions ≡ ring.submissions
-called_submissions ring (SubmitsAll asked) = refl
-called_submissions ring command = still (λ (r : RingState). r.submissions ≡ ring.submissions) command refl (λ _. refl)
-
-left_registrations : (ring : RingState) (command : Instruction) → ring.registrations ≤ MOST_REGISTRATIONS → (call_of ring command).refusal ≡ None
-    → (call_of ring command).left.registrations ≤ MOST_REGISTRATIONS
-left_registrations ring command few none = grind (arith, none_holds)
+called_submissions ring command = grind (arith, still)
 
 pub called_registrations : (ring : RingState) (command : Instruction) → ring.registrations ≤ MOST_REGISTRATIONS
     → (after_call ring command).registrations ≤ MOST_REGISTRATIONS
-called_registrations ring command few =
-    still (λ (r : RingState). r.registrations ≤ MOST_REGISTRATIONS) command few (left_registrations ring command few)
+called_registrations ring command few = grind (arith, still, none_holds)
 
 -- The calls between submissions: their lines, and what a failed allocation leaves.
 
@@ -75,8 +58,7 @@ TakesMemory _ = Unit {0}
 pub told_closed : (ring : RingState) (head : List ℕ) (closed : Option (List Closed)) {closes : CloseListView} {line : List ℕ}
     → HasClosed (unwrap_or closed []) closes → line ≡ head ++ closes_text ring.catalogue closes.files → YieldsClosed ring head closed line
 told_closed ring head None {closes} has is =
-    let none : closes.files ≡ [] = nil_from_length closes.files (length_permutation [] closes.files has.same_files) in
-    is ∙ ap (λ (files : List Closed). head ++ closes_text ring.catalogue files) none ∙ append-nil head
+    rw (nil_from_length closes.files (length_permutation [] closes.files has.same_files), append-nil) at is
 told_closed ring head (Some files) {closes} has is = (closes, has, is)
 
 -- the line of an accepted call is its result, and the lines of the files that it closes
@@ -112,9 +94,8 @@ pub not_refused : (ring : RingState) (word : List ℕ) (n : ℕ) (closed : Optio
     → YieldsClosed ring (result_line word (pos n)) closed line → line ++ behind ≡ result_line word (negated ENOMEM) ++ more → ⊥
 not_refused ring word n closed line behind more few tells same =
     let (tail, is) = tail_of ring (result_line word (pos n)) closed line tells in
-    let e : pos n ≡ negsuc 11 = (one_result word (pos n) (negated ENOMEM) (tail ++ behind) more few (omega arith)
-    (sym (append_assoc (result_line word (pos n)) tail behind) ∙ ap (λ (l : List ℕ). l ++ behind) (sym is) ∙ same)).0 in
-    cc
+    cc (one_result word (pos n) (negated ENOMEM) (tail ++ behind) more few (omega arith)
+    (rw (is, append_assoc (result_line word (pos n)) tail behind) at same)).0
 
 -- A call between submissions, or a refused submission, leaves one ring and prints one line, or
 -- finds no memory.
@@ -134,27 +115,7 @@ Fails old command new line =
 both_parts : (x : Option Errno) (old new : RingState) (call : Call) (line : List ℕ)
     → MatchOption x ((new ≡ call.left) × Tells old call line) (IsCallRefused old new call.word line)
     ↔ ((new ≡ unless_refused x old call.left) × AnswersFound x call.word (Tells old call) line)
-both_parts (Some errno) old new call line = ((λ p. p), (λ p. p))
-both_parts None old new call line = ((λ p. p), (λ p. p))
-
--- the same of a call that takes memory
-memory_parts : (x : Option Errno) (old new : RingState) (call : Call) (line : List ℕ)
-    → CallAnswers x ((new ≡ call.left) × Tells old call line) (IsCallRefused old new call.word line)
-    ↔ (((new ≡ unless_refused x old call.left) × AnswersFound x call.word (Tells old call) line)
-    ⊎ FailsAt x old new call.word line)
-memory_parts (Some errno) old new call line = (inl, ⊎_elim (λ p. p) (λ r. absurd (let e : Some errno ≡ None = r.0 in cc)))
-memory_parts None old new call line = (⊎_elim inl (λ r. inr (refl, r.0, r.1)), ⊎_elim inl (λ r. inr (r.1, r.2)))
-
-uncounted : (b : Bool) {count : ℕ} → (if b then count else count + 1) ≡ count → b ≡ true
-uncounted b is = grind arith
-
--- and of a submission that isn't counted
-refused_parts : (x : Option CutFault) {count : ℕ} (same reports : Type 0) (line many : List ℕ) (text : CutFault → List ℕ)
-    → accepted_following count x ≡ count
-    → MatchOption x (MatchBool (nat_le MOST_SUBMISSIONS count) (same × (line ≡ many)) reports) (λ fault. same × (line ≡ text fault))
-    ↔ (same × MatchOption x (line ≡ many) (λ fault. line ≡ text fault))
-refused_parts (Some fault) same reports line many text is = ((λ p. p), (λ p. p))
-refused_parts None {count} same reports line many text is = rw (uncounted (nat_le MOST_SUBMISSIONS count) is) ((λ p. p), (λ p. p))
+both_parts x old new call line = grind arith
 
 -- only calls that take memory fail
 found_alone : {P A F : Type 0} → P ↔ A → P ↔ (A ⊎ (⊥ × F))
@@ -165,22 +126,20 @@ found_or_not one = ((λ p. ⊎_elim inl (λ f. inr (tt, f)) (one.0 p)), (λ q. o
 
 pub answers : (old next : RingContents) (command : Instruction) (line : List ℕ) → IsCall old.submissions command
     → Prints old command next line ↔ (Answers (ring_of old) command (ring_of next) line ⊎ Fails (ring_of old) command (ring_of next) line)
-answers old next command line counts = grind (arith, found_alone, both_parts, refused_parts, found_or_not, memory_parts)
+answers old next command line counts = grind (arith, found_alone, both_parts, found_or_not)
 
 -- no two lines are that of a call
 
 either_line : (x : Option Errno) (word : List ℕ) (prints : List ℕ → Type 0) {a b : List ℕ} → (prints a → prints b → a ≡ b)
     → AnswersFound x word prints a → AnswersFound x word prints b → a ≡ b
-either_line (Some errno) word prints one first second = first ∙ sym second
-either_line None word prints one first second = one first second
+either_line x word prints one first second = grind arith
 
 pub one_line_of : {ring : RingState} (command : Instruction) {a b : List ℕ} → IsRing ring → IsLineOf ring command a → IsLineOf ring command b → a ≡ b
 one_line_of (SubmitsAll asked) is_ring =
     both_options (fault_of asked) (λ first second. first ∙ sym second) (λ fault first second. first ∙ sym second)
 one_line_of {ring} command {a} {b} is_ring =
     let call = call_of ring command in
-    either_line call.refusal call.word (Tells ring call)
-    (one_told ring (result_line call.word (pos call.res)) call.closed a b is_ring (there ring command))
+    grind (arith, there, either_line call.refusal call.word (Tells ring call), one_told ring (result_line call.word (pos call.res)) call.closed a b is_ring (there ring command))
 
 -- nor is the line of a call that finds memory that of one that finds none
 
@@ -198,10 +157,6 @@ pub not_failed : (ring : RingState) (command : Instruction) (line behind more : 
 not_failed ring command line behind more few takes none told = grind (arith, not_refused, few_told, told_of)
 
 -- the word of a call that may fail
-word_at : (x : Option Errno) {own word : List ℕ} → word_unless x own ≡ Some word → (x ≡ None) × (word ≡ own)
-word_at (Some errno) {own} {word} is = absurd (let e : None ≡ Some word = is in cc)
-word_at None {own} {word} is = (refl, let e : Some own ≡ Some word = is in cc)
-
 pub may_fail : (ring : RingState) (command : Instruction) {word : List ℕ} → memory_word ring command ≡ Some word
     → TakesMemory command × ((call_of ring command).refusal ≡ None) × (word ≡ (call_of ring command).word)
 may_fail ring command is = grind arith

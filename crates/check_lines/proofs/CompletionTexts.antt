@@ -11,8 +11,7 @@ parts_count catalogue size submission chain [] history completions are = ap leng
 parts_count catalogue size submission chain (run ∷ runs) history completions (own, others, whole, explained, more) =
     let here : length own ≡ length run = explained_count catalogue size _ run _ own explained in
     let there : length others ≡ length (flat_map (λ run. run) runs) = parts_count catalogue size submission (chain + 1) runs history others more in
-    let all = ap length whole in let both = length-append own others in
-    let apart = length-append run (flat_map (λ run. run) runs) in omega arith
+    omega (arith, ap length whole, length-append own others, length-append run (flat_map (λ run. run) runs))
 
 pub each_request : ReportsHaveEachRequest
 each_request old asked report new one = grind (arith, parts_count, are_runs)

@@ -53,8 +53,7 @@ cut_here at text i inside here before = record {
 -- the parts of a text that is cut are these
 pub parts_are : {at : ℕ} {text front behind : List ℕ} → IsCut at text front behind → (before after : List ℕ) → is_without at before ≡ true
     → get_or after 0 at ≡ at → text ≡ before ++ after → (before ≡ front) × (after ≡ behind)
-parts_are {at} {text} {front} {behind} cut before after none here same =
-    cut_once at before after front behind none cut.without here cut.begins (sym same ∙ cut.split)
+parts_are cut before after none here same = grind (arith, cut_once)
 
 -- The bytes of a read, as they are printed.
 
@@ -76,8 +75,7 @@ got_behind [] = refl
 got_behind (b ∷ got) = ap (drop 1) (some_got b got)
 
 pub got_begins : (got : List ℕ) → get_or (got_text got) 0 32 ≡ 32
-got_begins [] = refl
-got_begins (b ∷ got) = ap (λ (t : List ℕ). get_or t 0 32) (some_got b got)
+got_begins got = grind (arith, some_got)
 
 -- they have no line end
 pub got_without : (got : List ℕ) → IsBytes got → is_without 10 (got_text got) ≡ true

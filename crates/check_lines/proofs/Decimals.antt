@@ -1,21 +1,16 @@
 -- Decimal numbers and results as they are printed.
-use Rattle.check_lines.proofs.Words.{nat_tests, Bool, false, List, None, if◌then◌else◌, suc, ℕ, ◌∙◌, ◌≡◌, ◌++◌, ◌≤◌, ap, length, sym, Some}
-use Rattle.check_lines.proofs.Words.{not, arith, zero, refl, ◌∷◌, true, nat_le, ◌<◌, get_or, ◌==◌, ◌^◌, unwrap_or, le-leb, leb-true}
-use Rattle.check_lines.proofs.Words.{append_assoc, pos, ℤ, ◌||◌, codes, decimal, negsuc, ◌&&◌, BeginsWithOneResult, IsResultInRange}
-use Rattle.check_lines.proofs.Words.{is_without, is_digit, is_decimal, number_up_to, result_line, and_from, and_parts, append_cancel_left}
+use Rattle.check_lines.proofs.Words.{nat_tests, false, List, suc, ℕ, ◌≡◌, ◌++◌, ◌≤◌, ap, length, Some, not, arith, zero, refl, ◌∷◌, true}
+use Rattle.check_lines.proofs.Words.{nat_le, ◌<◌, get_or, ◌==◌, ◌^◌, unwrap_or, append_assoc, ℤ, ◌||◌, codes, decimal, ◌&&◌, BeginsWithOneResult}
+use Rattle.check_lines.proofs.Words.{IsResultInRange, is_without, is_digit, is_decimal, number_up_to, and_from, append_cancel_left}
 use Rattle.check_lines.proofs.Words.{signed_decimal, list_all}
 use Rattle.std.specs.Str.Parse.{digits_value}
-use Rattle.std.proofs.lemmas.Fmt.{decimal_digit, decimal_nonempty, first_decimal, digits_decimal, digits_value-decimal}
-use Rattle.std.proofs.lemmas.Fmt.{signed_decimal_injective}
-use Rattle.std.proofs.lemmas.Str.Parse.{IsNumeralModel, IsDigitsTest, numerals_by_value}
+use Rattle.std.proofs.lemmas.Fmt.{decimal_digit, decimal_nonempty, first_decimal, digits_decimal, digits_value-decimal, signed_decimal_injective}
+use Rattle.std.proofs.lemmas.Str.Parse.{IsNumeralModel, numerals_by_value}
 use Rattle.check_lines.proofs.Cuts.{cut_once, without_failing}
 use Rattle.std.specs.Int.Signed.{mag}
 
-tells : IsDigitsTest (λ ds. list_all is_digit ds ≡ true)
-tells = grind (arith, and_from)
-
 own : IsNumeralModel (λ ds. list_all is_digit ds ≡ true) (digits_value 10)
-own = numerals_by_value _ tells
+own = grind (arith, numerals_by_value, and_from)
 
 from_shape : {n first : ℕ} → 0 < n → (first ≡ 48 → n ≡ 1) → (n == 1 || (nat_le 2 n && not (first == 48))) ≡ true
 from_shape some one = grind (arith, nat_tests)
@@ -32,25 +27,15 @@ decimal_is {n} small =
 
 -- the number of its text
 pub number_of : (largest n : ℕ) → largest < 2 ^ 64 → n ≤ largest → number_up_to largest (decimal n) ≡ Some n
-number_of largest n small inside =
-    let value : digits_value 10 (decimal n) ≡ n = digits_value-decimal own n (omega arith) in
-    let within : nat_le (digits_value 10 (decimal n)) largest ≡ true = le-leb _ _ (omega arith) in
-    ap (λ b. if b then Some (digits_value 10 (decimal n)) else None)
-    (and_from (is_decimal (decimal n)) (nat_le (digits_value 10 (decimal n)) largest) (decimal_is (omega arith)) within) ∙ ap Some value
-
-by_test : (largest : ℕ) (word : List ℕ) (test : Bool) → is_decimal word && nat_le (digits_value 10 word) largest ≡ test
-    → unwrap_or (if test then Some (digits_value 10 word) else None) 0 ≤ largest
-by_test largest word true is = leb-true _ _ (and_parts (is_decimal word) _ is).1
-by_test largest word false is = omega arith
+number_of largest n small inside = grind (arith, and_from, decimal_is, digits_value-decimal own n (omega arith))
 
 -- no number above the largest one
 pub at_most : (largest : ℕ) (word : List ℕ) → unwrap_or (number_up_to largest word) 0 ≤ largest
-at_most largest word = by_test largest word _ refl
+at_most largest word = grind arith
 
 pub number_is : {largest r : ℕ} {word : List ℕ} → r ≡ unwrap_or (number_up_to largest word) 0 → largest < 2 ^ 64 → (n : ℕ) → n ≤ largest
     → word ≡ decimal n → n ≡ r
-number_is {largest} is small n inside same =
-    sym (is ∙ ap (λ (w : List ℕ). unwrap_or (number_up_to largest w) 0) same ∙ ap (λ o. unwrap_or o 0) (number_of largest n small inside))
+number_is is small n inside same = grind (arith, number_of)
 
 -- a byte that isn't a digit is in no number
 pub decimal_without : (at n : ℕ) → is_digit at ≡ false → n < 2 ^ 64 → is_without at (decimal n) ≡ true
@@ -63,18 +48,10 @@ result_without at res none other fits = grind (arith, decimal_without, and_from)
 -- The line of a result determines the result.
 
 small : (res : ℤ) → IsResultInRange res → mag res < 2 ^ 63
-small (pos n) fits = omega arith
-small (negsuc n) fits = omega arith
-
-regroup : (word : List ℕ) (res : ℤ) (behind : List ℕ)
-    → result_line word res ++ behind ≡ word ++ (codes " " ++ (signed_decimal res ++ (10 ∷ behind)))
-regroup word res behind = simp append_assoc
+small res fits = grind arith
 
 pub one_result : BeginsWithOneResult
 one_result word res other behind more fits fits_other same =
     let tails : codes " " ++ (signed_decimal res ++ (10 ∷ behind)) ≡ codes " " ++ (signed_decimal other ++ (10 ∷ more)) =
-    append_cancel_left word _ _ (sym (regroup word res behind) ∙ same ∙ regroup word other more) in
-    let lines : signed_decimal res ++ (10 ∷ behind) ≡ signed_decimal other ++ (10 ∷ more) = append_cancel_left (codes " ") _ _ tails in
-    let parts = cut_once 10 (signed_decimal res) (10 ∷ behind) (signed_decimal other) (10 ∷ more)
-    (result_without 10 res refl refl fits) (result_without 10 other refl refl fits_other) refl refl lines in
-    let rests : 10 ∷ behind ≡ 10 ∷ more = parts.1 in (signed_decimal_injective res other (small res fits) (small other fits_other) parts.0, cc)
+    append_cancel_left word _ _ (simp append_assoc at same) in
+    grind (arith, signed_decimal_injective, cut_once 10 (signed_decimal res) (10 ∷ behind) (signed_decimal other) (10 ∷ more), result_without 10 res refl refl fits, result_without 10 other refl refl fits_other, small res fits, small other fits_other)

@@ -2,14 +2,13 @@
 use Rattle.check_lines.proofs.Words.{length-append, append_assoc, is_bad_entry, Instruction, MakesSparse, RegistersList, SetsRange, SubmitsAll}
 use Rattle.check_lines.proofs.Words.{Unregisters, UpdatesRing, call_of, RingSlots, by_equality, Bool, List, None, Option, Some, [], false}
 use Rattle.check_lines.proofs.Words.{if◌then◌else◌, length, refl, sym, true, ℕ, ℤ, ◌≤◌, ◌+◌, ◌==◌, ◌∙◌, ◌∷◌, ◌≡◌, nat_le, nat_lt, ◌||◌, zero, suc}
-use Rattle.check_lines.proofs.Words.{◌<◌, ◌^◌, pos, negsuc, All, ap, subst, arith, IfNone, unwrap_or, ◌++◌, slice_index_or, drop, or_parts}
-use Rattle.check_lines.proofs.Words.{leb-false, lt-leb, or_from, AllByRecursion, list_any, Errno, EAGAIN, EBADF, EBUSY, EINVAL, EMFILE, ENOMEM, ENXIO}
-use Rattle.check_lines.proofs.Words.{MOST_SLOTS, is_bad_file, removed_from, removed_by_number, file_after, RingState, HasClosed, IsRing}
-use Rattle.check_lines.proofs.Words.{ring_files_in_order, files_of_ring, RingContents, ring_of, are_bad_tags, tags_given, tag_at, MOST_REGISTRATIONS}
-use Rattle.check_lines.proofs.Words.{option_to_list, All-permutation, FileEntry, CloseListView, Closed, ring_with_slots, table_of_slots, good_files}
-use Rattle.check_lines.proofs.Words.{files_upto, upto_here, upto_next, removed_next, few_removed, removed_entries, IsEntry, entries_of, All-append}
-use Rattle.check_lines.proofs.Words.{All-cons, All-nil, PrintsClosed, PrintsEnd, closes_text, teardown_text, Registered, AreInRange}
-use Rattle.check_lines.proofs.Words.{Table, with_file}
+use Rattle.check_lines.proofs.Words.{◌<◌, ◌^◌, pos, All, subst, arith, IfNone, unwrap_or, ◌++◌, slice_index_or, drop, or_parts, or_from}
+use Rattle.check_lines.proofs.Words.{AllByRecursion, list_any, Errno, EAGAIN, EBADF, EBUSY, EINVAL, EMFILE, ENOMEM, ENXIO, MOST_SLOTS, is_bad_file}
+use Rattle.check_lines.proofs.Words.{removed_from, removed_by_number, file_after, RingState, HasClosed, IsRing, ring_files_in_order, files_of_ring}
+use Rattle.check_lines.proofs.Words.{RingContents, ring_of, are_bad_tags, tags_given, tag_at, MOST_REGISTRATIONS, option_to_list, All-permutation}
+use Rattle.check_lines.proofs.Words.{FileEntry, CloseListView, Closed, ring_with_slots, table_of_slots, good_files, files_upto, upto_here, upto_next}
+use Rattle.check_lines.proofs.Words.{removed_next, few_removed, removed_entries, IsEntry, entries_of, All-append, All-cons, All-nil, PrintsClosed}
+use Rattle.check_lines.proofs.Words.{PrintsEnd, closes_text, teardown_text, Registered, AreInRange, Table, with_file}
 use Rattle.fx_chain.proofs.Counted.{passed}
 use Rattle.fx_base.specs.declared.catalogue.TheConstants.{MOST_ENTRIES}
 use Rattle.check_lines.proofs.Marks.{one_close_list}
@@ -34,8 +33,7 @@ first_of [] = None
 first_of (reason ∷ reasons) = if reason.0 then Some reason.1 else first_of reasons
 
 refusal_is : (ring : RingState) (command : Instruction) → (call_of ring command).refusal ≡ first_of (reasons_of ring command)
-refusal_is ring (SubmitsAll asked) = refl
-refusal_is ring _ = refl
+refusal_is ring command = grind arith
 
 -- where it isn't refused, none holds
 all_fail : (reasons : List (Bool × Errno)) → first_of reasons ≡ None → AllByRecursion (λ (reason : Bool × Errno). reason.0 ≡ false) reasons
@@ -61,12 +59,8 @@ first_other ((true, ENOMEM) ∷ reasons) none is = cc
 first_other ((true, _) ∷ reasons) none is = cc
 first_other ((false, errno) ∷ reasons) none is = first_other reasons (or_parts (is_memory (false, errno)) _ none).1 is
 
-none_memory : (ring : RingState) (command : Instruction) → list_any is_memory (reasons_of ring command) ≡ false
-none_memory ring (SubmitsAll asked) = refl
-none_memory ring _ = refl
-
 pub refusal_other : (ring : RingState) (command : Instruction) → (call_of ring command).refusal ≡ Some ENOMEM → ⊥
-refusal_other ring command is = first_other (reasons_of ring command) (none_memory ring command) (sym (refusal_is ring command) ∙ is)
+refusal_other ring command is = grind (arith, first_other, refusal_is)
 
 -- The files that are kept of a ring, and those that a list removes, are few and of the catalogue.
 
@@ -78,9 +72,7 @@ one_listed x = grind arith
 
 few_in_order : (at : ℕ → Option Closed) (n : ℕ) → length (ring_files_in_order at n) ≤ n
 few_in_order at zero = omega arith
-few_in_order at (suc n) =
-    let both = length-append (ring_files_in_order at n) (option_to_list (at n)) in let one = one_listed (at n) in
-    let rest = few_in_order at n in omega arith
+few_in_order at (suc n) = omega (arith, length-append (ring_files_in_order at n) (option_to_list (at n)), one_listed (at n), few_in_order at n)
 
 pub all_of_ring : (catalogue : List FileEntry) (ring : RingSlots) (files : List Closed)
     → files ≡ ring_files_in_order (table_of_slots ring.slots).at (length ring.slots.at.items) → IsRing (ring_with_slots catalogue ring) → AreOf catalogue files
@@ -103,8 +95,7 @@ pub all_closed : (catalogue : List FileEntry) (files : List Closed) (closes : Cl
 all_closed catalogue files closes all closed = All-permutation (IsEntry (length catalogue)) files closes.files closed.same_files all
 
 larger_entry : (m n : ℕ) (z : ℤ) → m ≤ n → is_bad_entry m z ≡ false → is_bad_entry n z ≡ false
-larger_entry m n (pos e) few good = let inside = leb-false m e good in lt-leb n e (omega arith)
-larger_entry m n (negsuc e) few good = good
+larger_entry m n z few good = grind arith
 
 -- the entries of a smaller catalogue are those of a larger one, too
 pub good_larger : (m n : ℕ) (list : List ℤ) → m ≤ n → list_any (is_bad_entry m) list ≡ false → list_any (is_bad_entry n) list ≡ false
@@ -129,8 +120,7 @@ abbrev pub IsAtOne : (ℕ → Option Closed) → Closed → Type 0
 IsAtOne at file = (slot : ℕ) × (at slot ≡ Some file)
 
 listed : (at : ℕ → Option Closed) (slot : ℕ) (x : Option Closed) → at slot ≡ x → All (IsAtOne at) (option_to_list x)
-listed at slot None is = λ k d inside. absurd (omega arith)
-listed at slot (Some file) is = All-cons (IsAtOne at) file [] (slot, is) (All-nil (IsAtOne at))
+listed at slot x is = grind (arith, All-cons, All-nil)
 
 pub all_in_order : (at : ℕ → Option Closed) (n : ℕ) → All (IsAtOne at) (ring_files_in_order at n)
 all_in_order at zero = λ k d inside. absurd (omega arith)
@@ -152,16 +142,17 @@ one_at ring is x y here there marks = grind arith
 pub closes_printed : (ring : RingState) (files : List Closed) (closes : CloseListView) (line printed : List ℕ) → IsRing ring → All (IsAtOne ring.at) files
     → HasClosed files closes → PrintsClosed ring files line printed → printed ≡ line ++ closes_text ring.catalogue closes.files
 closes_printed ring files closes line printed is_ring all closed (other, has, is) =
-    is ∙ ap (λ (l : List Closed). line ++ closes_text ring.catalogue l)
-    (one_close_list (IsAtOne ring.at) (one_at ring is_ring) files other closes all has closed)
+    grind (arith, one_at, one_close_list (IsAtOne ring.at) (one_at ring is_ring) files other closes all has closed)
 
 -- and so is what is printed of those that are left at the end
 pub end_printed : (before : RingState) (files : List Closed) (closes : CloseListView) (text : List ℕ) → IsRing before → files ≡ files_of_ring before
     → HasClosed files closes → PrintsEnd before text → text ≡ teardown_text before.catalogue closes.files
 end_printed before files closes text is_ring all closed (other, has, is) =
-    is ∙ ap (teardown_text before.catalogue)
-    (one_close_list (IsAtOne before.at) (one_at before is_ring) (files_of_ring before) other closes (all_in_order before.at before.size) has
-    (subst (λ (l : List Closed). HasClosed l closes) all closed))
+    rw (
+      is,
+      one_close_list (IsAtOne before.at) (one_at before is_ring) (files_of_ring before) other closes
+          (all_in_order before.at before.size) has (rw all at closed),
+    )
 
 -- A list that is applied to slots, one number further.
 
@@ -174,19 +165,13 @@ module _ (k off i : ℕ) (list : List ℤ) (tags : List ℕ) (z : ℤ) (first cu
     (is : z ≡ slice_index_or list i (pos 0)) (before : cur ≡ record first { at = files_upto k first.at off list tags i }) where
   pub one_more : new ≡ with_file cur (off + i) (file_after (Registered k i) (tag_at tags i) z (cur.at (off + i)))
       → new ≡ record first { at = files_upto k first.at off list tags (i + 1) }
-  one_more after = after ∙ ap (λ (t : Table). with_file t (off + i) (file_after (Registered k i) (tag_at tags i) z (t.at (off + i)))) before
-      ∙ ap (λ (x : Option Closed). with_file (record first { at = files_upto k first.at off list tags i }) (off + i)
-      (file_after (Registered k i) (tag_at tags i) z x)) (upto_here k first.at off list tags i z inside is)
-      ∙ ap (λ (a : ℕ → Option Closed). record first { at = a }) (sym (upto_next k first.at off list tags i z inside is))
+  one_more after = rw (after, before, upto_here k first.at off list tags i z inside is, upto_next k first.at off list tags i z inside is)
 
   pub more_removed : (gone so_far : List Closed) → gone ≡ removed_by_number z (cur.at (off + i))
       → so_far ++ removed_from first.at (off + i) (drop i list) ≡ removed_from first.at off list
       → (so_far ++ gone) ++ removed_from first.at (off + (i + 1)) (drop (i + 1) list) ≡ removed_from first.at off list
   more_removed gone so_far is_gone was =
-      let rest = removed_from first.at (off + (i + 1)) (drop (i + 1) list) in
-      append_assoc so_far gone rest ∙ ap (λ (l : List Closed). so_far ++ (l ++ rest))
-      (is_gone ∙ ap (λ (t : Table). removed_by_number z (t.at (off + i))) before ∙ ap (removed_by_number z) (upto_here k first.at off list tags i z inside is))
-      ∙ ap (λ (l : List Closed). so_far ++ l) (sym (removed_next k first.at off list tags i z inside is)) ∙ was
+      rw (is_gone, before, upto_here k first.at off list tags i z inside is, append_assoc, ← removed_next k first.at off list tags i z inside is) was
 
 -- The slots and counts of a ring are what some ring shows.
 

@@ -1,28 +1,22 @@
 -- Marks by their numbers, and lists in order of mark.
-use Rattle.check_lines.proofs.Words.{mark_cmp, Mark, HasClosed, sum_by-cons, bytes_decides, Submitted, Closed, sum_by-le, IsInOrderOfMark}
-use Rattle.check_lines.proofs.Words.{CloseListView, Registered, Bool, false, List, if◌then◌else◌, suc, ℕ, ◌∙◌, ◌≡◌, slice_index_or, ◌+◌}
-use Rattle.check_lines.proofs.Words.{◌≤◌, ap, length, sym, All, Some, [], arith, refl, ◌∷◌, true, ◌<◌, nat_cmp, Ordering, Equal, sum_by}
-use Rattle.check_lines.proofs.Words.{is_lt, All-tail, All-head, All-cons, sum_by-IsPermutation, All-permutation, ranks_by, sorted_far}
+use Rattle.check_lines.proofs.Words.{mark_cmp, Mark, HasClosed, sum_by-cons, Submitted, Closed, sum_by-le, IsInOrderOfMark, CloseListView, Registered}
+use Rattle.check_lines.proofs.Words.{Bool, false, List, if◌then◌else◌, suc, ℕ, ◌∙◌, ◌≡◌, slice_index_or, ◌+◌, ◌≤◌, ap, length, sym, All, [], arith}
+use Rattle.check_lines.proofs.Words.{refl, ◌∷◌, true, ◌<◌, nat_cmp, Ordering, Equal, sum_by, is_lt, All-tail, All-head, All-cons}
+use Rattle.check_lines.proofs.Words.{sum_by-IsPermutation, All-permutation, ranks_by, sorted_far}
 use Rattle.std.specs.Cmp.{IsStrictWeakOrder}
 use Rattle.std.specs.Cmp.Lexicographic.{nat_list_cmp_total, slice_cmp, texts_po}
-use Rattle.std.specs.Ordering.{ordering_reverse, ordering_then}
+use Rattle.std.specs.Ordering.{ordering_reverse}
 
 -- a mark as a list of numbers, in the order of marks
 abbrev pub numbers : Mark → List ℕ
 numbers (Registered k i) = 0 ∷ k ∷ i ∷ []
 numbers (Submitted s c m e) = 1 ∷ s ∷ c ∷ m ∷ e ∷ []
 
-same_mark : (a b : Mark) → numbers a ≡ numbers b → a ≡ b
-same_mark a b same = grind arith
-
 abbrev pub below : List ℕ → List ℕ → Bool
 below k l = is_lt (slice_cmp nat_cmp k l)
 
-then_equal : (o : Ordering) → ordering_then o Equal ≡ o
-then_equal o = grind arith
-
 pub same_cmp : (a b : Mark) → slice_cmp nat_cmp (numbers a) (numbers b) ≡ mark_cmp a b
-same_cmp a b = grind (arith, then_equal)
+same_cmp a b = grind arith
 
 abbrev pub is_below : Closed → Closed → Bool
 is_below x y = below (numbers x.mark) (numbers y.mark)
@@ -36,10 +30,7 @@ level o p turned one other = grind arith
 
 pub neither_below : (x y : Closed) → is_below x y ≡ false → is_below y x ≡ false → x.mark ≡ y.mark
 neither_below x y one other =
-    let k = numbers x.mark in
-    let l = numbers y.mark in
-    let equal : slice_cmp nat_cmp k l ≡ Equal = level _ _ (nat_list_cmp_total.antisymm k l) one other in
-    same_mark x.mark y.mark ((bytes_decides k l).0 ((texts_po.matches_eq k l).1 (ap Some equal)))
+    grind (arith, level, nat_list_cmp_total.antisymm (numbers x.mark) (numbers y.mark), texts_po.matches_eq (numbers x.mark) (numbers y.mark))
 
 -- none of them is below the first
 abbrev pub AreNotBelow : Closed → List Closed → Type 0
@@ -63,17 +54,14 @@ in_order_rises xs up = rises_from xs (sorted_far is_below is_order xs
     (λ k d low high. ap is_lt (same_cmp (slice_index_or xs (k + 1) d).mark (slice_index_or xs k d).mark) ∙ up k d low high))
 
 no_test : (b : Bool) → (b ≡ true → b ≡ false) → b ≡ false
-no_test true is = is refl
-no_test false is = refl
+no_test b is = grind arith
 
 -- 1 where a file is below the other
 abbrev lower : Closed → Closed → ℕ
 lower y x = if is_below x y then 1 else 0
 
 none_lower : (y : Closed) (zs : List Closed) → AreNotBelow y zs → sum_by (lower y) zs ≡ 0
-none_lower y zs rises =
-    let few = sum_by-le (lower y) 0 zs (λ k d inside.
-    let none : lower y (slice_index_or zs k d) ≡ 0 = ap (λ (b : Bool). if b then 1 else 0) (rises k d inside) in omega arith) in omega arith
+none_lower y zs rises = omega (arith, sum_by-le (lower y) 0 zs (grind arith))
 
 not_lower : (y x : Closed) → lower y x ≡ 0 → is_below x y ≡ false
 not_lower y x none = no_test (is_below x y) (λ yes. absurd (let one : lower y x ≡ 1 = ap (λ (b : Bool). if b then 1 else 0) yes in omega arith))
@@ -84,10 +72,8 @@ module _ (P : Closed → Type 0) (one : (x y : Closed) → P x → P y → x.mar
 
   pub one_list : (xs ys : List Closed) → All P xs → All P ys → Rises xs → Rises ys → ((f : Closed → ℕ) → sum_by f ys ≡ sum_by f xs) → xs ≡ ys
   one_list [] [] all too up rise sums = refl
-  one_list [] (y ∷ ys) all too up rise sums =
-      let same = sums (λ _. 1) in let parts = sum_by-cons (λ (z : Closed). 1) y ys in absurd (omega arith)
-  one_list (x ∷ xs) [] all too up rise sums =
-      let same = sums (λ _. 1) in let parts = sum_by-cons (λ (z : Closed). 1) x xs in absurd (omega arith)
+  one_list [] (y ∷ ys) all too up rise sums = absurd (omega (arith, sums (λ _. 1), sum_by-cons (λ (z : Closed). 1) y ys))
+  one_list (x ∷ xs) [] all too up rise sums = absurd (omega (arith, sums (λ _. 1), sum_by-cons (λ (z : Closed). 1) x xs))
   one_list (x ∷ xs) (y ∷ ys) all too up rise sums =
       let x_first = none_lower x (x ∷ xs) (first_too x xs up.0) in let y_first = none_lower y (y ∷ ys) (first_too y ys rise.0) in
       let x_sums = sums (lower x) in let y_sums = sums (lower y) in
@@ -95,8 +81,7 @@ module _ (P : Closed → Type 0) (one : (x y : Closed) → P x → P y → x.mar
       let same : x ≡ y = one x y (All-head P x xs all) (All-head P y ys too)
       (neither_below x y (not_lower y x (omega arith)) (not_lower x y (omega arith))) in
       let rest : xs ≡ ys = one_list xs ys (All-tail P x xs all) (All-tail P y ys too) up.1 rise.1
-      (λ h. let before = sum_by-cons h x xs in let behind = sum_by-cons h y ys in let whole = sums h in
-      let equal : h x ≡ h y = ap h same in omega arith) in
+      (λ h. omega (arith, sum_by-cons h x xs, sum_by-cons h y ys, sums h, ap h same)) in
       λ i. same i ∷ rest i
 
   -- the list of closed files that has them is one

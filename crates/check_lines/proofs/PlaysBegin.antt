@@ -1,14 +1,12 @@
 -- The output of a play begins with no line of a closed file or of a tag.
-use Rattle.check_lines.proofs.Words.{action_of, closes_in, Instruction, SubmitsAll}
-use Rattle.check_lines.proofs.Words.{AnswersFound, Call, IsNoSubmission, call_of, either_case, either_option, ◌≡◌, ℕ, zero, suc, ◌/◌, ◌%◌, ◌<◌, ◌==◌}
-use Rattle.check_lines.proofs.Words.{true, false, List, [], ◌∷◌, ◌++◌, get_or, refl, sym, ap, ◌∙◌, arith, if◌then◌else◌, codes, decimal, true≢false}
-use Rattle.check_lines.proofs.Words.{nat_tests, is_digit, HasNoCloses, ◌≤◌, nat_le, length, drop, map, subst, Option, Some, None, ℤ, pos}
-use Rattle.check_lines.proofs.Words.{signed_decimal, append_assoc, FileEntry, Closed, Event, Completed, Asked, runs_of, Reported, completion_lines}
-use Rattle.check_lines.proofs.Words.{got_text, result_line, Contains, nil_from_length, length_permutation, Errno, ENOMEM, negated, fault_of}
-use Rattle.check_lines.proofs.Words.{RingContents, RingState, ring_of, IsOneHistory, MOST_SUBMISSIONS, Prints, PrintsEnd, PrintsReport}
-use Rattle.check_lines.proofs.Words.{PlaysBeginWithNoClose, closes_text, kind_name, too_many_line, ⊎_elim}
+use Rattle.check_lines.proofs.Words.{Instruction, SubmitsAll, either_case, either_option, ◌≡◌, ℕ, zero, suc, ◌/◌, ◌%◌, ◌==◌}
+use Rattle.check_lines.proofs.Words.{true, false, List, [], ◌∷◌, ◌++◌, refl, sym, ap, ◌∙◌, arith, if◌then◌else◌, codes, decimal, nat_tests, is_digit}
+use Rattle.check_lines.proofs.Words.{HasNoCloses, ◌≤◌, nat_le, length, drop, subst, ℤ, append_assoc, FileEntry, Closed, Event}
+use Rattle.check_lines.proofs.Words.{Completed, Asked, Reported, completion_lines, result_line, Contains, nil_from_length}
+use Rattle.check_lines.proofs.Words.{length_permutation, fault_of, RingContents, IsOneHistory, MOST_SUBMISSIONS, Prints, PrintsReport}
+use Rattle.check_lines.proofs.Words.{PlaysBeginWithNoClose, closes_text, too_many_line}
 use Rattle.std.specs.Fmt.{digit_glyph, digits, digits_onto}
-use Rattle.check_lines.proofs.Calls.{Tells, answers, tail_of}
+use Rattle.check_lines.proofs.Calls.{answers, tail_of}
 use Rattle.check_lines.proofs.CompletionTexts.{each_request}
 
 -- a text with another first byte
@@ -21,12 +19,9 @@ by_teardown rest = grind arith
 pub by_nothing : HasNoCloses []
 by_nothing = record { no_closed = λ starts. cc starts; no_tag = λ starts. cc starts }
 
-glyph : (d : ℕ) → d < 10 → is_digit (digit_glyph false d) ≡ true
-glyph d small = grind (arith, nat_tests)
-
 -- whatever the number, its first digit is one
 last_digit : (n : ℕ) → is_digit (digit_glyph false (n % 10)) ≡ true
-last_digit n = glyph (n % 10) (omega arith)
+last_digit n = grind arith
 
 abbrev pub BeginsWithDigit : List ℕ → Type 0
 BeginsWithDigit text = (d : ℕ) × (more : List ℕ) × (text ≡ d ∷ more) × (is_digit d ≡ true)
@@ -49,19 +44,12 @@ begins_with_digit n = elim (n / 10 == 0) as (λ b. BeginsWithDigit
 
 -- no other byte is the first of a number
 pub digit_first : (n b : ℕ) (rest others : List ℕ) → is_digit b ≡ false → b ∷ rest ≡ decimal n ++ others → ⊥
-digit_first n b rest others none same =
-    let (d, more, is, digit) = begins_with_digit n in
-    let first : b ≡ d = ap (λ (t : List ℕ). get_or t 0 0) (same ∙ ap (λ (t : List ℕ). t ++ others) is) in
-    true≢false (sym digit ∙ sym (ap is_digit first) ∙ none)
+digit_first n b rest others none same = grind (arith, begins_with_digit n)
 
 pub no_letter : (d : ℕ) → is_digit d ≡ true → ((d == 99) ≡ false) × ((d == 116) ≡ false)
 no_letter d is = (grind (arith, nat_tests), grind (arith, nat_tests))
 
 -- The output of a play begins with no line of a closed file or of a tag.
-
--- the lines of the end
-end_begins : (ring : RingState) {text : List ℕ} → PrintsEnd ring text → HasNoCloses text
-end_begins ring h2 = grind (arith, by_nothing, by_teardown)
 
 -- no events of no chains
 no_events : (history : List Event) → ((e : Event) → Contains history e → (1 ≤ e.chain) × (e.chain ≤ 0)) → history ≡ []
@@ -73,30 +61,21 @@ no_closes : {old : RingContents} {asked : List Asked} {report : Reported} {new :
     → report.completions ≡ [] → report.closes.files ≡ []
 no_closes {old} {asked} {report} {new} one empty =
     let none : asked ≡ [] = nil_from_length asked (sym (each_request old asked report new one) ∙ ap length empty) in
-    let nothing : one.history ≡ [] = no_events one.history
-    (λ e has. let (low, high) = one.chains e has in (low, subst (λ (l : List Asked). e.chain ≤ length (runs_of l)) none high)) in
-    let closed : closes_in (map action_of one.history) ≡ [] = ap (λ (h : List Event). closes_in (map action_of h)) nothing in
-    let as_many : length report.closes.files ≡ length (closes_in (map action_of one.history)) =
-    length_permutation (closes_in (map action_of one.history)) report.closes.files one.closed.same_files in
-    nil_from_length report.closes.files (as_many ∙ ap length closed)
+    let nothing = no_events one.history (λ e has. let (low, high) = one.chains e has in (low, rw none at high)) in
+    nil_from_length report.closes.files (length_permutation [] report.closes.files (rw nothing at one.closed.same_files))
 
 -- the lines of a report, and the text after them
 report_begins : (catalogue : List FileEntry) (completions : List Completed) {files : List Closed} {others : List ℕ}
     → (completions ≡ [] → files ≡ []) → HasNoCloses others
     → HasNoCloses ((completion_lines completions ++ closes_text catalogue files) ++ others)
-report_begins catalogue [] {others} none behind =
-    subst (λ (fs : List Closed). HasNoCloses (closes_text catalogue fs ++ others)) (sym (none refl)) behind
+report_begins catalogue [] none behind = rw (none refl) behind
 report_begins catalogue (c ∷ cs) {files} {others} none behind =
     let place : List ℕ = codes "." ++ (decimal c.place.chain ++ (codes "." ++ decimal c.place.member)) in
-    let tail : List ℕ = codes " " ++ (signed_decimal c.res ++ (got_text c.got ++ codes "\n")) in
-    let (d, more, is, digit) = begins_with_digit c.place.submission in let letters = no_letter d digit in
-    let P : List ℕ → Type 0 = λ t. HasNoCloses (((((t ++ place) ++ tail) ++ completion_lines cs) ++ closes_text catalogue files) ++ others) in
-    subst P (sym is) (by_first (((((more ++ place) ++ tail) ++ completion_lines cs) ++ closes_text catalogue files) ++ others) letters.0 letters.1)
+    grind (arith, no_letter, by_first, c.res, c.got, begins_with_digit c.place.submission)
 
 submission_begins : {old : RingContents} {asked : List Asked} {new : RingContents} {line others : List ℕ} → PrintsReport old asked new line
     → HasNoCloses others → HasNoCloses (line ++ others)
-submission_begins {old} {asked} {new} {others} (report, one, is) behind =
-    subst (λ (t : List ℕ). HasNoCloses (t ++ others)) (sym is) (report_begins old.catalogue report.completions (no_closes one) behind)
+submission_begins {old} (report, one, is) behind = rw is (report_begins old.catalogue report.completions (no_closes one) behind)
 
 -- the line of a command
 abbrev IsWord : List ℕ → Type 0
@@ -106,12 +85,7 @@ word_with : {b : ℕ} (more : List ℕ) → (b == 99) ≡ false → (b == 116) �
 word_with {b} more no_c no_t rest = by_first (more ++ rest) no_c no_t
 
 line_begins : (word : List ℕ) (res : ℤ) (rest : List ℕ) → IsWord word → HasNoCloses (result_line word res ++ rest)
-line_begins word res rest is_word =
-    let tail : List ℕ = codes " " ++ (signed_decimal res ++ codes "\n") in rw (append_assoc word tail rest) (is_word (tail ++ rest))
-
--- the word of a call
-called_word : (ring : RingState) (command : Instruction) → IsNoSubmission command → IsWord (call_of ring command).word
-called_word ring command call = grind (arith, word_with)
+line_begins word res rest is_word = rw append_assoc (is_word _)
 
 module _ (old new : RingContents) (line others : List ℕ) (behind : HasNoCloses others) where
   abbrev Begins : Type 0
@@ -120,32 +94,21 @@ module _ (old new : RingContents) (line others : List ℕ) (behind : HasNoCloses
   result_begins : (word : List ℕ) (res : ℤ) → IsWord word → line ≡ result_line word res → Begins
   result_begins word res is_word is = rw is (line_begins word res others is_word)
 
-  -- it is refused, or printed as one that is accepted
-  found_begins : (call : Call) (x : Option Errno) → IsWord call.word → AnswersFound x call.word (Tells (ring_of old) call) line → Begins
-  found_begins call (Some errno) is_word refused = result_begins call.word (negated errno) is_word refused
-  found_begins call None is_word tells =
-      let head : List ℕ = result_line call.word (pos call.res) in let (tail, is) = tail_of (ring_of old) head call.closed line tells in
-      rw (is, append_assoc head tail others) (line_begins call.word (pos call.res) (tail ++ others) is_word)
-
   submitted_begins : (asked : List Asked) → Prints old (SubmitsAll asked) new line → Begins
   submitted_begins asked = either_option (fault_of asked)
       (λ _. either_case (nat_le MOST_SUBMISSIONS old.submissions) (λ many. rw many.1 (word_with (drop 1 too_many_line) refl refl others))
       (λ report. submission_begins report behind))
-      (λ cut refused. rw refused.1
-      (word_with (drop 1 (codes "submit refused ") ++ (kind_name cut.kind ++ (codes " " ++ (decimal cut.at ++ codes "\n")))) refl refl others))
+      (λ cut refused. grind (arith, word_with))
 
   begins : (command : Instruction) → Prints old command new line → Begins
   begins (SubmitsAll asked) prints = submitted_begins asked prints
-  begins command prints =
-      let call = call_of (ring_of old) command in let is_word = called_word (ring_of old) command tt in
-      ⊎_elim (λ found. found_begins call call.refusal is_word found.1) (λ fails. result_begins call.word (negated ENOMEM) is_word fails.1.2)
-      ((answers old new command line tt).0 prints)
+  begins command prints = grind (arith, word_with, result_begins, tail_of, line_begins, answers)
 
 pub command_begins : (old : RingContents) (command : Instruction) (new : RingContents) (line : List ℕ) {others : List ℕ} → Prints old command new line
     → HasNoCloses others → HasNoCloses (line ++ others)
 command_begins old command new line {others} prints behind = begins old new line others behind command prints
 
 pub plays_begin : PlaysBeginWithNoClose
-plays_begin ring [] text ends = end_begins (ring_of ring) ends
+plays_begin ring [] text ends = grind (arith, by_nothing, by_teardown)
 plays_begin ring (command ∷ commands) text (next, line, others, prints, is, more) =
     subst HasNoCloses (sym is) (command_begins ring command next line prints (plays_begin next commands others more))

@@ -1,15 +1,13 @@
 -- The lines of a report: completions, closed files and tags.
-use Rattle.check_lines.proofs.Words.{◌≤◌, arith, Mark, IsCut, IsMarkInRange, Closed, Reported, FileEntry, List, None, ℕ, ◌∙◌, ◌≡◌, take, ◌++◌, ap, length, sym, All, Some, [], refl}
-use Rattle.check_lines.proofs.Words.{◌∷◌, true, subst, ◌<◌, get_or, ◌==◌, ◌^◌, true≢false, take_at, append-nil, append_assoc}
-use Rattle.check_lines.proofs.Words.{flat_map, codes, decimal, AreAll, AreFirst, HasLength, HasNoCloses, IsCloseInRange}
-use Rattle.check_lines.proofs.Words.{IsCompletionInRange, NamedClose, is_without, line_of_tag, named_line, IsReportBefore, Lines}
-use Rattle.check_lines.proofs.Words.{ReadsReport, lines_of, lines_text, Completed, completion_line, completion_lines, mark_text, name_of}
-use Rattle.check_lines.proofs.Words.{append_cancel_left, flat_map_more, All-tail, All-head, All-push, flat_map-map, StartsWith}
+use Rattle.check_lines.proofs.Words.{◌≤◌, arith, Mark, IsCut, IsMarkInRange, Reported, FileEntry, List, None, ℕ, ◌∙◌, ◌≡◌, take, ◌++◌, ap}
+use Rattle.check_lines.proofs.Words.{length, sym, All, Some, [], refl, ◌∷◌, true, subst, ◌<◌, get_or, ◌^◌, take_at, append-nil, append_assoc}
+use Rattle.check_lines.proofs.Words.{flat_map, codes, decimal, AreAll, AreFirst, HasLength, HasNoCloses, IsCloseInRange, IsCompletionInRange}
+use Rattle.check_lines.proofs.Words.{NamedClose, is_without, line_of_tag, named_line, IsReportBefore, Lines, ReadsReport, lines_of, lines_text}
+use Rattle.check_lines.proofs.Words.{Completed, completion_line, mark_text, append_cancel_left, flat_map_more, All-tail}
+use Rattle.check_lines.proofs.Words.{All-head, All-push, flat_map-map, StartsWith}
 use Rattle.check_lines.proofs.Cuts.{parts_are, without_failing}
 use Rattle.check_lines.proofs.Decimals.{decimal_without}
 use Rattle.fx_base.specs.Name.{is_name}
-use Rattle.fx_base.specs.Tags.{tags_of}
-use Rattle.fx_base.specs.declared.tag_completion.TagCompletion.{TagCompletion}
 use Rattle.fx_script.specs.Text.{report_text}
 
 -- the first lines of a text, and the rest: whatever lines the text has, these are the first of them
@@ -26,8 +24,7 @@ module _ {A : Type 0} {print : A → List ℕ} {fits : A → Type 0} {may : List
   pub next_line : {x : A} {next : List ℕ} → fits x → rest ≡ print x ++ next → ((behind : List ℕ) → may items behind → rest ≡ behind → ⊥)
       → ((y : A) (more : List ℕ) → fits y → rest ≡ print y ++ more → y ≡ x) → HasFirst print fits may text (items ++ x ∷ []) next
   next_line {x} {next} fits_x is goes_on only_x = record {
-    printed = before.printed ∙ ap (λ (t : List ℕ). flat_map print items ++ t) is ∙ sym (append_assoc (flat_map print items) (print x) next)
-        ∙ ap (λ (t : List ℕ). t ++ next) (flat_map_more print [] items x);
+    printed = rw (← flat_map_more print [] items x, append_assoc, ← is) before.printed;
     fit = All-push fits items x before.fit fits_x;
     only = λ others behind fit ends same.
         let known = before.only others behind fit ends same in by_later others behind ends known.0 known.1 known.2 known.3;
@@ -83,12 +80,7 @@ name_without_end name is = grind (arith, without_failing)
 
 -- the text of a report is that of its lines
 pub printed_lines : (catalogue : List FileEntry) (report : Reported) → report_text catalogue report ≡ lines_text (lines_of catalogue report)
-printed_lines catalogue report =
-    let files = report.closes.files in
-    let named : Closed → NamedClose = λ file. record { mark = file.mark; name = name_of catalogue file.entry } in
-    let closed = flat_map-map named_line named files in
-    let tags = flat_map-map line_of_tag (λ (completion : TagCompletion). completion.user_data) (tags_of files) in
-    λ i. completion_lines report.completions ++ (sym closed i ++ sym tags i)
+printed_lines catalogue report = simp flat_map-map
 
 -- a tag is the number that its line is parsed as
 pub one_tag : {rest tail front behind : List ℕ} {n : ℕ} → rest ≡ codes "tag " ++ tail → IsCut 10 tail front behind
@@ -96,9 +88,7 @@ pub one_tag : {rest tail front behind : List ℕ} {n : ℕ} → rest ≡ codes "
     → (tag ≡ n) × (tail ≡ (decimal n ++ (10 ∷ [])) ++ more)
 one_tag {n = n} begins cut parsed tag more fits same =
     let whole = tail_of_tag begins tag more same in
-    let parts = parts_are cut (decimal tag) (10 ∷ more) (decimal_without 10 tag refl fits) refl whole in
-    let is : tag ≡ n = parsed tag (omega arith) (sym parts.0) in
-    (is, whole ∙ ap (λ m. decimal m ++ (10 ∷ more)) is ∙ sym (append_assoc (decimal n) (10 ∷ []) more))
+    let parts = parts_are cut (decimal tag) (10 ∷ more) (decimal_without 10 tag refl fits) refl whole in grind arith
 
 -- the parts of a closed file's line
 module _ {rest tail head : List ℕ} {mark : Mark} (begins : rest ≡ codes "closed " ++ tail) (is : head ≡ mark_text mark ++ (32 ∷ []))
@@ -106,9 +96,8 @@ module _ {rest tail head : List ℕ} {mark : Mark} (begins : rest ≡ codes "clo
   pub one_mark : (close : NamedClose) (more : List ℕ) → IsCloseInRange close → rest ≡ named_line close ++ more
       → (close.mark ≡ mark) × (tail ≡ head ++ (close.name ++ (10 ∷ more)))
   one_mark close more fits same =
-      let whole = tail_of_close begins close more same in let end : List ℕ = close.name ++ (10 ∷ more) in
-      let first = parsed close.mark (32 ∷ end) fits.mark refl whole in
-      (first, whole ∙ ap (λ m. mark_text m ++ (32 ∷ end)) first ∙ sym (append_assoc (mark_text mark) (32 ∷ []) end) ∙ ap (λ (t : List ℕ). t ++ end) (sym is))
+      let whole = tail_of_close begins close more same in
+      let first = parsed close.mark _ fits.mark refl whole in (first, rw (is, append_assoc, ← first) whole)
 
   module _ {next name end : List ℕ} (then : tail ≡ head ++ next) (cut : IsCut 10 next name end) where
     pub one_close : (close : NamedClose) (more : List ℕ) → IsCloseInRange close → rest ≡ named_line close ++ more
@@ -119,15 +108,12 @@ module _ {rest tail head : List ℕ} {mark : Mark} (begins : rest ≡ codes "clo
         (λ i. record { mark = first.0 i; name = parts.0 i }, parts.1)
 
     pub close_is : {others : List ℕ} → end ≡ 10 ∷ others → rest ≡ named_line (record { mark = mark; name = name }) ++ others
-    close_is {others} ends =
-        begins ∙ ap (λ (t : List ℕ). codes "closed " ++ t) (then ∙ ap (λ (t : List ℕ). t ++ next) is
-        ∙ ap (λ (t : List ℕ). (mark_text mark ++ (32 ∷ [])) ++ t) (cut.split ∙ ap (λ (t : List ℕ). name ++ t) ends)) ∙ simp append_assoc
+    close_is ends = rw (begins, then, is, cut.split, ends) (simp append_assoc)
 
 -- no line of a closed file follows them
 no_closed_behind : (tags : List ℕ) {rest : List ℕ} → HasNoCloses rest → ¬ (StartsWith (flat_map line_of_tag tags ++ rest) (codes "closed "))
 no_closed_behind [] none = none.no_closed
-no_closed_behind (tag ∷ tags) none = λ starts.
-    let first : 116 ≡ 99 = ap (λ (t : List ℕ). get_or t 0 0) starts in true≢false (ap (λ n. n == 116) first)
+no_closed_behind (tag ∷ tags) none = grind arith
 
 module _ {count : ℕ} {text : List ℕ} {cs : List Completed} {rest : List ℕ} {closed : List NamedClose} {left tags last : List ℕ}
     (first : AreFirst completion_line IsCompletionInRange (HasLength count) text cs rest)
@@ -138,12 +124,9 @@ module _ {count : ℕ} {text : List ℕ} {cs : List Completed} {rest : List ℕ}
 
   only_found : (other : Lines × List ℕ) → IsReportBefore count other → text ≡ lines_text other.0 ++ other.1 → other ≡ found
   only_found other fits same =
-      let one = first.only other.0.completions _ fits.in_range.completions fits.each (same
-      ∙ append_assoc (completion_lines other.0.completions) (flat_map named_line other.0.closed ++ flat_map line_of_tag other.0.tags) other.1) in
-      let two = second.only other.0.closed _ fits.in_range.closed (no_closed_behind other.0.tags fits.behind) (sym one.1
-      ∙ append_assoc (flat_map named_line other.0.closed) (flat_map line_of_tag other.0.tags) other.1) in
-      let three = third.only other.0.tags other.1 fits.in_range.tags fits.behind.no_tag (sym two.1) in
-      λ i. (record { completions = one.0 i; closed = two.0 i; tags = three.0 i }, three.1 i)
+      let one = first.only other.0.completions _ fits.in_range.completions fits.each (rw append_assoc at same) in
+      let two = second.only other.0.closed _ fits.in_range.closed (no_closed_behind other.0.tags fits.behind) (rw append_assoc at (sym one.1)) in
+      grind arith
 
   pub no_report : (IsReportBefore count found → ⊥) → ReadsReport count text None
   no_report wrong other fits same = wrong (subst (IsReportBefore count) (only_found other fits same) fits)
@@ -151,7 +134,6 @@ module _ {count : ℕ} {text : List ℕ} {cs : List Completed} {rest : List ℕ}
   pub one_report : length cs ≡ count → HasNoCloses last → ReadsReport count text (Some found)
   one_report each behind = record {
     fits_value = record { each = each; in_range = record { completions = first.fit; closed = second.fit; tags = third.fit }; behind = behind };
-    printed = first.printed ∙ ap (λ (t : List ℕ). flat_map completion_line cs ++ t)
-        (second.printed ∙ ap (λ (t : List ℕ). flat_map named_line closed ++ t) third.printed) ∙ simp append_assoc;
+    printed = rw (first.printed, second.printed, third.printed) (simp append_assoc);
     only = only_found;
   }

@@ -1,10 +1,11 @@
 //! Contradictions that need no order: what the last event of the beginning can't be.
 
 use crate::assembly::ReasonStep;
+use crate::holding::since;
 use crate::reading::Reading;
 use crate::shown::ShownAccess;
 use check_certificate::{
-    Evidence, Point, PointOrder, Step, is_cut_wrongly, is_impossible, was_freed,
+    Evidence, Holding, OnlyFile, Point, PointOrder, Step, is_cut_wrongly, is_impossible, was_freed,
 };
 use fx_base::{Closed as File, NoMemory};
 use fx_chain::{Completion, Place};
@@ -45,6 +46,24 @@ fn by_member(log: &Reading<'_>, answer: usize, c: &Completion) -> Option<Step> {
         before,
         answer,
     })
+}
+
+// Returns the contradiction of an answer at a position that says that a file was at the slot, if
+// none can have been: by the log alone.
+fn by_access(log: &Reading<'_>, answer: usize) -> Option<Step> {
+    let it = log.shown_at(answer, 0)?;
+    let (Evidence::Sees(slot) | Evidence::Removes(slot)) = it.shown else {
+        return None;
+    };
+    let last = since(log, slot, it.call);
+    Some(Step::Holds(Holding {
+        call: it.call,
+        answer,
+        access: it.access,
+        slot,
+        since: last.map_or((0, 0, 0), |it| (it.call, it.answer, it.access)),
+        found: OnlyFile::Nothing,
+    }))
 }
 
 // Returns the contradiction of the close of a file after these events.
@@ -179,7 +198,9 @@ fn one_step(log: &Reading<'_>, event: &LogEvent, before: &[LogEvent]) -> Option<
             ..
         } => by_found(log, last, *file),
         LogEvent::Closed(file) => by_closed(log, before, *file),
-        LogEvent::Done(c) => by_request(log, last, c).or(by_member(log, last, c)),
+        LogEvent::Done(c) => by_request(log, last, c)
+            .or(by_member(log, last, c))
+            .or(by_access(log, last)),
         _ => None,
     }
 }
@@ -192,7 +213,10 @@ pub(crate) fn direct(log: &Reading<'_>) -> Result<Vec<ReasonStep>, NoMemory> {
     };
     let last = before.len();
     if let Some(step) = one_step(log, event, before) {
-        let end = Point::Event(last);
+        let end = match step {
+            Step::Holds(_) => Point::Access(last, 0),
+            _ => Point::Event(last),
+        };
         let steps = [step_of(step, end, end, true)];
         return Ok(Vec::from_slice(log.alloc, &steps)?);
     }
@@ -202,6 +226,7 @@ pub(crate) fn direct(log: &Reading<'_>) -> Result<Vec<ReasonStep>, NoMemory> {
             ..
         } => found_in_vain(log, last, *file),
         LogEvent::Closed(file) => closed_in_vain(log, last, *file),
+        LogEvent::Settled => log.unclosed(),
         _ => Ok(Vec::new(log.alloc)),
     }
 }

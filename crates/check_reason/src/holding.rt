@@ -11,9 +11,9 @@ use fx_base::{Closed as File, NoMemory};
 // The number of events before a call in which an access is looked for that leaves its slot.
 const SINCE: usize = 4_096;
 
-// Returns the access with the latest call that leaves a slot with a known file or none, and was
-// answered before a call.
-fn since(log: &Reading<'_>, slot: u32, before: usize) -> Option<ShownAccess> {
+/// Returns the access with the latest call that leaves a slot with a known file or none, and was
+/// answered before a call.
+pub(crate) fn since(log: &Reading<'_>, slot: u32, before: usize) -> Option<ShownAccess> {
     let mut latest: Option<ShownAccess> = None;
     for at in (before.saturating_sub(SINCE)..before).rev() {
         // an access that was answered before a call has an earlier call
@@ -55,7 +55,10 @@ impl Problem {
         let mut holder: Option<FilePoints> = None;
         for known in &window.files {
             let is_here = known.call <= answer && known.slot.unwrap_or(slot) == slot;
-            if !is_here || is_replaced(known.install, known.file, last) {
+            if !is_here
+                || is_replaced(known.install, known.file, last)
+                || log.reads_other(answer, known.file)
+            {
                 continue;
             }
             let Some(own) = self.points_of(known.file) else {

@@ -13,6 +13,7 @@ mod problem;
 mod reading;
 mod reason;
 mod removals;
+mod settled;
 mod shown;
 mod taking;
 mod window;

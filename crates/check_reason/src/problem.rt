@@ -1,12 +1,17 @@
 //! The orders of a window of a log: those that its events show, and then those that the rules of
 //! certificates add, until a point comes before itself.
 
+use crate::assembly::{ReasonStep, certificate_of};
 use crate::graph::{Graph, in_order};
+use crate::reading::Reading;
 use crate::shown::ShownAccess;
 use crate::window::{Window, WindowFile};
 use check_certificate::{Evidence, Point, Step};
 use fx_base::{Closed as File, NoMemory};
 use fx_flight::LogEvent;
+
+// The number of points above which a window isn't tried.
+const MOST_POINTS: usize = 4_000;
 
 /// An access, and the number of its point.
 #[derive(Clone, Copy, Debug)]
@@ -288,5 +293,24 @@ impl Problem {
             }
         }
         Ok(())
+    }
+}
+
+/// Proposes a certificate from the window of some ranges of positions. It is empty if the search
+/// finds none.
+pub(crate) fn propose(
+    log: &Reading<'_>,
+    ranges: &[(usize, usize)],
+) -> Result<Vec<ReasonStep>, NoMemory> {
+    let window = Window::of(log, ranges)?;
+    let points = window.positions.len().saturating_add(window.accesses.len());
+    if points.saturating_add(window.files.len().saturating_mul(2)) > MOST_POINTS {
+        return Ok(Vec::new(log.alloc));
+    }
+    let mut problem = Problem::of(&window)?;
+    problem.saturate(&window)?;
+    match problem.graph.loops {
+        Some(point) => certificate_of(log.alloc, &problem.graph, point),
+        None => Ok(Vec::new(log.alloc)),
     }
 }

@@ -3,7 +3,7 @@
 
 use crate::removals::Remover;
 use crate::shown::ShownAccess;
-use check_certificate::Evidence;
+use check_certificate::{Evidence, contents_of};
 use fx_base::{Catalogue, Closed as File, Mark, NoMemory};
 use fx_chain::{Intent, Place, intent_of};
 use fx_flight::LogEvent;
@@ -35,6 +35,8 @@ pub(crate) struct Reading<'a> {
     pub(crate) installs: Vec<Vec<ShownAccess>>,
     /// The accesses that may take a file from each slot, by the positions of their calls.
     pub(crate) removers: Vec<Vec<Remover>>,
+    // The bytes of each entry of the catalogue.
+    contents: Vec<Vec<u8>>,
 }
 
 /// Returns the place of the member that installs a file, or `None` for a file of a registration.
@@ -79,6 +81,7 @@ impl<'a> Reading<'a> {
             calls: Vec::new(alloc),
             installs: (0..size).map(|_| Vec::new(alloc)).collect(alloc)?,
             removers: (0..size).map(|_| Vec::new(alloc)).collect(alloc)?,
+            contents: contents_of(alloc, catalogue)?,
         };
         reading.read_calls()?;
         reading.read_installs()?;
@@ -161,6 +164,22 @@ impl<'a> Reading<'a> {
                 _ => false,
             }
         })
+    }
+
+    /// Checks whether the event at a position answers a read with other bytes than those of a file.
+    pub(crate) fn reads_other(&self, answer: usize, file: File) -> bool {
+        let Some(LogEvent::Done(c)) = self.events.get(answer) else {
+            return false;
+        };
+        match (
+            self.request(c.place),
+            self.contents.get(file.entry as usize),
+        ) {
+            (Some(request), Some(bytes)) => {
+                request.is_read() && c.res >= 0 && request.part_read(bytes) != c.got.as_slice()
+            }
+            _ => false,
+        }
     }
 
     /// Returns the access that installed a file, if its answer shows it.

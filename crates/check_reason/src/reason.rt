@@ -7,11 +7,10 @@ ghost use Rattle.fx_flight.specs.Events.{all_happenings};
 ghost use Rattle.fx_flight.specs.Flight.{IsLegalLog};
 ghost use Rattle.check_certificate.specs.Right.{IsRightCertificate};
 
-use crate::assembly::{ReasonStep, certificate_of};
+use crate::assembly::ReasonStep;
 use crate::direct::direct;
-use crate::problem::Problem;
+use crate::problem::propose;
 use crate::reading::Reading;
-use crate::window::Window;
 use check_certificate::{Step, is_refuted};
 use fx_base::{Catalogue, NoMemory};
 use fx_flight::LogEvent;
@@ -30,26 +29,6 @@ pub struct LogReason {
 // The numbers of events of the windows that are tried.
 const WIDTHS: [usize; 6] = [16, 32, 64, 128, 256, 512];
 
-// The number of points above which a window isn't tried.
-const MOST_POINTS: usize = 4_000;
-
-// Proposes a certificate from the window of the last `width` events. It is empty if the search
-// finds none.
-fn propose(log: &Reading<'_>, width: usize) -> Result<Vec<ReasonStep>, NoMemory> {
-    let from = log.events.len().saturating_sub(width);
-    let window = Window::of(log, from)?;
-    let points = window.positions.len().saturating_add(window.accesses.len());
-    if points.saturating_add(window.files.len().saturating_mul(2)) > MOST_POINTS {
-        return Ok(Vec::new(log.alloc));
-    }
-    let mut problem = Problem::of(&window)?;
-    problem.saturate(&window)?;
-    match problem.graph.loops {
-        Some(point) => certificate_of(log.alloc, &problem.graph, point),
-        None => Ok(Vec::new(log.alloc)),
-    }
-}
-
 // Proposes a certificate of the beginning: first the contradiction of its last event, then one from
 // each window, until a window is the whole log. It is empty if the search finds none.
 fn search(log: &Reading<'_>, attempt: usize) -> Result<Vec<ReasonStep>, NoMemory> {
@@ -61,7 +40,10 @@ fn search(log: &Reading<'_>, attempt: usize) -> Result<Vec<ReasonStep>, NoMemory
         .take(last)
         .any(|width| *width >= log.events.len());
     match WIDTHS.get(last) {
-        Some(width) if !is_whole => propose(log, *width),
+        Some(width) if !is_whole => {
+            let end = log.events.len();
+            propose(log, &[(end.saturating_sub(*width), end)])
+        }
         _ => Ok(Vec::new(log.alloc)),
     }
 }

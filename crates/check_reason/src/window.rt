@@ -29,7 +29,7 @@ pub(crate) struct WindowFile {
 pub(crate) struct Window<'a> {
     /// The log.
     pub(crate) log: &'a Reading<'a>,
-    /// The first position of the window. The window ends with the log.
+    /// The first position of the window.
     pub(crate) from: usize,
     /// The accesses, except those that install files.
     pub(crate) accesses: Vec<ShownAccess>,
@@ -54,25 +54,34 @@ fn note(list: &mut Vec<u32>, value: u32) -> Result<(), NoMemory> {
 }
 
 impl<'a> Window<'a> {
-    /// Returns the window from a position on.
-    pub(crate) fn of(log: &'a Reading<'a>, from: usize) -> Result<Window<'a>, NoMemory> {
+    /// Returns the window of some ranges of positions, the last one of which ends with the log.
+    pub(crate) fn of(
+        log: &'a Reading<'a>,
+        ranges: &[(usize, usize)],
+    ) -> Result<Window<'a>, NoMemory> {
         let alloc = log.alloc;
         let mut window = Window {
             log,
-            from,
+            from: ranges.iter().map(|range| range.0).min().unwrap_or(0),
             accesses: Vec::new(alloc),
             files: Vec::new(alloc),
-            positions: (from..log.events.len()).collect(alloc)?,
+            positions: Vec::new(alloc),
             slots: Vec::new(alloc),
         };
         let mut calls = Vec::new(alloc);
-        for event in log.events.iter().skip(from) {
-            note(&mut calls, call_number(event))?;
+        for (from, to) in ranges {
+            for at in *from..(*to).min(log.events.len()) {
+                if let Some(event) = log.events.get(at) {
+                    window.positions.push(at)?;
+                    note(&mut calls, call_number(event))?;
+                }
+            }
         }
+        let own = window.positions.len();
         for id in &calls {
             window.take_call(*id)?;
         }
-        window.take_closed()?;
+        window.take_closed(own)?;
         window.take_present()?;
         window.positions.sort_unstable();
         window.positions.dedup();
@@ -166,11 +175,12 @@ impl<'a> Window<'a> {
         Ok(())
     }
 
-    // Adds the files that are closed in the window.
-    fn take_closed(&mut self) -> Result<(), NoMemory> {
+    // Adds the files that are closed at the first `own` positions.
+    fn take_closed(&mut self, own: usize) -> Result<(), NoMemory> {
         let log = self.log;
-        for event in log.events.iter().skip(self.from) {
-            if let LogEvent::Closed(file) = event {
+        for i in 0..own {
+            let at = self.positions.get(i).copied().unwrap_or(usize::MAX);
+            if let Some(LogEvent::Closed(file)) = log.events.get(at) {
                 self.take_file(*file, None)?;
             }
         }

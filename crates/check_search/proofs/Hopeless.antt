@@ -1,30 +1,17 @@
 -- From a state where a claim waits for a file that doesn't come, no end is reached.
 use Rattle.check_search.specs.Machine.{HasNoEnd}
-use Rattle.check_search.proofs.Words.{◌≡◌, ◌⊎◌, inl, inr, ⊎_elim, ℕ, zero, suc, ◌+◌, ◌<◌, ◌≤◌, ◌==◌, ◌&&◌, ◌||◌, not, Bool, true, false, List, []}
-use Rattle.check_search.proofs.Words.{◌∷◌, and_parts, not-true, true≢false, same_Some, slice_get-get_or, slice_get_read, slice_get_within, refl, sym}
-use Rattle.check_search.proofs.Words.{ap, subst, ◌∙◌, arith, Option, Some, None, slice_get, slice_index, slice_set, slice_index_or, length, eq-eqb}
-use Rattle.check_search.proofs.Words.{if◌then◌else◌, option_and_then, cases_lt, by_equality, IsHopeless, NoneHelps, may_find, no_help, Standing}
-use Rattle.check_search.proofs.Words.{allows, cell_at, cells_after, claim_at, may_leave, suits, with_cell, slot_claimed, Cell, Claim, At, Full}
-use Rattle.check_search.proofs.Words.{Leaves, Same, Empty, File, Resident, Condition, Strand}
+use Rattle.check_search.proofs.Words.{◌≡◌, ◌⊎◌, inl, inr, ⊎_elim, ℕ, zero, suc, ◌<◌, ◌≤◌, true, false, List, [], ◌∷◌, true≢false, slice_get-get_or}
+use Rattle.check_search.proofs.Words.{slice_get_read, slice_get_within, refl, sym, ap, ◌∙◌, arith, Option, Some, None, slice_get, slice_index}
+use Rattle.check_search.proofs.Words.{slice_set, slice_index_or, length, option_and_then, by_equality, IsHopeless, NoneHelps, may_find, no_help}
+use Rattle.check_search.proofs.Words.{Standing, allows, cell_at, cells_after, claim_at, may_leave, with_cell, slot_claimed, Cell, Claim, At, Leaves}
+use Rattle.check_search.proofs.Words.{Resident, Condition, Strand}
 use Rattle.check_search.proofs.Reaching.{after, both_steps, none_ends}
 
 -- what is at a slot once one was written: what was there, or what was written
 pub written : (cells : List Cell) (s : ℕ) (x : Option Resident) (slot : ℕ)
     → (cell_at (with_cell cells s x) slot ≡ cell_at cells slot) ⊎ ((s ≡ slot) × (cell_at (with_cell cells s x) slot ≡ x))
 written [] s x slot = inl refl
-written (cell ∷ cells) s x slot =
-    let rest = written cells s x slot in
-    by_equality cell.slot s
-    (λ b. (cell_at ((if b then record cell { file = x } else cell) ∷ with_cell cells s x) slot ≡ cell_at (cell ∷ cells) slot)
-    ⊎ ((s ≡ slot) × (cell_at ((if b then record cell { file = x } else cell) ∷ with_cell cells s x) slot ≡ x)))
-    (λ hit. by_equality cell.slot slot
-    (λ b. ((if b then x else cell_at (with_cell cells s x) slot) ≡ (if b then cell.file else cell_at cells slot))
-    ⊎ ((s ≡ slot) × ((if b then x else cell_at (with_cell cells s x) slot) ≡ x)))
-    (λ here. inr (sym hit ∙ here, refl)) (λ _. rest))
-    (λ miss. by_equality cell.slot slot
-    (λ b. ((if b then cell.file else cell_at (with_cell cells s x) slot) ≡ (if b then cell.file else cell_at cells slot))
-    ⊎ ((s ≡ slot) × ((if b then cell.file else cell_at (with_cell cells s x) slot) ≡ x)))
-    (λ here. inl refl) (λ _. rest))
+written (cell ∷ cells) s x slot = grind (arith, by_equality, written cells s x slot)
 
 -- the number at a place of a list once one was written
 index_written : (l : List ℕ) (c x e : ℕ) → (slice_index (slice_set l c x) e ≡ slice_index l e) ⊎ ((e ≡ c) × (slice_index (slice_set l c x) e ≡ x))
@@ -41,40 +28,15 @@ past_none xs i k x le is none = let lt = slice_get_within xs k x is in let some 
 abbrev Unfit : List Cell → ℕ → Claim → Option Resident → Type 0
 Unfit cells slot claim now = (now ≡ cell_at cells slot) ⊎ ((may_find claim now ≡ false) × (may_leave (cell_at cells slot) ≡ true))
 
-changed : (cells : List Cell) (slot : ℕ) (claim : Claim) (s : ℕ) (x : Option Resident) (wanted : Bool)
-    → (wanted && (false || may_leave (cell_at cells s))) ≡ true
-    → (may_leave (cell_at cells slot) ≡ false) ⊎ ((not (s == slot) || not (may_find claim x)) ≡ true)
-    → (cell_at (with_cell cells s x) slot ≡ cell_at cells slot) ⊎ ((s ≡ slot) × (cell_at (with_cell cells s x) slot ≡ x))
-    → Unfit cells slot claim (cell_at (with_cell cells s x) slot)
-changed cells slot claim s x wanted may either (inl same) = inl same
-changed cells slot claim s x wanted may either (inr hit) =
-    let leave : may_leave (cell_at cells slot) ≡ true =
-    sym (ap (λ (n : ℕ). may_leave (cell_at cells n)) hit.0) ∙ (and_parts wanted (may_leave (cell_at cells s)) may).1 in
-    elim either [
-      | inl stays ↦ absurd (true≢false (sym leave ∙ stays))
-      | inr helps ↦
-          let none : not (may_find claim x) ≡ true =
-          sym (ap (λ (b : Bool). not b || not (may_find claim x)) (eq-eqb s slot hit.0)) ∙ helps in
-          inr (ap (may_find claim) hit.1 ∙ not-true (may_find claim x) none, leave)
-    ]
-
 stays_unfit : (cells : List Cell) (slot : ℕ) (claim step : Claim) → allows cells step ≡ true
     → (may_leave (cell_at cells slot) ≡ false) ⊎ (no_help slot claim step ≡ true) → Unfit cells slot claim (cell_at (cells_after cells step) slot)
-stays_unfit cells slot claim (At s condition Same) may either = inl refl
-stays_unfit cells slot claim (At s condition Empty) may either =
-    changed cells slot claim s None (suits condition (cell_at cells s)) may either (written cells s None slot)
-stays_unfit cells slot claim (At s condition (File r)) may either =
-    changed cells slot claim s (Some r) (suits condition (cell_at cells s)) may either (written cells s (Some r) slot)
-stays_unfit cells slot claim Full may either = inl refl
+stays_unfit cells slot claim step may either = grind (arith, written)
 
 -- a claim of a chain that may be made next
 module _ (strands : List Strand) (at : Standing) (d : ℕ) (step : Claim) (is_next : claim_at strands at.places d ≡ Some step)
     (may : allows at.cells step ≡ true) where
   none_still : (slot : ℕ) (claim : Claim) → NoneHelps strands at.places slot claim → NoneHelps strands (after at d step).places slot claim
-  none_still slot claim none e k strand other there late is = elim (index_written at.places d (slice_index at.places d + 1) e) [
-    | inl same ↦ none e k strand other there (omega arith) is
-    | inr hit ↦ let here = ap (slice_index at.places) hit.0 in let now = hit.1 in none e k strand other there (omega arith) is
-  ]
+  none_still slot claim none e k strand other there late is = grind (arith, index_written)
 
   -- what is hopeless stays so
   hopeless_then : (slot : ℕ) (claim : Claim) → IsHopeless strands at slot claim → IsHopeless strands (after at d step) slot claim
@@ -101,17 +63,7 @@ module _ (strands : List Strand) (c k slot : ℕ) (strand : Strand) (condition :
   -- it isn't the one that is made
   still : (at : Standing) (d : ℕ) (step : Claim) → claim_at strands at.places d ≡ Some step → allows at.cells step ≡ true
       → slice_index at.places c ≤ k → may_find (At slot condition leaves) (cell_at at.cells slot) ≡ false → slice_index (after at d step).places c ≤ k
-  still at d step is_next may early unfit = elim (index_written at.places d (slice_index at.places d + 1) c) [
-    | inl same ↦ omega arith
-    | inr hit ↦ elim (cases_lt (slice_index at.places c) k) [
-      | inl less ↦ let here = ap (slice_index at.places) hit.0 in let now = hit.1 in omega arith
-      | inr last ↦
-          let place : slice_index at.places c ≡ k = omega arith in
-          let step_is : step ≡ At slot condition leaves = same_Some step (At slot condition leaves) (sym is_next
-          ∙ (ap (claim_at strands at.places) (sym hit.0) ∙ (at_place at.places ∙ (ap (slice_get strand.claims.items) place ∙ waits)))) in
-          absurd (true≢false (sym may ∙ (ap (allows at.cells) step_is ∙ unfit)))
-    ]
-  ]
+  still at d step is_next may early unfit = grind (arith, index_written, at_place, allows)
 
   pub never_ends : (at : Standing) → slice_index at.places c ≤ k → IsHopeless strands at slot (At slot condition leaves) → HasNoEnd strands at
   unfolding HasNoEnd
@@ -129,8 +81,4 @@ get_at xs k x lt is = slice_get_read xs (length xs) k x refl lt is
 pub vain : (strands : List Strand) (at : Standing) (c k slot : ℕ) (strand : Strand) (claim : Claim) → slot_claimed claim ≡ Some slot
     → slice_get strands c ≡ Some strand → slice_index at.places c ≤ k → slice_get strand.claims.items k ≡ Some claim
     → IsHopeless strands at slot claim → HasNoEnd strands at
-vain strands at c k slot strand (At s condition leaves) of is early waits hopeless =
-    let same : s ≡ slot = cc in
-    never_ends strands c k s strand condition leaves is waits at early
-    (subst (λ (n : ℕ). IsHopeless strands at n (At s condition leaves)) (sym same) hopeless)
-vain strands at c k slot strand Full of is early waits hopeless = absurd (cc)
+vain strands at c k slot strand claim of is early waits hopeless = grind (arith, never_ends)

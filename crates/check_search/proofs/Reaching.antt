@@ -1,10 +1,9 @@
 -- Lists of states that leave none of their steps out.
 use Rattle.check_search.proofs.Words.{length-map, get_or-map, ◌∙◌, drop-cons, ◌≡◌, ℕ, suc, ◌<◌, drop, get_or, sym, List, ◌∷◌, length, ap, All, subst}
-use Rattle.check_search.proofs.Words.{Any, arith, map, ◌≢◌, inl, inr, zero, ◌+◌, Bool, true, false, [], Option, Some, None, refl, IsLookedThrough}
-use Rattle.check_search.proofs.Words.{set_comm, get_or_from_slice_get, same_Some, slice_get_within, Contains, slice_index, slice_set, if◌then◌else◌}
-use Rattle.check_search.proofs.Words.{get_or-set_other, All-contains, All-map, slice_get, option_and_then, by_equality, Cell, Claim, At, Empty, File}
-use Rattle.check_search.proofs.Words.{Packing, Strand, Standing, Vec, all_unpacked, allows, cells_after, next, made, claim_at, Ends, is_test}
-use Rattle.check_search.proofs.Words.{unpacked, IsEndOfClaims}
+use Rattle.check_search.proofs.Words.{Any, arith, map, ◌≢◌, inl, inr, zero, ◌+◌, Bool, true, [], Option, Some, None, refl, IsLookedThrough, set_comm}
+use Rattle.check_search.proofs.Words.{get_or_from_slice_get, same_Some, slice_get_within, Contains, slice_index, slice_set, if◌then◌else◌}
+use Rattle.check_search.proofs.Words.{get_or-set_other, All-contains, All-map, slice_get, option_and_then, by_equality, Cell, Claim, Packing, Strand}
+use Rattle.check_search.proofs.Words.{Standing, Vec, all_unpacked, allows, cells_after, next, made, claim_at, Ends, is_test, unpacked, IsEndOfClaims}
 use Rattle.check_search.specs.Machine.{HasNoEnd, IsExplored, LeadsInside}
 
 -- the element at a place of a mapped list, and those after it
@@ -23,18 +22,14 @@ no_any P xs none (k, x, lt, is, holds) = subst (λ y. P y → ⊥) is (none k x 
 
 -- an answer of two steps has one of the first, to which the second was applied
 pub both_steps : {A B : Type 0} (f : A → Option B) (o : Option A) (y : B) → option_and_then f o ≡ Some y → (x : A) × (o ≡ Some x) × (f x ≡ Some y)
-both_steps f None y is = absurd (cc)
-both_steps f (Some x) y is = (x, refl, is)
+both_steps f o y is = grind arith
 
 -- what is chosen where a test holds
 pub chosen : {X : Type 0} (b : Bool) (x y : X) → (if b then Some x else None) ≡ Some y → (b ≡ true) × (x ≡ y)
-chosen true x y is = (refl, cc)
-chosen false x y is = absurd (cc)
+chosen b x y is = grind arith
 
 test_keeps : (cells : List Cell) (claim : Claim) → is_test claim ≡ true → cells_after cells claim ≡ cells
-test_keeps cells (At slot condition Empty) is = absurd (cc)
-test_keeps cells (At slot condition (File resident)) is = absurd (cc)
-test_keeps cells claim is = refl
+test_keeps cells claim is = grind arith
 
 abbrev standing : List ℕ → List Cell → Standing
 standing places cells = record { places = places; cells = cells }

@@ -1,10 +1,10 @@
 -- States from which no end is reached, since the files of a slot differ in number.
 use Rattle.check_search.proofs.Words.{At, Bool, Cell, Claim, Condition, Empty, File, Full, IsEndOfClaims, IsUneven, List, None, Option, Resident}
-use Rattle.check_search.proofs.Words.{Same, Some, Something, Standing, Strand, [], allows, and_parts, ap, arith, by_equality, cases_lt, cell_at}
-use Rattle.check_search.proofs.Words.{cells_after, changes, claim_at, cond, count_by, drop, drop-cons, drop_all, eq-eqb, false, get_or_from_slice_get}
-use Rattle.check_search.proofs.Words.{has_slot, if◌then◌else◌, inl, inr, is_change, is_something, is_staying, leaving_files, length, length-set, list_all}
-use Rattle.check_search.proofs.Words.{list_any, may_leave, may_stay, ne_eqb, not, refl, slice_get, slice_get_within, slice_index, slice_set, subst}
-use Rattle.check_search.proofs.Words.{suc, suits, sym, to_come, true, with_cell, zero, ℕ, ⊎_elim, ◌&&◌, ◌+◌, ◌==◌, ◌||◌, ◌∙◌, ◌∷◌, ◌≡◌, ◌≤◌}
+use Rattle.check_search.proofs.Words.{Same, Some, Standing, Strand, [], allows, and_parts, ap, arith, by_equality, cell_at, cells_after, changes}
+use Rattle.check_search.proofs.Words.{claim_at, cond, count_by, drop, drop-cons, drop_all, eq-eqb, false, get_or_from_slice_get, has_slot}
+use Rattle.check_search.proofs.Words.{if◌then◌else◌, is_change, is_staying, length, length-set, list_all, list_any, may_leave, may_stay, not, refl}
+use Rattle.check_search.proofs.Words.{slice_get, slice_get_within, slice_index, slice_set, suc, suits, to_come, true, with_cell, zero, ℕ, ◌&&◌, ◌+◌}
+use Rattle.check_search.proofs.Words.{◌||◌, ◌∙◌, ◌∷◌, ◌≡◌, ◌≤◌}
 use Rattle.check_search.specs.Machine.{HasNoEnd}
 use Rattle.std.proofs.lemmas.List.Sums.{sum_by-cons}
 use Rattle.check_search.specs.declared.dead.SlotChange.{SlotChange}
@@ -21,14 +21,8 @@ any_stays test same (cell ∷ cells) slot file =
     (λ b. (test (if b then record cell { file = file } else cell) || list_any test (with_cell cells slot file)) ≡ (test cell || list_any test cells))
     (λ _ i. same cell file i || any_stays test same cells slot file i) (λ _ i. test cell || any_stays test same cells slot file i)
 
-slots_stay : (cells : List Cell) (slot : ℕ) (file : Option Resident) (o : Option ℕ) → has_slot (with_cell cells slot file) o ≡ has_slot cells o
-slots_stay cells slot file None = any_stays (λ cell. cell.in_range) (λ _ _. refl) cells slot file
-slots_stay cells slot file (Some k) = any_stays (λ cell. cell.slot == k) (λ _ _. refl) cells slot file
-
 pub slots_after : (cells : List Cell) (claim : Claim) (o : Option ℕ) → has_slot (cells_after cells claim) o ≡ has_slot cells o
-slots_after cells (At slot condition Empty) o = slots_stay cells slot None o
-slots_after cells (At slot condition (File resident)) o = slots_stay cells slot (Some resident) o
-slots_after cells claim o = refl
+slots_after cells claim o = grind (arith, any_stays)
 
 -- what was written to a slot is there
 written_here : (cells : List Cell) (slot : ℕ) (x : Option Resident) → has_slot cells (Some slot) ≡ true → cell_at (with_cell cells slot x) slot ≡ x
@@ -37,8 +31,7 @@ written_here (cell ∷ cells) slot x has =
     by_equality cell.slot slot
     (λ b. (b || has_slot cells (Some slot)) ≡ true → cell_at ((if b then record cell { file = x } else cell) ∷ with_cell cells slot x) slot ≡ x)
     (λ same _. ap (λ (b : Bool). if b then x else cell_at (with_cell cells slot x) slot) (eq-eqb cell.slot slot same))
-    (λ other rest. ap (λ (b : Bool). if b then cell.file else cell_at (with_cell cells slot x) slot) (ne_eqb cell.slot slot other)
-    ∙ written_here cells slot x rest) has
+    (λ other rest. grind (arith, written_here cells slot x rest)) has
 
 abbrev number : Bool → ℕ
 number b = cond b 1 0
@@ -57,56 +50,19 @@ record Does (makes : SlotChange → Bool) (now after : Option Resident) : Type 0
   some : 1 ≤ leave now + number (makes Leaving) → 1 ≤ leave after + number (makes Empties) + number (makes Staying)
 
 keeps : {now after : Option Resident} → after ≡ now → Does (λ _. false) now after
-keeps same =
-    let stays = ap stay same in
-    let leaves = ap leave same in
-    record { stays = omega arith; leaves = omega arith; some = λ has. omega arith }
-
--- where a claim that takes is made, the file leaves
-taken : (condition : Condition) (now : Option Resident) → suits condition now ≡ true → may_leave now ≡ true → number (is_something condition) ≤ leave now
-taken Something None suited may = absurd (cc)
-taken Something (Some r) suited may = let one : leave (Some r) ≡ 1 = ap (λ (b : Bool). number (not (not b))) may in omega arith
-taken condition now suited may = omega arith
+keeps same = grind arith
 
 -- a claim that empties the slot
 emptied : (condition : Condition) (now : Option Resident) → (suits condition now && may_leave now) ≡ true → Does (is_change Empty condition) now None
-emptied condition now may =
-    let parts = and_parts (suits condition now) (may_leave now) may in
-    let none : stay now ≡ 0 = ap (λ (b : Bool). number (not b)) parts.1 in
-    let one = taken condition now parts.0 parts.1 in
-    record { stays = omega arith; leaves = omega arith; some = λ _. omega arith }
-
-one_or_other : (b : Bool) → (number (not (not b)) ≡ number b) × (number (not (not b)) + number (not b) ≡ 1)
-one_or_other true = (omega arith, omega arith)
-one_or_other false = (omega arith, omega arith)
-
--- a claim that installs a file
-brought : (r : Resident) (condition : Condition) (now : Option Resident) → (suits condition now && may_leave now) ≡ true
-    → Does (is_change (File r) condition) now (Some r)
-brought r condition now may =
-    let none : stay now ≡ 0 = ap (λ (b : Bool). number (not b)) (and_parts (suits condition now) (may_leave now) may).1 in
-    let leaves = (one_or_other r.leaves).0 in
-    let one = (one_or_other r.leaves).1 in
-    record { stays = omega arith; leaves = omega arith; some = λ _. omega arith }
-
--- a claim of a slot changes this slot as it does that one, or not at all
-at_slot : (cells : List Cell) (slot s : ℕ) (x : Option Resident) (makes : SlotChange → Bool) → has_slot cells (Some slot) ≡ true
-    → Does makes (cell_at cells s) x → Does (λ change. (s == slot) && makes change) (cell_at cells slot) (cell_at (with_cell cells s x) slot)
-at_slot cells slot s x makes has did =
-    by_equality s slot (λ b. Does (λ change. b && makes change) (cell_at cells slot) (cell_at (with_cell cells s x) slot))
-    (λ same. subst (λ (o : Option Resident). Does makes (cell_at cells slot) o)
-    (sym (ap (λ (k : ℕ). cell_at (with_cell cells k x) slot) same ∙ written_here cells slot x has))
-    (subst (λ (k : ℕ). Does makes (cell_at cells k) x) same did))
-    (λ other. keeps (⊎_elim (λ same. same) (λ hit. absurd (other hit.0)) (written cells s x slot)))
+emptied condition now may = grind arith
 
 does : (cells : List Cell) (slot : ℕ) (step : Claim) → has_slot cells (Some slot) ≡ true → allows cells step ≡ true
     → Does (λ change. changes change slot step) (cell_at cells slot) (cell_at (cells_after cells step) slot)
 does cells slot Full has may = keeps refl
 does cells slot (At s condition Same) has may =
     by_equality s slot (λ b. Does (λ _. b && false) (cell_at cells slot) (cell_at cells slot)) (λ _. keeps refl) (λ _. keeps refl)
-does cells slot (At s condition Empty) has may = at_slot cells slot s None (is_change Empty condition) has (emptied condition (cell_at cells s) may)
-does cells slot (At s condition (File r)) has may =
-    at_slot cells slot s (Some r) (is_change (File r) condition) has (brought r condition (cell_at cells s) may)
+does cells slot (At s condition Empty) has may = grind (arith, by_equality, written_here, keeps, written, emptied)
+does cells slot (At s condition (File r)) has may = grind (arith, by_equality, written_here, keeps, written)
 
 -- how many such changes of a slot a claim makes: 0 or 1
 abbrev one : SlotChange → ℕ → Claim → ℕ
@@ -153,22 +109,9 @@ record Uneven (strands : List Strand) (slot : ℕ) (at : Standing) : Type 0 wher
 
 module _ (strands : List Strand) (slot : ℕ) (at : Standing) (d : ℕ) (step : Claim) (is_next : claim_at strands at.places d ≡ Some step)
     (may : allows at.cells step ≡ true) (uneven : Uneven strands slot at) where
-  less : (change : SlotChange) → to_come change slot strands at.places ≡ one change slot step + to_come change slot strands (after at d step).places
-  less change = one_less change slot strands at.places d step uneven.long is_next
-
   still : Does (λ change. changes change slot step) (cell_at at.cells slot) (cell_at (after at d step).cells slot)
       → IsUneven strands at slot → IsUneven strands (after at d step) slot
-  still did (inl two) = let stays = did.stays in let s = less Staying in inl (omega arith)
-  still did (inr (inl few)) = let leaves = did.leaves in let l = less Leaving in let t = less Takes in inr (inl (omega arith))
-  still did (inr (inr last)) =
-      let stays = did.stays in
-      let e = less Empties in
-      let s = less Staying in
-      let l = less Leaving in
-      let some : 1 ≤ leaving_files strands (after at d step) slot =
-      ⊎_elim (λ has. let here = did.some has in omega arith) (λ none. let all = last.some in omega arith)
-      (cases_lt 0 (leave (cell_at at.cells slot) + one Leaving slot step)) in
-      inr (inr (record { none_empties = omega arith; none_stays = omega arith; some = some }))
+  still did holds = grind (arith, one_less, after)
 
   uneven_then : Uneven strands slot (after at d step)
   uneven_then = record {
@@ -176,10 +119,6 @@ module _ (strands : List Strand) (slot : ℕ) (at : Standing) (d : ℕ) (step : 
     long = length-set at.places d (slice_index at.places d + 1) ∙ uneven.long;
     why = still (does at.cells slot step uneven.here may) uneven.why;
   }
-
-at_most_one : (b : Bool) → number b ≤ 1
-at_most_one true = omega arith
-at_most_one false = omega arith
 
 -- a file that may stay, or none
 stays_there : (cells : List Cell) (slot : ℕ) → list_all is_staying cells ≡ true → may_stay (cell_at cells slot) ≡ true
@@ -189,16 +128,7 @@ stays_there (cell ∷ cells) slot all =
     by_equality cell.slot slot (λ b. may_stay (if b then cell.file else cell_at cells slot) ≡ true) (λ _. parts.0) (λ _. stays_there cells slot parts.1)
 
 ended : (strands : List Strand) (at : Standing) (slot : ℕ) → IsEndOfClaims strands at → length at.places ≡ length strands → IsUneven strands at slot → ⊥
-ended strands at slot end long (inl two) =
-    let s = none_to_come Staying slot strands at.places end.over long in
-    let few = at_most_one (not (may_leave (cell_at at.cells slot))) in
-    omega arith
-ended strands at slot end long (inr (inl few)) = let t = none_to_come Takes slot strands at.places end.over long in omega arith
-ended strands at slot end long (inr (inr last)) =
-    let l = none_to_come Leaving slot strands at.places end.over long in
-    let gone : leave (cell_at at.cells slot) ≡ 0 = ap (λ (b : Bool). number (not b)) (stays_there at.cells slot end.stay) in
-    let some = last.some in
-    omega arith
+ended strands at slot end long holds = grind (arith, none_to_come, stays_there)
 
 pub uneven_ends : (strands : List Strand) (at : Standing) (slot : ℕ) → has_slot at.cells (Some slot) ≡ true → length at.places ≡ length strands
     → IsUneven strands at slot → HasNoEnd strands at

@@ -1,40 +1,23 @@
 -- The calls between submissions, and refused submissions: if no allocation fails they lead to one
 -- ring, and print one line.
-use Rattle.check_texts.proofs.Words.{either_way, IsResultInRange, Errno, ENOMEM, call_of, fault_of, Asked, CutFault, Instruction, SetsRange}
-use Rattle.check_texts.proofs.Words.{SubmitsAll, MOST_SLOTS, refused_line, too_many_line, IsRing, RingContents, RingState, ring_of, Reported}
-use Rattle.check_texts.proofs.Words.{MOST_SUBMISSIONS, Prints, PrintsReport, HasEachNextStage, IsLineOf, LeadsRing, MayLeadTo, Stage, after_call}
-use Rattle.check_texts.proofs.Words.{count_after, accepted_following, kept_text, IsCall, FoundMemory, Bool, List, None, Option, Some, [], ap, arith}
-use Rattle.check_texts.proofs.Words.{inl, nat_le, refl, sym, ℕ, ⊎_elim, ◌++◌, ◌+◌, ◌<◌, ◌∙◌, ◌≡◌, ◌≤◌, MatchBool, MatchOption, Contains, ◌^◌, negated}
-use Rattle.check_texts.proofs.Words.{AnswersFound, refusal_other, HasFound}
+use Rattle.check_texts.proofs.Words.{either_way, IsResultInRange, Errno, ENOMEM, call_of, fault_of, Asked, Instruction, SetsRange, SubmitsAll}
+use Rattle.check_texts.proofs.Words.{MOST_SLOTS, IsRing, RingContents, RingState, ring_of, Reported, Prints, PrintsReport, HasEachNextStage, IsLineOf}
+use Rattle.check_texts.proofs.Words.{LeadsRing, MayLeadTo, Stage, after_call, count_after, accepted_following, kept_text, IsCall, FoundMemory, Bool}
+use Rattle.check_texts.proofs.Words.{List, None, Option, Some, [], ap, arith, refl, sym, ℕ, ◌++◌, ◌+◌, ◌<◌, ◌∙◌, ◌≡◌, ◌≤◌, Contains, ◌^◌, negated}
+use Rattle.check_texts.proofs.Words.{AnswersFound, refusal_other, HasFound, Call, Tells, not_refused, Answers, answers, few_told, one_line_of}
 use Rattle.check_lines.proofs.Decimals.{one_result}
-use Rattle.check_lines.proofs.Calls.{Call, Tells, not_refused, Answers, Fails, answers, few_told, one_line_of}
-
--- the outcomes of a submission: nothing changes and it isn't counted, or it has a report and is
-cases : {R : Type 0} (x : Option CutFault) {count : ℕ} {same reports : Type 0} (line many : List ℕ) (text : CutFault → List ℕ)
-    → (same → accepted_following count x ≡ count → R) → (reports → accepted_following count x ≡ count + 1 → R)
-    → MatchOption x (MatchBool (nat_le MOST_SUBMISSIONS count) (same × (line ≡ many)) reports) (λ fault. same × (line ≡ text fault)) → R
-cases (Some fault) line many text stays goes = λ prints. stays prints.0 refl
-cases None {count} line many text stays goes =
-    either_way (nat_le MOST_SUBMISSIONS count) (λ full prints. stays prints.0 (rw full)) (λ room prints. goes prints (rw room))
 
 pub submission_cases : {R : Type 0} (old next : RingContents) (asked : List Asked) (line : List ℕ)
     → (ring_of next ≡ ring_of old → accepted_following old.submissions (fault_of asked) ≡ old.submissions → R)
     → (PrintsReport old asked next line → accepted_following old.submissions (fault_of asked) ≡ old.submissions + 1 → R)
     → Prints old (SubmitsAll asked) next line → R
-submission_cases old next asked line = cases (fault_of asked) line too_many_line refused_line
+submission_cases old next asked line = grind (arith, either_way)
 
 -- what a call leaves that found memory, and what it prints
 
-none_failed : (old next : RingContents) (command : Instruction) (line : List ℕ) (own : Option Reported) → FoundMemory old command next line own
-    → Fails (ring_of old) command (ring_of next) line → ⊥
-none_failed old next (SetsRange off len) line own found fails = fails.0
-none_failed old next (SubmitsAll asked) line own found fails = fails.0
-none_failed old next _ line own found fails = found.1 fails.1.2
-
 call_parts : (old next : RingContents) (command : Instruction) (line : List ℕ) (own : Option Reported) → IsCall old.submissions command
     → Prints old command next line → FoundMemory old command next line own → Answers (ring_of old) command (ring_of next) line
-call_parts old next command line own counts prints found =
-    ⊎_elim (λ a. a) (λ f. absurd (none_failed old next command line own found f)) ((answers old next command line counts).0 prints)
+call_parts old next command line own counts prints found = grind (arith, answers)
 
 pub call_leaves : (old next : RingContents) (command : Instruction) (line : List ℕ) (own : Option Reported) → IsCall old.submissions command
     → Prints old command next line → FoundMemory old command next line own → ring_of next ≡ after_call (ring_of old) command
@@ -46,8 +29,7 @@ IsOther x = x ≡ Some ENOMEM → ⊥
 -- a line that isn't that of -12
 
 other_result : (errno : Errno) → IsOther (Some errno) → IsResultInRange (negated errno) × (negated errno ≡ negated ENOMEM → ⊥)
-other_result ENOMEM other = absurd (other refl)
-other_result errno other = (omega arith, λ same. cc)
+other_result errno other = grind arith
 
 found_line : (ring : RingState) (call : Call) (x : Option Errno) {line : List ℕ} → IsOther x → (x ≡ None → call.res < 2 ^ 31)
     → AnswersFound x call.word (Tells ring call) line → HasFound call.word line
@@ -70,27 +52,18 @@ finds old next command line few is printed =
 
 pub call_leads : (old next : RingContents) (command : Instruction) (line : List ℕ) → (ring_of old).size ≤ MOST_SLOTS → IsCall old.submissions command
     → ring_of next ≡ after_call (ring_of old) command → IsLineOf (ring_of old) command line → LeadsRing old command next line
-call_leads old next command line few counts is printed =
-    (None, (answers old next command line counts).1 (inl (is, printed)), finds old next command line few is printed)
+call_leads old next command line few counts is printed = grind (arith, answers, finds)
 
 -- the same of stages: it may lead there, and nowhere else
 module _ (keeps : Bool) (from new : Stage) (command : Instruction) (line : List ℕ) (call : IsCall from.ring.submissions command)
     (left : new.ring ≡ after_call from.ring command) (told : IsLineOf from.ring command line)
     (kept : new.printed ≡ kept_text keeps (from.printed ++ line)) where
   pub call_may_lead : (next : RingContents) → ring_of next ≡ new.ring → from.ring.size ≤ MOST_SLOTS → MayLeadTo keeps from command new
-  call_may_lead next shows few = λ ring same. (
-    next,
-    line,
-    call_leads ring next command line (rw (sym same) at few) (rw (sym same) at call) (shows ∙ (rw (sym same) at left)) (rw (sym same) at told),
-    λ i. record { ring = shows i; printed = sym kept i },
-  )
+  call_may_lead next shows few = grind (arith, call_leads)
 
   pub call_only : (grown : List Stage) → IsRing from.ring → Contains grown new → HasEachNextStage keeps from command grown
-  call_only grown is_ring there ring next other same (own, prints, found) =
-      let (after, says) = rw same at (call_parts ring next command other own (rw (sym same) at call) prints found) in
-      rw (after, sym left, one_line_of command is_ring says told, sym kept) there
+  call_only grown is_ring there ring next other same holds = grind (arith, call_parts, one_line_of)
 
 -- a call counts no submission
 pub call_uncounted : {count : ℕ} (command : Instruction) → IsCall count command → count_after count command ≡ count
-call_uncounted (SubmitsAll asked) call = call
-call_uncounted _ call = refl
+call_uncounted command call = grind arith

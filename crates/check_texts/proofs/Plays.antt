@@ -1,12 +1,11 @@
 -- Plays in which memory is found: cut at a submission, and whole.
-use Rattle.check_texts.proofs.Words.{fault_of, Asked, Instruction, SubmitsAll, Meaning, RingContents, Reported, Prints, contains_none, LeadsAll}
-use Rattle.check_texts.proofs.Words.{count_after_all, accepted_following, FoundMemory, IsReportFound, IsTextFound, PrintsAllFound, List, None, Option}
-use Rattle.check_texts.proofs.Words.{Some, [], ap, arith, inl, inr, refl, subst, sym, ℕ, ⊎_elim, ◌++◌, ◌+◌, ◌∷◌, ◌≡◌, ◌≤◌, ◌⊎◌, append_assoc}
-use Rattle.check_texts.proofs.Words.{option_to_list, Contains, FileEntry, Completed, Place, RingState, files_of_ring, new_ring, ring_of, HasEachLast}
-use Rattle.check_texts.proofs.Words.{HasEachSaidFrom, MayEnd, MayLeadAllTo, MayLeadTo, MaySay, Stage, stage, MayAnswerIn, Bool, ◌<◌, ◌∙◌}
-use Rattle.check_texts.proofs.Words.{Contains-append_cases, Contains-append_right, contains_only, IsText, PrintsAll, teardown_text}
-use Rattle.check_texts.proofs.Walks.{after_grows, all_grows, leads_counts, own_number, starts, all_counts}
-use Rattle.check_texts.proofs.Submitted.{closes_for}
+use Rattle.check_texts.proofs.{fault_of, Asked, Instruction, SubmitsAll, Meaning, RingContents, Reported, Prints, contains_none, LeadsAll}
+use Rattle.check_texts.proofs.{count_after_all, accepted_following, FoundMemory, IsReportFound, IsTextFound, PrintsAllFound, List, Option, Some, []}
+use Rattle.check_texts.proofs.{ap, arith, refl, ℕ, ⊎_elim, ◌++◌, ◌+◌, ◌∷◌, ◌≡◌, ◌≤◌, ◌⊎◌, append_assoc, option_to_list, Contains, FileEntry}
+use Rattle.check_texts.proofs.{Completed, Place, RingState, files_of_ring, new_ring, ring_of, HasEachLast, HasEachSaidFrom, MayEnd, MayLeadAllTo}
+use Rattle.check_texts.proofs.{MayLeadTo, MaySay, Stage, stage, MayAnswerIn, Bool, ◌<◌, ◌∙◌, Contains-append_cases, Contains-append_right}
+use Rattle.check_texts.proofs.{contains_only, IsText, PrintsAll, teardown_text, after_grows, all_grows, leads_counts, own_number, starts, all_counts}
+use Rattle.check_texts.proofs.{closes_for}
 
 -- a text found is a text
 
@@ -21,17 +20,11 @@ found_text script text (reports, play) = (play.0, play.1, all_printed play.0 scr
 
 -- which of the reports a report is
 
-own_one : (own : Option Reported) {report : Reported} → Contains (option_to_list own) report → own ≡ Some report
-own_one None {report} inside = absurd (contains_none report inside)
-own_one (Some one) {report} inside = ap Some (sym (contains_only one report inside))
-
 -- its command's, or one of a later one
 either_report : (old next : RingContents) (command : Instruction) (line : List ℕ) (own : Option Reported) (later : List Reported)
     {reports : List Reported} {report : Reported} → FoundMemory old command next line own → reports ≡ option_to_list own ++ later
     → Contains reports report → FoundMemory old command next line (Some report) ⊎ Contains later report
-either_report old next command line own later {report = report} memory parts inside =
-    ⊎_elim (λ here. inl (subst (FoundMemory old command next line) (own_one own here) memory)) inr
-    (Contains-append_cases (option_to_list own) later report (rw parts at inside))
+either_report old next command line own later memory parts inside = grind (arith, contains_none, contains_only, Contains-append_cases)
 
 -- a play's reports are of the submissions that are counted on the way
 pub numbers_behind : (ring : RingContents) (commands : List Instruction) (text : List ℕ) (reports : List Reported) {report : Reported}
@@ -124,17 +117,7 @@ module _ (script : Meaning) (place : Place) (front : List Instruction) (asked : 
       let (mid, before, all, mid_is) = leads start new in
       let (next, line, report, prints, found, inside, (text, reports, rest)) = says.says mid (ap (λ (s : Stage). s.ring) mid_is) in
       let (those, play, kept) = play_behind start mid front (SubmitsAll asked ∷ behind) before (line ++ text) (report ∷ reports) all
-      (next, line, text, Some report, reports, prints, found, refl, refl, rest) in
-      record {
-        text = before ++ (line ++ text);
-        reports = those;
-        play = (start, new, rw split play);
-        report = report;
-        among = kept report (0, omega arith, refl);
-        submission = cc (found.may.history.submission, all_counts start mid front before all, none_counted start new, number);
-        inside = inside;
-        there = says.there;
-      }
+      (next, line, text, Some report, reports, prints, found, refl, refl, rest) in grind (arith, all_counts, none_counted)
 
   -- an answer of a play is said after the first commands
   pub answer_is_said : (keeps : Bool) (stages : List Stage) (said : List Completed) {c : Completed}
@@ -154,6 +137,4 @@ pub none_answered : {script : Meaning} {place : Place} {c : Completed}
     → (place.submission ≡ 0) ⊎ (count_after_all 0 script.commands < place.submission) → MayAnswerIn script place c → ⊥
 none_answered {script} none may =
     let (ring, new, play) = may.play in
-    let n = rw (none_counted ring new) at (numbers_behind ring script.commands may.text may.reports play may.among) in
-    let is = may.submission in
-    ⊎_elim (λ zero_is. omega (arith, n.0)) (λ past. omega (arith, n.1)) none
+    let n = rw (none_counted ring new) at (numbers_behind ring script.commands may.text may.reports play may.among) in grind arith

@@ -6,9 +6,9 @@ use Rattle.check_texts.proofs.Words.{IsPermutation-refl, HasEachEnd, HasEachRepo
 use Rattle.check_texts.proofs.Words.{PossibleReport, completed_of, fault_of, Asked, Place, Instruction, SubmitsAll, MOST_SLOTS, closes_text, IsRing}
 use Rattle.check_texts.proofs.Words.{RingContents, RingState, ring_of, Reported, reported, MOST_SUBMISSIONS, Prints, contains_map, contains_mapped}
 use Rattle.check_texts.proofs.Words.{HasEachNextStage, LeadsRing, MayEnd, MayLeadTo, MaySay, Stage, accepted_following, stage_reported, IsReportFound}
-use Rattle.check_texts.proofs.Words.{Bool, None, Some, ap, map, refl, slice_get, ◌++◌, ◌+◌, ◌∙◌, ◌≤◌, lt-leb, All, Contains, All-cons, All-nil}
-use Rattle.check_texts.proofs.Words.{All-weaker, All-contains, All-contains_itself, HasClosed, IsReportBy, MayReport, ReportsOf}
-use Rattle.check_texts.proofs.Words.{each_closed_file_is_known, completion_lines}
+use Rattle.check_texts.proofs.Words.{Bool, None, Some, ap, map, refl, ◌++◌, ◌+◌, ◌≤◌, lt-leb, All, Contains, All-cons, All-nil, All-weaker}
+use Rattle.check_texts.proofs.Words.{All-contains, All-contains_itself, HasClosed, IsReportBy, MayReport, ReportsOf, each_closed_file_is_known}
+use Rattle.check_texts.proofs.Words.{completion_lines}
 use Rattle.check_lines.proofs.Marks.{Rises, is_below, is_order, same_cmp, one_close_list}
 use Rattle.check_search.proofs.Hopeless.{get_at}
 use Rattle.check_texts.proofs.Growth.{stays}
@@ -81,9 +81,7 @@ module _ (keeps : Bool) (old : Stage) (asked : List Asked) (faultless : fault_of
   pub possible_may_lead : {possible : PossibleReport} → IsPossible old.ring asked possible
       → MayLeadTo keeps old (SubmitsAll asked) (stage_reported keeps old possible)
   possible_may_lead {possible} is = λ ring same.
-      let (left, behind, may) = is.may ring same in
-      let report = reported possible.report in
-      (left, report_text ring.catalogue report, report_leads faultless (rw (sym same) at few) may, rw (behind, sym same))
+      let (left, behind, may) = is.may ring same in grind (arith, report_leads faultless (rw (sym same) at few) may)
 
 pub answer_may_say : {old : RingState} {asked : List Asked} {place : Place} {answer : PossibleAnswer} {commands : List Instruction} → fault_of asked ≡ None
     → old.submissions < MOST_SUBMISSIONS → IsAnswer old asked place answer → MayEnd (ring_following old answer.slots) commands
@@ -105,16 +103,13 @@ few_left by few = let same = ap (λ (r : RingState). r.size) by.leaves in omega 
 has_report : {old : RingState} (ring next : RingContents) (asked : List Asked) (line : List ℕ) → ring_of ring ≡ old
     → accepted_following old.submissions (fault_of asked) ≡ old.submissions + 1 → LeadsRing ring (SubmitsAll asked) next line
     → (report : Reported) × IsReportFound ring asked next line report
-has_report ring next asked line same counted (None, prints, stays) =
-    absurd (omega (arith, submission_counts ring next asked line prints, rw (sym same) at counted, stays))
-has_report ring next asked line same counted (Some report, prints, found) = (report, found)
+has_report ring next asked line same counted holds = grind (arith, submission_counts)
 
 -- and a refused submission has no report
 pub no_report : {ring next : RingContents} {asked : List Asked} {line : List ℕ} {report : Reported}
     → IsReportFound ring asked next line report → Prints ring (SubmitsAll asked) next line
     → accepted_following ring.submissions (fault_of asked) ≡ ring.submissions → ⊥
-no_report {ring} {next} {asked} {line} found prints stays =
-    omega (arith, submission_counts ring next asked line prints, history_counts found.may.history, stays)
+no_report found prints stays = grind (arith, submission_counts, history_counts)
 
 -- if a report lists another one, both print the same
 module _ (old : RingState) (asked : List Asked) (is_ring : IsRing old) (accepted : IsAccepted asked) (ring next : RingContents)
@@ -124,13 +119,10 @@ module _ (old : RingState) (asked : List Asked) (is_ring : IsRing old) (accepted
   told = reported possible.report
 
   known : AreKnown old asked told.closes.files
-  known = each_closed_file_is_known old asked told (ring_left possible.order.items old) is_ring accepted
-      (record { order = possible.order.items; is = is.by.is; after = refl })
+  known = grind (arith, each_closed_file_is_known old asked told (ring_left possible.order.items old) is_ring accepted, is.by.is)
 
   one_file : (x y : Closed) → Contains told.closes.files x → Contains told.closes.files y → x.mark ≡ y.mark → x ≡ y
-  one_file x y (i, low, at) (j, high, there) marks =
-      let one = get_at told.closes.files i x low (sym at) in let other = get_at told.closes.files j y high (sym there) in
-      let same_file : Some x ≡ Some y = sym one ∙ ap (slice_get told.closes.files) (known.distinct i j x y one other marks) ∙ other in cc
+  one_file x y holds also marks = grind (arith, get_at, known)
 
   closes_same : told.closes.files ≡ report.closes.files
   closes_same =
@@ -152,8 +144,7 @@ reports_are_all true old {asked} reports stages is_ring accepted each inside cou
     let (report, found) = has_report ring next asked line same counted leads in
     let (possible, there, tells) = all refl ring next report same found.may in
     let is = All-contains (IsPossible old.ring asked) reports possible each there in
-    rw (found.printed, texts_same old.ring asked is_ring accepted ring next same report found.may possible is tells, tells.leaves)
-    (inside _ (contains_mapped (stage_reported true old) reports possible there))
+    grind (arith, found.printed, texts_same old.ring asked is_ring accepted ring next same report found.may possible is tells, tells.leaves, contains_mapped (stage_reported true old) reports possible there)
 reports_are_all false old {asked} reports stages is_ring accepted each inside counted ends all ring next line same leads =
     let (report, found) = has_report ring next asked line same counted leads in
     let (possible, there, is) = contains_map (λ (p : PossibleReport). ring_following old.ring p.slots) reports (ring_of next)

@@ -2,12 +2,11 @@
 use Rattle.check_texts.proofs.Words.{IsOneHistory, IsAnswer, ring_following, PossibleAnswer, FileEntry, shown, Asked, Place, Instruction, SubmitsAll}
 use Rattle.check_texts.proofs.Words.{ring_with_files, shows_ring, ring_with_slots, IsRing, RingContents, new_ring, ring_of, LeadsRing, LeadsAll}
 use Rattle.check_texts.proofs.Words.{MayLeadAllTo, MayLeadTo, Stage, stage_of, Reached, Bool, List, [], ap, refl, subst, sym, ℕ, ◌∷◌, ◌≡◌, from_here}
-use Rattle.check_texts.proofs.Words.{fault_of, SetsRange, instruction_of, instructions_of, Command, RingState, Reported, MOST_SUBMISSIONS, Prints}
-use Rattle.check_texts.proofs.Words.{AreStagesFrom, HasEachFrom, HasEachLast, count_after, count_after_all, accepted_following, kept_text, stage}
-use Rattle.check_texts.proofs.Words.{FoundMemory, None, Option, Some, arith, drop, false, if◌then◌else◌, length, nat_le, slice_index_or, take, true}
-use Rattle.check_texts.proofs.Words.{◌++◌, ◌+◌, ◌<◌, ◌∙◌, ◌≤◌, append-nil, append_assoc, map-append, map_more, Contains, none_rings, take-append-drop}
+use Rattle.check_texts.proofs.Words.{fault_of, instruction_of, instructions_of, Command, RingState, Reported, Prints, AreStagesFrom, HasEachFrom}
+use Rattle.check_texts.proofs.Words.{HasEachLast, count_after, count_after_all, accepted_following, kept_text, stage, FoundMemory, Option, Some}
+use Rattle.check_texts.proofs.Words.{arith, drop, length, slice_index_or, take, ◌++◌, ◌+◌, ◌<◌, ◌∙◌, ◌≤◌, append-nil, append_assoc, map-append}
+use Rattle.check_texts.proofs.Words.{map_more, Contains, none_rings, take-append-drop, called_ring, called_submissions}
 use Rattle.fx_ring.proofs.SubmittedRing.{submitted_rings}
-use Rattle.check_lines.proofs.Calls.{called_ring, called_submissions}
 use Rattle.check_texts.proofs.Calls.{call_leaves, submission_cases}
 
 leads_ring : (old next : RingContents) (command : Instruction) (line : List ℕ) → IsRing (ring_of old)
@@ -30,10 +29,7 @@ starts catalogue = (ring_with_files (new_ring catalogue), shows_ring (new_ring c
 -- the ring of each stage that a script may reach
 pub stage_ring : (keeps : Bool) {catalogue : List FileEntry} (commands : List Instruction) {s : Stage}
     → MayLeadAllTo keeps (new_ring catalogue) commands s → IsRing s.ring
-stage_ring keeps {catalogue} commands leads =
-    let (start, new) = starts catalogue in
-    let (last, text, all, is) = leads start new in
-    subst IsRing (ap (λ (t : Stage). t.ring) is) (all_ring start last commands text (rw new (none_rings (new_ring catalogue) refl)) all)
+stage_ring keeps {catalogue} commands leads = grind (arith, all_ring, starts catalogue, none_rings (new_ring catalogue) refl)
 
 -- that of the next stage of a ring that is kept as slots
 pub next_ring : (keeps : Bool) {catalogue : List FileEntry} (from : Reached) (command : Instruction) {new : Stage}
@@ -63,14 +59,11 @@ history_counts history = ap (λ (r : RingState). r.submissions) history.after
 
 pub submission_counts : (old next : RingContents) (asked : List Asked) (line : List ℕ) → Prints old (SubmitsAll asked) next line
     → next.submissions ≡ accepted_following old.submissions (fault_of asked)
-submission_counts old next asked line =
-    submission_cases old next asked line (λ same is. ap (λ (r : RingState). r.submissions) same ∙ sym is) (λ p is. history_counts p.1 ∙ sym is)
+submission_counts old next asked line = grind (arith, submission_cases, history_counts)
 
 pub leads_counts : (old next : RingContents) (command : Instruction) (line : List ℕ) (own : Option Reported) → Prints old command next line
     → FoundMemory old command next line own → next.submissions ≡ count_after old.submissions command
-leads_counts old next (SubmitsAll asked) line own prints found = submission_counts old next asked line prints
-leads_counts old next command line own prints found =
-    ap (λ (r : RingState). r.submissions) (call_leaves old next command line own tt prints found) ∙ called_submissions (ring_of old) command
+leads_counts old next command line own prints found = grind (arith, submission_counts, call_leaves, called_submissions)
 
 pub all_counts : (ring last : RingContents) (commands : List Instruction) (text : List ℕ) → LeadsAll ring commands last text
     → last.submissions ≡ count_after_all ring.submissions commands
@@ -78,16 +71,8 @@ all_counts ring last [] text leads = rw leads.0
 all_counts ring last (command ∷ commands) text (next, line, others, (own, prints, found), split, rest) =
     rw (leads_counts ring next command line own prints found) at (all_counts next last commands others rest)
 
--- counts only grow
-counted_bool : (b : Bool) (count : ℕ) → count ≤ (if b then count else count + 1)
-counted_bool b count = grind arith
-
 pub after_grows : (command : Instruction) (count : ℕ) → count ≤ count_after count command
-after_grows (SubmitsAll asked) count = elim (fault_of asked) as (λ x. count ≤ accepted_following count x) [
-  | Some fault ↦ omega arith
-  | None ↦ counted_bool (nat_le MOST_SUBMISSIONS count) count
-]
-after_grows _ count = omega arith
+after_grows command count = grind arith
 
 pub all_grows : (commands : List Instruction) (count : ℕ) → count ≤ count_after_all count commands
 all_grows [] count = omega arith
@@ -97,9 +82,7 @@ all_grows (command ∷ commands) count =
 -- the report of a command is that of the next submission
 pub own_number : (old next : RingContents) (command : Instruction) (line : List ℕ) (report : Reported)
     → FoundMemory old command next line (Some report) → (report.submission ≡ old.submissions + 1) × (next.submissions ≡ old.submissions + 1)
-own_number old next (SubmitsAll asked) line report found = (found.may.history.submission, history_counts found.may.history)
-own_number old next (SetsRange off len) line report found = absurd (let e : Some report ≡ None = found in cc)
-own_number old next _ line report found = absurd (let e : Some report ≡ None = found.0 in cc)
+own_number old next command line report found = grind (arith, history_counts)
 
 -- one more command after others
 
@@ -123,8 +106,7 @@ before_last ring last (first ∷ front) command text (next, line, others, one, s
 
 -- what is kept of a text and a line is what is kept of what was kept and the line
 kept_on : (keeps : Bool) (before line : List ℕ) → kept_text keeps (before ++ line) ≡ kept_text keeps (kept_text keeps before ++ line)
-kept_on true before line = refl
-kept_on false before line = refl
+kept_on keeps before line = grind arith
 
 pub each_more : (keeps : Bool) {first : RingState} (front : List Instruction) (command : Instruction) (old new : List Stage)
     → ((s : Stage) → Contains old s → MayLeadAllTo keeps first front s) → AreStagesFrom keeps old command new
@@ -133,8 +115,7 @@ each_more keeps front command old new each from {s} inside = λ ring same.
     let (o, there, leads) = from s inside in
     let (mid, before, all, mid_is) = each o there ring same in
     let (last, line, one, last_is) = leads mid (ap (λ (t : Stage). t.ring) mid_is) in
-    let on = ap (λ (t : Stage). stage keeps last (t.printed ++ line)) mid_is ∙ last_is in
-    (last, before ++ line, leads_behind ring mid last front command before line all one, rw (kept_on keeps before line) on)
+    grind (arith, leads_behind ring mid last front command before line all one, kept_on keeps before line)
 
 pub all_more : (keeps : Bool) {first : RingState} (front : List Instruction) (command : Instruction) (old new : List Stage)
     → HasEachLast keeps first front old → HasEachFrom keeps old command new → HasEachLast keeps first (front ++ command ∷ []) new
@@ -146,8 +127,7 @@ all_more keeps front command old new all next ring last text same leads =
 module _ (commands : List Command) {done : ℕ} {command : Command} (inside : done < length commands)
     (is : command ≡ slice_index_or commands done command) where
   pub taken_one : instructions_of (take (done + 1) commands) ≡ instructions_of (take done commands) ++ instruction_of command ∷ []
-  taken_one = map_more instruction_of commands done command inside
-      ∙ ap (λ (c : Command). instructions_of (take done commands) ++ instruction_of c ∷ []) (sym is)
+  taken_one = grind (arith, map_more instruction_of commands done command inside)
 
   pub around : instructions_of commands
       ≡ instructions_of (take done commands) ++ instruction_of command ∷ instructions_of (drop (done + 1) commands)

@@ -8,10 +8,9 @@ use Rattle.check_texts.proofs.Words.{map-append, string_bytes, append_assoc, ins
 use Rattle.check_texts.proofs.Words.{All-weaker, Contains-append_cases, Contains-append_left, Contains-append_right, Contains-push_cases}
 use Rattle.check_texts.proofs.Words.{contains_head, contains_only, contains_tail, PrintsEnd, AreBare, AreDistinct, AreWays, CountsUpTo, GoesBy}
 use Rattle.check_texts.proofs.Words.{HasWays, IsBare, IsWay, ways_after, Global, String, string_eq, min, not, ◌-◌, ◌^◌, AreExits, AreWaysBy}
-use Rattle.check_texts.proofs.Words.{AreWaysOf, AreCounted, AreAllCounted, AreRests, IsRest, ways_at, ways_by, ways_of, bare, commands_in, rests_in}
-use Rattle.check_texts.proofs.Words.{Layer, Vec, none_rings}
-use Rattle.check_texts.proofs.Words.{list_any_at, true≢false, slice_get, take, flat_map, flat_map_more, slice_get-map, slice_get_within}
-use Rattle.check_texts.proofs.Words.{get_or_from_slice_get, option_map}
+use Rattle.check_texts.proofs.Words.{AreWaysOf, AreCounted, AreAllCounted, AreRests, IsRest, ways_at, ways_by, bare, commands_in, rests_in, Layer}
+use Rattle.check_texts.proofs.Words.{Vec, none_rings, list_any_at, true≢false, slice_get, take, flat_map, flat_map_more, slice_get-map}
+use Rattle.check_texts.proofs.Words.{slice_get_within, get_or_from_slice_get, option_map}
 use Rattle.check_texts.proofs.Walks.{starts}
 
 -- a text found is that of a way, and a way's text is found
@@ -61,9 +60,7 @@ get_front (y ∷ xs) ys (suc k) x is = get_front xs ys k x is
 
 get_behind : {X : Type 0} (xs ys : List X) (n : ℕ) → slice_get (xs ++ ys) (length xs + n) ≡ slice_get ys n
 get_behind [] ys n = ap (slice_get ys) (let none : 0 + n ≡ n = omega arith in none)
-get_behind (x ∷ xs) ys n =
-    let more : length (x ∷ xs) + n ≡ suc (length xs + n) = omega arith in
-    ap (slice_get (x ∷ (xs ++ ys))) more ∙ get_behind xs ys n
+get_behind (x ∷ xs) ys n = grind (arith, get_behind xs ys n)
 
 -- the last of a list, or one before it
 get_last : {X : Type 0} (xs : List X) (x : X) (k : ℕ) (y : X) → slice_get (xs ++ x ∷ []) k ≡ Some y
@@ -78,14 +75,10 @@ get_last {X} (z ∷ xs) x (suc k) y is =
 get_from : {X Y : Type 0} (f : X → List Y) (xs : List X) (k : ℕ) (x : X) (n : ℕ) (y : Y) → slice_get xs k ≡ Some x → slice_get (f x) n ≡ Some y
     → slice_get (flat_map f xs) (length (flat_map f (take k xs)) + n) ≡ Some y
 get_from f [] k x n y is at = absurd (cc)
-get_from f (z ∷ xs) zero x n y is at =
-    let same : x ≡ z = cc in let none : 0 + n ≡ n = omega arith in
-    ap (slice_get (f z ++ flat_map f xs)) none ∙ get_front (f z) (flat_map f xs) n y (rw same at at)
+get_from f (z ∷ xs) zero x n y is at = grind (arith, get_front)
 get_from f (z ∷ xs) (suc k) x n y is at =
     let split : length (f z ++ flat_map f (take k xs)) + n ≡ length (f z) + (length (flat_map f (take k xs)) + n) =
-    omega (arith, length-append (f z) (flat_map f (take k xs))) in
-    ap (slice_get (f z ++ flat_map f xs)) split
-    ∙ (get_behind (f z) (flat_map f xs) (length (flat_map f (take k xs)) + n) ∙ get_from f xs k x n y is at)
+    omega (arith, length-append (f z) (flat_map f (take k xs))) in grind (arith, get_behind, get_from f xs k x n y is at)
 
 pub gotten : {X : Type 0} (xs : List X) (k : ℕ) {x : X} → slice_get xs k ≡ Some x → Contains xs x
 gotten xs k {x} is = (k, slice_get_within xs k x is, get_or_from_slice_get xs k x x is)
@@ -98,21 +91,11 @@ module _ (behind : List (List KeptWays)) (exits : List KeptExit) (exit : KeptExi
   -- they are counted right
   pub counted_more : {old new : KeptWays} → old.exits.items ≡ exits → new.exits.items ≡ exits ++ exit ∷ [] → exit.before ≡ old.ways
       → AreCounted behind old → CountsUpTo new.ways (length (ways_by behind (exits ++ exit ∷ []))) → AreCounted behind new
-  counted_more {old} {new} were are first own count = record {
-    ways = rw are count;
-    before = λ k one at.
-        ⊎_elim (λ here. rw (are, here.1) (rw were at (own.before k one (rw were here.0))))
-        (λ last. rw (are, last.1, sym last.0, first) (rw were at own.ways)) (get_last exits exit k one (rw are at at));
-  }
+  counted_more were are first own count = grind (arith, get_last)
 
 -- a sum that stops at the largest number counts as many as both do
 pub counts_sum : {a b s : ℕ} (m n : ℕ) → s ≡ min (a + b) (2 ^ 64 - 1) → CountsUpTo a m → CountsUpTo b n → CountsUpTo s (m + n)
-counts_sum {a} {b} m n is one other = record {
-  few = omega (arith, is, one.few, other.few);
-  same = λ few.
-      let low : a + b < 2 ^ 64 - 1 = omega (arith, is, few) in
-      let left : a ≡ m = one.same (omega (arith, low)) in let right : b ≡ n = other.same (omega (arith, low)) in omega (arith, is, low, left, right);
-}
+counts_sum m n is one other = grind arith
 
 -- one more exit of a ring
 module _ (catalogue : List FileEntry) (command : Instruction) (commands : List Instruction) (behind : List (List KeptWays))
@@ -161,20 +144,14 @@ module _ (catalogue : List FileEntry) (command : Instruction) (commands : List I
 
     goes : (way : List (List ℕ)) → Contains those way → (ring : RingContents) → ring_of ring ≡ ring_with_slots catalogue old.ring
         → GoesBy ring (command ∷ commands) way
-    goes way inside ring at =
-        let (other, has, is) = parts_of way inside in
-        let (next, line, one, is_s) = leads ring at in
-        let line_same : s.printed ≡ line = sym (ap (λ (t : Stage). t.printed) is_s) in
-        (next, line, other, one, is ∙ ap (λ (l : List ℕ). l ∷ other) line_same, rest.each other has next (ap (λ (t : Stage). t.ring) is_s))
+    goes way inside ring at = grind (arith, parts_of way inside, s.printed)
 
     apart : (way : List (List ℕ)) → Contains own way → Contains those way → ⊥
     apart way here inside =
         let (other, has, is) = parts_of way inside in is_new (ways.first s.printed other (subst (Contains own) is here))
 
     first_of : (line : List ℕ) (way : List (List ℕ)) → Contains those (line ∷ way) → Contains more line
-    first_of line way inside =
-        let (other, has, is) = parts_of (line ∷ way) inside in
-        let line_same : s.printed ≡ line = cc in subst (Contains more) line_same added
+    first_of line way inside = grind (arith, parts_of (line ∷ way) inside, s.printed)
 
     of_stage : IsTrue later.are_all → (t : Stage) → s ≡ t → (ring : RingContents) (way : List (List ℕ)) → ring_of ring ≡ t.ring
         → GoesBy ring commands way → Contains (own ++ those) (t.printed ∷ way)
@@ -192,8 +169,7 @@ module _ (catalogue : List FileEntry) (command : Instruction) (commands : List I
     ways_more = record {
       each = λ way inside ring at.
           let at_old = at ∙ same in ⊎_elim (λ here. ways.each way here ring at_old) (λ has. goes way has ring at_old) (either inside);
-      once = subst (λ (l : List (List (List ℕ))). AreDistinct l) (sym new_is)
-          (distinct_append own those ways.once (distinct_behind s.printed others rest.once) apart);
+      once = grind (arith, new_is, distinct_behind, apart, distinct_append own those ways.once (distinct_behind s.printed others rest.once) apart);
       first = λ line way inside. ⊎_elim (λ here. kept line (ways.first line way here)) (first_of line way) (either inside);
       all = λ yes t inside ring way at by.
           let both = all yes in
@@ -203,22 +179,9 @@ module _ (catalogue : List FileEntry) (command : Instruction) (commands : List I
       counted = counted;
     }
 
--- no way yet
-no_counts : (behind : List (List KeptWays)) (rest : KeptWays) → rest.ways ≡ 0 → rest.exits.items ≡ [] → AreCounted behind rest
-no_counts behind rest none empty = record {
-  ways = rw (none, empty) (record { few = omega arith; same = λ few. refl });
-  before = λ k exit at. absurd (let e : slice_get [] k ≡ Some exit = rw empty at at in cc);
-}
-
 pub no_ways : (catalogue : List FileEntry) (command : Instruction) (commands : List Instruction) (behind : List (List KeptWays))
     (lines : List (List ℕ)) (rest : KeptWays) → rest.ways ≡ 0 → rest.exits.items ≡ [] → AreWaysBy catalogue command commands behind [] lines rest
-no_ways catalogue command commands behind lines rest none empty = record {
-  each = λ way inside. absurd (contains_none way (rw empty at inside));
-  once = rw empty tt;
-  first = λ line way inside. absurd (contains_none (line ∷ way) (rw empty at inside));
-  all = λ yes s inside. absurd (contains_none s inside);
-  counted = no_counts behind rest none empty;
-}
+no_ways catalogue command commands behind lines rest none empty = grind (arith, contains_none)
 
 -- all exits of a ring
 pub rest_of_exits : (catalogue : List FileEntry) (command : Instruction) (commands : List Instruction) (behind : List (List KeptWays))
@@ -245,31 +208,21 @@ pub rest_of_end : (catalogue : List FileEntry) (rest : KeptWays) (exit : KeptExi
     → IsRest catalogue [] [] rest
 rest_of_end catalogue rest exit state same is first one prints only = record {
   are = record {
-    each = λ way inside ring at.
-        let own : way ≡ string_bytes exit.line ∷ [] = contains_only (string_bytes exit.line ∷ []) way (rw is at inside) in
-        (string_bytes exit.line, subst (λ (r : RingState). PrintsEnd r (string_bytes exit.line)) (sym (at ∙ same)) prints, own);
+    each = λ way inside ring at. grind (arith, contains_only);
     once = rw is (contains_none (string_bytes exit.line ∷ []), tt);
     all = λ yes ring way at by_end.
         let (other, ends, own) = by_end in
         let ends_there = subst (λ (r : RingState). PrintsEnd r other) (at ∙ same) ends in
         rw (is, own, only other ends_there) (contains_head (string_bytes exit.line ∷ []) []);
   };
-  counted = record {
-    ways = rw (one, is) (record { few = omega arith; same = λ few. refl });
-    before = λ k e at.
-        ⊎_elim (λ none. absurd (let nothing : slice_get [] k ≡ Some e = none.0 in cc))
-        (λ last. let front : take k (exit ∷ []) ≡ [] = last.1 in rw (is, front, sym last.0, first) (record { few = omega arith; same = λ few. refl }))
-        (get_last [] exit k e (rw is at at));
-  };
+  counted = grind (arith, get_last);
 }
 
 -- what is kept of the ring of a number
 pub kept_at : (catalogue : List FileEntry) (commands : List Instruction) (behind : List (List KeptWays)) (rests : List KeptWays) (number : ℕ)
     {rest : KeptWays} → slice_get rests number ≡ Some rest → All (IsRest catalogue commands behind) rests
     → AreWaysOf catalogue commands rest.ring (ways_at (rests ∷ behind) number) rest
-kept_at catalogue commands behind rests number {rest} there are =
-    let own = All-contains (IsRest catalogue commands behind) rests rest are (gotten rests number there) in
-    subst (λ (o : Option KeptWays). AreWaysOf catalogue commands rest.ring (ways_of (ways_at behind) o) rest) (sym there) (own.are, own.counted.ways)
+kept_at catalogue commands behind rests number there are = grind (arith, All-contains, gotten)
 
 -- that of the first ring of a script
 pub first_there : (rests : List (Vec KeptWays)) (own : Vec KeptWays) (ring : RingSlots) → slice_get rests 0 ≡ Some own
@@ -301,16 +254,12 @@ way_from behind rests number rest k exit way later there is low few are at =
     let after : slice_get (f exit) (way - exit.before) ≡ Some (string_bytes exit.line ∷ later) =
     slice_get-map (λ (w : List (List ℕ)). string_bytes exit.line ∷ w) (ways_at behind exit.number) (way - exit.before)
     ∙ ap (option_map (λ (w : List (List ℕ)). string_bytes exit.line ∷ w)) at in
-    subst (λ (o : Option KeptWays). slice_get (ways_of (ways_at behind) o) way ≡ Some (string_bytes exit.line ∷ later)) (sym there)
-    (subst (λ (n : ℕ). slice_get (flat_map f rest.exits.items) n ≡ Some (string_bytes exit.line ∷ later)) (sym split)
-    (get_from f rest.exits.items k exit (way - exit.before) (string_bytes exit.line ∷ later) is after))
+    grind (arith, exit.line, rest.exits.items, get_from f rest.exits.items k exit (way - exit.before) (string_bytes exit.line ∷ later) is after)
 
 -- the rests of a layer, before others
 pub rests_counted : (catalogue : List FileEntry) (commands : List Instruction) (rests : List (List KeptWays)) → AreRests catalogue commands rests
     → AreAllCounted rests
-rests_counted catalogue commands [] are = absurd are
-rests_counted catalogue commands (own ∷ behind) are =
-    (All-weaker (IsRest catalogue commands behind) (AreCounted behind) (λ rest is. is.counted) own are.0, are.1)
+rests_counted catalogue commands rests are = grind (arith, All-weaker)
 
 -- the ways of a script are those of its first ring
 module _ (script : Meaning) {ways : List (List (List ℕ))} {are_all : Bool}
@@ -320,21 +269,11 @@ module _ (script : Meaning) {ways : List (List (List ℕ))} {are_all : Bool}
 
   pub script_ways : (are_counted : Bool) (count : ℕ) → CountsUpTo count (length ways)
       → (IsTrue are_counted → IsTrue are_all × (count < 2 ^ 64 - 1)) → HasWays script are_counted count
-  script_ways are_counted count counts both = record {
-    ways = ways;
-    each = is_way;
-    once = are.once;
-    few = counts.few;
-    same = λ sure. counts.same (both sure).1;
-    all = λ sure way is. are.all (both sure).0 is.0 way is.1 is.2;
-  }
+  script_ways are_counted count counts both = grind (arith, is_way)
 
   pub script_text : (text : List ℕ) → Contains (map concat ways) text → IsTextFound script text
   script_text text inside =
-      let (way, has, is) = contains_map concat ways text inside in
-      let (ring, new, goes) = is_way way has in
-      let (reports, prints) = text_of_way ring script.commands way goes in
-      (reports, (ring, new, subst (λ (t : List ℕ). PrintsAllFound ring script.commands t reports) (sym is) prints))
+      let (way, has, is) = contains_map concat ways text inside in grind (arith, text_of_way, is_way way has)
 
   pub script_texts : IsTrue are_all → (text : List ℕ) → IsTextFound script text → Contains (map concat ways) text
   script_texts all text (reports, (ring, new, prints)) =
@@ -343,14 +282,7 @@ module _ (script : Meaning) {ways : List (List (List ℕ))} {are_all : Bool}
 
 -- a script of which no way is known
 pub no_script_ways : (script : Meaning) → HasWays script false 0
-no_script_ways script = record {
-  ways = [];
-  each = λ way inside. absurd (contains_none way inside);
-  once = tt;
-  few = omega arith;
-  same = λ yes. absurd (let e : false ≡ true = yes in cc);
-  all = λ yes. absurd (let e : false ≡ true = yes in cc);
-}
+no_script_ways script = grind (arith, contains_none)
 
 -- a text that is new in a set isn't among its keys
 pub new_text : (keys : List (String Global)) (k : String Global) {added : Bool} → added ≡ not (list_any (string_eq k) keys) → added ≡ true
@@ -391,9 +323,7 @@ rest_there catalogue commands behind later number ring are (Some rest) there sam
 
 -- the list of the first ring alone
 pub bare_start : (catalogue : List FileEntry) → AreBare (record { ring = new_ring catalogue; printed = [] } ∷ [])
-bare_start catalogue s inside =
-    let is = contains_only (record { ring = new_ring catalogue; printed = [] }) s inside in
-    subst IsBare (sym is) (none_rings (new_ring catalogue) refl, refl)
+bare_start catalogue s inside = grind (arith, contains_only, none_rings)
 
 -- the commands of layers, and one more
 pub commands_more : (layers : List Layer) (layer : Layer) {commands : List Instruction} → commands_in layers ≡ commands

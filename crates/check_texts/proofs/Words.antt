@@ -10,14 +10,14 @@ pub use Rattle.std.proofs.Common.{None, arith, drop, inl, length, nat_le, string
 pub use Rattle.std.proofs.Common.{ap, refl, ⊎_elim, ◌∷◌, ◌⊎◌, Bool, Option, if◌then◌else◌, slice_get, true, ◌≤◌, [], subst, map, ℕ, slice_index_or}
 pub use Rattle.std.proofs.Common.{List, Some, sym, Global, String, ltb-true, add-one, length-append, append_assoc, take_all, append-nil}
 pub use Rattle.std.proofs.Common.{take-append-drop, MatchBool, Bor, IsPermutation, MatchOption, option_to_list, All, IfSome, ◌-◌, Contains, IsTrue}
-pub use Rattle.std.proofs.Common.{min, string_eq, not, true≢false, rules}
+pub use Rattle.std.proofs.Common.{min, string_eq, not, true≢false, rules, option_map, reverse}
 pub use Rattle.check_lines.proofs.Cuts.{from_here}
 pub use Rattle.check_lines.proofs.Entries.{AreOf, all_closed, all_of_ring, few_of_ring, shown, refusal_other, end_printed}
 pub use Rattle.check_lines.specs.Calls.{call_of, after_call, IsCall, IsLineOf, accepted_following, AnswersFound}
 pub use Rattle.check_outcomes.specs.declared.outcomes.PossibleAnswer.{PossibleAnswer}
 pub use Rattle.check_outcomes.specs.declared.outcomes.PossibleReport.{PossibleReport}
-pub use Rattle.check_texts.specs.Layers.{AreAllCounted, AreCounted, AreExits, AreRests, AreWaysBy, AreWaysOf, IsLayer, IsRest, bare}
-pub use Rattle.check_texts.specs.Layers.{commands_in, rests_in, ways_at, ways_by, ways_of}
+pub use Rattle.check_texts.specs.Layers.{AreAllCounted, AreCounted, AreExits, AreRests, AreWaysBy, AreWaysOf, IsLayer, IsRest, bare, commands_in}
+pub use Rattle.check_texts.specs.Layers.{rests_in, ways_at, ways_by, ways_of}
 pub use Rattle.check_texts.specs.Rings.{AreStagesFrom, Grows, HasEachFrom, HasEachLast, HasEachNextStage, HasEachSaidFrom, LeadsRing, LeadsAll}
 pub use Rattle.check_texts.specs.Rings.{MayEnd, MayLeadAllTo, MayLeadTo, MaySay, Stage, count_after, count_after_all, kept_text, said_in, stage}
 pub use Rattle.check_texts.specs.Rings.{stage_of, stage_reported, stages_of, AreSaidFrom, IsAskedIn, AreRings}
@@ -43,6 +43,6 @@ pub use Rattle.std.proofs.lemmas.List.{nil_from_length, map-append, map_more, le
 pub use Rattle.std.proofs.lemmas.List.Elements.{Contains-push, Contains-push_cases, Contains-append_cases, All-weaker, All-contains_itself, All-pop}
 pub use Rattle.std.proofs.lemmas.List.Folds.{Any-from_list_any, list_any_at, concat-append}
 pub use Rattle.std.specs.List.{list_any, concat, flat_map}
-pub use Rattle.std.proofs.Common.{option_map, reverse}
 pub use Rattle.std.proofs.lemmas.Option.{slice_get-map, slice_get_within, get_or_from_slice_get, slice_get_read}
 pub use Rattle.std.specs.Global.{Vec}
+pub use Rattle.check_lines.proofs.Calls.{Answers, Call, Tells, answers, called_ring, called_submissions, few_told, not_refused, one_line_of}

@@ -1,5 +1,5 @@
 -- The entries of a catalogue, by their places and by their names.
-use Rattle.std.proofs.Common.{rules, ◌≡◌, ◌⊎◌, inl, inr, ℕ, suc, zero, ◌<◌, ◌≤◌, true, false, List, [], ◌∷◌, ◌++◌, length, refl, sym, ap, ◌∙◌, Some}
+use Rattle.std.proofs.Common.{rules, ◌≡◌, ◌⊎◌, inl, inr, ℕ, suc, zero, ◌<◌, ◌≤◌, true, false, List, [], ◌∷◌, ◌++◌, length, refl, ap, Some}
 use Rattle.std.proofs.Common.{None, slice_index_or, slice_get, length-append, arith, string_bytes, ◌+◌, Option, is_some, IfSome}
 use Rattle.std.proofs.lemmas.List.{get_or-map, length-map}
 use Rattle.std.proofs.lemmas.List.Elements.{All-push}
@@ -32,10 +32,7 @@ entry_named catalogue entry name is = grind (arith, slice_get_past)
 -- a name that no entry has is found at no place
 not_named : (catalogue : List FileEntry) (name : List ℕ) → has_name name catalogue ≡ false → (i : ℕ) → name_at catalogue i ≡ Some name → ⊥
 not_named [] name new i is = cc
-not_named (x ∷ xs) name new zero is =
-    let same : x.name ≡ name = cc in
-    let true_is : bytes_eq x.name name ≡ true = (bytes_eq-Decides x.name name).1 same in
-    let false_is : bytes_eq x.name name ≡ false = (or_parts _ _ new).0 in cc
+not_named (x ∷ xs) name new zero is = grind (arith, bytes_eq-Decides, or_parts)
 not_named (x ∷ xs) name new (suc i) is = not_named xs name (or_parts _ _ new).1 i is
 
 -- a new name keeps the names distinct
@@ -58,14 +55,7 @@ read_at entries {i = i} {e = e} seen good inside is =
     let low : i < length entries = simp length-map at within in
     let at : slice_get (file_entries_of entries) i ≡ Some (file_entry_of e) =
     rw (slice_get-map, slice_get_read entries (length entries) i e refl low is) refl in
-    let there : slice_index_or (file_entries_of entries) i (file_entry_of e) ≡ file_entry_of e =
-    get_or-map file_entry_of entries i e (file_entry_of e) low ∙ ap file_entry_of (sym is) in
-    rw (sym seen) (record {
-      size = rw at refl;
-      small = rw there at (good.small i (file_entry_of e) within);
-      name = rw at refl;
-      named = rw there at (good.named i (file_entry_of e) within);
-    })
+    grind (arith, get_or-map file_entry_of entries i e (file_entry_of e) low, good.small i (file_entry_of e) within, good.named i (file_entry_of e) within)
 
 -- a catalogue with one more entry is a catalogue
 pub one_more : (catalogue : List FileEntry) (y : FileEntry) → IsCatalogue catalogue → length catalogue < MOST_ENTRIES → length y.bytes ≤ LONGEST_ENTRY

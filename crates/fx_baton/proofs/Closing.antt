@@ -1,16 +1,13 @@
 -- The history of all passes, once they have come back; and that of the only pass, without closing
 -- the table.
-use Rattle.fx_baton.proofs.Words.{◌≡◌, ℕ, ◌<◌, ◌≤◌, List, [], ◌∷◌, map, length, reverse, sym, refl, ap, ◌∙◌, subst, arith, eqb, some}
-use Rattle.fx_baton.proofs.Words.{get_elem?, None, Contains, sum_by, TableId, IsSettled, state_of, node_at, removed_at}
-use Rattle.fx_baton.proofs.Words.{is_leaving, Node, pass_of_chain, PassView, HasDrawnInTurn, ClosesTable, times_drawn, Idle}
-use Rattle.fx_baton.proofs.Words.{contains_map, contains_mapped, sum_map, Log, View, Start, BatonPass, Shared, opening_of, holds_by, removals_by}
-use Rattle.fx_baton.proofs.Words.{leaving_count, IsLog, IsHome, IsKept, first_own, view_of, IsPassOf, logs_in, drawn_inside, drawn_few}
-use Rattle.fx_baton.proofs.Words.{all_are_drawn, sum_zero_at, one_if, once_is, ◌++◌, contains_head, file_held}
-use Rattle.fx_baton.proofs.Words.{seats, front_in, AreGathered}
-use Rattle.std.proofs.lemmas.List.{append-nil}
+use Rattle.fx_baton.proofs.Words.{◌≡◌, ℕ, ◌<◌, ◌≤◌, List, [], ◌∷◌, map, length, reverse, sym, refl, ap, ◌∙◌, subst, arith, eqb, some, get_elem?, None}
+use Rattle.fx_baton.proofs.Words.{Contains, sum_by, TableId, IsSettled, state_of, node_at, removed_at, is_leaving, Node, pass_of_chain, PassView}
+use Rattle.fx_baton.proofs.Words.{HasDrawnInTurn, ClosesTable, times_drawn, Idle, contains_map, contains_mapped, sum_map, Log, View, Start, BatonPass}
+use Rattle.fx_baton.proofs.Words.{Shared, opening_of, holds_by, removals_by, leaving_count, IsLog, IsHome, IsKept, first_own, view_of, IsPassOf}
+use Rattle.fx_baton.proofs.Words.{logs_in, drawn_inside, drawn_few, all_are_drawn, sum_zero_at, one_if, once_is, ◌++◌, contains_head, file_held}
+use Rattle.fx_baton.proofs.Words.{seats, front_in, AreGathered, append-nil, each_rests, gathered_log, numbers, of_only, pass_of, gathered_whole}
 use Rattle.fx_table.proofs.Histories.{IsWhole, closes_table, settles as settles_whole}
 use Rattle.fx_table.specs.Settling.{IsSettledSoFar}
-use Rattle.table_seats.proofs.Gathered.{each_rests, its_log as gathered_log, numbers, of_only, pass_of, whole as gathered_whole}
 
 module _ (id : TableId) (k : Start) where
   -- the one log of a pass

@@ -1,11 +1,10 @@
 -- A pass that takes the table, and one that puts it back.
 use Rattle.fx_baton.proofs.Words.{◌≡◌, ℕ, ◌+◌, ◌-◌, ◌*◌, ◌≤◌, Bool, List, [], ◌∷◌, ◌++◌, map, sym, refl, ap, ◌∙◌, subst, arith, Option, Some, None}
-use Rattle.fx_baton.proofs.Words.{TableId, Seat, State, Contents, state_of, IsLegal, close_of, ◌▷◌, ◌▷▷◌}
-use Rattle.fx_baton.proofs.Words.{File, Event, Release, number_following, state_at, PassView, IsFront, next_of, HasDrawnInTurn}
-use Rattle.fx_baton.proofs.Words.{Task, seen_again, seen_further, part_mine, Log, View, Start, Call, BatonPass, Seated, opening_of}
-use Rattle.fx_baton.proofs.Words.{begin_of, Takes, lent_view, log_after, view_after, first_own, seats, view_of, IsPassOf, HasTable}
-use Rattle.fx_baton.proofs.Words.{HasSeenMore, UsesNext, HasCalled, HasGivenBack, pass_after, activity_of, by, actions_of, doing_of, use_of}
-use Rattle.fx_baton.proofs.Words.{events_of, table_of_seats, table_of_loan}
+use Rattle.fx_baton.proofs.Words.{TableId, Seat, State, Contents, state_of, IsLegal, close_of, ◌▷◌, ◌▷▷◌, File, Event, Release, number_following}
+use Rattle.fx_baton.proofs.Words.{state_at, PassView, IsFront, next_of, HasDrawnInTurn, Task, seen_again, seen_further, part_mine, Log, View, Start}
+use Rattle.fx_baton.proofs.Words.{Call, BatonPass, Seated, opening_of, begin_of, Takes, lent_view, log_after, view_after, first_own, seats, view_of}
+use Rattle.fx_baton.proofs.Words.{IsPassOf, HasTable, HasSeenMore, UsesNext, HasCalled, HasGivenBack, pass_after, activity_of, by, actions_of}
+use Rattle.fx_baton.proofs.Words.{doing_of, use_of, events_of, table_of_seats, table_of_loan}
 use Rattle.fx_table.specs.Calls.{Adds}
 
 -- a legal history leads to the state at its end

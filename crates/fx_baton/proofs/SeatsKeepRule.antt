@@ -1,17 +1,12 @@
 -- The rule holds when a table is opened, and where passes move between seats; the passes that are
 -- dealt out.
 use Rattle.fx_baton.proofs.Words.{◌≡◌, ℕ, ◌<◌, ◌≤◌, Bool, true, false, cond, List, [], ◌∷◌, sym, refl, ap, ◌∙◌, subst, arith, inl, ⊎_elim, some}
-use Rattle.fx_baton.proofs.Words.{get_elem?, Some, None, State, Contents, state_of, IsTable, is_leaving, node_at, removed_at, Node, numbers_for}
-use Rattle.fx_baton.proofs.Words.{Idle, Log, View, Start, IsKept, IsLog, IsView, leaving_count, begin_of, contains_map, Splits, Joins, Task, Shared}
-use Rattle.fx_baton.proofs.Words.{holds_by, removals_by, file_in_hand, TableId, Seat, new_pass}
-use Rattle.fx_baton.proofs.Words.{BatonPass, Seated, first_own, view_of, is_idle, IsPassOf, dealt}
-use Rattle.fx_baton.proofs.Words.{IsNewPass, IsAnew, seats, HasLaws, Moves, first_alone, first_view}
-use Rattle.fx_baton.proofs.Words.{without_first}
-use Rattle.table_seats.proofs.Moving.{IsRule, alone_is_dealt, may_join as seats_join, may_split as seats_split}
-use Rattle.table_seats.proofs.Together.{opens as seats_open, reseated as seats_reseated}
+use Rattle.fx_baton.proofs.Words.{get_elem?, Some, None, State, Contents, state_of, IsTable, is_leaving, node_at, removed_at, Node, numbers_for, Idle}
+use Rattle.fx_baton.proofs.Words.{Log, View, Start, IsKept, IsLog, IsView, leaving_count, begin_of, contains_map, Splits, Joins, Task, Shared}
+use Rattle.fx_baton.proofs.Words.{holds_by, removals_by, file_in_hand, TableId, Seat, new_pass, BatonPass, Seated, first_own, view_of, is_idle}
+use Rattle.fx_baton.proofs.Words.{IsPassOf, dealt, IsNewPass, IsAnew, seats, HasLaws, Moves, first_alone, first_view, without_first, IsRule}
+use Rattle.fx_baton.proofs.Words.{alone_is_dealt, seats_join, seats_split, seats_open, seats_reseated, joined, spent, table_opening}
 use Rattle.fx_seen.proofs.Views.{of_one}
-use Rattle.table_seats.specs.Seats.{joined, spent}
-use Rattle.atomic_table.specs.Table.{opening as table_opening}
 use Rattle.std.specs.List.{range_with_len}
 
 pub laws : HasLaws seats

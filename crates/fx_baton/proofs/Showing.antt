@@ -1,17 +1,14 @@
 -- A pass shows what it has seen, and another pass learns it: the rule holds afterwards. Neither is
 -- an atomic step.
-use Rattle.fx_baton.proofs.Words.{◌≡◌, ℕ, List, [], ◌∷◌, sym, refl, ap, ◌∙◌, subst, inl, inr, ⊎_elim, some, get_elem?, set, set_else, at_set}
-use Rattle.fx_baton.proofs.Words.{Contents, state_of, IsSeenBy, Event, Log, View, Start, Shared, IsHome, IsAway, IsKept, Splits, ◌≢◌, None, none-some}
-use Rattle.fx_baton.proofs.Words.{BatonPass, TableId, Seat, IsPassOf, IsFront, PassView, HasDrawnInTurn, opening_of, first_own, view_of, Seated}
-use Rattle.fx_baton.proofs.Words.{IsLegal, begin_of, part_of_pass, some-injective, its_pass, started, seats, front_in, shown_view}
+use Rattle.fx_baton.proofs.{◌≡◌, ℕ, List, [], ◌∷◌, sym, refl, ap, ◌∙◌, subst, inl, inr, ⊎_elim, some, get_elem?, set, set_else, at_set, Contents}
+use Rattle.fx_baton.proofs.{state_of, IsSeenBy, Event, Log, View, Start, Shared, IsHome, IsAway, IsKept, Splits, ◌≢◌, None, none-some, BatonPass}
+use Rattle.fx_baton.proofs.{TableId, Seat, IsPassOf, IsFront, PassView, HasDrawnInTurn, opening_of, first_own, view_of, Seated, IsLegal, begin_of}
+use Rattle.fx_baton.proofs.{part_of_pass, some-injective, its_pass, started, seats, front_in, shown_view, seats_show, known, learns_all, legal_end}
+use Rattle.fx_baton.proofs.{ends_there}
 use Rattle.fx_baton.specs.Showing.{HasLearned}
 use Rattle.fx_baton.proofs.SeatsKeepRule.{is_rule, laws}
 use Rattle.fx_baton.proofs.StepsKeepRule.{Turns, keeps_rule}
-use Rattle.fx_baton.proofs.TurnsKeepRule.{learns_all, legal_end}
-use Rattle.fx_baton.proofs.Passing.{ends_there}
 use Rattle.fx_table.specs.Showing.{Learns}
-use Rattle.table_seats.proofs.Moving.{may_show as seats_show}
-use Rattle.table_seats.proofs.Together.{known}
 
 -- a seat with one pass may show what the pass has seen
 pub may_show : (k : Start) (id : ℕ) (v : View) {x : Log} → v.logs ≡ x ∷ [] → Splits (IsKept k) id v v (shown_view seats v)

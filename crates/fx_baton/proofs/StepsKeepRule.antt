@@ -1,10 +1,9 @@
 -- A step of one seat keeps the rule: the counts of its pass's activity.
 use Rattle.fx_baton.proofs.Words.{◌≡◌, ℕ, ◌+◌, ◌≤◌, Bool, true, false, cond, List, [], ◌∷◌, ap, arith, eqb, ◌⊎◌, Some, Contains, File, Event, Task}
-use Rattle.fx_baton.proofs.Words.{Log, file_in_hand, holds_by, removals_by, changed_at, ◌≢◌, ◌<◌, set, sym, refl, ◌∙◌, subst, inl, inr, ⊎_elim}
-use Rattle.fx_baton.proofs.Words.{some, get_elem?, sum_by, at_set, set_else, Contents, state_of, leaving, IsTable, IsLegal, ◌▷▷◌, pass_of_number}
-use Rattle.fx_baton.proofs.Words.{HasFile, seen_further, part_other, held_other, sum_set, sum_at, View, Start, Shared, begin_of, leaving_count}
-use Rattle.fx_baton.proofs.Words.{IsLog, IsView, IsHome, IsAway, IsKept, Grows, HasSeen, not_there, seats}
-use Rattle.table_seats.proofs.Together.{stepped}
+use Rattle.fx_baton.proofs.Words.{Log, file_in_hand, holds_by, removals_by, changed_at, ◌≢◌, ◌<◌, set, sym, refl, ◌∙◌, subst, inl, inr, ⊎_elim, some}
+use Rattle.fx_baton.proofs.Words.{get_elem?, sum_by, at_set, set_else, Contents, state_of, leaving, IsTable, IsLegal, ◌▷▷◌, pass_of_number, HasFile}
+use Rattle.fx_baton.proofs.Words.{seen_further, part_other, held_other, sum_set, sum_at, View, Start, Shared, begin_of, leaving_count, IsLog, IsView}
+use Rattle.fx_baton.proofs.Words.{IsHome, IsAway, IsKept, Grows, HasSeen, not_there, seats, stepped}
 use Rattle.fx_baton.proofs.Passing.{ends_there}
 
 -- a flag that is set at a number, or taken back

@@ -2,14 +2,12 @@
 -- may put it back.
 use Rattle.fx_baton.proofs.Words.{leaving_count, ◌≡◌, ℕ, ◌≤◌, ◌==◌, List, [], ◌∷◌, length, set, get_or, sym, refl, ap, ◌∙◌, subst, arith, inl, inr}
 use Rattle.fx_baton.proofs.Words.{⊎_elim, some, none, get_elem?, None, Contains, step, takes, keeps, set_else, set_again, Contents, state_of, IsLegal}
-use Rattle.fx_baton.proofs.Words.{Event, seen_again, contains_none, contains_only, sum_at, sum_le_at, Log, View, Start, Shared, Seated}
-use Rattle.fx_baton.proofs.Words.{begin_of, holds_by, removals_by, HasFreshNumbers, IsLog, IsView, IsHome, IsAway, IsKept, Knows, lent_view}
-use Rattle.fx_baton.proofs.Words.{Grabs, Allows, ◌≢◌, true, ◌++◌, map, dite, ℕ_discrete, some-injective, Some, gives, at_set, IsTable, IsSeenBy}
-use Rattle.fx_baton.proofs.Words.{held_by, ◌▷▷◌, Task, pass_of_number, log_after, view_after, PutsBack, IsTurn, part_mine, set_here, stands_at}
-use Rattle.fx_baton.proofs.Words.{none-some, Idle, HasSeen, Option, ◌⊎◌, its_pass, started, seats}
-use Rattle.std.proofs.lemmas.List.{set-get_or}
+use Rattle.fx_baton.proofs.Words.{Event, seen_again, contains_none, contains_only, sum_at, sum_le_at, Log, View, Start, Shared, Seated, begin_of}
+use Rattle.fx_baton.proofs.Words.{holds_by, removals_by, HasFreshNumbers, IsLog, IsView, IsHome, IsAway, IsKept, Knows, lent_view, Grabs, Allows, ◌≢◌}
+use Rattle.fx_baton.proofs.Words.{true, ◌++◌, map, dite, ℕ_discrete, some-injective, Some, gives, at_set, IsTable, IsSeenBy, held_by, ◌▷▷◌, Task}
+use Rattle.fx_baton.proofs.Words.{pass_of_number, log_after, view_after, PutsBack, IsTurn, part_mine, set_here, stands_at, none-some, Idle, HasSeen}
+use Rattle.fx_baton.proofs.Words.{Option, ◌⊎◌, its_pass, started, seats, set-get_or, contains_alone}
 use prog.Atomic.{either}
-use Rattle.fx_table.proofs.SumLemmas.{contains_alone}
 use Rattle.fx_baton.proofs.StepsKeepRule.{holds_small, Turns, keeps_rule}
 
 -- a seat with one pass

@@ -1,7 +1,7 @@
 -- The names that most proofs of this crate use.
 pub use Rattle.atomic_table.proofs.Lists.{at_set, set_again, set_else, set_here}
 pub use Rattle.atomic_table.specs.Seated.{TableId}
-pub use Rattle.atomic_table.specs.Table.{Allows, Joins, Splits, gives, keeps, rest, step, takes}
+pub use Rattle.atomic_table.specs.Table.{Allows, Joins, Splits, gives, keeps, rest, step, takes, opening as table_opening}
 pub use Rattle.atomic_table.specs.declared.shared.Seat.{Seat}
 pub use Rattle.fx_base.specs.declared.open_file.Closed.{Closed}
 pub use Rattle.fx_baton.specs.Lives.{IsIdleSeatOf, IsNewPass, logs_in}
@@ -28,7 +28,7 @@ pub use Rattle.fx_plain.specs.declared.node.Node.{Node}
 pub use Rattle.fx_table.proofs.Calls.{seen_again, seen_further, new_here, cleared_so, placed_so, taken_so, prepared_again}
 pub use Rattle.fx_table.proofs.Histories.{held_mine, held_other, legal_then, one_author, part_mine, part_other}
 pub use Rattle.fx_table.proofs.SumLemmas.{contains_head, contains_map, contains_mapped, contains_none, contains_only, bit_here, once_is, one_if}
-pub use Rattle.fx_table.proofs.SumLemmas.{one_less_at, one_more_at, sum_at, sum_le_at, sum_map, sum_set, sum_zero_at, stands_at}
+pub use Rattle.fx_table.proofs.SumLemmas.{one_less_at, one_more_at, sum_at, sum_le_at, sum_map, sum_set, sum_zero_at, stands_at, contains_alone}
 pub use Rattle.fx_table.proofs.Chains.{all_are_drawn, drawn_few, drawn_inside, next_is_its_own, fits, one_dealt, all_dealt}
 pub use Rattle.fx_table.specs.Closing.{ClosesTable, times_drawn}
 pub use Rattle.fx_table.specs.Files.{HasFile}
@@ -50,8 +50,12 @@ pub use Rattle.fx_baton.specs.Turns.{holds_now, actions_of, doing_of, events_of,
 pub use Rattle.fx_plain.specs.declared.node.Node.TheVariants.{Leaving, Retired}
 pub use Rattle.fx_table.proofs.Growing.{Grows}
 pub use Rattle.fx_table.proofs.Seats.{IsAnew, gathered, last_of}
-pub use Rattle.table_seats.proofs.Gathered.{AreGathered}
-pub use Rattle.table_seats.proofs.Together.{HasLaws, Moves, its_pass, not_there, started}
+pub use Rattle.table_seats.proofs.Gathered.{AreGathered, each_rests, its_log as gathered_log, numbers, of_only, pass_of, whole as gathered_whole}
+pub use Rattle.table_seats.proofs.Together.{HasLaws, Moves, its_pass, not_there, started, known, opens as seats_open, reseated as seats_reseated}
+pub use Rattle.table_seats.proofs.Together.{stepped}
 pub use Rattle.table_seats.specs.Together.{HasSeen}
-pub use Rattle.table_seats.specs.Seats.{dealt, first_alone, first_view, front_in, shown_view, without_first}
+pub use Rattle.table_seats.specs.Seats.{dealt, first_alone, first_view, front_in, shown_view, without_first, joined, spent}
 pub use Rattle.std.proofs.lemmas.Option.{none-some}
+pub use Rattle.std.proofs.lemmas.List.{append-nil, set-get_or}
+pub use Rattle.table_seats.proofs.Moving.{IsDealing, IsGathering, IsRule, alone_is_dealt, last_is_dealt, may_join as seats_join, may_observe}
+pub use Rattle.table_seats.proofs.Moving.{may_show as seats_show, may_split as seats_split, rest_is_dealt}

@@ -1,15 +1,14 @@
 -- Submissions without a fault, and the first fault of the others.
-use Rattle.fx_chain.proofs.Words.{◌≡◌, ℕ, ◌+◌, ◌*◌, ◌≤◌, List, [], ◌∷◌, ◌++◌, length, take, drop, refl, sym, ap, ◌∙◌, All, subst, arith, Option, Some}
-use Rattle.fx_chain.proofs.Words.{None, false, sum_by-cons, append-nil, append_assoc, All-head, All-tail, IsAccepted, slice_index_or, suc}
-use Rattle.fx_chain.proofs.Words.{IsWithinLimits, Operation, Asked, runs_of, weight_of, take-append-drop, all_weights, fault_of_next}
-use Rattle.fx_chain.proofs.Words.{first_fault, or_later, is_long_update, CutFault, MOST_MEMBERS, MAX_CHAINS, inl, map, flat_map, take_at, drop_at}
-use Rattle.fx_chain.proofs.Words.{All-nil, All-cons, All-take, All-drop, IsShortRun, IsChain, members_of, chains_from, chains_of, but_last}
-use Rattle.fx_chain.proofs.Words.{all_installs, CHAIN_NUMBERS, ◌<◌, ◌==◌, ◌||◌, nat_lt, ℤ, list_any, ◌⊎◌, inr, HasNoFault, IsFirstFault, fault_of}
-use Rattle.fx_chain.proofs.Words.{drop-cons, slot_refusal, list_refusal}
+use Rattle.fx_chain.proofs.Words.{common_steps, ◌≡◌, ℕ, ◌+◌, ◌*◌, ◌≤◌, List, [], ◌∷◌, ◌++◌, length, take, drop, refl, sym, ap, ◌∙◌, All, subst, arith}
+use Rattle.fx_chain.proofs.Words.{Option, Some, None, false, sum_by-cons, append-nil, append_assoc, All-head, All-tail, IsAccepted, slice_index_or, ℤ}
+use Rattle.fx_chain.proofs.Words.{suc, Operation, IsWithinLimits, Asked, runs_of, weight_of, take-append-drop, all_weights, fault_of_next, or_later}
+use Rattle.fx_chain.proofs.Words.{first_fault, inl, is_long_update, CutFault, MOST_MEMBERS, MAX_CHAINS, map, flat_map, take_at, drop_at, All-nil, ◌<◌}
+use Rattle.fx_chain.proofs.Words.{All-cons, All-take, All-drop, IsShortRun, IsChain, members_of, chains_from, chains_of, but_last, all_installs, ◌==◌}
+use Rattle.fx_chain.proofs.Words.{CHAIN_NUMBERS, ◌||◌, nat_lt, list_any, ◌⊎◌, inr, HasNoFault, IsFirstFault, fault_of, drop-cons, slot_refusal}
+use Rattle.fx_chain.proofs.Words.{list_refusal, length-append}
 use Rattle.fx_chain.specs.declared.fault.CutKind.{CutKind}
 use Rattle.fx_chain.specs.declared.request.TheConstants.{LONGEST_UPDATE}
 use Rattle.fx_chain.proofs.Counted.{AreCounts, IsFine, counted_none, counted_step, fault_of_next-counted, fine, all_installs-push}
-use Rattle.std.proofs.lemmas.List.{length-append}
 use Rattle.fx_chain.proofs.Runs.{IsLinked, IsOver, HasMembers, are_runs, IsClosed, IsClosed-append, but_last-last, open_run-closed}
 use Rattle.fx_chain.specs.Refusal.{is_bad_entry}
 use Rattle.std.specs.Option.{MatchOption}
@@ -70,9 +69,7 @@ accepted-length requests accepted = let is = (counts_of requests accepted).is in
 pub accepted-each : (requests : List Asked) → IsAccepted requests → All IsWithinLimits requests
 accepted-each requests accepted k d inside =
     let whole : requests ≡ take k requests ++ slice_index_or requests k d ∷ drop (suc k) requests =
-    sym (take-append-drop k requests) ∙ ap (λ rest. take k requests ++ rest) (drop-cons requests k d inside) in
-    let f = (passes_at (take k requests) (slice_index_or requests k d) (drop (suc k) requests) (subst IsAccepted whole accepted)).is_fine in
-    record { flags = f.flags; read = f.read; update = f.update }
+    sym (take-append-drop k requests) ∙ ap (λ rest. take k requests ++ rest) (drop-cons requests k d inside) in grind (arith, passes_at)
 
 -- a request within its limits closes no more files than an update may have entries
 weight-small : (o : Operation) → is_long_update o ≡ false → weight_of o ≤ LONGEST_UPDATE
@@ -82,8 +79,7 @@ pub all_weights-small : (requests : List Asked) → All IsWithinLimits requests 
 all_weights-small [] within = omega arith
 all_weights-small (r ∷ rs) within =
     let one = weight-small r.operation (All-head IsWithinLimits r rs within).update in
-    let more = all_weights-small rs (All-tail IsWithinLimits r rs within) in
-    rw (sum_by-cons (λ request. weight_of request.operation) r rs) (omega arith)
+    grind (arith, all_weights-small rs (All-tail IsWithinLimits r rs within), common_steps, All-tail IsWithinLimits r rs within)
 
 -- The chains of a submission without a fault: their places and limits.
 
@@ -159,8 +155,7 @@ map-members_of : (requests before : List Asked) (runs : List (List Asked)) → r
 map-members_of requests before [] is = refl
 map-members_of requests before (run ∷ runs) is =
     let later = flat_map (λ y. y) runs in
-    let more = map-members_of requests (before ++ run) runs (is ∙ sym (append_assoc before run later)) in
-    rw (members_of-run before run later is, ← length-append before run, more)
+    grind (arith, map-members_of requests (before ++ run) runs (is ∙ sym (append_assoc before run later)), common_steps, is, members_of-run)
 
 pub members-are-runs : (requests : List Asked) → map (members_of requests) (chains_of (runs_of requests)) ≡ runs_of requests
 members-are-runs requests = map-members_of requests [] (runs_of requests) (sym (are_runs requests).whole)
@@ -200,17 +195,8 @@ first_behind front (x ∷ list) none =
     elim (fault_of_next front x) as (λ k. fault_of_next front x ≡ k → MatchOption (or_later (length front + 1) k (first_fault (front ++ x ∷ []) list))
     (HasNoFault (front ++ x ∷ list)) (IsFirstFault (front ++ x ∷ list))) [
       | None ↦ λ here. rw (append_assoc front (x ∷ []) list) at (first_behind (front ++ x ∷ []) list (none_more front x none here))
-      | Some kind ↦ λ found. record {
-        front = front;
-        request = x;
-        behind = list;
-        parts = refl;
-        place = refl;
-        kind = found;
-        none_in_front = none;
-      }
+      | Some kind ↦ λ found. grind arith
     ] refl
 
 pub the_first_fault : (requests : List Asked) → MatchOption (fault_of requests) (HasNoFault requests) (IsFirstFault requests)
-the_first_fault requests = first_behind [] requests
-    (λ front r behind is. absurd (omega (arith, ap length is, length-append front (r ∷ behind))))
+the_first_fault requests = first_behind [] requests (λ front r behind is. absurd (omega (arith, ap length is, length-append front (r ∷ behind))))

@@ -1,8 +1,8 @@
 -- The actions of a player, one after another.
-use Rattle.fx_chain.proofs.Words.{◌≡◌, ℕ, ◌+◌, ◌≤◌, List, [], length, refl, ap, append_assoc, append-nil, arith, ◌∙◌, length-append}
-use Rattle.fx_chain.proofs.Words.{Option, Some, None, is_some, Action, Look, Release, ◌▷◌, ◌▷▷◌, closes_in, closed_by, Opening, PlayerView, ActsSo}
-use Rattle.fx_chain.proofs.Words.{PassView, IsFront, IsIdle, Use, Adds, one_look, both_uses, Retired, MayClose, player, Acts, IsRetirement}
-use Rattle.fx_chain.proofs.Words.{IsRelease, File, Doing, Hold, adds_nothing, adds_then}
+use Rattle.fx_chain.proofs.Words.{◌≡◌, ℕ, ◌+◌, ◌≤◌, List, [], length, refl, ap, append_assoc, append-nil, arith, ◌∙◌, length-append, Option, Some}
+use Rattle.fx_chain.proofs.Words.{None, is_some, Action, Look, Release, ◌▷◌, ◌▷▷◌, closes_in, closed_by, Opening, PlayerView, ActsSo, PassView, Use}
+use Rattle.fx_chain.proofs.Words.{IsFront, IsIdle, Adds, one_look, both_uses, Retired, MayClose, player, Acts, IsRetirement, IsRelease, File, Doing}
+use Rattle.fx_chain.proofs.Words.{Hold, adds_nothing, adds_then}
 use Rattle.fx_plain.proofs.Leading.{closes_in-then}
 use Rattle.fx_table.specs.declared.values.Doing.TheVariants.{Idle, Holding, Retiring}
 

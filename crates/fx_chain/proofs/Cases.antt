@@ -1,6 +1,5 @@
-use Rattle.std.proofs.Common.{arith}
 -- Properties by the cases of a test, and of a value that may be absent.
-use Rattle.fx_chain.proofs.Words.{◌≡◌, Bool, true, false, Option, None, MatchOption, MatchBool}
+use Rattle.fx_chain.proofs.Words.{arith, ◌≡◌, Bool, true, false, Option, None, MatchOption, MatchBool}
 
 pub either_way : {P Q R : Type 0} (b : Bool) → (b ≡ true → P → R) → (b ≡ false → Q → R) → MatchBool b P Q → R
 either_way b yes_so not_so given = grind arith

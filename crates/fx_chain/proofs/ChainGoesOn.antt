@@ -1,10 +1,9 @@
 -- A chain goes on by one member, which is played or canceled.
-use Rattle.fx_chain.proofs.Words.{◌≡◌, ℕ, ◌+◌, ◌<◌, ◌≤◌, List, [], ◌∷◌, ◌++◌, length, take, drop, slice_index_or, sym, ap, ◌∙◌, length-map}
-use Rattle.fx_chain.proofs.Words.{length-take-le, map_more, drop_more, drop_all, take_all, take-map, drop-map, asked_of, all_asked, Request, suc}
-use Rattle.fx_chain.proofs.Words.{Bool, false, ◌||◌, refl, inl, inr, append_assoc, length-append, arith, MatchBool-at_true, MatchBool-at_false}
-use Rattle.fx_chain.proofs.Words.{append-nil, cases_Bool, sum_by-append, sum_by-cons, MatchBool, FileEntry, Action, ◌▷▷◌, Opening, Completed}
-use Rattle.fx_chain.proofs.Words.{next_member, refusal, Explains, AnswersAfter, canceled, severs, Asked, PlayerView, AnswersNext, PlaysMembers}
-use Rattle.fx_chain.proofs.Words.{Place, sum_by, ECANCELED}
+use Rattle.fx_chain.proofs.Words.{◌≡◌, ℕ, ◌+◌, ◌<◌, ◌≤◌, List, [], ◌∷◌, ◌++◌, length, take, drop, slice_index_or, sym, ap, ◌∙◌, length-map, map_more}
+use Rattle.fx_chain.proofs.Words.{length-take-le, drop_more, drop_all, take_all, take-map, drop-map, asked_of, all_asked, Request, suc, Bool, false}
+use Rattle.fx_chain.proofs.Words.{◌||◌, refl, inl, inr, append_assoc, length-append, arith, MatchBool-at_true, MatchBool-at_false, append-nil, Action}
+use Rattle.fx_chain.proofs.Words.{cases_Bool, sum_by-append, sum_by-cons, MatchBool, FileEntry, ◌▷▷◌, Opening, Completed, next_member, refusal, Asked}
+use Rattle.fx_chain.proofs.Words.{Explains, AnswersAfter, canceled, severs, PlayerView, AnswersNext, PlaysMembers, Place, sum_by, ECANCELED}
 use Rattle.std.proofs.Math.Bool.{or-false}
 use Rattle.fx_chain.proofs.ActsInTurn.{so_then}
 use Rattle.fx_chain.proofs.Cases.{either_case}

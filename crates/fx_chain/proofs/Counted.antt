@@ -1,9 +1,8 @@
 -- The invariant of `check`: the counts of the requests that it has seen.
 use Rattle.fx_chain.proofs.Words.{◌≡◌, ◌≢◌, ℕ, ◌+◌, ◌*◌, ◌<◌, ◌≤◌, ◌==◌, Bool, true, false, if◌then◌else◌, List, [], ◌∷◌, ◌++◌, length, refl, sym}
-use Rattle.fx_chain.proofs.Words.{◌∙◌, arith, Option, Some, None, sum_by-append, Asked, is_fixed, is_link, runs_of, open_run, installs_of}
-use Rattle.fx_chain.proofs.Words.{all_installs, fault_after, fault_of_next, has_bad_flags, is_long_read, is_long_update, MOST_MEMBERS, MAX_CHAINS}
-use Rattle.fx_chain.proofs.Words.{CHAIN_NUMBERS}
-use Rattle.std.proofs.lemmas.List.{length-append}
+use Rattle.fx_chain.proofs.Words.{◌∙◌, arith, Option, Some, None, sum_by-append, Asked, is_fixed, is_link, runs_of, open_run, installs_of, MAX_CHAINS}
+use Rattle.fx_chain.proofs.Words.{all_installs, fault_after, fault_of_next, has_bad_flags, is_long_read, is_long_update, MOST_MEMBERS, CHAIN_NUMBERS}
+use Rattle.fx_chain.proofs.Words.{length-append}
 use Rattle.fx_chain.proofs.Runs.{runs-push, open_run-push, open_run-over}
 
 -- the numbers of chains, members and installations after some requests without a fault

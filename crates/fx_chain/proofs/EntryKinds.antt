@@ -1,8 +1,8 @@
 -- The entries of an update, by their sign, and how a list of them goes on.
-use Rattle.fx_chain.proofs.Words.{◌≡◌, ℕ, ◌+◌, ◌<◌, false, ℤ, pos, negsuc, int_le, int_lt, List, [], ◌∷◌, ◌++◌, length, take, drop, refl}
-use Rattle.fx_chain.proofs.Words.{slice_index_or, arith, append-nil, length-take-le, take_more, filter-append, Action, ◌▷▷◌, AppliesEntry}
-use Rattle.fx_chain.proofs.Words.{AppliesList, is_bad_entry, Opening, PlayerView, ActsSo, entry_installs, list_installs, Place, drop-cons}
-use Rattle.std.proofs.lemmas.List.{append_assoc, length-append}
+use Rattle.fx_chain.proofs.Words.{common_steps, ◌≡◌, ℕ, ◌+◌, ◌<◌, false, ℤ, pos, negsuc, int_le, int_lt, List, [], ◌∷◌, ◌++◌, length, take, drop}
+use Rattle.fx_chain.proofs.Words.{refl, arith, ◌▷▷◌, slice_index_or, append-nil, length-take-le, take_more, filter-append, Action, AppliesEntry}
+use Rattle.fx_chain.proofs.Words.{AppliesList, Opening, is_bad_entry, PlayerView, ActsSo, entry_installs, list_installs, Place, drop-cons}
+use Rattle.fx_chain.proofs.Words.{append_assoc, length-append}
 use Rattle.fx_chain.proofs.ActsInTurn.{so_then}
 
 -- a list with an entry before it, and one with an entry after it
@@ -23,8 +23,7 @@ applies_more : (place : Place) (in_list slot : ℕ) (list : List ℤ) (z : ℤ) 
     → AppliesList place in_list slot (list ++ z ∷ []) (events ▷▷ own)
 applies_more place in_list slot [] z at to events own at_is to_is none applies =
     let same_place : at ≡ in_list = omega arith in
-    let same_slot : to ≡ slot = omega arith in
-    (own, [], rw (none, append-nil), rw (same_place, same_slot) at applies, refl)
+    let same_slot : to ≡ slot = omega arith in (grind (arith, none, append-nil, same_place, same_slot))
 applies_more place in_list slot (x ∷ list) z at to events own at_is to_is (first, others, is, front, rest) applies =
     grind (arith, append_assoc, applies_more place (in_list + 1) (slot + 1) list z at to others own)
 
@@ -39,8 +38,4 @@ pub applies_next : {o : Opening} {p q r : PlayerView} (place : Place) (off : ℕ
     → ActsSo o q 0 (entry_installs (slice_index_or list i (pos 0))) 1 (AppliesEntry place i (off + i) (slice_index_or list i (pos 0))) r
     → ActsSo o p 0 (list_installs (take (i + 1) list)) (i + 1) (AppliesList place 0 off (take (i + 1) list)) r
 applies_next place off list i inside done own =
-    let entry = slice_index_or list i (pos 0) in
-    let count : length (take i list) ≡ i = length-take-le i list (omega arith) in
-    let front : take (i + 1) list ≡ take i list ++ entry ∷ [] = take_more list i (pos 0) inside in
-    let installs = list_installs-push (take i list) entry in
-    grind (arith, so_then, applies_more)
+    let entry = slice_index_or list i (pos 0) in grind (arith, common_steps, take_more, list_installs-push, so_then, applies_more)

@@ -1,13 +1,8 @@
 -- The names of a catalogue; and the entries of an update that aren't skips: their positions, and
 -- their number.
-use Rattle.fx_chain.proofs.Words.{◌≡◌, ℕ, suc, ◌+◌, ◌<◌, ℤ, negsuc, int_le, Bool, if◌then◌else◌, List, [], ◌∷◌, ◌++◌, length, filter, refl, Option}
-use Rattle.fx_chain.proofs.Words.{Some, arith, take, take_more, length-take-le, append-nil, append_assoc, slice_index_or, cases_Bool, FileEntry, true}
-use Rattle.fx_chain.proofs.Words.{zero}
-use Rattle.fx_base.specs.AddFault.{has_name}
-use Rattle.fx_base.specs.Catalogue.{name_at}
-use Rattle.std.proofs.Common.{add-zero}
-use Rattle.std.proofs.lemmas.Slice.Eq.{bytes_eq-Decides}
-use Rattle.fx_chain.specs.Intents.{positions_from}
+use Rattle.fx_chain.proofs.Words.{common_steps, ◌≡◌, ℕ, suc, ◌+◌, ◌<◌, ℤ, negsuc, int_le, Bool, if◌then◌else◌, List, [], ◌∷◌, ◌++◌, length, filter}
+use Rattle.fx_chain.proofs.Words.{refl, Option, Some, arith, take, take_more, length-take-le, append-nil, append_assoc, slice_index_or, cases_Bool}
+use Rattle.fx_chain.proofs.Words.{FileEntry, true, zero, has_name, name_at, add-zero, bytes_eq-Decides, positions_from}
 
 -- the name of an entry is one of the catalogue
 pub has_its_name : (catalogue : List FileEntry) (entry : ℕ) (name : List ℕ) → name_at catalogue entry ≡ Some name → has_name name catalogue ≡ true
@@ -35,5 +30,4 @@ pub positions_more : (list : List ℤ) {i : ℕ} (d : ℤ) {b : Bool} {old new :
     → int_le (negsuc 0) (slice_index_or list i d) ≡ b → old ≡ positions_from 0 (take i list) → new ≡ old ++ (if b then Some i ∷ [] else [])
     → new ≡ positions_from 0 (take (i + 1) list)
 positions_more list {i} d inside is so_far more =
-    let e : 0 + length (take i list) ≡ i = omega (arith, length-take-le i list (omega arith)) in
-    rw (more, so_far, take_more list i d inside, one_more 0 (take i list) (slice_index_or list i d), e, is)
+    let e : 0 + length (take i list) ≡ i = omega (arith, length-take-le i list (omega arith)) in grind (arith, common_steps, take_more, one_more)

@@ -1,11 +1,10 @@
 -- The steps of a chain with other numbers, and the count of numbers that they use.
-use Rattle.fx_chain.proofs.Words.{◌≡◌, ℕ, ◌+◌, ◌≤◌, ℤ, List, [], ◌∷◌, ◌++◌, length, map, ap, ◌∙◌, Option, Some, inl}
-use Rattle.fx_chain.proofs.Words.{inr, arith, map-append, sum_by-cons, FileEntry, Action, ◌▷▷◌, MayClose, AppliesEntry, AppliesList, Answers}
-use Rattle.fx_chain.proofs.Words.{Completed, next_member, Explains, severs, canceled, Operation, Opens, Reads, Closes, Updates, Asked, entry_installs}
-use Rattle.fx_chain.proofs.Words.{list_installs, installs_of, all_installs, Place, File, Target}
+use Rattle.fx_chain.proofs.Words.{◌≡◌, ℕ, ◌+◌, ◌≤◌, ℤ, List, [], ◌∷◌, ◌++◌, length, map, ap, ◌∙◌, Option, Some, inl, inr, arith, map-append, Action}
+use Rattle.fx_chain.proofs.Words.{sum_by-cons, FileEntry, ◌▷▷◌, MayClose, AppliesEntry, AppliesList, Answers, Completed, next_member, Explains, Opens}
+use Rattle.fx_chain.proofs.Words.{severs, canceled, Operation, Reads, Closes, Updates, Asked, entry_installs, list_installs, installs_of, Place, File}
+use Rattle.fx_chain.proofs.Words.{all_installs, Target, AnswersAtTable, OpensAt, ReadsAt, TakesAt}
 use Rattle.fx_plain.specs.Laws.{installed_by}
 use Rattle.fx_plain.specs.Reopening.{Renaming, renamed, renamed_file, renamed_found, numbers_given, with_number_of}
-use Rattle.fx_chain.specs.Answers.{AnswersAtTable, OpensAt, ReadsAt, TakesAt}
 use Rattle.fx_chain.proofs.Cases.{either_case, same_cases}
 use Rattle.fx_chain.proofs.EntryKinds.{list_installs-cons}
 

@@ -1,11 +1,9 @@
-use Rattle.std.proofs.Common.{rules}
 -- The runs of a list: how they part it, and how a submission is cut.
-use Rattle.fx_chain.proofs.Words.{◌≡◌, ◌<◌, true, false, not, if◌then◌else◌, List, [], ◌∷◌, ◌++◌, length, refl, sym, ap, ◌∙◌, All, arith, inl, inr}
-use Rattle.fx_chain.proofs.Words.{cases_Bool, not-true, flat_map, append-nil, list_all-from_AllPass, All-nil, All-cons, All-head, All-tail, Asked}
-use Rattle.fx_chain.proofs.Words.{is_link, but_last, is_over, AreRuns, AreTheOnlyRuns, in_front, runs_of, open_run, ◌⊎◌, ◌&&◌, subst, ◌+◌, ◌==◌}
-use Rattle.fx_chain.proofs.Words.{list_all, and_right, ne_eqb, All-push, IsInRun, AllPass-from_list_all, ℕ, ◌≤◌, drop, chains_from, chains_of}
-use Rattle.fx_chain.proofs.Words.{all_asked, Chain, Request}
-use Rattle.std.proofs.lemmas.List.{append_assoc, length-append}
+use Rattle.fx_chain.proofs.Words.{rules, ◌≡◌, ◌<◌, true, false, not, if◌then◌else◌, List, [], ◌∷◌, ◌++◌, length, refl, sym, ap, ◌∙◌, All, arith, inl}
+use Rattle.fx_chain.proofs.Words.{inr, cases_Bool, not-true, flat_map, append-nil, list_all-from_AllPass, All-nil, All-cons, All-head, All-tail, ◌⊎◌}
+use Rattle.fx_chain.proofs.Words.{Asked, is_link, but_last, is_over, AreRuns, AreTheOnlyRuns, in_front, runs_of, open_run, ◌&&◌, subst, ◌+◌, ◌==◌, ℕ}
+use Rattle.fx_chain.proofs.Words.{list_all, and_right, ne_eqb, All-push, IsInRun, AllPass-from_list_all, ◌≤◌, drop, chains_from, chains_of, all_asked}
+use Rattle.fx_chain.proofs.Words.{Chain, Request, append_assoc, length-append}
 use Rattle.fx_chain.proofs.ChainGoesOn.{asked_none}
 
 -- each request of a run but its last one links
@@ -32,12 +30,7 @@ runs_one r = elim (is_link r.flags) as (λ b. (if b then (r ∷ []) ∷ [] else 
 linked_step : (r : Asked) (rs : List Asked) (runs : List (List Asked)) → is_link r.flags ≡ true → AreRuns rs runs → AreRuns (r ∷ rs) (in_front r runs)
 linked_step r rs [] links are = grind arith
 linked_step r rs ([] ∷ runs) links are = let no : 0 < 0 = All-head HasMembers [] runs are.not_empty in absurd (omega arith)
-linked_step r rs ((x ∷ xs) ∷ []) links are = record {
-  whole = ap (λ ys. r ∷ ys) are.whole;
-  not_empty = All-cons HasMembers (r ∷ x ∷ xs) [] (omega arith) (All-nil _);
-  linked = All-cons IsLinked (r ∷ x ∷ xs) [] (All-cons Links r (but_last (x ∷ xs)) links (All-head IsLinked (x ∷ xs) [] are.linked)) (All-nil _);
-  over = All-nil _;
-}
+linked_step r rs ((x ∷ xs) ∷ []) links are = grind (arith, All-cons Links r (but_last (x ∷ xs)) links (All-head IsLinked (x ∷ xs) [] are.linked))
 linked_step r rs ((x ∷ xs) ∷ run ∷ runs) links are = record {
   whole = ap (λ ys. r ∷ ys) are.whole;
   not_empty = All-cons HasMembers (r ∷ x ∷ xs) (run ∷ runs) (omega arith) (All-tail HasMembers (x ∷ xs) (run ∷ runs) are.not_empty);
@@ -63,8 +56,7 @@ are_runs (r ∷ rs) = elim (cases_Bool (is_link r.flags)) [
 pub one_run : (run : List Asked) → 0 < length run → IsLinked run → runs_of run ≡ run ∷ []
 one_run [] some linked = absurd (omega arith)
 one_run (x ∷ []) some linked = runs_one x
-one_run (x ∷ y ∷ run) some linked =
-    rw (All-head Links x (but_last (y ∷ run)) linked, one_run (y ∷ run) (omega arith) (All-tail Links x (but_last (y ∷ run)) linked))
+one_run (x ∷ y ∷ run) some linked = grind (arith, one_run (y ∷ run) (omega arith) (All-tail Links x (but_last (y ∷ run)) linked), All-head, All-tail)
 
 -- a run that is over is the first run
 pub first_run : (run rest : List Asked) → IsLinked run → is_over run ≡ true → runs_of (run ++ rest) ≡ run ∷ runs_of rest
@@ -216,8 +208,7 @@ but_last-links (x ∷ y ∷ run) linked = grind (arith, All-cons, All-head, All-
 
 -- the open run after one more request
 pub open_run-over : (front : List Asked) (r : Asked) → is_link r.flags ≡ false → open_run (front ++ r ∷ []) ≡ []
-open_run-over front r ends =
-    ap open_run (sym (append-nil (front ++ r ∷ []))) ∙ open_run-skip (front ++ r ∷ []) [] (is_over-push front r ends)
+open_run-over front r ends = ap open_run (sym (append-nil (front ++ r ∷ []))) ∙ open_run-skip (front ++ r ∷ []) [] (is_over-push front r ends)
 
 pub open_run-push : (front : List Asked) (r : Asked) → is_link r.flags ≡ true → open_run (front ++ r ∷ []) ≡ open_run front ++ r ∷ []
 open_run-push front r links =

@@ -1,13 +1,12 @@
 -- A draw keeps the rule.
-use Rattle.fx_counted.proofs.Words.{sum_by, ◌≡◌, ◌≢◌, ℕ, ◌+◌, ◌*◌, ◌%◌, ◌^◌, ◌<◌, ◌≤◌, Bool, true, false, cond, nat_lt, List, [], ◌∷◌, set, length}
-use Rattle.fx_counted.proofs.Words.{sym, refl, ap, ◌∙◌, subst, arith, eqb, lt-ltb, le-ltb, get_or-set_other, get_or-set_same, Option, ◌⊎◌, inl, dite}
-use Rattle.fx_counted.proofs.Words.{⊎_elim, none, ℕ_discrete, dec_le, keeps, step, Closed, numbers_up_to, sum_by-cons, sum_set, sum_at, sum_le_at}
-use Rattle.fx_counted.proofs.Words.{WorkAgrees, DrawsCount, control_place, draw_place, opening_of, chain_in, shown, first_log, drawn_of, ended_of}
-use Rattle.fx_counted.proofs.Words.{once, placing, Phase, unborn, spare, file_in, Log, View, Idle, mul-add, mul-le-mul_left, Draws, DrawsKeep, end_in}
-use Rattle.fx_counted.proofs.Words.{first_or, DrawsChain, next_in, chain_given, Between, one_if, times, bit_here, once_is, once_more, length-set}
-use Rattle.fx_counted.proofs.Words.{count_by-le-length, bit_else, of_one, total_of_seat}
-use Rattle.fx_counted.proofs.Steps.{passed, owner_same, grows_none, Turn, turn_of, word_at, now, its_log, step_kept, by_turn, Made, near, far}
-use Rattle.fx_counted.proofs.Steps.{slot_same, control_same}
+use Rattle.fx_counted.proofs.{sum_by, ◌≡◌, ◌≢◌, ℕ, ◌+◌, ◌*◌, ◌%◌, ◌^◌, ◌<◌, ◌≤◌, Bool, true, false, cond, nat_lt, List, [], ◌∷◌, set, length, sym}
+use Rattle.fx_counted.proofs.{refl, ap, ◌∙◌, subst, arith, eqb, lt-ltb, le-ltb, get_or-set_other, get_or-set_same, Option, ◌⊎◌, inl, dite, ⊎_elim}
+use Rattle.fx_counted.proofs.{none, ℕ_discrete, dec_le, keeps, step, Closed, numbers_up_to, sum_by-cons, sum_set, sum_at, sum_le_at, once, placing}
+use Rattle.fx_counted.proofs.{Phase, unborn, spare, file_in, Log, View, Idle, mul-add, mul-le-mul_left, Draws, DrawsKeep, end_in, first_or}
+use Rattle.fx_counted.proofs.{DrawsChain, next_in, chain_given, Between, one_if, times, bit_here, once_is, once_more, length-set, count_by-le-length}
+use Rattle.fx_counted.proofs.{bit_else, of_one, total_of_seat, passed, owner_same, grows_none, Turn, turn_of, word_at, now, its_log, step_kept}
+use Rattle.fx_counted.proofs.{by_turn, Made, near, far, slot_same, control_same}
+use Rattle.fx_counted.proofs.Words.{WorkAgrees, DrawsCount, control_place, draw_place, opening_of, chain_in, shown, drawn_of, ended_of}
 
 -- the phases, where the numbers from lo to below hi are the pass's
 abbrev given_out : ℕ → ℕ → ℕ → (ℕ → Phase) → ℕ → Phase
@@ -39,9 +38,8 @@ module _ (turn : Turn) where
 
   -- the pass's last chain was drawn
   pub chain_few : chain_in x ≤ d.given
-  chain_few = dite (ℕ_discrete (chain_in x) 0) (λ none. omega arith)
-      (λ some_chain. let a = chain_drawn x.drawn (omega (arith, some_chain)) in let b = sum_at (drawn_of (chain_in x)) st.views id v here in
-      let c = drawn_v (chain_in x) in let e = d.each (chain_in x) in omega (arith, once_is d.given (chain_in x)))
+  chain_few =
+      grind (arith, chain_drawn, sum_at (drawn_of (chain_in x)) st.views id v here, drawn_v (chain_in x), d.each (chain_in x), once_is d.given (chain_in x))
 
   -- few passes get `None`, so the word doesn't overflow
   word_is : (found + 1) % 2 ^ 64 ≡ found + 1
@@ -110,13 +108,7 @@ module _ (turn : Turn) where
           control = control_same st.views id v w here refl (read_else control_place apart.control_and_draw) refl r.control;
           draws = rw (get_or-set_same st.words draw_place (found + 1) 0 (let a = r.shape.words in let b = (near turn).draw in omega arith)) draws;
         },
-        record {
-          one = (y, refl);
-          draws = rw one given;
-          alone = λ passes. alone passes ∙ sym (ap (λ (l : List Log). chain_in (first_log l)) one);
-          same = (refl, refl, refl, refl);
-          steps = let e = ap (λ (l : List Log). (first_log l).steps) one in omega arith;
-        },
+        grind (arith, alone),
       )
 
     -- there is a next chain
@@ -157,8 +149,7 @@ module _ (turn : Turn) where
             given = found + 1;
             few = omega arith;
             each = λ c. let s = sum_set (drawn_of c) st.views id v w here in let e = d.each c in let dv = drawn_v c in
-                let co = sum_by-cons (λ d. one_if (eqb d c)) (found + 1) x.drawn in let gg = ap (λ (n : ℕ). once n c) g in
-                let more = once_more found (found + 1) c refl in omega arith;
+                let co = sum_by-cons (λ d. one_if (eqb d c)) (found + 1) x.drawn in grind (arith, once, once_more found (found + 1) c refl);
             counts = let b = d.counts in omega arith;
             all = λ some_told. absurd (omega arith);
             unused = λ n low high. grind (arith, given_either, given_numbers, one_more);

@@ -3,7 +3,7 @@ use Rattle.fx_counted.proofs.Words.{seats, full_all, full_else, full_few, full_h
 use Rattle.fx_counted.proofs.Words.{◌⊎◌, arith, Option, IsSome, dite, some, ℕ_discrete, get_elem?, changed_at, File, sum_set, in_change, added, Same}
 use Rattle.fx_counted.proofs.Words.{removed_by, changes_of, added_of, removed_of, if_full, full_in, ControlCounts, turned, Change, Outside, View, ◌∙◌}
 use Rattle.fx_counted.proofs.Words.{length, held_by, State, Event, range_of, Agrees, looks, all_looks, word_of, control_place, draw_place, slot_place}
-use Rattle.fx_counted.proofs.Words.{opening_of, IsNumber, state_after_all, Log, Start, Work, sum_by, ◌-◌, ◌/◌, ◌%◌, ◌^◌, [], ◌∷◌, get_or-set_other, ℤ}
+use Rattle.fx_counted.proofs.Words.{opening_of, IsNumber, state_after_all, Log, Start, Work, sum_by, ◌-◌, ◌%◌, ◌^◌, [], ◌∷◌, get_or-set_other, ℤ}
 use Rattle.fx_counted.proofs.Words.{none, some-injective, some-ne-none, keeps, step, sum_by-cons, Closed, Full, no_use, event_of, sum_at, sum_le_at}
 use Rattle.fx_counted.proofs.Words.{one_change, full_word_of, WorkAgrees, lengths, shown, IsInside, Stepped, GoesOn, SaysFull, Phase, Shared, Bool}
 use Rattle.fx_counted.proofs.Words.{BeginsKeep, EndsKeep, AnswersKeep, true, end_amount_of, InRange, HasToReport, HasPass, MayChange, Sat, begun}
@@ -18,22 +18,12 @@ abbrev pub Stands : ℕ × ℕ → ℕ → Change → Type 0
 Stands range s change = (((range.0 ≤ s) × (s < range.0 + range.1)) × (change ≡ Same))
     ⊎ (((s < range.0) ⊎ (range.0 + range.1 ≤ s)) × (change ≡ Outside))
 
--- the difference that a pass then has to report equals the change in the range
-turned_counts : (at : ℕ → Option File) (range : ℕ × ℕ) (s : ℕ) (old new : Option File) (c : Change) → at s ≡ old → Stands range s c
-    → (in_change (turned c (if_full old) (if_full new)) ≡ in_change c)
-    × (full_in (changed_at at s new) range.0 range.1 + added c + removed_by (turned c (if_full old) (if_full new))
-    ≡ full_in at range.0 range.1 + removed_by c + added (turned c (if_full old) (if_full new)))
-turned_counts at range s old new c was h8 = grind (arith, full_here, full_else)
-
 pub control_swap : (at : ℕ → Option File) {range : ℕ × ℕ} {views : List View} (id : ℕ) {v : View} (w : View) {word : ℕ} (s : ℕ)
     (old new : Option File) → get_elem? views id ≡ some v → at s ≡ old → Stands range s v.change
     → w.change ≡ turned v.change (if_full old) (if_full new) → ControlCounts at range views word
     → ControlCounts (changed_at at s new) range (set views id w) word
 control_swap at {range} {views} id {v} w s old new here was stands is ok =
-    let a = sum_set changes_of views id v w here in let b = sum_set added_of views id v w here in let c = sum_set removed_of views id v w here in
-    let turn = turned_counts at range s old new v.change was stands in
-    let d = ap in_change is in let e = ap added is in let f = ap removed_by is in let u = ok.upper in let l = ok.lower in
-    record { upper = omega arith; lower = omega arith }
+    let a = sum_set changes_of views id v w here in grind (arith, sum_set, full_here, full_else, removed_by)
 
 -- Steps that change no slot and no number keep the rule: begin, end, answer and load.
 -- A step that changes no slot and no number, and leaves the pass at its work.
@@ -183,23 +173,12 @@ module _ (turn : Turn) where
     end_counts : (h' : List Event) (amount : ℕ) → in_change v.change ≡ 1 → amount + added v.change ≡ one_change + removed_by v.change
         → ControlCounts at_now range (set st.views id (went turn h' v.work Outside)) ((word + (2 ^ 64 - amount)) % 2 ^ 64)
     end_counts h' amount in_now amount_is = let w = went turn h' v.work Outside in
-        let a = sum_set changes_of st.views id v w here in let b = sum_set added_of st.views id v w here in
-        let d = sum_set removed_of st.views id v w here in
-        let s = few_others in let u = r.control.upper in let l = r.control.lower in let ff = few_full v.start st r in
-        let fr = few_removed v.start st r in let fa = few_added v.start st r in
-        let o1 = sum_at added_of st.views id v here in let l1 = sum_at removed_of st.views id v here in
-        let f1 = sum_at changes_of st.views id v here in let x1 = at_most_one v.change in let big : amount ≤ word = omega arith in
-        let diff : (word + (2 ^ 64 - amount)) % 2 ^ 64 ≡ word - amount = sub_wraps big fits (omega arith) in
-        record { upper = omega arith; lower = omega arith }
+        grind (arith, few_others, sum_at, at_most_one, sub_wraps, sum_set changes_of st.views id v w here, sum_set added_of st.views id v w here, sum_set removed_of st.views id v w here, r.control.upper, r.control.lower, few_full v.start st r, few_removed v.start st r, few_added v.start st r)
 
     -- a word that says so: this pass alone is in a change, and every slot of the range is full
     says_so : v.change ≡ Same → word ≡ full_word_of range.1 → (slot : ℕ) → range.0 ≤ slot → slot < range.0 + range.1 → IsSome (at_now slot)
     says_so same is = let a = total_gap st.views id here (λ j u e. (at_most_one u.change).1) in
-        let b = total_gap st.views id here (λ j u e. (at_most_one u.change).2) in
-        let a' = ap in_change same in let b' = ap added same in let d' = ap removed_by same in
-        let u = r.control.upper in let l = r.control.lower in let few = r.shape.range in let few' = r.shape.slots in
-        let up : word / 4294967296 ≡ 1 = omega arith in let low : word % 4294967296 ≡ 65536 + range.1 = omega arith in
-        full_all at_now range.0 range.1 (omega arith)
+        let b = total_gap st.views id here (λ j u e. (at_most_one u.change).2) in grind (arith, removed_by, full_all)
 
 pub begins_keep : BeginsKeep
 begins_keep k slots id i m x has out place = by_turn slots (λ _. Unit {0}) (λ _. control_place) (λ word. (word + one_change) % 2 ^ 64)

@@ -1,11 +1,9 @@
 -- The end, when one seat has all passes, and all are idle: the state is settled, and the events of
 -- all passes are one history.
-use Rattle.fx_counted.proofs.Words.{sum_zero_at, numbers_for, ◌≡◌, ℕ, ◌<◌, ◌≤◌, map, sym, ap, ◌∙◌, arith, ◌⊎◌, ⊎_elim, Option, Some, None, some}
-use Rattle.fx_counted.proofs.Words.{get_elem?, Closed, State, IsSettled, numbered, File, start_of, Does, OwnerAgrees, Agrees, place_of, Shared}
-use Rattle.fx_counted.proofs.Words.{opening_of, slots_of, IsNumber, state_after_all, held_of, holding, Phase}
-use Rattle.fx_counted.proofs.Words.{Start, View, Work, Idle, action_of, Between, inside_behind, opens_inside}
-use Rattle.fx_counted.proofs.Frames.{same_shape}
-use Rattle.fx_counted.proofs.Keeping.{NodeIn, in_phase, seat_in}
+use Rattle.fx_counted.proofs.{sum_zero_at, numbers_for, ◌≡◌, ℕ, ◌<◌, ◌≤◌, map, sym, ap, ◌∙◌, arith, ◌⊎◌, ⊎_elim, Option, Some, None, some, get_elem?}
+use Rattle.fx_counted.proofs.{Closed, State, IsSettled, numbered, File, start_of, Does, OwnerAgrees, Agrees, place_of, Shared, opening_of, slots_of}
+use Rattle.fx_counted.proofs.{IsNumber, state_after_all, held_of, holding, Phase, Start, View, Work, Idle, action_of, Between, inside_behind}
+use Rattle.fx_counted.proofs.{opens_inside, same_shape, NodeIn, in_phase, seat_in}
 
 is_number : (k : Start) (n : ℕ) → IsNumber k n ⊎ (IsNumber k n → ⊥)
 is_number k n = grind arith
@@ -49,11 +47,6 @@ module _ {k : Start} {s : Shared} (r : Agrees k s) (all_idle : (i : ℕ) (u : Vi
   pub file_home : {slot : ℕ} {f : File} → slot < slots_of k → end.at slot ≡ Some f
       → IsNumber k f.number × (get_elem? s.homes (place_of k f.number) ≡ some (some (Some f.identity)))
   file_home {slot} {f} l there = let sat = seat_in k s r l there in (sat.0, (in_phase k s r sat.0 sat.2).at_home)
-
-  -- files at different slots have different numbers
-  pub one_slot : {slot other : ℕ} {f g : File} → slot < slots_of k → other < slots_of k → end.at slot ≡ Some f → end.at other ≡ Some g
-      → f.number ≡ g.number → slot ≡ other
-  one_slot {slot} {other} {f} {g} l m there here same = grind arith
 
   pub none_outside_end : {slot : ℕ} → slots_of k ≤ slot → end.at slot ≡ None
   none_outside_end {slot} past = inside_behind (start_of (opening_of k)) (map action_of r.history) r.life.legal.leads.0

@@ -47,12 +47,9 @@ pub stays_same : (id p : ℕ) (phase : ℕ → Phase) → Stays id p phase phase
 stays_same id p phase = record { owned = λ n a b. refl; spared = λ n q is other. is }
 
 module _ (id p j : ℕ) (other : j ≢ id) (phase phase' : ℕ → Phase) (stays : Stays id p phase phase') where
-  same_for : {n : ℕ} {ph : Phase} → phase n ≡ ph → owner ph ≡ j + 1 → phase' n ≡ ph
-  same_for {n} {ph} is own = grind arith
-
   work_stays : (k : Start) (d : Work) → ((f : File) → d ≡ Between (Holding f)
       → file_in (phase' f.number) ≡ file_in (phase f.number)) → WorkAgrees k phase j d → WorkAgrees k phase' j d
-  work_stays k d keeps o = grind (arith, same_for)
+  work_stays k d keeps o = grind arith
 
   -- another view, after events of a pass that it doesn't have
   pub view_stays : {k : Start} {h h' : List Event} → Grows p h h' → {u : View} → ((y : Log) → Contains u.logs y → y.number ≢ p)

@@ -1,14 +1,11 @@
 -- The files at the settled end of a table whose passes are all idle: they are in the places of
 -- their numbers.
-use Rattle.fx_counted.proofs.Words.{◌≡◌, ℕ, ◌+◌, ◌-◌, ◌<◌, suc, sym, refl, ap, ◌∙◌, arith, inl, inr, Option, Some, None, dite, dec_le, List, subst}
-use Rattle.fx_counted.proofs.Words.{Closed, State, Contents, state_of, AreBack, slice_index, some, get_elem?, node_in, slot_place, home_place}
-use Rattle.fx_counted.proofs.Words.{homes_for, stands_at, some-injective, number_of, File, Agrees, HasNode, slots_of, chain_numbers, IsNumber}
-use Rattle.fx_counted.proofs.Words.{state_after_all, CountedTable, Start, View, Idle, Final, Seen, AllAreIdle, Leaves, Between, option_map}
+use Rattle.fx_counted.proofs.{◌≡◌, ℕ, ◌+◌, ◌-◌, ◌<◌, suc, sym, refl, ap, ◌∙◌, arith, inl, Option, Some, None, dite, dec_le, List, subst, Closed}
+use Rattle.fx_counted.proofs.{State, Contents, state_of, AreBack, slice_index, some, get_elem?, node_in, slot_place, home_place, homes_for, stands_at}
+use Rattle.fx_counted.proofs.{number_of, File, Agrees, HasNode, slots_of, chain_numbers, IsNumber, state_after_all, CountedTable, Start, View, Idle}
+use Rattle.fx_counted.proofs.{Final, Seen, AllAreIdle, Leaves, Between, option_map, has_node, same_shape, apart, low_home, high_home}
 use Rattle.fx_table.proofs.Shells.{AreAtHome, AreStored, at_home, file_at, files_are}
-use Rattle.fx_counted.proofs.Calling.{has_node}
-use Rattle.fx_counted.proofs.Ending.{home_file, file_home, one_slot, none_outside_end}
-use Rattle.fx_counted.proofs.Frames.{same_shape}
-use Rattle.fx_counted.proofs.Places.{apart, low_home, high_home}
+use Rattle.fx_counted.proofs.Ending.{home_file, file_home, none_outside_end}
 
 -- the place of the number that a slot's word names
 abbrev pub place_at : ℕ → List ℕ → ℕ → Option ℕ
@@ -39,19 +36,17 @@ module _ (t : CountedTable) {id : ℕ} {v : View} {words : List ℕ} (xs : List 
   -- the number whose file would lie there
   by_place : {place : ℕ} → place < homes_for size (chain_numbers k) → (n : ℕ) × IsNumber k n × (home_place size n ≡ place)
   by_place {place} l = dite (dec_le (suc place) size) (λ low. (place, inl (omega (arith, low)), low_home size (omega (arith, low))))
-      (λ high. let n : ℕ = 256 + (place - size) in let few = r.shape.slots in let e = high_home size n (omega (arith, few)) in
-      (n, inr (omega arith, omega (arith, high, l, few)), omega (arith, e, high)))
+      (λ high. let n : ℕ = 256 + (place - size) in let few = r.shape.slots in grind (arith, high_home size n (omega (arith, few))))
 
   stored : AreStored size (place_at size words) end (home_place size) xs
   stored = record {
     named = λ slot l. ap (option_map (home_place size)) (number_is l);
     there = λ slot f l at. final.4 _ _ (file_home r all_idle l at).1;
-    apart = λ slot other f g l m at at' same. grind (arith, one_slot, all_idle, apart, file_home);
+    apart = λ slot other f g l m at at' same. grind (arith, all_idle, apart, file_home);
     others = λ place file there.
         let inside = (stands_at xs place (Some file) there).0 in
         let b = by_place {place = place} (omega (arith, inside, final.3, r.shape.homes)) in let h = home_file r all_idle b.1 in
-        let here = final.4 place h.0 (ap (get_elem? final.0.homes) (sym b.2) ∙ h.1) in
-        let is : h.0 ≡ Some file = some-injective h.0 (Some file) (sym here ∙ there) in let o = h.2 file is in grind (arith, stands_at, home_file, all_idle);
+        grind (arith, stands_at, home_file, all_idle);
     outside = λ slot g. none_outside_end r all_idle g;
   }
 
@@ -73,8 +68,7 @@ module _ (t : CountedTable) {id : ℕ} {v : View} {words : List ℕ} (xs : List 
     files = record {
       size = back.size ∙ (t.emptied.size ∙ sym shape.0);
       range = back.range ∙ (t.emptied.range ∙ sym shape.1);
-      files = λ slot. back.files slot ∙ (ap (λ (n : ℕ). file_at n (place_at n words) xs slot) t.same_size
-          ∙ files_are size (place_at size words) end (home_place size) xs stored slot);
+      files = λ slot. back.files slot ∙ (grind (arith, files_are size (place_at size words) end (home_place size) xs stored slot));
     };
     settled = back.settled;
   }

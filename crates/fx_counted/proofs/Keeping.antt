@@ -1,18 +1,17 @@
 -- A step of a seat with one pass keeps the rule, if it keeps what the step changes.
 use Rattle.fx_counted.proofs.Words.{Contains, contains_head, contains_only, ◌≡◌, ℕ, ◌+◌, ◌<◌, ◌≤◌, List, [], ◌∷◌, ◌++◌, map, set, length, sym, refl}
 use Rattle.fx_counted.proofs.Words.{ap, ◌∙◌, subst, arith, get_or, Option, None, Some, File, some, get_elem?, Closed, part_of_pass, Event, Action}
-use Rattle.fx_counted.proofs.Words.{Use, range_of, event_of, sum_set, SlotAgrees, NodeAgrees, OwnerAgrees, WorkAgrees, LogAgrees, ViewAgrees, Agrees}
+use Rattle.fx_counted.proofs.Words.{Use, range_of, event_of, sum_set, SlotAgrees, NodeAgrees, OwnerAgrees, WorkAgrees, LogAgrees, Agrees}
 use Rattle.fx_counted.proofs.Words.{ControlCounts, looks, all_looks, DrawsCount, control_place, draw_place, slot_place, node_place, home_place, Sat}
 use Rattle.fx_counted.proofs.Words.{Shared, opening_of, slots_of, IsNumber, state_after_all, shown, held_of, Phase, IsInside, Stepped, Change, Log}
 use Rattle.fx_counted.proofs.Words.{View, Work, stepped, Act, Valid, carried_after, HasPass, held_by, held_in, PlacesNext, placing, next_in, end_in}
 use Rattle.fx_counted.proofs.Words.{spare, HasShape, Start, no_use, ◌▷◌, Allows, IsSeated, ◌≢◌, Between, Holding, file_in, at_set, ⊎_elim, Bool, ◌⊎◌}
-use Rattle.fx_counted.proofs.Words.{get_or-set_other, get_or-set_same, changed_at, full_in, PlacesAreInside, PlacesAreApart, chain_numbers, owner}
-use Rattle.fx_counted.proofs.Words.{retired, length-set, unborn, Grows, grows_none, grows_one, part_mine, each_changed, HasSeen, its_pass, not_there}
-use Rattle.fx_counted.proofs.Words.{of_one, seats, rules, seen_again}
+use Rattle.fx_counted.proofs.Words.{get_or-set_other, get_or-set_same, changed_at, PlacesAreInside, PlacesAreApart, chain_numbers, owner}
+use Rattle.fx_counted.proofs.Words.{retired, length-set, unborn, Grows, grows_none, grows_one, part_mine, each_changed, HasSeen, seats_pass, not_there}
+use Rattle.fx_counted.proofs.Words.{of_one, seats, rules, seen_again, seats_step}
 use Rattle.fx_counted.proofs.Frames.{IsHistory, Stays, view_stays, busy, owner_stays, slot_same, node_same, control_same, draws_same, SameFile}
 use Rattle.fx_counted.proofs.Places.{inside, apart}
 use mathlib.Core.Option as maybe
-use Rattle.table_seats.proofs.Together.{stepped as seats_step}
 
 abbrev pub Homes : Type 0
 Homes = List (maybe.Option (Option Closed))
@@ -85,7 +84,7 @@ module _ (turn : Turn) where
 
   -- what it has seen
   pub passed : HasSeen seats r.history x
-  passed = its_pass r.life id here one
+  passed = seats_pass r.life id here one
 
   pub its_work : WorkAgrees v.start r.phase id v.work
   its_work = (r.each_view id v here).work
@@ -141,11 +140,7 @@ module _ (turn : Turn) where
       each_node = s.nodes;
       each_owner = s.owners;
       no_other = s.no_other;
-      each_view = λ j u e. ⊎_elim (λ (t : (j ≡ id) × (now v y d c ≡ u)).
-          subst (λ (z : ℕ × View). ViewAgrees v.start h' phase' z.0 z.1) (λ i. (sym t.0 i, t.1 i)) record {
-            logs = λ z h. subst (LogAgrees v.start h' phase' d) (sym (contains_only y z h)) s.log;
-            work = s.work;
-          }) (λ (t : (j ≢ id) × (get_elem? st.views j ≡ some u)).
+      each_view = λ j u e. ⊎_elim (grind (arith, id, contains_only)) (λ (t : (j ≢ id) × (get_elem? st.views j ≡ some u)).
           view_stays id x.number j t.0 r.phase phase' s.stays s.grows (not_there r.life here one t.0 t.1) (λ f is. s.keeps j u f t.0 t.1 is)
           (r.each_view j u t.1)) (at_set st.views id j (now v y d c) u e);
       holds = λ n. let t = sum_set (held_of n) st.views id v (now v y d c) here in let a = r.holds n in let b = s.holds n in omega arith;
@@ -275,8 +270,7 @@ module _ (turn : Turn) where
         work = s.work;
         holds = s.holds;
         look_ups = let a = s.told.all in omega arith;
-        control = control_same st.views id v w here (ap (λ (g : ℕ → Option File). full_in g (range_of (opening_of v.start)).0
-            (range_of (opening_of v.start)).1) s.told.at) (word_else (λ same. far.node_and_control q its (sym same))) refl r.control;
+        control = control_same st.views id v w here (grind (arith, v)) (word_else (λ same. far.node_and_control q its (sym same))) refl r.control;
         draws = draws_same st.views id v w here one refl refl refl (word_else (λ same. far.node_and_draw q its (sym same)))
             (λ n is. stays_if is (λ o. absurd (omega (arith, o))) (λ o. absurd (cc o)) (λ g o. absurd (cc o))) r.draws;
       }

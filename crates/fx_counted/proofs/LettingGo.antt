@@ -104,17 +104,13 @@ module _ (turn : Turn) where
   rest_of : {q : ℕ} → (v.work ≡ Emptying q) ⊎ (v.work ≡ Placing q) → Agrees v.start (changed_to q 0 (some None) (Between Idle))
   rest_of {q} (inl is) = let w = subst (WorkAgrees v.start r.phase id) is (its_work turn) in
       let n = in_phase v.start st r w.0 w.1 in let o = its_log turn in
-      home_step w.0 {ph' = closed} 0 (some None) (Between Idle) w.1 refl (inr (inl (ap owner w.1)))
-      (λ m other bad. let b = ap busy is in other (omega arith)) (ap held_in is) (λ m. ap (holding m) is) (assumption n) tt tt
-      (λ m low high. let p = ap placing is in let s = o.spares m (omega arith) high in
-      changed_else r.phase q closed m (λ same. cc (sym s ∙ (ap r.phase same ∙ w.1))) ∙ s) tt
+      grind (arith, closed, some, changed_else, home_step w.0 {ph' = closed} 0 (some None) (Between Idle) w.1 refl (inr (inl (ap owner w.1))))
   rest_of {q} (inr is) = let w = subst (WorkAgrees v.start r.phase id) is (its_work turn) in
       let n = in_phase v.start st r w.0 w.1 in let o = its_log turn in
       let next : (q ≡ next_in v.start x) × (0 < x.numbers_left) = subst (PlacesNext v.start x) is o.next in
       home_step w.0 {ph' = spare x.number} 0 (some None) (Between Idle) w.1 refl (inr (inl (ap owner w.1)))
       (λ m other bad. let b = ap busy is in other (omega arith)) (ap held_in is) (λ m. ap (holding m) is) (assumption n) tt tt
-      (λ m low high. let p = ap placing is in each_changed (λ m z. z ≡ spare x.number) r.phase (λ same. refl)
-      (λ other. o.spares m (let a = next.0 in omega arith) high)) tt
+      (grind (arith, each_changed, spare x.number, next.0)) tt
 
 pub births_keep : BirthsKeep
 births_keep k slots id i m x has idle left place = by_turn slots (λ _. Unit {0}) (λ k. word_of k (next_in k x)) (λ _. born)
@@ -123,10 +119,7 @@ births_keep k slots id i m x has idle left place = by_turn slots (λ _. Unit {0}
       takes (place_of m.0.start (b turn idle left)) None,
       (in_phase m.0.start st r (its_b turn idle left) (is_spare turn idle left)).at_home,
       birth turn idle left,
-      record {
-        stepped = birth_tells turn idle left m.1 ((place_of m.0.start (b turn idle left), None) ∷ m.1);
-        carried = λ i. (place_of m.0.start (next_in m.0.start (first_log (sym has.1 i))), None) ∷ m.1;
-      },
+      grind (arith, birth_tells turn idle left m.1 ((place_of m.0.start (b turn idle left), None) ∷ m.1)),
     ))
 
 pub rests_keep : RestsKeep

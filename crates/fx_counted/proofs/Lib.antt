@@ -15,3 +15,13 @@ pub mod Ending
 pub mod Seats
 pub mod HomeComing
 pub mod Showing
+-- The names that many of these proofs cite, passed on from one place.
+pub use Words.*
+pub use Calling.*
+pub use ControlSteps.*
+pub use Frames.*
+pub use Keeping.*
+pub use LettingGo.*
+pub use Places.*
+pub use SlotLaws.*
+pub use Steps.*

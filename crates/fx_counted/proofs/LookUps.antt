@@ -1,12 +1,11 @@
 -- A look-up keeps the rule.
-use Rattle.fx_counted.proofs.Words.{◌≡◌, ◌≢◌, ℕ, ◌+◌, ◌-◌, ◌%◌, ◌^◌, ◌<◌, List, [], ◌∷◌, sym, refl, ap, ◌∙◌, subst, arith, Option, none, keeps, step}
-use Rattle.fx_counted.proofs.Words.{Closed, ◌▷◌, State, File, Event, Look, range_of, event_of, takes_in, Names, SlotAgrees, PlacesNext, WorkAgrees}
-use Rattle.fx_counted.proofs.Words.{looks, full_in, slot_place, opening_of, slots_of, IsNumber, state_after_all, shown, held_in, placing, held_of}
-use Rattle.fx_counted.proofs.Words.{holding, Phase, seated, IsInside, Log, View, Idle, one_look, name_more, entry_more, takes_more, LooksKeep, Looks}
-use Rattle.fx_counted.proofs.Words.{holds_now, Between, one_more_at, length-set, IsSeated, rules}
-use Rattle.fx_counted.proofs.Steps.{sees_now, busy, stays_same, owner_stays, IsHistory, grows_one, legal_more, held_mine, part_mine, same_shape, step_kept}
-use Rattle.fx_counted.proofs.Steps.{Turn, turn_of, word_at, now, logged, its_log, tells, by_turn, Made, log_now, far, control_same, NodeIn, seat_in}
-use Rattle.fx_counted.proofs.Steps.{slots_now, node_now, control_now, draws_now, words_now}
+use Rattle.fx_counted.proofs.{◌≡◌, ◌≢◌, ℕ, ◌+◌, ◌-◌, ◌%◌, ◌^◌, ◌<◌, List, [], ◌∷◌, sym, refl, ap, ◌∙◌, subst, arith, Option, none, keeps, step}
+use Rattle.fx_counted.proofs.{Closed, ◌▷◌, State, File, Event, Look, event_of, takes_in, Names, SlotAgrees, PlacesNext, WorkAgrees, holding, Phase}
+use Rattle.fx_counted.proofs.{seated, IsInside, Log, View, Idle, one_look, name_more, entry_more, takes_more, LooksKeep, Looks, holds_now, Between}
+use Rattle.fx_counted.proofs.{one_more_at, length-set, IsSeated, rules, sees_now, busy, stays_same, owner_stays, IsHistory, grows_one, legal_more}
+use Rattle.fx_counted.proofs.{held_mine, part_mine, same_shape, step_kept, Turn, turn_of, word_at, now, logged, its_log, tells, by_turn, Made}
+use Rattle.fx_counted.proofs.{log_now, far, control_same, NodeIn, seat_in, slots_now, node_now, control_now, draws_now, words_now}
+use Rattle.fx_counted.proofs.Words.{looks, slot_place, slots_of, IsNumber, state_after_all, shown, held_in, placing, held_of}
 
 module _ (turn : Turn) (idle : turn.v.work ≡ Between Idle) (some_left : 0 < turn.x.looks_left) (s : ℕ) (inside : s < slots_of turn.v.start)
     (fits : word_at turn.st.words (slot_place s) < 18446744073709551616) where
@@ -99,8 +98,7 @@ module _ (turn : Turn) (idle : turn.v.work ≡ Between Idle) (some_left : 0 < tu
             work = now.3;
             holds = λ n. let b : held_of n v ≡ 0 = ap (holding n) idle in let c = ap (λ (z : State). z.holds n) (state_is file) in omega arith;
             look_ups = omega arith;
-            control = control_now turn s inside word' (control_same st.views id v w here (ap (λ (z : State).
-                full_in z.at (range_of (opening_of v.start)).0 (range_of (opening_of v.start)).1) (state_is file)) refl refl r.control);
+            control = control_now turn s inside word' (control_same st.views id v w here (grind (arith, state_is file)) refl refl r.control);
             draws = draws_now turn s inside word' (h' file) x.numbers_left (x.looks_left - 1) (holds_now file) v.change (λ n is_new. is_new);
           },
           record {

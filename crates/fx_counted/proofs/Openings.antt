@@ -1,23 +1,17 @@
 -- The opening of a table: its words and places, and the rule with them.
-use Rattle.fx_counted.proofs.Words.{count_by-le-length, sum_by, ◌≡◌, ℕ, ◌+◌, ◌≤◌, Option, Some, None, sym, ◌∙◌, subst, arith, File, sum_le_at, Agrees}
-use Rattle.fx_counted.proofs.Words.{node_in, Names, WorkAgrees, lengths, changes_of, looks, all_looks, Shared, looks_of, Start, Retiring, Between, ap}
-use Rattle.fx_counted.proofs.Words.{IsSeated, mul-le-mul_right, zero, suc, ◌*◌, ◌<◌, List, length, refl, slice_index, State, file_numbered, full_in}
-use Rattle.fx_counted.proofs.Words.{first_at, control_place, draw_place, slot_place, words_for, word_for, node_for, control_word_of, [], ◌∷◌, some}
-use Rattle.fx_counted.proofs.Words.{get_elem?, Closed, state_of, identity_of, MAX_CHAINS, chain_numbers, AreFirstWords, AreFirstHomes, homes_for, map}
-use Rattle.fx_counted.proofs.Words.{home_for, OpensWith, MAX_PASSES, first_file, Bool, nat_lt, cond, eqb, lt-ltb, le-ltb, ⊎_elim, count_by, numbered}
-use Rattle.fx_counted.proofs.Words.{sum_by-cons, numbers_for, born, SlotAgrees, NodeAgrees, OwnerAgrees, HasLaws, LogAgrees, ViewAgrees, new_logs}
-use Rattle.fx_counted.proofs.Words.{word_of, place_of, opening_of, slots_of, IsNumber, state_after_all, new_log, Phase, unborn, seated, closed, Log}
-use Rattle.fx_counted.proofs.Words.{View, Idle, ◌&&◌, length-map, at_map, first_view, contains_map, sum_zero, one_if, once_is, range_with_len, not}
-use Rattle.fx_counted.proofs.Words.{full_few, numbered_anew, seats, rules}
+use Rattle.fx_counted.proofs.{count_by-le-length, sum_by, ◌≡◌, ℕ, ◌+◌, ◌≤◌, Option, Some, None, sym, ◌∙◌, subst, arith, File, sum_le_at, Agrees}
+use Rattle.fx_counted.proofs.{node_in, Names, WorkAgrees, lengths, changes_of, looks, all_looks, Shared, looks_of, Start, Retiring, Between, ap}
+use Rattle.fx_counted.proofs.{IsSeated, mul-le-mul_right, zero, suc, ◌*◌, ◌<◌, List, length, refl, slice_index, State, full_in, first_at}
+use Rattle.fx_counted.proofs.{control_place, draw_place, slot_place, words_for, word_for, node_for, control_word_of, [], ◌∷◌, some, get_elem?, Closed}
+use Rattle.fx_counted.proofs.{state_of, MAX_CHAINS, chain_numbers, AreFirstWords, AreFirstHomes, homes_for, map, home_for, OpensWith, MAX_PASSES}
+use Rattle.fx_counted.proofs.{first_file, Bool, nat_lt, cond, eqb, lt-ltb, le-ltb, ⊎_elim, count_by, numbered, sum_by-cons, numbers_for, born}
+use Rattle.fx_counted.proofs.{SlotAgrees, NodeAgrees, OwnerAgrees, HasLaws, ViewAgrees, new_logs, word_of, place_of, opening_of, slots_of, IsNumber}
+use Rattle.fx_counted.proofs.{state_after_all, new_log, Phase, unborn, seated, closed, Log, View, ◌&&◌, length-map, at_map, first_view, contains_map}
+use Rattle.fx_counted.proofs.{sum_zero, one_if, once_is, range_with_len, not, full_few, numbered_anew, seats, rules, seats_open, few_changes}
+use Rattle.fx_counted.proofs.{few_full, few_added, few_removed, looks_few, in_phase, node_is, high_node, low_home, high_home}
 use Rattle.fx_counted.specs.Bounds.{AreBounded, slot_word_in, node_word_in}
-use Rattle.fx_counted.proofs.ControlSteps.{few_changes, few_full, few_added, few_removed}
-use Rattle.fx_counted.proofs.Frames.{looks_few}
-use Rattle.fx_counted.proofs.Keeping.{in_phase}
-use Rattle.fx_counted.proofs.Calling.{node_is}
-use Rattle.fx_counted.proofs.Places.{high_node, low_home, high_home}
 use Rattle.fx_table.proofs.Shells.{in_place, none_outside}
 use Rattle.atomic_table.specs.Table.{opening as table_opening}
-use Rattle.table_seats.proofs.Together.{opens as seats_open}
 
 pub laws : HasLaws seats
 laws = grind arith
@@ -76,16 +70,13 @@ pub record AreWordsSoFar (st : State) (numbers done : ℕ) (words : List ℕ) : 
   pub rest : (place : ℕ) → 16 + 8 * done ≤ place → slice_index words place ≡ 0
 
 -- A table with the words and places of a table of one thread keeps the rule.
-home_is : (found : Option File) (slot : ℕ) → identity_of found ≡ home_for (file_numbered found slot)
-home_is found slot = grind arith
-
 module _ (k : Start) (words : List ℕ) (homes : List (Option Closed)) where
   abbrev st : State
   st = state_of k.plain.value
 
   pub opens_with : st.size ≤ 256 → st.range.0 + st.range.1 ≤ st.size → k.chains ≤ MAX_CHAINS → k.passes ≤ MAX_PASSES → k.numbers ≤ 64
       → AreFirstWords st (chain_numbers k) words → AreFirstHomes k.plain.value (homes_for st.size (chain_numbers k)) homes → OpensWith k words homes
-  opens_with few inside chains passes numbers w h = grind (arith, none_outside, some, low_home, in_place, home_is, high_node, high_home)
+  opens_with few inside chains passes numbers w h = grind (arith, none_outside, some, low_home, in_place, high_node, high_home)
 
 -- A table that is opened keeps the rule.
 looks_new : (k : Start) (p n : ℕ) → sum_by (λ (y : Log). y.looks_left) (new_logs seats k p n) ≡ 1048576 * n
@@ -154,15 +145,7 @@ module _ (k : Start) (words : List ℕ) (homes : List (Option Closed)) (o : Open
 
   view_opens : ViewAgrees k [] (first_phase k) 0 (first_view seats k)
   view_opens = record {
-    logs = λ x h. subst (LogAgrees k [] (first_phase k) (Between Idle)) (sym (contains_map new_log (range_with_len 1 k.passes) x h).2) record {
-      held = refl;
-      chain = omega arith;
-      last = λ c behind. refl;
-      few_left = omega arith;
-      left_inside = omega arith;
-      next = tt;
-      spares = λ n low high. absurd (omega arith);
-    };
+    logs = λ x h. grind (arith, contains_map new_log (range_with_len 1 k.passes) x h);
     work = tt;
   }
 

@@ -1,21 +1,17 @@
 -- Seats that are split off and joined, passes as they are dealt out, and all of them in one seat
 -- again.
-use Rattle.fx_counted.proofs.Words.{◌≡◌, ℕ, List, length, sym, refl, ap, ◌∙◌, subst, arith, ⊎_elim, sum_by, sum_by-append, WorkAgrees, LogAgrees}
-use Rattle.fx_counted.proofs.Words.{Agrees, removed_by, Shared, holding, Outside, Log, Start, View, Work, Idle, Change, SplitsKeep}
-use Rattle.fx_counted.proofs.Words.{JoinsKeep, Between, one_if, times, ◌*◌, ◌≤◌, [], ◌∷◌, Option, TableId, Seat, Closed, first_alone, IsIdle, dealt}
-use Rattle.fx_counted.proofs.Words.{Sat, new_log, pass_of, view_of, IsPassOf, is_idle, CountedPass, new_pass, IsNewPass, some, get_elem?, Contains}
-use Rattle.fx_counted.proofs.Words.{Contents, state_of, IsSettled, ClosesTable, times_drawn, HasSameFiles, PassView, contains_head, contains_map}
-use Rattle.fx_counted.proofs.Words.{contains_mapped, sum_map, sum_of, found_sum, logs_in, opening_of, state_after_all, first_log, once, ◌<◌, map}
-use Rattle.fx_counted.proofs.Words.{reverse, once_is, ◌++◌, held_in, append-nil, IsSettledSoFar, some_there, some_times, AreGathered, Moves, seats}
+use Rattle.fx_counted.proofs.{◌≡◌, ℕ, List, length, sym, refl, ap, ◌∙◌, subst, arith, ⊎_elim, sum_by, sum_by-append, WorkAgrees, LogAgrees, Agrees}
+use Rattle.fx_counted.proofs.{removed_by, Shared, holding, Outside, Log, Start, View, Work, Idle, Change, SplitsKeep, JoinsKeep, Between, one_if}
+use Rattle.fx_counted.proofs.{times, ◌*◌, ◌≤◌, [], ◌∷◌, Option, TableId, Seat, Closed, first_alone, IsIdle, dealt, Sat, new_log, pass_of, view_of}
+use Rattle.fx_counted.proofs.{IsPassOf, is_idle, CountedPass, new_pass, IsNewPass, some, get_elem?, Contains, Contents, state_of, IsSettled}
+use Rattle.fx_counted.proofs.{ClosesTable, times_drawn, HasSameFiles, PassView, contains_head, contains_map, contains_mapped, sum_map, sum_of}
+use Rattle.fx_counted.proofs.{found_sum, logs_in, opening_of, state_after_all, first_log, once, ◌<◌, map, reverse, once_is, ◌++◌, held_in, append-nil}
+use Rattle.fx_counted.proofs.{IsSettledSoFar, some_there, some_times, AreGathered, Moves, seats, each_rests, gathered_log, of_only, total}
+use Rattle.fx_counted.proofs.{gathered_whole, seats_reseated, busy, owner_map, shape_kept, its_idle}
 use Rattle.fx_counted.proofs.Openings.{laws}
-use Rattle.table_seats.proofs.Gathered.{each_rests, its_log as gathered_log, of_only, total, whole as gathered_whole}
 use Rattle.table_seats.proofs.Moving.{IsRule, alone_is_dealt, may_join, may_split}
-use Rattle.table_seats.proofs.Together.{reseated as seats_reseated}
-use Rattle.fx_counted.proofs.Frames.{busy, owner_map}
-use Rattle.fx_counted.proofs.Keeping.{shape_kept}
 use Rattle.fx_table.proofs.Histories.{IsWhole, closes_table, settles as settles_whole}
 use Rattle.fx_counted.proofs.Ending.{settled_end}
-use Rattle.fx_counted.proofs.Calling.{its_idle}
 
 -- the rule holds where passes are in other seats that do nothing
 module _ (k : Start) (s : Shared) (r : Agrees k s) (views : List View) (m : Moves seats k r.history s.views views) where

@@ -1,28 +1,18 @@
 -- A pass shows what it has seen, and another pass learns it: the rule holds afterwards. Neither is
 -- an atomic step.
-use Rattle.fx_counted.proofs.Words.{◌≡◌, ℕ, ◌+◌, [], ◌∷◌, sym, refl, subst, arith, ⊎_elim, LogAgrees, Agrees, Shared, Log, Start, View, Seat, Closed}
-use Rattle.fx_counted.proofs.Words.{TableId, CountedPass, IsPassOf, contains_only, view_of, opening_of, some, get_elem?, Option, its_pass, seats, ap}
-use Rattle.fx_counted.proofs.Words.{shown_view, total_same, ◌∙◌, ◌≢◌, Some, none, step, rest, ◌▷◌, numbered, Allocate, Full, one_number, place_of}
-use Rattle.fx_counted.proofs.Words.{slot_of, Sat, StillPlaces, HasAllocated, Tries, Stepped, Exchanges, Same, More, Idle, Placing, nat_eq, IsPlacing}
-use Rattle.fx_counted.proofs.Words.{HasFoundAllFull, List, Action, Use, ◌▷▷◌, both_uses, Between, Proceeds, set, at_set, Splits, Work, IsInside}
-use Rattle.fx_counted.proofs.Words.{learned_so}
-use Rattle.fx_table.proofs.SumLemmas.{sum_set, contains_alone}
-use Rattle.fx_table.specs.Calls.{Adds, no_use}
-use Rattle.fx_table.specs.Pass.{IsFront}
+use Rattle.fx_counted.proofs.{◌≡◌, ℕ, ◌+◌, [], ◌∷◌, sym, refl, subst, arith, ⊎_elim, LogAgrees, Agrees, Shared, Log, Start, View, Seat, Closed}
+use Rattle.fx_counted.proofs.{TableId, CountedPass, IsPassOf, contains_only, view_of, opening_of, some, get_elem?, Option, seats_pass, seats, ap}
+use Rattle.fx_counted.proofs.{shown_view, total_same, ◌∙◌, ◌≢◌, Some, none, step, rest, ◌▷◌, numbered, Allocate, Full, one_number, place_of, slot_of}
+use Rattle.fx_counted.proofs.{Sat, StillPlaces, HasAllocated, Tries, Stepped, Exchanges, Same, More, Idle, Placing, nat_eq, IsPlacing}
+use Rattle.fx_counted.proofs.{HasFoundAllFull, List, Action, Use, ◌▷▷◌, both_uses, Between, Proceeds, set, at_set, Splits, Work, IsInside, learned_so}
+use Rattle.fx_counted.proofs.{sum_set, contains_alone, Adds, no_use, PlacesNext, Change, Outside, Goes, owner_same, control_same, draws_same}
+use Rattle.fx_counted.proofs.{shape_kept, adds_so, still_pass, goes_one, goes_then, held_of, doing_in, known, seats_learn}
+use Rattle.fx_counted.proofs.Words.{shown}
 use Rattle.fx_table.specs.Showing.{Learns}
-use Rattle.fx_counted.specs.Agrees.{ViewAgrees, PlacesNext}
-use Rattle.fx_counted.specs.declared.view.Change.{Change}
-use Rattle.fx_counted.specs.declared.view.Change.TheVariants.{Outside}
-use Rattle.fx_counted.specs.Goes.{Goes}
-use Rattle.fx_counted.specs.Passes.{held_of, shown, doing_in}
 use Rattle.fx_counted.specs.Showing.{HasLearned}
 use Rattle.fx_counted.proofs.Openings.{laws}
 use Rattle.fx_counted.proofs.Seats.{is_rule}
-use Rattle.fx_counted.proofs.Frames.{owner_same, control_same, draws_same}
-use Rattle.fx_counted.proofs.Keeping.{shape_kept}
 use Rattle.table_seats.proofs.Moving.{may_show as seats_show}
-use Rattle.table_seats.proofs.Together.{known, learned as seats_learn}
-use Rattle.fx_counted.proofs.Calling.{adds_so, still_pass, goes_one, goes_then}
 
 -- a seat with one pass may show what the pass has seen
 pub may_show : (k : Start) (id : ℕ) (v : View) {x : Log} → v.logs ≡ x ∷ [] → Splits (Agrees k) id v v (shown_view seats v)
@@ -57,10 +47,7 @@ module _ (k : Start) (id : ℕ) (v w : View) (x : Log) (one : v.logs ≡ x ∷ [
     each_owner = λ n has. owner_same s.views id v learned at refl n (r.phase n) (r.each_owner n has);
     no_other = r.no_other;
     each_view = λ j u e. ⊎_elim (λ (t : (j ≡ id) × (learned ≡ u)).
-        subst (λ (z : ℕ × View). ViewAgrees k r.history r.phase z.0 z.1) (λ i. (sym t.0 i, t.1 i)) record {
-          logs = λ y h. subst (LogAgrees k r.history r.phase v.work) (sym (contains_only log y h)) now_log;
-          work = (r.each_view id v at).work;
-        }) (λ t. r.each_view j u t.1) (at_set s.views id j learned u e);
+        grind (arith, contains_only, now_log)) (λ t. r.each_view j u t.1) (at_set s.views id j learned u e);
     holds = λ n. let t = sum_set (held_of n) s.views id v learned at in let h = r.holds n in omega arith;
     look_ups = let t = total_same seats.logs (λ z. z.looks_left) s.views id learned at one refl refl in let h = r.look_ups in omega arith;
     control = control_same s.views id v learned at refl refl refl r.control;
@@ -68,9 +55,7 @@ module _ (k : Start) (id : ℕ) (v w : View) (x : Log) (one : v.logs ≡ x ∷ [
   }
 
   adds_here : Adds (opening_of k) (shown x v.work) [] (doing_in v.work) no_use (shown log v.work)
-  adds_here = let passed = its_pass r.life id at one in let front : IsFront (opening_of k) (shown log v.work) = record { legal = r.life.legal; mine = refl } in
-      let numbers : x.numbers_left + 0 ≡ x.numbers_left = omega arith in let looks : x.looks_left + 0 ≡ x.looks_left = omega arith in
-      assumption (passed, front, numbers, looks)
+  adds_here = let passed = seats_pass r.life id at one in grind (arith, shown)
 
   learns_so : HasLearned v w learned
   learns_so = grind (arith, shown, adds_here, known)
@@ -135,8 +120,7 @@ exchange_tried {m} {m'} {m''} {n} {slot} {i} {found} {old} {file} p here s same 
     let put = subst (λ (z : ℕ). Stepped m' ([] ▷ Allocate z (numbered n file)) one_number (Between Idle) More m'') here w.0 in
     allocated_then loaded (proceeds_one put, w.1 ∙ ap rest place))
     (λ other. let l = e.loses other in
-    still_then loaded (one_still work
-    (subst (λ (z : Change). Stepped m' [] no_use m'.0.work z m'') s.change l.0) l.1))
+    still_then loaded (grind (arith, one_still)))
 
 -- a pass that has reported the slot that it found
 pub allocated_told : {m m' m'' : Sat} {n slot : ℕ} {file : Closed} → HasAllocated n file slot More m m'

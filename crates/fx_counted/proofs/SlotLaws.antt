@@ -1,9 +1,9 @@
 -- Swaps, loads and exchanges keep the rule.
-use Rattle.fx_counted.proofs.Words.{◌≡◌, ◌≢◌, ℕ, ◌-◌, ◌<◌, ◌^◌, Bool, List, [], ◌∷◌, false, sym, refl, ap, ◌∙◌, subst, arith, eqb, Option, Some, None}
-use Rattle.fx_counted.proofs.Words.{inl, none, keeps, gives, rest, stepped, step, Closed, ◌▷◌, changed_at, numbered, File, Action, Put, Clear, Take}
-use Rattle.fx_counted.proofs.Words.{Allocate, one_number, name_in, slot_word_of, WorkAgrees, Agrees, HasPass, MayChange, place_of, slot_place, Sat}
-use Rattle.fx_counted.proofs.Words.{slots_of, state_after_all, Stepped, Exchanges, GoesOn, turned, Change, Same, Log, Start, View, Idle, Placing}
-use Rattle.fx_counted.proofs.Words.{event_of, shown, set-get_or, exchanged, ClearsKeep, TakesKeep, InstallsKeep, LoadsKeep, ExchangesKeep, Installs}
+use Rattle.fx_counted.proofs.Words.{◌≡◌, ◌≢◌, ℕ, ◌-◌, ◌<◌, ◌^◌, Bool, List, [], ◌∷◌, false, refl, subst, arith, eqb, Option, Some, None}
+use Rattle.fx_counted.proofs.Words.{inl, none, keeps, gives, rest, stepped, step, Closed, changed_at, numbered, File, Action, Put, Clear, Take}
+use Rattle.fx_counted.proofs.Words.{Allocate, name_in, slot_word_of, Agrees, HasPass, MayChange, place_of, slot_place, Sat}
+use Rattle.fx_counted.proofs.Words.{slots_of, state_after_all, Exchanges, GoesOn, turned, Change, Same, Log, Start, View, Idle, Placing}
+use Rattle.fx_counted.proofs.Words.{event_of, shown, set-get_or, ClearsKeep, TakesKeep, InstallsKeep, LoadsKeep, ExchangesKeep, Installs}
 use Rattle.fx_counted.proofs.Words.{Removes, Between, Allows, IsInRange, rules}
 use Rattle.fx_counted.proofs.Steps.{in_phase, legal_more, same_shape, Turn, turn_of, word_at, now, logged, its_work, by_turn, went, Made, far}
 use Rattle.fx_counted.proofs.Steps.{control_same}
@@ -33,9 +33,7 @@ module _ (turn : Turn) (s : ℕ) (inside : s < slots_of turn.v.start) where
 
   put : (n : ℕ) (file : Closed) → v.work ≡ Placing n → Facts (Put s (numbered n file) old) (Some (numbered n file))
       (changed_at (state_after_all v.start r.history).fresh n false)
-  put n file works = let its = subst (WorkAgrees v.start r.phase id) works (its_work turn) in
-      let legal = legal_more v.start r.life.legal (in_size turn s inside, (in_phase v.start st r its.0 its.1).fresh, refl) tt in
-      record { legal = legal; state = refl; looked = refl; all = omega arith; held = refl }
+  put n file works = grind (arith, legal_more, in_phase, its_work turn, in_size turn s inside)
 
 -- the action does to a slot what a removal does
 abbrev pub IsRemoval : (ℕ → Option File → Action) → Type 0
@@ -52,12 +50,7 @@ removes_keep {act} does k slots id i s m x has idle inside stands place = by_tur
       keeps,
       tt,
       removal_agrees turn s is.0 was refl (act s was) is.1 idle it,
-      record {
-        file = was;
-        names = names_old turn s is.0 was refl;
-        stepped = rw ((far turn).slot_back s) (removal_tells turn s is.0 was refl (act s was) is.1 idle it m.1);
-        carried = refl;
-      },
+      grind (arith, names_old turn s is.0 was refl, far turn, removal_tells turn s is.0 was refl (act s was) is.1 idle it m.1),
     ))
 
 pub clears_keep : ClearsKeep
@@ -77,15 +70,7 @@ installs_keep k slots id i s n new file m x has works carries small inside stand
       gives,
       tt,
       rw (is.0, made) (installation_agrees turn s is.1 old refl a is.2 n file works small does),
-      record {
-        replaced = old;
-        names = names_old turn s is.1 old refl;
-        stepped = λ n₂ file₂ works₂ carries₂.
-            let same_n : n ≡ n₂ = cc (sym works ∙ works₂) in let same_f : file ≡ file₂ = cc (ap file_carried (sym is.0 ∙ carries₂)) in
-            rw (← same_n, ← same_f, (far turn).slot_back s)
-            (installation_tells turn s is.1 old refl a is.2 n file works small does m.1 (rest m.1));
-        carried = refl;
-      },
+      grind (arith, rest, names_old turn s is.1 old refl, is.0, far turn, installation_tells turn s is.1 old refl a is.2 n file works small does m.1 (rest m.1)),
     ))
 
 -- a step that writes what it read
@@ -164,16 +149,7 @@ module _ (turn : Turn) (slots s n old_word : ℕ) (file : Closed) (carried : Lis
       gives,
       tt,
       rw carries (installation_agrees turn s within None at_none a stands n file works small allocated),
-      record {
-        wins = λ n₂ file₂ works₂ carries₂ _.
-            let same_n : n ≡ n₂ = cc (sym works ∙ works₂) in let same_f : file ≡ file₂ = cc (ap file_carried (sym carries ∙ carries₂)) in (
-              rw (← same_n, ← same_f, (far turn).slot_back s)
-                  (subst (λ (c : Change). Stepped m ([] ▷ a) one_number (Between Idle) c (w, rest m.1)) (λ i. turned (same i) 0 1)
-                  (installation_tells turn s within None at_none a stands n file works small allocated m.1 (rest m.1))),
-              refl,
-            );
-        loses = λ other. absurd (other is);
-      },
+      grind (arith, turned, within, at_none, stands, allocated, far turn, rest m.1, installation_tells turn s within None at_none a stands n file works small allocated m.1 (rest m.1)),
     )
 
 pub exchanges_keep : ExchangesKeep
@@ -181,7 +157,4 @@ exchanges_keep k slots id i s n old new file m x has works carries small same in
     (λ k. (m.1 ≡ (place_of k n, Some file) ∷ []) × IsInRange k s)
     (λ _. slot_place s) (λ word. either (eqb word old) new word) (λ i. Exchanges (step slots i old new none) m) has (carries, in_range) place
     (λ st r here is fits. let turn = turn_of m x has.1 id st r here in
-    rw made (exchanged (word_at st.words (slot_place s)) old (slot_word_of n file.entry)
-    (Goal turn slots s n old file m.1 works is.0 small same is.1 empty)
-    (won turn slots s n old file m.1 works is.0 small same is.1 empty)
-    (lost turn slots s n old file m.1 works is.0 small same is.1 empty)))
+    grind (arith, won turn slots s n old file m.1 works is.0 small same is.1 empty, lost turn slots s n old file m.1 works is.0 small same is.1 empty))

@@ -240,13 +240,8 @@ module _ (turn : Turn) (s : ℕ) (inside : s < slots_of turn.v.start) where
           node_here = grind (arith, set_here, in_size)
 
           node_else : {m : ℕ} → IsNumber v.start m → m ≢ n → NotOf m old → Node homes₁ m (r.phase m)
-          node_else {m} has other apart = node_same state after m (looks r.history m) (looks r.history m) _ _ _ _
-              (ap (λ (z : State). z.fresh m) does.state ∙ changed_else state.fresh n false m other)
-              (ap (λ (z : State). z.removed m) does.state ∙ removed_else state.removed old apart) (ap (λ (z : State). z.holds m) does.state) refl refl
-              (set_else st.homes (place_of v.start n) (place_of v.start m) (some (Some file)) (else_place turn its.0 has other))
-              (ap (λ (z : State). z.size) does.state) (r.phase m)
-              (λ i g is there. ap (λ (z : State). z.at i) does.state
-              ∙ changed_else state.at s (Some (numbered n file)) i (elsewhere apart there)) (r.each_node m has)
+          node_else {m} has other apart =
+              grind (arith, node_same, state, does, set_else, its, elsewhere, looks r.history m, changed_else state.fresh n false m other, removed_else state.removed old apart, some (Some file), else_place turn its.0 has other, r.phase m, r.each_node m has)
 
           pub installation_agrees : Agrees v.start record {
             words = set st.words (slot_place s) (slot_word_of n file.entry);

@@ -50,7 +50,7 @@ pub use Rattle.fx_plain.specs.declared.event.Event.{Event}
 pub use Rattle.fx_plain.specs.declared.event.File.{File}
 pub use Rattle.fx_table.proofs.SumLemmas.{contains_head, contains_map, contains_mapped, contains_only, each_all, read_at, stands_at, bit_else}
 pub use Rattle.fx_table.proofs.SumLemmas.{bit_here, once_is, once_more, one_if, one_less_at, one_more_at, times, found_sum, sum_at, sum_le_at}
-pub use Rattle.fx_table.proofs.SumLemmas.{sum_map, sum_of, sum_set, sum_two, sum_zero, sum_zero_at}
+pub use Rattle.fx_table.proofs.SumLemmas.{sum_map, sum_of, sum_set, sum_two, sum_zero, sum_zero_at, contains_alone}
 pub use Rattle.fx_table.proofs.FullSlots.{full_all, full_else, full_few, full_here}
 pub use Rattle.fx_table.specs.FullSlots.{first_at, full_in, if_full}
 pub use Rattle.fx_table.specs.Shells.{AreBack, AreFirstHomes}
@@ -58,15 +58,15 @@ pub use Rattle.fx_table.specs.Calls.{Adds, Draws, Use, both_uses, no_use, one_lo
 pub use Rattle.fx_table.specs.Closing.{ClosesTable, times_drawn}
 pub use Rattle.fx_table.specs.Numbers.{numbers_for, numbers_up_to, once}
 pub use Rattle.fx_table.specs.Opening.{HasSameFiles, range_of, size_of, start_of}
-pub use Rattle.fx_table.specs.Pass.{IsIdle, PassView, event_of, new_pass, next_number, retired_of, hold_of}
+pub use Rattle.fx_table.specs.Pass.{IsIdle, PassView, event_of, new_pass, next_number, retired_of, hold_of, IsFront}
 pub use Rattle.fx_table.specs.Settling.{IsSettledSoFar}
 pub use Rattle.fx_table.specs.Tasks.{activity_of, retiring}
 pub use Rattle.fx_table.specs.declared.limits.TheConstants.{MAX_CHAINS, MAX_PASSES}
 pub use Rattle.fx_table.specs.declared.values.Retired.{Retired}
 pub use Rattle.fx_table.specs.declared.values.Task.TheVariants.{Holding, Idle, Retiring}
 pub use Rattle.fx_words.proofs.Parts.{entry_made, entry_more, name_made, name_more, named_suc, takes_made, takes_more}
-pub use Rattle.fx_words.specs.Words.{born, control_word_of, end_amount_of, full_word_of, name_in, named, node_in, one_change}
-pub use Rattle.fx_words.specs.Words.{retire_amount_of, slot_word_of, takes_in}
+pub use Rattle.fx_words.specs.Words.{born, control_word_of, end_amount_of, full_word_of, name_in, named, node_in, one_change, retire_amount_of}
+pub use Rattle.fx_words.specs.Words.{slot_word_of, takes_in}
 pub use Rattle.std.proofs.Common.{Bool, IsSome, List, None, Option, Some, [], ap, arith, cond, eq-eqb, eqb, false, get_or, get_or-set_other}
 pub use Rattle.std.proofs.Common.{get_or-set_same, inl, inr, le-ltb, length, length-set, lt-ltb, map, nat_eq, nat_lt, refl, reverse, rules, set}
 pub use Rattle.std.proofs.Common.{slice_index, subst, suc, sym, true, vec_capacity, zero, ℕ, ⊎_elim, ◌%◌, ◌&&◌, ◌*◌, ◌++◌, ◌+◌, ◌-◌, ◌/◌, ◌<◌, ◌^◌}
@@ -86,8 +86,9 @@ pub use Rattle.fx_table.proofs.Calls.{adds_then, cleared_so, placed_so, new_here
 pub use Rattle.fx_table.specs.declared.values.Hold.{Hold}
 pub use Rattle.fx_plain.proofs.Prepared.{inside_behind, opens_inside, numbered_anew}
 pub use Rattle.fx_table.proofs.Seats.{gathered, last_of}
-pub use Rattle.table_seats.proofs.Gathered.{AreGathered, total_of_seat}
-pub use Rattle.table_seats.proofs.Together.{HasLaws, Moves, its_pass, not_there, of_one, total_same}
+pub use Rattle.table_seats.proofs.Gathered.{AreGathered, total_of_seat, each_rests, its_log as gathered_log, of_only, total, whole as gathered_whole}
+pub use Rattle.table_seats.proofs.Together.{HasLaws, Moves, its_pass as seats_pass, not_there, of_one, total_same, known, learned as seats_learn}
+pub use Rattle.table_seats.proofs.Together.{opens as seats_open, reseated as seats_reseated, stepped as seats_step}
 pub use Rattle.table_seats.specs.Seats.{dealt, first_alone, first_view, new_logs, shown_view, without_first}
 pub use Rattle.table_seats.specs.Together.{HasSeen, lengths}
 pub use Rattle.fx_table.proofs.Growing.{Grows, grows_none, grows_one, part_mine, each_changed}

@@ -1,15 +1,15 @@
 -- Each access, and the end of a call's accesses, keeps what is sound.
 use Rattle.fx_direct.proofs.Words.{arith, ◌≡◌, ◌≢◌, ℕ, ◌+◌, ◌<◌, ◌≤◌, Bool, true, false, List, [], ◌∷◌, ◌++◌, length, refl, sym, ap, inl, inr, ◌⊎◌, if◌then◌else◌}
 use Rattle.fx_direct.proofs.Words.{AllByRecursion, ◌∙◌, subst, Option, Some, None, cases_eq, append-nil, ne_eqb, eq-eqb, File, LifeKey, Phase, Slot, State, Member, Open, Request, CloseMember, bit, requests_in, is_chained}
-use Rattle.fx_direct.proofs.Words.{slot_numbered, phase_at, life_at, is_closing, is_opening, DirectCall, OpenAt, UseOf, CloseOf, key_of_call, CallStage, Waits, Made, Quit, Pending, pending, DirectMoment, Accesses, Quits, Others}
+use Rattle.fx_direct.proofs.Words.{slot_numbered, phase_at, life_at, is_closing, is_opening, DirectCall, OpenAt, UseOf, CloseOf, CallStage, Waits, Made, Quit, Pending, pending, DirectMoment, Accesses, Quits, Others}
 use Rattle.fx_direct.proofs.Words.{Action, Look, Put, Release, Take, Allows, changed_at, table_after, Makes, Stops, IsElsewhere, HasItsTurn, waits_for, files_under, has_chain, same_key}
 use Rattle.fx_direct.proofs.Calls.{place_of, is_member, at_slot, tally, at_same, at_other, tally-mid, count_in, each-out, each-in, each-map, each-both, none_at, same_keys}
-use Rattle.fx_direct.proofs.Calls.{Fate, Expected, Missing, There, Gone, not_gone, Has, fits, suits, fits_same, has_same, opened_fits, closed_fits, no_open, expected_opens, unchained_due}
+use Rattle.fx_direct.proofs.Calls.{Fate, Expected, Missing, There, Gone, not_gone, Has, fits, suits, fits_same, has_same, closed_fits, expected_opens, unchained_due}
 use Rattle.fx_direct.proofs.Words.{Allocate, Chooses}
-use Rattle.fx_direct.proofs.Calls.{Foreign, NextHas, Ranged, is_foreign, is_reserved, left_plain, next_none, none_next, next_same, ranged_same, none_if, not_true}
-use Rattle.fx_direct.proofs.Calls.{chosen_plain, chosen_gone, chosen_suits, chosen_counts, chosen_fits}
-use Rattle.fx_direct.proofs.Moves.{next_at, Sound, Fitting}
-use Rattle.fx_direct.proofs.Effects.{done_suits, taken_suits}
+use Rattle.fx_direct.proofs.Calls.{Foreign, is_foreign, is_reserved, left_plain, next_none, none_next, next_same, ranged_same, none_if, not_true}
+use Rattle.fx_direct.proofs.Calls.{chosen_plain, chosen_gone, chosen_counts}
+use Rattle.fx_direct.proofs.Moves.{by_slot, next_at, Sound, Fitting}
+use Rattle.fx_direct.proofs.Effects.{done_suits}
 
 -- One call and its file.
 
@@ -82,9 +82,7 @@ module _ {fate : ℕ → Fate} {slots : List Slot} {table : State} {calls : List
         → ((k : LifeKey) → files_under k (m ∷ h) ≡ files_under k h) → ((k : LifeKey) → has_chain k (m ∷ h) ≡ has_chain k h)
         → (fits x.call x.stage (fate s0) ≡ true → fits x.call y.stage (fate s0) ≡ true) → Sound fate slots table' (front ++ y ∷ rest) (m ∷ h)
     only table' m size range at files linked fit =
-        quiet table' (front ++ y ∷ rest) m size range at files linked counts
-        (each-in (Fitting slots fate) front rest y
-        (refits fate (fit all.0.2)) all.1)
+        grind (arith, counts, all, quiet table' (front ++ y ∷ rest) m size range, each-in (Fitting slots fate) front rest y, refits fate (fit all.0.2))
 
     -- the file of the slot has another fate
     pub moved : (f : Fate) (table' : State) (m : DirectMoment) → table'.size ≡ table.size → table'.range ≡ table.range
@@ -101,14 +99,9 @@ module _ {fate : ℕ → Fate} {slots : List Slot} {table : State} {calls : List
         let fate' = changed_at fate s0 f in let here = at_written fate s0 f in record {
           inside = rw size sound.inside;
           counted = λ mb s. counts mb s ∙ sound.counted mb s;
-          suit = λ s. elim (cases_eq s s0) [
-            | inl e ↦ subst (λ (q : ℕ). suits (fate' q) (phase_at slots q) ≡ true) (sym e) (ap (λ (g : Fate). suits g (phase_at slots s0)) here ∙ suit)
-            | inr ne ↦ ap (λ (g : Fate). suits g (phase_at slots s)) (at_changed fate s0 f s ne) ∙ sound.suit s
-          ];
-          has = λ s lt. elim (cases_eq s s0) [
-            | inl e ↦ subst (λ (q : ℕ). Has (fate' q) (table'.at q) (files_under (life_at slots q) (m ∷ h))) (sym e) (has_same {fate = f} here refl refl has)
-            | inr ne ↦ has_same {fate = fate s} (at_changed fate s0 f s ne) (at s ne) (files (life_at slots s) (λ e n. ne e)) (sound.has s lt)
-          ];
+          suit = by_slot _ s0 (rw here suit) (λ s ne. rw (at_changed fate s0 f s ne) (sound.suit s));
+          has = by_slot _ s0 (λ lt. rw here has)
+              (λ s ne lt. rw (at_changed fate s0 f s ne, at s ne, files (life_at slots s) (λ e n. ne e)) (sound.has s lt));
           linked = λ s c. linked (life_at slots s) ∙ sound.linked s c;
           fits = each-in (Fitting slots fate') front rest y
               (refits fate' (ap (fits x.call y.stage) here ∙ fit))
@@ -117,17 +110,10 @@ module _ {fate : ℕ → Fate} {slots : List Slot} {table : State} {calls : List
                 | inl e ↦ (fz.0, fz.1, subst (λ (q : ℕ). fits z.call z.stage (fate' q) ≡ true) (sym e) (ap (fits z.call z.stage) here ∙ re e fz), fz.3)
                 | inr ne ↦ fits_same z refl refl (at_changed fate s0 f (place_of z) ne) fz
               ]) all.1 refit);
-          next = λ s lt. elim (cases_eq s s0) [
-            | inl e ↦ subst (λ (q : ℕ). NextHas (fate' q) (table'.at q) (files_under (next_at slots q) (m ∷ h))) (sym e)
-                (next_same {fate = f} here refl refl (none_next f (table'.at s0) (files_under (next_at slots s0) (m ∷ h)) plainly
-                (files (next_at slots s0) (λ e n. omega arith) ∙ next_none (fate s0) (table.at s0) (files_under (next_at slots s0) h) plain (sound.next s0 all.0.0))))
-            | inr ne ↦ next_same {fate = fate s} (at_changed fate s0 f s ne) (at s ne) (files (next_at slots s) (λ e n. ne e)) (sound.next s lt)
-          ];
-          ranged = λ s. elim (cases_eq s s0) [
-            | inl e ↦ subst (λ (q : ℕ). Ranged table' q (fate' q) (phase_at slots q)) (sym e)
-                (ranged_same table table' s0 (fate' s0) (phase_at slots s0) range (λ foreign. absurd (let p = ap is_foreign here in cc), (sound.ranged s0).1))
-            | inr ne ↦ ranged_same table table' s (fate' s) (phase_at slots s) range (subst (λ (g : Fate). Ranged table s g (phase_at slots s)) (sym (at_changed fate s0 f s ne)) (sound.ranged s))
-          ];
+          next = by_slot _ s0
+              (grind (arith, here, none_next, next_none))
+              (λ s ne lt. rw (at_changed fate s0 f s ne, at s ne, files (next_at slots s) (λ e n. ne e)) (sound.next s lt));
+          ranged = grind (arith, here, by_slot, at_changed);
           unborn = λ k later far. files k (λ e n. omega arith) ∙ sound.unborn k later far;
         }
 
@@ -146,12 +132,9 @@ module _ {fate : ℕ → Fate} {slots : List Slot} {table : State} {calls : List
       let empty : Has Expected (table.at k.slot) (files_under (life_at slots k.slot) h) = has_same {fate = fate k.slot} (sym due) refl refl (sound.has k.slot own.0) in
       let one = alone x y front rest was refl refl Open refl (bit_small (is_opening (phase_at slots k.slot))) in
       moved x y front rest was refl refl f table' m size range (ap is_foreign due) (left_plain f left) at files same (done_suits f (phase_at slots k.slot) suit left)
-      (subst (λ (n : ℕ). Has f (table'.at k.slot) (files_under (record { slot = k.slot; number = n }) (m ∷ h))) (sym own.1)
-      (has empty.0 (ap (λ (n : ℕ). files_under (record { slot = k.slot; number = n }) h) (sym own.1) ∙ empty.1)))
+      (grind arith)
       fit
-      (each-map (λ z. at_slot Open k.slot z ≡ 0) (λ z. place_of z ≡ k.slot → Fitting slots fate z → fits z.call z.stage f ≡ true) (front ++ rest)
-      (λ z none e fz. opened_fits z.call z.stage f (ap (fits z.call z.stage) (sym due ∙ ap fate (sym e)) ∙ fz.2) (sym (at_same Open k.slot z e) ∙ none) left)
-      (none_at Open k.slot (front ++ rest) one.1))
+      (grind (arith, each-map, at_slot, fits, at_same, k.slot, none_at Open k.slot (front ++ rest) one.1))
 
   puts : (k : LifeKey) (linked : Bool) (f : File) (replaced : Option File) (front rest : List Pending) → calls ≡ front ++ pending (OpenAt k) linked Waits ∷ rest
       → Sound (changed_at fate k.slot There) slots (table_after table (Put k.slot f replaced)) (front ++ pending (OpenAt k) linked Made ∷ rest)
@@ -175,18 +158,13 @@ module _ {fate : ℕ → Fate} {slots : List Slot} {table : State} {calls : List
       let one = expected_opens (phase_at slots k.slot) suit in let count = sound.counted Open k.slot in
       let turns : HasItsTurn call true calls = subst (λ (b : Bool). HasItsTurn call b calls) (bound (unchained_due (phase_at slots k.slot) suit busy)) turn in
       let none = none_open k.slot calls (each-both (Fitting slots fate) (λ z. waits_for call z.call z.stage ≡ false) (λ z. at_slot Open k.slot z ≡ 0) calls
-      (λ z fz free. elim (cases_eq (place_of z) k.slot) [
-        | inl e ↦ at_same Open k.slot z e ∙ no_open z.call z.stage k (ap (fits z.call z.stage) (sym due ∙ ap fate (sym e)) ∙ fz.2)
-            (same_keys (key_of_call z.call) k e (sym fz.1 ∙ ap (λ (s : ℕ). (slot_numbered slots s).number) e ∙ num)) (either z.call z.stage free)
-        | inr ne ↦ at_other Open k.slot z ne
-      ]) sound.fits turns) in
+      (grind (arith, at_same, fits, same_keys, at_other)) sound.fits turns) in
       omega arith
 
   -- the requests of a slot whose close has its turn make no access any more, or there is none
   requests_done : (k : LifeKey) (linked : Bool) → (is_chained (phase_at slots k.slot) ≡ true → linked ≡ true) → is_closing (phase_at slots k.slot) ≡ true
       → HasItsTurn (CloseOf k) linked calls → AllByRecursion (λ z. (waits_for (CloseOf k) z.call z.stage ≡ false) ⊎ (at_slot Request k.slot z ≡ 0)) calls
-  requests_done k true bound closing turn =
-      each-map (λ z. waits_for (CloseOf k) z.call z.stage ≡ false) (λ z. (waits_for (CloseOf k) z.call z.stage ≡ false) ⊎ (at_slot Request k.slot z ≡ 0)) calls (λ z e. inl e) turn
+  requests_done k true bound closing turn = grind (arith, each-map, at_slot)
   requests_done k false bound closing turn =
       each-map (λ z. at_slot Request k.slot z ≡ 0) (λ z. (waits_for (CloseOf k) z.call z.stage ≡ false) ⊎ (at_slot Request k.slot z ≡ 0)) calls (λ z e. inr e)
       (none_at Request k.slot calls (sound.counted Request k.slot ∙ closing_none (phase_at slots k.slot) closing (λ c. cc (bound c))))
@@ -205,25 +183,17 @@ module _ {fate : ℕ → Fate} {slots : List Slot} {table : State} {calls : List
       let suit : suits There (phase_at slots k.slot) ≡ true = ap (λ (g : Fate). suits g (phase_at slots k.slot)) (sym there) ∙ sound.suit k.slot in
       let P = λ (z : Pending). (waits_for (CloseOf k) z.call z.stage ≡ false) ⊎ (at_slot Request k.slot z ≡ 0) in
       moved x y front rest was refl refl Gone (table_after table (Take k.slot (Some f))) (Accesses (CloseOf k) (Take k.slot (Some f))) refl refl (ap is_foreign there) refl
-      (λ s ne. at_changed table.at k.slot None s ne) (λ j ne. append-nil (files_under j h)) (λ j. refl)
-      (taken_suits (phase_at slots k.slot) suit closing)
+      (λ s ne. at_changed table.at k.slot None s ne) (λ j ne. append-nil (files_under j h)) (λ j. refl) (grind arith)
       (at_written table.at k.slot None) refl
-      (each-both (λ z. at_slot CloseMember k.slot z ≡ 0) P (λ z. place_of z ≡ k.slot → Fitting slots fate z → fits z.call z.stage Gone ≡ true) (front ++ rest)
-      (λ z none free e fz. closed_fits z.call z.stage k (ap (fits z.call z.stage) (sym there ∙ ap fate (sym e)) ∙ fz.2)
-      (sym (at_same CloseMember k.slot z e) ∙ none) (elim free [ inl w ↦ inl w | inr r ↦ inr (sym (at_same Request k.slot z e) ∙ r) ])
-      (same_keys (key_of_call z.call) k e (sym fz.1 ∙ ap (λ (s : ℕ). (slot_numbered slots s).number) e ∙ own.1)))
-      (none_at CloseMember k.slot (front ++ rest) one.1)
-      (each-out P front rest x (subst (AllByRecursion P) was (requests_done k linked own.3 closing turn))).1)
+      (
+      grind (arith, each-both, at_slot, fits, Gone, closed_fits, at_same, same_keys, requests_done, k.slot, own.1, none_at CloseMember k.slot (front ++ rest) one.1, each-out P front rest x (subst (AllByRecursion P) was (requests_done k linked own.3 closing turn))))
 
   -- a close finds no file
   finds_none : (k : LifeKey) (linked : Bool) (front rest : List Pending) → calls ≡ front ++ pending (CloseOf k) linked Waits ∷ rest → None ≡ table.at k.slot
       → Sound fate slots (table_after table (Take k.slot None)) (front ++ pending (CloseOf k) linked Quit ∷ rest) (Accesses (CloseOf k) (Take k.slot None) ∷ h)
   finds_none k linked front rest was found =
       only (pending (CloseOf k) linked Waits) (pending (CloseOf k) linked Quit) front rest was refl refl (table_after table (Take k.slot None)) (Accesses (CloseOf k) (Take k.slot None)) refl refl
-      (λ s lt. elim (cases_eq s k.slot) [
-        | inl e ↦ subst (λ (q : ℕ). changed_at table.at k.slot None q ≡ table.at q) (sym e) (at_written table.at k.slot None ∙ found)
-        | inr ne ↦ at_changed table.at k.slot None s ne
-      ]) (λ j. append-nil (files_under j h)) (λ j. refl) (λ fit. fit)
+      (grind (arith, at_written, at_changed)) (λ j. append-nil (files_under j h)) (λ j. refl) (λ fit. fit)
 
   abbrev Goes : State → List Pending → DirectMoment → Type 0
   Goes table' calls' m = (fate' : ℕ → Fate) × Sound fate' slots table' calls' (m ∷ h)
@@ -231,25 +201,12 @@ module _ {fate : ℕ → Fate} {slots : List Slot} {table : State} {calls : List
   pub accesses : (c : DirectCall) (a : Action) (calls' : List Pending) → Allows table a → Makes c a calls calls' → Goes (table_after table a) calls' (Accesses c a)
   accesses (OpenAt k) (Put slot f replaced) calls' allowed makes =
       (changed_at fate k.slot There, rw (makes.is, makes.may) (puts k makes.linked f replaced makes.front makes.rest makes.was))
-  accesses (CloseOf k) (Take slot (Some f)) calls' allowed makes =
-      (changed_at fate k.slot Gone, rw (makes.is, makes.may) (takes k makes.linked f makes.front makes.rest makes.was (allowed.1 ∙ ap table.at makes.may) makes.turn))
+  accesses (CloseOf k) (Take slot (Some f)) calls' allowed makes = (grind (arith, Gone, takes))
   accesses (CloseOf k) (Take slot None) calls' allowed makes =
       (fate, rw (makes.is, makes.may) (finds_none k makes.linked makes.front makes.rest makes.was (allowed.1 ∙ ap table.at makes.may)))
-  accesses (UseOf k) (Look slot None) calls' allowed makes = (
-    fate,
-    rw makes.is (only (pending (UseOf k) makes.linked Waits) (pending (UseOf k) makes.linked Waits) makes.front makes.rest makes.was refl refl table (Accesses (UseOf k) (Look slot None)) refl refl
-        (λ s lt. refl) (λ j. append-nil (files_under j h)) (λ j. refl) (λ fit. fit)),
-  )
-  accesses (UseOf k) (Look slot (Some f)) calls' allowed makes = let a = Look slot (Some f) in (
-    fate,
-    rw makes.is (only (pending (UseOf k) makes.linked Waits) (pending (UseOf k) makes.linked Waits) makes.front makes.rest makes.was refl refl (table_after table a) (Accesses (UseOf k) a) refl refl
-        (λ s lt. refl) (λ j. append-nil (files_under j h)) (λ j. refl) (λ fit. fit)),
-  )
-  accesses (UseOf k) (Release f) calls' allowed makes = let a = Release f in (
-    fate,
-    rw makes.is (only (pending (UseOf k) makes.linked Waits) (pending (UseOf k) makes.linked Waits) makes.front makes.rest makes.was refl refl (table_after table a) (Accesses (UseOf k) a) refl refl
-        (λ s lt. refl) (λ j. append-nil (files_under j h)) (λ j. refl) (λ fit. fit)),
-  )
+  accesses (UseOf k) (Look slot None) calls' allowed makes = grind (arith, only)
+  accesses (UseOf k) (Look slot (Some f)) calls' allowed makes = grind (arith, only)
+  accesses (UseOf k) (Release f) calls' allowed makes = grind (arith, only)
   accesses _ _ calls' allowed makes = absurd makes.may
 
   -- a call makes no access any more
@@ -279,50 +236,25 @@ module _ {fate : ℕ → Fate} {slots : List Slot} {table : State} {calls : List
       let plain = chosen_plain g (table.at k.slot) (files_under (next_at slots k.slot) h) (sound.next k.slot inside) allowed.2 in
       let gone = chosen_gone g p (table.at k.slot) (files_under (life_at slots k.slot) h) (sound.suit k.slot) free plain allowed.2 (sound.has k.slot inside) in
       let none = chosen_counts g p (sound.suit k.slot) free gone in
-      let new : files_under k h ≡ [] = ap (λ (n : ℕ). files_under (record { slot = k.slot; number = n }) h) number
-      ∙ next_none g (table.at k.slot) (files_under (next_at slots k.slot) h) plain (sound.next k.slot inside) in
+      let new : files_under k h ≡ [] = grind (arith, g, plain, next_none) in
       let others : (j : LifeKey) → (k.slot ≡ j.slot → k.number ≡ j.number → ⊥) → files_under j (Chooses k f ∷ h) ≡ files_under j h =
       λ j ne. ap (λ (fs : List File). files_under j h ++ fs) (apart k j f (λ e n. ne (sym e) (sym n))) ∙ append-nil (files_under j h) in (
         fate',
         record {
           inside = sound.inside;
           counted = sound.counted;
-          suit = λ s. elim (cases_eq s k.slot) [
-            | inl e ↦ subst (λ (q : ℕ). suits (fate' q) (phase_at slots q) ≡ true) (sym e) (ap (λ (x : Fate). suits x p) here ∙ chosen_suits g p (sound.suit k.slot) free gone)
-            | inr ne ↦ ap (λ (x : Fate). suits x (phase_at slots s)) (at_changed fate k.slot Foreign s ne) ∙ sound.suit s
-          ];
-          has = λ s lt. elim (cases_eq s k.slot) [
-            | inl e ↦ subst (λ (q : ℕ). Has (fate' q) (changed_at table.at k.slot (Some f) q) (files_under (life_at slots q) (Chooses k f ∷ h))) (sym e) (has_same {fate = Foreign} here refl refl tt)
-            | inr ne ↦ has_same {fate = fate s} (at_changed fate k.slot Foreign s ne) (at_changed table.at k.slot (Some f) s ne) (others (life_at slots s) (λ e n. ne (sym e))) (sound.has s lt)
-          ];
+          suit = grind (arith, at_changed, Foreign);
+          has = grind (arith, has_same, Foreign, at_changed);
           linked = sound.linked;
           fits = each-both (Fitting slots fate) (λ z. (at_slot Open k.slot z ≡ 0) × (at_slot Request k.slot z ≡ 0) × (g ≡ Missing → at_slot CloseMember k.slot z ≡ 0)) (Fitting slots fate') calls
-              (λ z fz no. elim (cases_eq (place_of z) k.slot) [
-                | inl e ↦ (
-                  fz.0,
-                  fz.1,
-                  subst (λ (q : ℕ). fits z.call z.stage (fate' q) ≡ true) (sym e) (ap (fits z.call z.stage) here
-                      ∙ chosen_fits z.call z.stage g (ap (fits z.call z.stage) (ap fate (sym e)) ∙ fz.2) gone (sym (at_same Open k.slot z e) ∙ no.0) (sym (at_same Request k.slot z e) ∙ no.1)
-                      (λ m. sym (at_same CloseMember k.slot z e) ∙ no.2 m)),
-                  fz.3,
-                )
-                | inr ne ↦ fits_same z refl refl (at_changed fate k.slot Foreign (place_of z) ne) fz
-              ]) sound.fits
+              (grind (arith, fits, at_same, fits_same, at_changed, Foreign)) sound.fits
               (each-both (λ z. at_slot Open k.slot z ≡ 0) (λ z. (at_slot Request k.slot z ≡ 0) × (g ≡ Missing → at_slot CloseMember k.slot z ≡ 0)) _ calls (λ z a b. (a, b.0, b.1))
               (none_at Open k.slot calls (sound.counted Open k.slot ∙ none.0))
               (each-both (λ z. at_slot Request k.slot z ≡ 0) (λ z. g ≡ Missing → at_slot CloseMember k.slot z ≡ 0) _ calls (λ z a b. (a, b))
               (none_at Request k.slot calls (sound.counted Request k.slot ∙ none.1))
               (none_if CloseMember k.slot calls (λ m. sound.counted CloseMember k.slot ∙ none.2 m))));
-          next = λ s lt. elim (cases_eq s k.slot) [
-            | inl e ↦ subst (λ (q : ℕ). NextHas (fate' q) (changed_at table.at k.slot (Some f) q) (files_under (next_at slots q) (Chooses k f ∷ h))) (sym e)
-                (next_same {fate = Foreign} here refl (ap (λ (n : ℕ). files_under (record { slot = k.slot; number = n }) (Chooses k f ∷ h)) (sym number))
-                (f, at_written table.at k.slot (Some f), rw (new, same_keys k k refl refl) refl))
-            | inr ne ↦ next_same {fate = fate s} (at_changed fate k.slot Foreign s ne) (at_changed table.at k.slot (Some f) s ne) (others (next_at slots s) (λ e n. ne (sym e))) (sound.next s lt)
-          ];
-          ranged = λ s. elim (cases_eq s k.slot) [
-            | inl e ↦ subst (λ (q : ℕ). Ranged table q (fate' q) (phase_at slots q)) (sym e) (λ foreign. allowed.1, (sound.ranged k.slot).1)
-            | inr ne ↦ subst (λ (x : Fate). Ranged table s x (phase_at slots s)) (sym (at_changed fate k.slot Foreign s ne)) (sound.ranged s)
-          ];
+          next = grind (arith, next_same, Foreign, at_written, same_keys, at_changed);
+          ranged = grind (arith, at_changed, Foreign, allowed.1, sound.ranged k.slot);
           unborn = λ j later far. others j (λ e n. let m = ap (λ (s : ℕ). (slot_numbered slots s).number) e in let i = far (subst (λ (s : ℕ). s < length slots) e inside) in omega arith) ∙ sound.unborn j later far;
         },
       )

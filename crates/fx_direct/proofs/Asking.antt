@@ -1,15 +1,9 @@
 -- A call's transitions, and the close that is asked for then.
 use Rattle.fx_direct.proofs.Words.{arith, ◌≡◌, ◌<◌, ◌&&◌, List, ◌∷◌, length, subst, get_or-set_same, length-set, refl, sym, ap, ◌∙◌, Option, Some, None, Slot, Transition, Phase, Ending, Closing, ℕ}
 use Rattle.fx_direct.proofs.Words.{AdvancesAndAsks, with_phase, Asks, key_concerned, IsEnabled, AreEnabled, phase_at, phase_after, slots_with, slots_left_by, is_live}
-use Rattle.fx_direct.proofs.Words.{Bool, true, false, LifeKey, Member, NamesLastLife, FitsPhase, Closes}
-use Rattle.std.proofs.lemmas.List.{set-set}
-use Rattle.fx_direct.specs.Transitions.{completion, may_end, when_ended, machine_with, AdvancesBy, becomes_live, unless_live, and_ends}
-use Rattle.fx_direct.proofs.Words.{◌≤◌, ◌+◌, ◌⊎◌, inl, inr, Free, Live, Adopts, life_at, slot_numbered}
-use Rattle.fx_direct.specs.Transitions.{AdoptsFile, may_close, when_closed}
-use Rattle.fx_direct.specs.Phases.{is_adoptable}
-use Rattle.fx_direct.specs.declared.key.TheConstants.{MOST_LIVES}
-use Rattle.fx_direct.specs.Machine.{WritesPhase}
-use Rattle.fx_direct.specs.declared.slot_order.SlotRange.{SlotRange}
+use Rattle.fx_direct.proofs.Words.{Bool, true, false, LifeKey, Member, NamesLastLife, FitsPhase, Closes, ◌≤◌, ◌+◌, ◌⊎◌, inl, inr, Free, Live, Adopts}
+use Rattle.fx_direct.proofs.Words.{life_at, slot_numbered, set-set, completion, when_ended, machine_with, AdvancesBy, becomes_live}
+use Rattle.fx_direct.proofs.Words.{unless_live, and_ends, AdoptsFile, may_close, when_closed, is_adoptable, MOST_LIVES, WritesPhase, SlotRange}
 use Rattle.fx_direct.proofs.Moves.{after-here, after-length}
 use Rattle.fx_direct.proofs.Turns.{within}
 
@@ -17,14 +11,8 @@ use Rattle.fx_direct.proofs.Turns.{within}
 abbrev pub phase_left : Bool → Transition → Phase → Phase
 phase_left stopped t p = unless_live (becomes_live t p && stopped) (phase_after t p)
 
-live_ends : (p : Phase) → is_live p ≡ true → may_end p ≡ true
-live_ends p live = grind arith
-
 pub is_begun : (t : Transition) (p : Phase) (stopped : Bool) → (becomes_live t p && stopped) ≡ true → is_live (phase_after t p) ≡ true
 is_begun t p stopped e = grind arith
-
-written_over : (old : List Slot) (j k : LifeKey) (r p : Phase) → j.slot ≡ k.slot → with_phase (with_phase old j r) k p ≡ with_phase old k p
-written_over old j k r p e = grind (arith, set-set)
 
 -- the slot whose phase was written
 pub at_key : (old : List Slot) (k : LifeKey) (p : Phase) → k.slot < length old → phase_at (with_phase old k p) k.slot ≡ p
@@ -45,7 +33,7 @@ module _ (range : SlotRange) (old : List Slot) (d : Transition) (can : IsEnabled
 
   -- the transition, and perhaps the end of its life after it
   ends_may : (b : Bool) → (b ≡ true → is_live (phase_after d (phase_at old k.slot)) ≡ true) → AreEnabled old (and_ends b d)
-  ends_may b live = grind (arith, names, live_ends, here)
+  ends_may b live = grind (arith, names, here)
 
   pub ends_leaves : (b : Bool) → slots_left_by old (and_ends b d) ≡ with_phase old k (unless_live b (phase_after d (phase_at old k.slot)))
   ends_leaves true = ap (λ (p : Phase). with_phase (slots_with old d) k (when_ended p)) here ∙ set-set old k.slot _ _
@@ -93,7 +81,7 @@ adoptable : (p : Phase) → is_adoptable p ≡ true → (p ≡ Free) ⊎ (p ≡ 
 adoptable p may = grind arith
 
 write_over : (old : List Slot) (j k : LifeKey) (r p : Phase) (ask : Option ℕ) (new : List Slot) → j.slot ≡ k.slot → WritesPhase old k p ask new → WritesPhase (with_phase old j r) k p ask new
-write_over old j k r p ask new e writes = grind (arith, written_over)
+write_over old j k r p ask new e writes = grind (arith, set-set)
 
 pub adopts : (range : SlotRange) (old : List Slot) (k : LifeKey) (stopped : Bool) (phase : Phase) (ask : Option ℕ) (new : List Slot) → k.slot < length old
     → k.number ≡ (slot_numbered old k.slot).number + 1 → k.number ≤ MOST_LIVES → is_adoptable (phase_at old k.slot) ≡ true → unless_live stopped (Live 0 0) ≡ phase

@@ -59,18 +59,9 @@ uses_of m n = 0
 uses_zero : (m : Member) → uses_of m 0 ≡ 0
 uses_zero m = grind arith
 
-uses_more : (m : Member) (k : LifeKey) (n : ℕ) → uses_of m (suc n) ≡ is_member m (UseOf k) + uses_of m n
-uses_more m k n = grind arith
-
 pub tally-uses : (m : Member) (k : LifeKey) (n : ℕ) (ps : List Pending) → tally m k.slot (with_uses k n ps) ≡ uses_of m n + tally m k.slot ps
 tally-uses m k zero ps = let e = uses_zero m in omega arith
-tally-uses m k (suc n) ps =
-    let e = at_same m k.slot (pending (UseOf k) true Waits) refl in let u = uses_more m k n in let r = tally-uses m k n ps in omega arith
-
-pub tally-close : (m : Member) (k : LifeKey) (closes : Bool) (ps : List Pending)
-    → tally m k.slot (with_close k closes ps) ≡ (if closes then is_member m (CloseOf k) else 0) + tally m k.slot ps
-tally-close m k true ps = let e = at_same m k.slot (pending (CloseOf k) true Waits) refl in omega arith
-tally-close m k false ps = omega arith
+tally-uses m k (suc n) ps = grind (arith, tally-uses m k n ps, at_same)
 
 pub uses_else : (m : Member) (k : LifeKey) (n s : ℕ) (ps : List Pending) → s ≢ k.slot → tally m s (with_uses k n ps) ≡ tally m s ps
 uses_else m k zero s ps ne = refl
@@ -78,8 +69,7 @@ uses_else m k (suc n) s ps ne =
     let e = at_other m s (pending (UseOf k) true Waits) (λ (e : k.slot ≡ s). ne (sym e)) in let r = uses_else m k n s ps ne in omega arith
 
 pub close_else : (m : Member) (k : LifeKey) (closes : Bool) (s : ℕ) (ps : List Pending) → s ≢ k.slot → tally m s (with_close k closes ps) ≡ tally m s ps
-close_else m k true s ps ne = let e = at_other m s (pending (CloseOf k) true Waits) (λ (e : k.slot ≡ s). ne (sym e)) in omega arith
-close_else m k false s ps ne = refl
+close_else m k closes s ps ne = grind (arith, at_other)
 
 -- Facts of each call.
 
@@ -118,8 +108,7 @@ each-use P k (suc n) ps own all = (own, each-use P k n ps own all)
 
 pub each-close : (P : Pending → Type 0) (k : LifeKey) (closes : Bool) (ps : List Pending) → P (pending (CloseOf k) true Waits)
     → AllByRecursion P ps → AllByRecursion P (with_close k closes ps)
-each-close P k true ps own all = (own, all)
-each-close P k false ps own all = all
+each-close P k closes ps own all = grind arith
 
 -- Files of slots.
 
@@ -259,16 +248,9 @@ pub chosen_gone : (f : Fate) (p : Phase) (at : Option File) (files : List File) 
     → (f ≡ Missing) ⊎ (f ≡ Gone)
 chosen_gone f p at files suit free plain empty has = grind arith
 
-pub chosen_suits : (f : Fate) (p : Phase) → suits f p ≡ true → is_reserved p ≡ false → (f ≡ Missing) ⊎ (f ≡ Gone) → suits Foreign p ≡ true
-chosen_suits f p suit free gone = grind arith
-
 pub chosen_counts : (f : Fate) (p : Phase) → suits f p ≡ true → is_reserved p ≡ false → (f ≡ Missing) ⊎ (f ≡ Gone)
     → (count_in Open p ≡ 0) × (count_in Request p ≡ 0) × (f ≡ Missing → count_in CloseMember p ≡ 0)
 chosen_counts f p suit free gone = grind arith
-
-pub chosen_fits : (call : DirectCall) (stage : CallStage) (f : Fate) → fits call stage f ≡ true → (f ≡ Missing) ⊎ (f ≡ Gone)
-    → is_member Open call ≡ 0 → is_member Request call ≡ 0 → (f ≡ Missing → is_member CloseMember call ≡ 0) → fits call stage Foreign ≡ true
-chosen_fits call stage f fit gone no_open no_use no_close = grind arith
 
 -- a free slot that has a file
 pub adopted_foreign : (f : Fate) (p : Phase) (at : Option File) (files : List File) (file : File) → suits f p ≡ true → p ≡ Free → at ≡ Some file → Has f at files → f ≡ Foreign
@@ -281,15 +263,6 @@ pub count_chain : (m : Member) (n : ℕ) (opened : ChainOpen) (end : ChainEnd)
     → count_in m (chain_phase n opened end) ≡ count_in m (Chained (chain n opened end))
 count_chain m n opened end = grind arith
 
--- the phase that a chain leaves suits what suited the chain
-pub suits_chain : (fate : Fate) (n : ℕ) (opened : ChainOpen) (end : ChainEnd)
-    → suits fate (Chained (chain n opened end)) ≡ true → suits fate (chain_phase n opened end) ≡ true
-suits_chain fate n opened end suit = grind arith
-
--- a phase that a chain leaves is chained only if the chain was
-pub gone_free : (fate : Fate) (p : Phase) → suits fate p ≡ true → p ≡ Free → is_foreign fate ≡ false → (fate ≡ Missing) ⊎ (fate ≡ Gone)
-gone_free fate p suit free plain = grind arith
-
 -- an open waits: the phase counts it
 pub expected_opens : (p : Phase) → suits Expected p ≡ true → bit (is_opening p) ≡ 1
 expected_opens p suit = grind arith
@@ -298,26 +271,12 @@ expected_opens p suit = grind arith
 pub unchained_due : (p : Phase) → suits Expected p ≡ true → 0 < requests_in p + bit (is_closing p) → is_chained p ≡ true
 unchained_due p suit busy = grind arith
 
--- a request or a close without a file is a chain's
-pub missing_chained : (p : Phase) → suits Missing p ≡ true → 0 < requests_in p + bit (is_closing p) → is_chained p ≡ true
-missing_chained p suit busy = grind arith
-
 -- Calls whose file changes.
 
 pub same_keys : (j k : LifeKey) → j.slot ≡ k.slot → j.number ≡ k.number → same_key j k ≡ true
 same_keys j k e n = rw (eq-eqb j.slot k.slot e, eq-eqb j.number k.number n) refl
 
--- the open is done
-pub opened_fits : (call : DirectCall) (stage : CallStage) (fate : Fate) → fits call stage Expected ≡ true → is_member Open call ≡ 0 → not_gone fate ≡ true
-    → fits call stage fate ≡ true
-opened_fits call stage fate fit other left = grind arith
-
 -- the close is done
 pub closed_fits : (call : DirectCall) (stage : CallStage) (k : LifeKey) → fits call stage There ≡ true → is_member CloseMember call ≡ 0
     → (waits_for (CloseOf k) call stage ≡ false) ⊎ (is_member Request call ≡ 0) → same_key (key_of_call call) k ≡ true → fits call stage Gone ≡ true
 closed_fits call stage k fit other turn same = grind arith
-
--- an open that waits has its turn before the others of its chain
-pub no_open : (call : DirectCall) (stage : CallStage) (k : LifeKey) → fits call stage Expected ≡ true → same_key (key_of_call call) k ≡ true
-    → (waits_for (UseOf k) call stage ≡ false) ⊎ (waits_for (CloseOf k) call stage ≡ false) → is_member Open call ≡ 0
-no_open call stage k fit same turn = grind arith

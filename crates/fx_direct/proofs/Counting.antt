@@ -1,13 +1,11 @@
 -- Each transition keeps each key's counts balanced.
 use Rattle.fx_direct.proofs.Words.{arith, ◌≡◌, ◌≢◌, ℕ, ◌+◌, ◌<◌, ◌≤◌, ◌==◌, ◌⊎◌, inl, inr, Bool, true, false, List, [], ◌∷◌, refl, sym, ap, ◌∙◌, subst}
 use Rattle.fx_direct.proofs.Words.{if◌then◌else◌, cases_eq, eq-eqb, ne_eqb, Transition, LifeKey, Phase, Slot, ChainOpen, ChainEnd, Reserves, Opening, Chained, Installed, Failed, Took, Free}
-use Rattle.fx_direct.proofs.Words.{AllFree, AreEnabled, slots_left_by, slot_numbered, phase_at, requests_in, users_in, is_live, is_installed, is_opening, is_closing, is_chained, chain_phase, bit}
-use Rattle.fx_direct.proofs.Words.{key_concerned, FitsPhase, IsEnabled, phase_after, slots_with, same_key}
+use Rattle.fx_direct.proofs.Words.{AllFree, AreEnabled, slots_left_by, slot_numbered, phase_at, requests_in, is_live, is_installed, is_closing, is_chained, chain_phase, bit}
+use Rattle.fx_direct.proofs.Words.{key_concerned, FitsPhase, IsEnabled, phase_after, slots_with, same_key, Adopts, when_opened}
+use Rattle.fx_direct.proofs.Words.{ends_anyway, may_open, may_end, when_ended, when_left}
 use Rattle.fx_direct.specs.Counts.{times, of_key, reserves, chains, opens, starts, finishes, holds, releases, ends, asks, closes, fails, is_early, phase_of}
 use Rattle.fx_direct.specs.Counts.{EachKeyIsBalanced, IsBalanced, KeysAreGivenOnce, NothingIsLeftOfALife}
-use Rattle.fx_direct.specs.Phases.{ends_anyway}
-use Rattle.fx_direct.specs.Transitions.{may_open, may_end, may_close, when_ended, when_closed, when_left}
-use Rattle.fx_direct.proofs.Words.{Adopts, Starts, Finishes, Holds, Releases, Ends, Asks, Closes, FailsToClose, Opens, Chains, Ending, with_counts, when_opened, ◌-◌}
 use Rattle.fx_direct.proofs.Moves.{after-here, after-else}
 use Rattle.fx_direct.proofs.Turns.{within}
 
@@ -52,11 +50,8 @@ pub record Kept (h : List Transition) (k : LifeKey) (number : ℕ) (p : Phase) :
 
 -- A transition of the key.
 
-proper_chain : (n : ℕ) (opened : ChainOpen) (end : ChainEnd) → contradict opened end ≡ false → IsProper (chain_phase n opened end)
-proper_chain n opened end fit = grind arith
-
 pub proper_after : (d : Transition) (p : Phase) → FitsPhase d p → IsProper p → IsProper (phase_after d p)
-proper_after d p may proper = grind (arith, proper_chain)
+proper_after d p may proper = grind arith
 
 of_same : (j k : LifeKey) (n : ℕ) → same_key j k ≡ true → of_key j k n ≡ n
 of_same j k n same = rw same refl
@@ -70,15 +65,8 @@ asked_opens : (p : Phase) (installed : Bool) → may_open installed p ≡ true �
     → bit installed + bit (is_early (when_opened installed p)) + bit (is_installed p) ≡ bit (is_installed (when_opened installed p)) + bit (is_early p)
 asked_opens p installed may proper = grind arith
 
-asked_counts : (p : Phase) (a b : ℕ) → IsProper p
-    → bit (is_early (with_counts p a b)) + bit (is_installed p) ≡ bit (is_installed (with_counts p a b)) + bit (is_early p)
-asked_counts p a b proper = grind arith
-
 asked_ends : (p : Phase) → may_end p ≡ true → bit (is_early (when_ended p)) + bit (is_installed p) ≡ bit (is_installed (when_ended p)) + bit (is_early p)
 asked_ends p may = grind arith
-
-asked_closes : (p : Phase) → may_close p ≡ true → bit (is_early (when_closed p)) + bit (is_installed p) ≡ bit (is_installed (when_closed p)) + bit (is_early p)
-asked_closes p may = grind arith
 
 asked_fails : (p : Phase) → is_closing p ≡ true → 1 + bit (is_early (when_left p)) + bit (is_installed p) ≡ bit (is_installed (when_left p)) + bit (is_early p)
 asked_fails p may = grind arith
@@ -88,20 +76,7 @@ asked_phases p q e = (ap (λ (r : Phase). bit (is_early r)) e, ap (λ (r : Phase
 
 for_asked : (k : LifeKey) (d : Transition) (p : Phase) → FitsPhase d p → IsProper p → same_key (key_concerned d) k ≡ true
     → opens k d + fails k d + bit (is_early (phase_after d p)) + bit (is_installed p) ≡ asks k d + bit (is_installed (phase_after d p)) + bit (is_early p)
-for_asked k (Reserves j) p may proper same = let e = asked_phases p Free may in omega (arith, e.0, e.1)
-for_asked k (Adopts j) p may proper same = let e = asked_phases p Free may in omega (arith, e.0, e.1, of_same j k 1 same)
-for_asked k (Chains j n true) p may proper same = let e = asked_phases p Opening may in omega (arith, e.0, e.1, of_same j k 1 same)
-for_asked k (Chains j n false) p may proper same = let e = asked_phases p Opening may in omega (arith, e.0, e.1, of_same j k 0 same)
-for_asked k (Opens j true) p may proper same = omega (arith, asked_opens p true may proper, of_same j k 1 same)
-for_asked k (Opens j false) p may proper same = omega (arith, asked_opens p false may proper)
-for_asked k (Starts j) p may proper same = omega (arith, asked_counts p (requests_in p + 1) (users_in p) proper)
-for_asked k (Finishes j) p may proper same = omega (arith, asked_counts p (requests_in p - 1) (users_in p) proper)
-for_asked k (Holds j) p may proper same = omega (arith, asked_counts p (requests_in p) (users_in p + 1) proper)
-for_asked k (Releases j) p may proper same = omega (arith, asked_counts p (requests_in p) (users_in p - 1) proper)
-for_asked k (Ends j) p may proper same = omega (arith, asked_ends p may)
-for_asked k (Asks j) p may proper same = let e = asked_phases p (Ending 0 0) may in omega (arith, e.0, e.1, of_same j k 1 same)
-for_asked k (Closes j) p may proper same = omega (arith, asked_closes p may)
-for_asked k (FailsToClose j) p may proper same = omega (arith, asked_fails p may, of_same j k 1 same)
+for_asked k d p may proper same = grind (arith, asked_phases, of_same, asked_opens, asked_ends, asked_fails)
 
 -- what the transition adds to the counts, and what it changes in the phase
 module _ (k : LifeKey) (d : Transition) (p : Phase) (may : FitsPhase d p) (proper : IsProper p) (same : same_key (key_concerned d) k ≡ true) where
@@ -111,33 +86,12 @@ module _ (k : LifeKey) (d : Transition) (p : Phase) (may : FitsPhase d p) (prope
   for_requests : requests_in p' + finishes k d ≡ requests_in p + starts k d
   for_requests = grind (arith, of_same)
 
-  for_users : users_in p' + releases k d ≡ users_in p + holds k d
-  for_users = grind (arith, of_same)
-
   for_closed : asks k d + bit (is_closing p) ≡ closes k d + fails k d + bit (is_closing p')
   for_closed = grind (arith, of_same)
-
-  for_opened : opens k d + bit (is_opening p') ≤ reserves k d + bit (is_opening p)
-  for_opened = grind (arith, of_same)
-
-  for_ended : ((opens k d ≡ 1) × (is_unopened p ≡ true) × (ends k d ≡ 0) × (bit (is_live p') + bit (ends_anyway p) ≡ 1))
-      ⊎ ((opens k d ≡ 0) × (bit (is_live p') + ends k d ≡ bit (is_live p)))
-      ⊎ ((opens k d ≡ 0) × (is_unopened p ≡ true)) ⊎ ((opens k d ≡ 1) × (is_new d ≡ true) × (ends k d ≡ 0) × (bit (is_live p') ≡ 1))
-  for_ended = grind (arith, of_same)
-
-  for_early : (ends k d ≡ 0) ⊎ ((ends k d ≡ 1) × (is_live p ≡ true))
-      ⊎ ((ends k d ≡ 1) × (is_unopened p ≡ true) × (bit (ends_anyway p) ≡ 0) × ((is_chained p ≡ true) ⊎ (chains k d ≡ 1)))
-  for_early = grind (arith, of_same)
 
   for_unopened : is_unopened p' ≡ true → ((is_unopened p ≡ true) × (opens k d ≡ 0) × (bit (ends_anyway p') ≡ bit (ends_anyway p) + ends k d))
       ⊎ ((is_new d ≡ true) × (opens k d ≡ 0) × (ends k d ≡ 0) × (bit (ends_anyway p') ≡ 0))
   for_unopened is = grind (arith, of_same)
-
-  for_chained : is_chained p' ≡ true → (is_chained p ≡ true) ⊎ (chains k d ≡ 1)
-  for_chained is = grind (arith, of_same)
-
-  for_live : is_live p' ≡ true → (is_live p ≡ true) ⊎ (opens k d ≡ 1)
-  for_live is = grind (arith, of_same)
 
   for_reserves : (reserves k d ≡ 0) ⊎ ((reserves k d ≡ 1) × (is_new d ≡ true))
   for_reserves = grind (arith, of_same)
@@ -146,91 +100,27 @@ module _ (k : LifeKey) (d : Transition) (p : Phase) (may : FitsPhase d p) (prope
       → IsBalanced h k p → IsBegun h k p → IsBalanced (d ∷ h) k p'
   balanced h new b begun = record {
     requests = omega (arith, b.requests, for_requests);
-    users = omega (arith, b.users, for_users);
-    ended = λ some_open. elim for_ended [
-      | inl e ↦ omega (arith, e.0, e.2, e.3, (begun.unopened e.1).0, (begun.unopened e.1).1)
-      | inr e ↦ elim e [
-        | inl f ↦ omega (arith, f.0, f.1, b.ended (omega (arith, f.0)))
-        | inr f ↦ elim f [ inl g ↦ omega (arith, g.0, (begun.unopened g.1).0) | inr g ↦ omega (arith, g.0, g.2, g.3, (new g.1).0, (new g.1).1, b.opened) ]
-      ]
-    ];
-    early = elim for_early [
-      | inl e ↦ omega (arith, e, b.early)
-      | inr e ↦ elim e [
-        | inl f ↦ omega (arith, f.0, begun.live f.1, b.ended (begun.live f.1), ap bit f.1)
-        | inr f ↦ elim f.3 [ inl c ↦ omega (arith, f.0, f.2, (begun.unopened f.1).1, begun.chained c) | inr c ↦ omega (arith, f.0, f.2, (begun.unopened f.1).1, c) ]
-      ]
-    ];
+    users = grind (arith, b.users);
+    ended = grind arith;
+    early = grind arith;
     asked = omega (arith, b.asked, for_asked k d p may proper same);
     closed = omega (arith, b.closed, for_closed);
     once = elim for_reserves [ inl e ↦ omega (arith, e, b.once) | inr e ↦ omega (arith, e.0, (new e.1).0) ];
-    opened = omega (arith, b.opened, for_opened);
+    opened = grind (arith, b.opened);
   }
 
   begun_after : (h : List Transition) → (is_new d ≡ true → (times (reserves k) h ≡ 0) × (times (ends k) h ≡ 0))
       → IsBalanced h k p → IsBegun h k p → IsBegun (d ∷ h) k p'
-  begun_after h new b begun = record {
-    unopened = λ is. elim (for_unopened is) [
-      | inl e ↦ (omega (arith, e.1, (begun.unopened e.0).0), omega (arith, e.2, (begun.unopened e.0).1))
-      | inr e ↦ (omega (arith, e.1, (new e.0).0, b.opened), omega (arith, e.2, e.3, (new e.0).1))
-    ];
-    chained = λ is. elim (for_chained is) [ inl e ↦ omega (arith, begun.chained e) | inr e ↦ omega (arith, e) ];
-    live = λ is. elim (for_live is) [ inl e ↦ omega (arith, begun.live e) | inr e ↦ omega (arith, e) ];
-  }
+  begun_after h new b begun = grind (arith, for_unopened)
 
 -- a transition of another key counts for nothing
-module _ (k : LifeKey) (d : Transition) (none : same_key (key_concerned d) k ≡ false) where
-  no_reserves : reserves k d ≡ 0
-  no_reserves = grind (arith, of_other)
-
-  no_chains : chains k d ≡ 0
-  no_chains = grind (arith, of_other)
-
-  no_opens : opens k d ≡ 0
-  no_opens = grind (arith, of_other)
-
-  no_starts : starts k d ≡ 0
-  no_starts = grind (arith, of_other)
-
-  no_finishes : finishes k d ≡ 0
-  no_finishes = grind (arith, of_other)
-
-  no_holds : holds k d ≡ 0
-  no_holds = grind (arith, of_other)
-
-  no_releases : releases k d ≡ 0
-  no_releases = grind (arith, of_other)
+module _ (k : LifeKey) (d : Transition) (apart : same_key (key_concerned d) k ≡ false) where
+  none : (reserves k d ≡ 0) × (chains k d ≡ 0) × (opens k d ≡ 0) × (starts k d ≡ 0) × (finishes k d ≡ 0) × (holds k d ≡ 0) × (releases k d ≡ 0)
+      × (ends k d ≡ 0) × (asks k d ≡ 0) × (closes k d ≡ 0) × (fails k d ≡ 0)
+  none = grind (arith, of_other)
 
   pub no_ends : ends k d ≡ 0
-  no_ends = grind (arith, of_other)
-
-  no_asks : asks k d ≡ 0
-  no_asks = grind (arith, of_other)
-
-  no_closes : closes k d ≡ 0
-  no_closes = grind (arith, of_other)
-
-  no_fails : fails k d ≡ 0
-  no_fails = grind (arith, of_other)
-
-  other_balanced : (h : List Transition) (p : Phase) → IsBalanced h k p → IsBalanced (d ∷ h) k p
-  other_balanced h p b = record {
-    requests = omega (arith, b.requests, no_starts, no_finishes);
-    users = omega (arith, b.users, no_holds, no_releases);
-    ended = λ some_open. omega (arith, b.ended (omega (arith, no_opens)), no_opens, no_ends);
-    early = omega (arith, b.early, no_opens, no_ends, no_chains);
-    asked = omega (arith, b.asked, no_opens, no_fails, no_asks);
-    closed = omega (arith, b.closed, no_asks, no_closes, no_fails);
-    once = omega (arith, b.once, no_reserves);
-    opened = omega (arith, b.opened, no_opens, no_reserves);
-  }
-
-  other_begun : (h : List Transition) (p : Phase) → IsBegun h k p → IsBegun (d ∷ h) k p
-  other_begun h p begun = record {
-    unopened = λ is. let u = begun.unopened is in (omega (arith, u.0, no_opens), omega (arith, u.1, no_ends));
-    chained = λ is. omega (arith, begun.chained is, no_chains);
-    live = λ is. omega (arith, begun.live is, no_opens);
-  }
+  no_ends = none.7
 
 pub possible : (slots : List Slot) (d : Transition) → IsEnabled slots d → FitsPhase d (phase_at slots (key_concerned d).slot)
 possible slots d can = grind arith
@@ -276,12 +166,7 @@ at_phase e1 e2 kept = rw (← e1, ← e2) kept
 
 other_kept : (d : Transition) (h : List Transition) (k : LifeKey) (n n' : ℕ) (p : Phase) → same_key (key_concerned d) k ≡ false → (n' < k.number → n < k.number)
     → Kept h k n p → Kept (d ∷ h) k n' p
-other_kept d h k n n' p none later kept = record {
-  balance = other_balanced k d none h p kept.balance;
-  begun = other_begun k d none h p kept.begun;
-  proper = kept.proper;
-  unborn = λ lt. let u = kept.unborn (later lt) in (omega (arith, u.0, no_reserves k d none), omega (arith, u.1, no_ends k d none));
-}
+other_kept d h k n n' p none later kept = grind (arith, none)
 
 one_deed : (slots : List Slot) (h : List Transition) (d : Transition) (k : LifeKey) → IsEnabled slots d → KeptAt slots h k → KeptAt (slots_with slots d) (d ∷ h) k
 one_deed slots h d k can kept = elim (cases_eq (key_concerned d).slot k.slot) [
@@ -293,10 +178,7 @@ one_deed slots h d k can kept = elim (cases_eq (key_concerned d).slot k.slot) [
       let before : (slot_numbered slots (key_concerned d).slot).number ≡ (slot_numbered slots k.slot).number = ap (λ (s : ℕ). (slot_numbered slots s).number) e in
       elim (cases_eq (key_concerned d).number k.number) [
         | inl n ↦
-            let was : phase_of slots k ≡ phase_at slots (key_concerned d).slot = elim (number_before slots d can) [
-              | inl e0 ↦ phase_here slots k (sym before ∙ e0 ∙ n) ∙ ap (phase_at slots) (sym e)
-              | inr w ↦ phase_free slots k (ap (phase_at slots) (sym e) ∙ w.1) ∙ sym w.1
-            ] in
+            let was : phase_of slots k ≡ phase_at slots (key_concerned d).slot = grind (arith, before, number_before, phase_here, phase_free) in
             let is : phase_of (slots_with slots d) k ≡ phase_after d (phase_at slots (key_concerned d).slot) =
             phase_here (slots_with slots d) k (number ∙ n) ∙ ap (λ (s : Slot). s.phase) here in
             let old = at_phase was refl kept in let p = phase_at slots (key_concerned d).slot in
@@ -309,14 +191,7 @@ one_deed slots h d k can kept = elim (cases_eq (key_concerned d).slot k.slot) [
               proper = proper_after d p may old.proper;
               unborn = λ lt. absurd (omega arith);
             })
-        | inr nn ↦
-            let was : phase_of slots k ≡ Free = elim (number_before slots d can) [
-              | inl e0 ↦ phase_else slots k (λ (same : (slot_numbered slots k.slot).number ≡ k.number). nn (sym e0 ∙ before ∙ same))
-              | inr w ↦ phase_free slots k (ap (phase_at slots) (sym e) ∙ w.1)
-            ] in
-            let is : phase_of (slots_with slots d) k ≡ Free = phase_else (slots_with slots d) k (λ (same : (slot_numbered (slots_with slots d) k.slot).number ≡ k.number). nn (sym number ∙ same)) in
-            at_phase (was ∙ sym is) refl (other_kept d h k (slot_numbered slots k.slot).number (slot_numbered (slots_with slots d) k.slot).number (phase_of slots k)
-            (two_numbers (key_concerned d) k e nn) (λ lt. let g = grows slots d can in omega arith) kept)
+        | inr nn ↦ grind (arith, number_before, phase_else, phase_free, at_phase, other_kept, two_numbers, grows)
       ]
   | inr ne ↦
       let same : slot_numbered (slots_with slots d) k.slot ≡ slot_numbered slots k.slot = after-else slots d k.slot (λ (e : k.slot ≡ (key_concerned d).slot). ne (sym e)) in
@@ -326,12 +201,7 @@ one_deed slots h d k can kept = elim (cases_eq (key_concerned d).slot k.slot) [
 ]
 
 nothing : (k : LifeKey) (n : ℕ) → Kept [] k n Free
-nothing k n = record {
-  balance = record { requests = refl; users = refl; ended = λ lt. absurd (omega arith); early = omega arith; asked = refl; closed = refl; once = omega arith; opened = omega arith };
-  begun = record { unopened = λ e. absurd (cc e); chained = λ e. absurd (cc e); live = λ e. absurd (cc e) };
-  proper = tt;
-  unborn = λ lt. (refl, refl);
-}
+nothing k n = grind arith
 
 pub kept_always : (start : List Slot) (h : List Transition) (k : LifeKey) → AllFree start → AreEnabled start h → KeptAt (slots_left_by start h) h k
 kept_always start [] k free can = at_phase (sym (phase_free start k (free k.slot))) refl (nothing k (slot_numbered start k.slot).number)
@@ -341,10 +211,8 @@ pub each_key_is_balanced : EachKeyIsBalanced
 each_key_is_balanced start h k free can = (kept_always start h k free can).balance
 
 pub nothing_is_left_of_a_life : NothingIsLeftOfALife
-nothing_is_left_of_a_life start h given earlier free can may same = (
-  subst (IsBalanced h earlier) (phase_free (slots_left_by start h) earlier (ap (phase_at (slots_left_by start h)) same ∙ may.2)) (kept_always start h earlier free can).balance,
-  ((kept_always start h given free can).unborn (omega (arith, may.1))).0,
-)
+nothing_is_left_of_a_life start h given earlier free can may same =
+    grind (arith, phase_free (slots_left_by start h) earlier (ap (phase_at (slots_left_by start h)) same ∙ may.2), kept_always start h earlier free can, kept_always start h given free can, may.1)
 
 pub keys_are_given_once : KeysAreGivenOnce
 keys_are_given_once start h k free can = (kept_always start h k free can).balance.once

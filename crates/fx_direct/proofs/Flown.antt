@@ -1,9 +1,8 @@
 -- Flights from one empty slot, moment by moment: each world is the one that the moment leaves.
 use Rattle.fx_direct.proofs.Words.{arith, ◌<◌, ◌≤◌, ◌≡◌, List, [], ◌∷◌, ◌++◌, refl, Bool, false, World, Pending, pending, CallStage, Waits, Quit, UseOf, Transition, DirectCall}
 use Rattle.fx_direct.proofs.Words.{◌+◌, LifeKey, File, Allocate, Chooses, slot_numbered, Accesses, Does, Quits, Others, DirectMoment, Loses, TurnsCalls, MayMake, HasItsTurn, stage_after, IsElsewhere, Allows, Action, slots_with, table_after, length}
-use Rattle.fx_direct.specs.Flight.{IsDirectFlightBy}
+use Rattle.fx_direct.proofs.Words.{IsDirectFlightBy, MOST_LIVES}
 use Rattle.fx_direct.specs.Round.{two_slots, first_key}
-use Rattle.fx_direct.specs.declared.key.TheConstants.{MOST_LIVES}
 
 pub inside : 0 < 2
 inside = omega arith

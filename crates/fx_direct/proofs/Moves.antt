@@ -1,8 +1,8 @@
 -- The invariant of flights, and a transition of the machine.
-use Rattle.fx_direct.proofs.Words.{arith, ◌≡◌, ◌≢◌, ℕ, ◌+◌, ◌<◌, ◌≤◌, true, List, [], ◌∷◌, ◌++◌, length, refl, sym, ap, inl, inr}
-use Rattle.fx_direct.proofs.Words.{◌∙◌, subst, cases_eq, get_or-set_same, get_or-set_other, length-set, LifeKey, Phase, Slot, State, Member}
-use Rattle.fx_direct.proofs.Words.{AllByRecursion, is_chained, has_chain, Pending, DirectMoment, Does, Transition}
-use Rattle.fx_direct.proofs.Words.{life_at, slot_numbered, phase_at, key_concerned, phase_after, slots_with, files_under}
+use Rattle.fx_direct.proofs.Words.{common_steps, arith, ◌≡◌, ◌≢◌, ℕ, ◌+◌, ◌<◌, ◌≤◌, true, List, [], ◌∷◌, ◌++◌, length, refl, sym, ap, inl, inr, ◌∙◌}
+use Rattle.fx_direct.proofs.Words.{subst, cases_eq, get_or-set_same, get_or-set_other, length-set, LifeKey, Phase, Slot, State, Member}
+use Rattle.fx_direct.proofs.Words.{AllByRecursion, is_chained, has_chain, Pending, DirectMoment, Does, Transition, life_at, slot_numbered, phase_at}
+use Rattle.fx_direct.proofs.Words.{key_concerned, phase_after, slots_with, files_under}
 use Rattle.fx_direct.proofs.Calls.{NextHas, next_same, Ranged, is_reserved, place_of, tally, at_other, tally-mid, count_in, each-both, is_bound, Fate, Has, FitsAt, fits_same, has_same, suits}
 
 abbrev pub Fitting : List Slot → (ℕ → Fate) → Pending → Type 0
@@ -37,8 +37,12 @@ after-else slots d s ne = grind (arith, get_or-set_other)
 pub after-length : (slots : List Slot) (d : Transition) → length (slots_with slots d) ≡ length slots
 after-length slots d = grind (arith, length-set)
 
+-- what holds at a slot and at each other one
+pub by_slot : (X : ℕ → Type 0) (s0 : ℕ) → X s0 → ((s : ℕ) → s ≢ s0 → X s) → (s : ℕ) → X s
+by_slot X s0 here away s = elim (cases_eq s s0) [ inl e ↦ subst X (sym e) here | inr ne ↦ away s ne ]
+
 -- a chain that was submitted stays so
-linked_more : (k : LifeKey) (d : Transition) (h : List DirectMoment) → has_chain k h ≡ true → has_chain k (Does d ∷ h) ≡ true
+pub linked_more : (k : LifeKey) (d : Transition) (h : List DirectMoment) → has_chain k h ≡ true → has_chain k (Does d ∷ h) ≡ true
 linked_more k d h e = grind arith
 
 -- the machine turns one slot
@@ -53,6 +57,11 @@ module _ {fate : ℕ → Fate} {slots : List Slot} {table : State} {calls : List
   abbrev p' : Phase
   p' = phase_after d p
 
+  -- what holds of the slot that was written and of each other one
+  by_deed : (X : ℕ → Slot → Type 0) → X k.slot (written d slots) → ((s : ℕ) → s ≢ k.slot → X s (slot_numbered slots s))
+      → (s : ℕ) → X s (slot_numbered (slots_with slots d) s)
+  by_deed X here away = grind (arith, by_slot, after-here, after-else)
+
   pub turned : (fate' : ℕ → Fate) (calls' : List Pending) → ((s : ℕ) → s ≢ k.slot → fate' s ≡ fate s)
       → ((m : Member) → tally m k.slot calls' ≡ count_in m p')
       → ((m : Member) (s : ℕ) → s ≢ k.slot → tally m s calls' ≡ tally m s calls)
@@ -66,57 +75,17 @@ module _ {fate : ℕ → Fate} {slots : List Slot} {table : State} {calls : List
       → Sound fate' (slots_with slots d) table calls' (Does d ∷ h)
   turned fate' calls' same count others suit has linked fits grows next ranged = record {
     inside = rw (after-length slots d) sound.inside;
-    counted = λ m s. elim (cases_eq s k.slot) [
-      | inl e ↦ subst (λ (y : ℕ). tally m y calls' ≡ count_in m (phase_at (slots_with slots d) y)) (sym e)
-          (count m ∙ sym (ap (λ (x : Slot). count_in m x.phase) (after-here slots d within)))
-      | inr ne ↦ others m s ne ∙ sound.counted m s ∙ sym (ap (λ (x : Slot). count_in m x.phase) (after-else slots d s ne))
-    ];
-    suit = λ s. elim (cases_eq s k.slot) [
-      | inl e ↦ subst (λ (y : ℕ). suits (fate' y) (phase_at (slots_with slots d) y) ≡ true) (sym e)
-          (ap (λ (x : Slot). suits (fate' k.slot) x.phase) (after-here slots d within) ∙ suit)
-      | inr ne ↦ ap (λ (g : Fate). suits g (phase_at (slots_with slots d) s)) (same s ne)
-          ∙ ap (λ (x : Slot). suits (fate s) x.phase) (after-else slots d s ne) ∙ sound.suit s
-    ];
-    has = λ s lt. elim (cases_eq s k.slot) [
-      | inl e ↦ subst (λ (y : ℕ). Has (fate' y) (table.at y) (files_under (life_at (slots_with slots d) y) h)) (sym e)
-          (has_same {fate = fate' k.slot} refl refl (ap (λ (x : Slot). files_under (record { slot = k.slot; number = x.number }) h) (after-here slots d within)) has)
-      | inr ne ↦ has_same (same s ne) refl (ap (λ (x : Slot). files_under (record { slot = s; number = x.number }) h) (after-else slots d s ne))
-          (sound.has s (rw (← after-length slots d) lt))
-    ];
-    linked = λ s chained. elim (cases_eq s k.slot) [
-      | inl e ↦
-          let c : is_chained p' ≡ true = sym (ap (λ (x : Slot). is_chained x.phase) (after-here slots d within))
-          ∙ subst (λ (y : ℕ). is_chained (phase_at (slots_with slots d) y) ≡ true) e chained in
-          subst (λ (y : ℕ). has_chain (life_at (slots_with slots d) y) (Does d ∷ h) ≡ true) (sym e)
-          (ap (λ (x : Slot). has_chain (record { slot = k.slot; number = x.number }) (Does d ∷ h)) (after-here slots d within) ∙ linked c)
-      | inr ne ↦
-          let c : is_chained (phase_at slots s) ≡ true = sym (ap (λ (x : Slot). is_chained x.phase) (after-else slots d s ne)) ∙ chained in
-          ap (λ (x : Slot). has_chain (record { slot = s; number = x.number }) (Does d ∷ h)) (after-else slots d s ne)
-          ∙ linked_more (life_at slots s) d h (sound.linked s c)
-    ];
+    counted = grind (arith, after-here, after-else);
+    suit = by_deed (λ s x. suits (fate' s) x.phase ≡ true) suit (λ s ne. rw (same s ne) (sound.suit s));
+    has = by_deed (λ s x. s < length (slots_with slots d) → Has (fate' s) (table.at s) (files_under (record { slot = s; number = x.number }) h))
+        (λ lt. has) (λ s ne lt. rw (same s ne) (sound.has s (rw (← after-length slots d) lt)));
+    linked = by_deed (λ s x. is_chained x.phase ≡ true → has_chain (record { slot = s; number = x.number }) (Does d ∷ h) ≡ true)
+        linked (λ s ne c. linked_more (life_at slots s) d h (sound.linked s c));
     fits = fits;
-    next = λ s lt. elim (cases_eq s k.slot) [
-      | inl e ↦ subst (λ (y : ℕ). NextHas (fate' y) (table.at y) (files_under (next_at (slots_with slots d) y) h)) (sym e)
-          (subst (λ (x : Slot). NextHas (fate' k.slot) (table.at k.slot) (files_under (record { slot = k.slot; number = x.number + 1 }) h)) (sym (after-here slots d within)) next)
-      | inr ne ↦ next_same (same s ne) refl (ap (λ (x : Slot). files_under (record { slot = s; number = x.number + 1 }) h) (after-else slots d s ne))
-          (sound.next s (rw (← after-length slots d) lt))
-    ];
-    ranged = λ s. elim (cases_eq s k.slot) [
-      | inl e ↦ subst (λ (y : ℕ). Ranged table y (fate' y) (phase_at (slots_with slots d) y)) (sym e)
-          (subst (λ (x : Slot). Ranged table k.slot (fate' k.slot) x.phase) (sym (after-here slots d within)) ranged)
-      | inr ne ↦ subst (λ (x : Slot). Ranged table s (fate' s) x.phase) (sym (after-else slots d s ne))
-          (subst (λ (g : Fate). Ranged table s g (phase_at slots s)) (sym (same s ne)) (sound.ranged s))
-    ];
-    unborn = λ j lt far. elim (cases_eq j.slot k.slot) [
-      | inl e ↦
-          let e1 : (slot_numbered (slots_with slots d) j.slot).number ≡ k.number =
-          subst (λ (s : ℕ). (slot_numbered (slots_with slots d) s).number ≡ k.number) (sym e) (ap (λ (x : Slot). x.number) (after-here slots d within)) in
-          let e2 : (slot_numbered slots j.slot).number ≡ (slot_numbered slots k.slot).number = ap (λ (s : ℕ). (slot_numbered slots s).number) e in
-          sound.unborn j (omega arith) (λ inside. let f = far (rw (after-length slots d) inside) in omega arith)
-      | inr ne ↦
-          let e1 : (slot_numbered (slots_with slots d) j.slot).number ≡ (slot_numbered slots j.slot).number = ap (λ (x : Slot). x.number) (after-else slots d j.slot ne) in
-          sound.unborn j (omega arith) (λ inside. let f = far (rw (after-length slots d) inside) in omega arith)
-    ];
+    next = by_deed (λ s x. s < length (slots_with slots d) → NextHas (fate' s) (table.at s) (files_under (record { slot = s; number = x.number + 1 }) h))
+        (λ lt. next) (λ s ne lt. rw (same s ne) (sound.next s (rw (← after-length slots d) lt)));
+    ranged = by_deed (λ s x. Ranged table s (fate' s) x.phase) ranged (λ s ne. rw (same s ne) (sound.ranged s));
+    unborn = grind (arith, after-here, after-length, after-else);
   }
 
   -- a call fits as before, if it is linked or at another slot where the life is chained
@@ -124,18 +93,7 @@ module _ {fate : ℕ → Fate} {slots : List Slot} {table : State} {calls : List
   Binds x = place_of x ≡ k.slot → is_chained p' ≡ true → is_bound x.call x.linked ≡ true
 
   stays : (slot_numbered slots k.slot).number ≡ k.number → (x : Pending) → Fitting slots fate x → Binds x → Fitting (slots_with slots d) fate x
-  stays num x fit binds = elim (cases_eq (place_of x) k.slot) [
-    | inl e ↦
-        let here : slot_numbered (slots_with slots d) (place_of x) ≡ written d slots =
-        subst (λ (y : ℕ). slot_numbered (slots_with slots d) y ≡ written d slots) (sym e) (after-here slots d within) in
-        let number : (slot_numbered slots (place_of x)).number ≡ k.number = ap (λ (s : ℕ). (slot_numbered slots s).number) e ∙ num in (
-          rw (after-length slots d) fit.0,
-          ap (λ (y : Slot). y.number) here ∙ sym number ∙ fit.1,
-          fit.2,
-          λ c. binds e (sym (ap (λ (y : Slot). is_chained y.phase) here) ∙ c),
-        )
-    | inr ne ↦ fits_same x (after-length slots d) (after-else slots d (place_of x) ne) refl fit
-  ]
+  stays num x fit binds = grind (arith, common_steps, after-here, after-length, fits_same, after-else)
 
   -- the file of the slot stays where it is
   pub still : (calls' : List Pending) → (slot_numbered slots k.slot).number ≡ k.number
@@ -148,8 +106,7 @@ module _ {fate : ℕ → Fate} {slots : List Slot} {table : State} {calls : List
       → (is_reserved p' ≡ true → is_reserved p ≡ true)
       → Sound fate (slots_with slots d) table calls' (Does d ∷ h)
   still calls' num count others suit linked fits binds reserved =
-      turned fate calls' (λ s ne. refl) count others suit
-      (has_same {fate = fate k.slot} refl refl (sym (ap (λ (n : ℕ). files_under (record { slot = k.slot; number = n }) h) num)) (sound.has k.slot within)) linked
+      turned fate calls' (λ s ne. refl) count others suit (grind (arith, has_same)) linked
       (each-both (Fitting slots fate) Binds (Fitting (slots_with slots d) fate) calls' (stays num) fits binds)
       (omega arith)
       (next_same {fate = fate k.slot} refl refl (sym (ap (λ (n : ℕ). files_under (record { slot = k.slot; number = n + 1 }) h) num)) (sound.next k.slot within))

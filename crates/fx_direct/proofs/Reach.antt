@@ -1,11 +1,10 @@
 -- Every flight keeps the invariant, and an access finds its own file.
-use Rattle.fx_direct.proofs.Words.{arith, ◌≡◌, ◌≢◌, ◌<◌, ◌+◌, ℕ, List, [], ◌∷◌, ◌⊎◌, inl, inr, refl, sym, ap, ◌∙◌, subst, true, Option, File, Phase}
-use Rattle.fx_direct.proofs.Words.{Action, Look, Put, Take, LifeKey, Member, Request, CloseMember, Ending, length, ◌++◌, bit, requests_in, is_closing, is_chained, has_chain, slot_numbered}
+use Rattle.fx_direct.proofs.Words.{Action, Look, Put, Take, LifeKey, Member, Request, CloseMember, length, bit, requests_in, is_closing, is_chained, has_chain, slot_numbered}
 use Rattle.fx_direct.proofs.Words.{life_at, phase_at, DirectCall, OpenAt, UseOf, CloseOf, Waits, Pending, pending, World, DirectMoment, Does, Accesses, Quits, Others, Makes}
-use Rattle.fx_direct.proofs.Words.{Comes, IsDirectFlight, files_under, IsEmptyStart, IsFileOf, IsMissed, FindsItsOwn, AllByRecursion, ◌▷◌, ◌▷▷◌}
+use Rattle.fx_direct.proofs.Words.{arith, ◌≡◌, ◌≢◌, ◌<◌, ◌+◌, ℕ, List, [], ◌∷◌, ◌⊎◌, inl, inr, refl, sym, ap, ◌∙◌, subst, true, Option, File, Phase}
+use Rattle.fx_direct.proofs.Words.{Comes, IsDirectFlight, files_under, IsEmptyStart, IsFileOf, IsMissed, FindsItsOwn, ◌▷◌, ◌▷▷◌, Chooses}
 use Rattle.fx_direct.specs.Laws.{EachAccessFindsItsOwn, NothingIsLeft}
-use Rattle.fx_direct.proofs.Words.{Chooses}
-use Rattle.fx_direct.proofs.Calls.{is_foreign, is_reserved, not_true, place_of, at_same, tally, tally-mid, count_in, each-out, Has, Fate, Expected, Missing, suits, not_gone, missing_chained, is_member}
+use Rattle.fx_direct.proofs.Calls.{not_true, place_of, at_same, tally-mid, count_in, each-out, Has, Fate, Expected, Missing, suits, not_gone, is_member}
 use Rattle.fx_direct.proofs.Moves.{Sound, Fitting}
 use Rattle.fx_direct.proofs.Turns.{does, none_here, empty_at, none_free}
 use Rattle.fx_direct.proofs.Accessing.{accesses, chooses, quits, others_act, after_open, waits_expected}
@@ -16,17 +15,7 @@ SoundWorld w h = (fate : ℕ → Fate) × Sound fate w.slots w.table w.calls h
 at_start : (w : World) → IsEmptyStart w → SoundWorld w []
 at_start w start = (
   λ s. Missing,
-  record {
-    inside = start.inside;
-    counted = λ m s. rw (start.idle, start.free s) (sym (none_free m));
-    suit = λ s. rw (start.free s) refl;
-    has = λ s lt. (start.empty s lt, refl);
-    linked = λ s c. absurd (cc (ap is_chained (sym (start.free s)) ∙ c));
-    fits = rw start.idle tt;
-    next = λ s lt. refl;
-    ranged = λ s. (λ f. absurd (cc f), λ r. absurd (cc (ap is_reserved (sym (start.free s)) ∙ r)));
-    unborn = λ k later far. refl;
-  },
+  grind (arith, none_free),
 )
 
 one_moment : (w : World) (m : DirectMoment) (v : World) (h : List DirectMoment) → SoundWorld w h → Comes w m v → SoundWorld v (m ∷ h)
@@ -55,21 +44,17 @@ between start end earlier (x ∷ later) m flight = between start flight.0 earlie
 -- a file that isn't gone and whose open is done: it is there, or it is missed by a chain
 finds_one : (h : List DirectMoment) (k : LifeKey) (f : Fate) (p : Phase) (at : Option File) → not_gone f ≡ true → f ≢ Expected → Has f at (files_under k h)
     → suits f p ≡ true → 0 < requests_in p + bit (is_closing p) → (is_chained p ≡ true → has_chain k h ≡ true) → IsFileOf h k at ⊎ IsMissed h k at
-finds_one h k f p at left due has suit busy linked = grind (arith, missing_chained)
+finds_one h k f p at left due has suit busy linked = grind arith
 
 -- a call in flight is counted
 busy : {fate : ℕ → Fate} (w : World) (h : List DirectMoment) (c : DirectCall) (a : Action) (calls' : List Pending) (m : Member) → Sound fate w.slots w.table w.calls h
     → (makes : Makes c a w.calls calls') → is_member m c ≡ 1 → 0 < count_in m (phase_at w.slots (place_of (pending c makes.linked Waits)))
-busy w h c a calls' m sound makes own =
-    let x = pending c makes.linked Waits in let e1 = tally-mid m (place_of x) makes.front makes.rest x in let e2 = at_same m (place_of x) x refl in
-    let e3 = sound.counted m (place_of x) in
-    let e4 : tally m (place_of x) w.calls ≡ tally m (place_of x) (makes.front ++ x ∷ makes.rest) = ap (tally m (place_of x)) makes.was in omega arith
+busy w h c a calls' m sound makes own = grind (arith, tally-mid, at_same)
 
 module _ (w v : World) (h : List DirectMoment) (sound : SoundWorld w h) where
   -- the call that makes an access fits
   own : (c : DirectCall) (a : Action) (calls' : List Pending) → (makes : Makes c a w.calls calls') → Fitting w.slots sound.0 (pending c makes.linked Waits)
-  own c a calls' makes =
-      (each-out (Fitting w.slots sound.0) makes.front makes.rest (pending c makes.linked Waits) (subst (AllByRecursion (Fitting w.slots sound.0)) makes.was sound.1.fits)).0
+  own c a calls' makes = grind (arith, each-out)
 
   -- a request or a close, in its turn
   finds_file : (k : LifeKey) (slot : ℕ) (found : Option File) → k.slot < length w.slots → (slot_numbered w.slots k.slot).number ≡ k.number
@@ -84,11 +69,7 @@ module _ (w v : World) (h : List DirectMoment) (sound : SoundWorld w h) where
 
   finds : (c : DirectCall) (a : Action) → Comes w (Accesses c a) v → FindsItsOwn h c a
   finds (OpenAt k) (Put slot f replaced) comes =
-      let fit = own (OpenAt k) (Put slot f replaced) v.calls comes.1 in
-      let due = waits_expected k (sound.0 k.slot) fit.2 in
-      let has : Has Expected (w.table.at k.slot) (files_under (life_at w.slots k.slot) h) =
-      subst (λ (g : Fate). Has g (w.table.at k.slot) (files_under (life_at w.slots k.slot) h)) due (sound.1.has k.slot fit.0) in
-      (comes.0.2 ∙ ap w.table.at comes.1.may ∙ has.0, ap (λ (n : ℕ). files_under (record { slot = k.slot; number = n }) h) (sym fit.1) ∙ has.1)
+      let fit = own (OpenAt k) (Put slot f replaced) v.calls comes.1 in grind (arith, waits_expected, Expected)
   finds (UseOf k) (Look slot found) comes =
       let fit = own (UseOf k) (Look slot found) v.calls comes.1 in
       let b = busy w h (UseOf k) (Look slot found) v.calls Request sound.1 comes.1 refl in
@@ -104,16 +85,5 @@ each_access_finds_its_own start end earlier later call a begins flight =
     let b = between start end earlier later (Accesses call a) flight in
     finds b.0 b.1 earlier (always start earlier b.0 begins b.2) call a b.3
 
-none_ending : (m : Member) → count_in m (Ending 0 0) ≡ 0
-none_ending m = grind arith
-
 pub nothing_is_left : NothingIsLeft
-nothing_is_left start w h k begins flight =
-    let world = always start h w begins flight in let sound = world.1 in let g = world.0 k.slot in (
-      λ can. (
-        none_here k.slot w.calls (λ m. sound.counted m k.slot ∙ ap (count_in m) can.0.2 ∙ none_free m),
-        empty_at g (phase_at w.slots k.slot) (w.table.at k.slot) (files_under (life_at w.slots k.slot) h) (sound.suit k.slot) can.0.2
-            (not_true (is_foreign g) (λ f. can.1 ((sound.ranged k.slot).0 f))) (sound.has k.slot can.0.0),
-      ),
-      λ can. none_here k.slot w.calls (λ m. sound.counted m k.slot ∙ ap (count_in m) can.1 ∙ none_ending m),
-    )
+nothing_is_left start w h k begins flight = grind (arith, always, none_here, none_free, empty_at, not_true)

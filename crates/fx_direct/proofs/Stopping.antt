@@ -1,18 +1,17 @@
 -- After a stop no life is left.
-use Rattle.fx_direct.proofs.Words.{arith, ◌≡◌, ◌≢◌, inl, inr, ℕ, ◌&&◌, Bool, true, false, List, [], ◌∷◌, refl, sym, ap, ◌∙◌, subst, cases_eq}
 use Rattle.fx_direct.proofs.Words.{Transition, LifeKey, Phase, Slot, Ending, slot_numbered, phase_at, users_in, calls_in, lives_in, is_live, key_concerned, life_at}
-use Rattle.fx_direct.proofs.Words.{FitsPhase, phase_after, get_or-set_same, get_or-set_other}
+use Rattle.fx_direct.proofs.Words.{common_steps, arith, ◌≡◌, ◌≢◌, ℕ, ◌&&◌, Bool, true, false, List, [], ◌∷◌, refl, sym, ap, ◌∙◌, subst}
+use Rattle.fx_direct.proofs.Words.{FitsPhase, phase_after, get_or-set_same, get_or-set_other, unused, DirectMachine, machine_with}
+use Rattle.fx_direct.proofs.Words.{becomes_live, when_ended, unless_live}
 use Rattle.fx_direct.specs.Counts.{times, ends}
 use Rattle.fx_direct.specs.Lives.{NoCloseIsDue, IsMachineRun, AStopLeavesNothing}
-use Rattle.fx_direct.specs.Phases.{unused}
-use Rattle.fx_direct.specs.Transitions.{DirectMachine, machine_with, becomes_live, when_ended, unless_live}
 use Rattle.fx_direct.proofs.Asking.{phase_left, is_begun}
 use Rattle.fx_direct.proofs.Counting.{IsProper, proper_after, possible, phase_here, number_before, no_ends, two_slots}
 use Rattle.fx_direct.proofs.Calls.{not_true}
 use Rattle.fx_direct.proofs.Lives.{Leaves, call_leaves, not_due}
 use Rattle.fx_direct.proofs.Sums.{none_of_all, each_none}
+use Rattle.fx_direct.proofs.Moves.{by_slot}
 use Rattle.fx_direct.proofs.Turns.{within}
-use Rattle.std.specs.Prelude.{not}
 
 -- each chain is one, and no close is due
 record Settled (m : DirectMachine) : Type 0 where
@@ -36,12 +35,6 @@ proper_left b t p may proper = proper_unless (becomes_live t p && b) (phase_afte
 ended_unlive : (p : Phase) → is_live (when_ended p) ≡ false
 ended_unlive p = grind arith
 
-left_live : (p q : Phase) → is_live (unless_live ((not (is_live p) && is_live q) && true) q) ≡ true → (is_live p ≡ true) × (is_live q ≡ true)
-left_live p q live = grind (arith, ended_unlive)
-
-no_end : (j : LifeKey) (t : Transition) (p : Phase) → FitsPhase t p → is_live p ≡ true → is_live (phase_after t p) ≡ true → ends j t ≡ 0
-no_end j t p may before after = grind (arith, ended_unlive)
-
 -- a call and its slot
 module _ (old new : DirectMachine) (t : Transition) (leaves : Leaves old t new) where
   abbrev k : LifeKey
@@ -56,35 +49,19 @@ module _ (old new : DirectMachine) (t : Transition) (leaves : Leaves old t new) 
   away : (s : ℕ) → s ≢ k.slot → slot_numbered new.list s ≡ slot_numbered old.list s
   away s ne = ap (λ (xs : List Slot). slot_numbered xs s) leaves.list ∙ get_or-set_other old.list k.slot s _ unused ne
 
-  proper_here : IsProper p → IsProper leaves.phase
-  proper_here proper = grind (arith, proper_left, possible)
-
   settled : Settled old → Settled new
-  settled was = record {
-    proper = λ s. elim (cases_eq s k.slot) [
-      | inl e ↦ subst (λ (y : ℕ). IsProper (phase_at new.list y)) (sym e) (subst (λ (x : Slot). IsProper x.phase) (sym here) (proper_here (was.proper k.slot)))
-      | inr ne ↦ subst (λ (x : Slot). IsProper x.phase) (sym (away s ne)) (was.proper s)
-    ];
-    due = not_due old new t was.due leaves;
-  }
+  settled was = grind (arith, common_steps, here, proper_left, possible, away, not_due)
 
   -- a life that is live after a call was so before
   was_live : old.stopped ≡ true → is_live leaves.phase ≡ true
       → (is_live p ≡ true) × ((slot_numbered old.list k.slot).number ≡ k.number) × ((j : LifeKey) → ends j t ≡ 0)
-  was_live stopped live = grind (arith, left_live, number_before, no_end, possible)
+  was_live stopped live = grind (arith, number_before, possible)
 
   remains : (stops : List Slot) (h : List Transition) → old.stopped ≡ true → Remains stops h old.list → Remains stops (t ∷ h) new.list
-  remains stops h stopped was s live = elim (cases_eq s k.slot) [
-    | inl e ↦
-        let now : is_live (phase_at new.list k.slot) ≡ true = subst (λ (y : ℕ). is_live (phase_at new.list y) ≡ true) e live in
-        let w = was_live stopped (sym (ap (λ (x : Slot). is_live x.phase) here) ∙ now) in let r = was k.slot w.0 in
-        subst (λ (y : ℕ). Stays stops (t ∷ h) y (slot_numbered new.list y).number) (sym e)
-        (subst (λ (n : ℕ). Stays stops (t ∷ h) k.slot n) (w.1 ∙ sym (ap (λ (x : Slot). x.number) here)) (r.0, r.1, omega (arith, r.2, w.2 (life_at old.list k.slot))))
-    | inr ne ↦
-        let r = was s (subst (λ (x : Slot). is_live x.phase ≡ true) (away s ne) live) in
-        subst (λ (x : Slot). Stays stops (t ∷ h) s x.number) (sym (away s ne))
-        (r.0, r.1, omega (arith, r.2, no_ends (life_at old.list s) t (two_slots k (life_at old.list s) (λ (q : k.slot ≡ s). ne (sym q)))))
-  ]
+  remains stops h stopped was = by_slot _ k.slot
+      (grind (arith, here, was_live))
+      (λ s ne. subst (λ (x : Slot). is_live x.phase ≡ true → Stays stops (t ∷ h) s x.number) (sym (away s ne)) (λ live. let r = was s live in
+      (r.0, r.1, omega (arith, r.2, no_ends (life_at old.list s) t (two_slots k (life_at old.list s) (λ (q : k.slot ≡ s). ne (sym q)))))))
 
 by_run : (start m : DirectMachine) (h : List Transition) → IsMachineRun start h m → Settled start → Settled m
 by_run start m [] run was = subst Settled (sym run) was

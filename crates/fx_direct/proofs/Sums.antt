@@ -1,12 +1,10 @@
 -- The counts of all slots, and one slot that is written.
-use Rattle.fx_direct.proofs.Words.{arith, ◌≡◌, ℕ, zero, suc, ◌+◌, ◌<◌, ◌≤◌, List, [], ◌∷◌, length, ap, Phase, Slot, unused, phase_at, slot_numbered}
-use Rattle.fx_direct.proofs.Words.{calls_in, lives_in}
-use Rattle.fx_direct.specs.Phases.{calls_in_flight, lives_of}
-use Rattle.std.specs.Prelude.{◌*◌, ◌^◌}
-use Rattle.std.proofs.lemmas.List.Sums.{sum_by-le, sum_by-cons}
-use Rattle.std.proofs.lemmas.List.{get_or_default, get_or_past}
+use Rattle.std.proofs.Common.{rules}
+use Rattle.fx_direct.proofs.Words.{arith, ◌≡◌, ℕ, zero, suc, ◌+◌, ◌-◌, ◌<◌, ◌≤◌, List, [], ◌∷◌, length, refl, ap, Phase, Slot, unused, phase_at, slot_numbered}
+use Rattle.fx_direct.proofs.Words.{calls_in, lives_in, Chained, LifeKey, LifeChain, Member, AreCounted, GoesOn, KeepsChain, with_phase}
+use Rattle.fx_direct.proofs.Words.{calls_in_flight, lives_of, ◌*◌, ◌^◌, get_or_default, get_or_past, sum_by}
 use Rattle.std.specs.Prelude.{slice_index_or}
-use Rattle.std.specs.List.{sum_by}
+use Rattle.std.proofs.lemmas.List.Sums.{sum_by-le, sum_by-cons, sum_by-set}
 
 pub one_life : (p : Phase) → lives_in p ≤ 1
 one_life p = grind arith
@@ -35,3 +33,22 @@ pub none_of_all : (f : Slot → ℕ) (slots : List Slot) → ((s : ℕ) → f (s
 none_of_all f slots each =
     let h : sum_by f slots ≤ length slots * 0 = sum_by-le f 0 slots (λ k d lt. let e = ap f (get_or_default slots k d unused lt) in let z = each k in omega arith) in
     omega arith
+
+-- there is room for one more
+pub few_counted : (slots : List Slot) (lives calls : ℕ) → AreCounted slots lives calls → (lives < 2 ^ 31) × (calls < 2 ^ 63)
+few_counted slots lives calls counted = grind (arith, lives_high, calls_high)
+
+-- a chain goes on
+module _ (slots : List Slot) (lives calls : ℕ) (counted : AreCounted slots lives calls) (k : LifeKey) (m : Member) (c d : LifeChain) (inside : k.slot < length slots)
+    (here : slot_numbered slots k.slot ≡ record { number = k.number; phase = Chained c }) (keeps : KeepsChain k m c d) where
+  abbrev new : List Slot
+  new = with_phase slots k (Chained d)
+
+  pub one_over : 1 ≤ calls
+  one_over = let e = ap (λ (s : Slot). calls_in s.phase) here in let k2 = keeps.2 in let are = counted.calls_are in let below = each_below (λ s. calls_in s.phase) slots k.slot inside in omega arith
+
+  pub still_counted : AreCounted new lives (calls - 1)
+  still_counted = search (rules, sum_by-set, one_over)
+
+  pub goes_on : GoesOn slots k m new
+  goes_on = (((inside, ap (λ (s : Slot). s.number) here), λ free. let e = ap (λ (s : Slot). s.phase) here in cc), c, d, ap (λ (s : Slot). s.phase) here, keeps, refl)

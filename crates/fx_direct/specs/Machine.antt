@@ -27,7 +27,7 @@ is_vacant slot = is_free slot.phase && nat_lt slot.number MOST_LIVES
 -- a key's bits
 pub record IsMachine (slots : List Slot) (order : Order) : Type 0 where
   pub few : length slots ≤ MOST_SLOTS
-  pub same : length order.place ≡ length slots
+  pub same : order.size ≡ length slots
   pub ordered : (slot : ℕ) → slot < length slots
       → is_among_vacant order slot
       ≡ is_vacant (slot_numbered slots slot) && not (is_ranged order.range slot)

@@ -1,35 +1,37 @@
--- The slots in an order of which the first ones are vacant.
-use Rattle.std.specs.Prelude.{◌≡◌, ℕ, ◌-◌, ◌<◌, ◌≤◌, ◌^◌, ◌&&◌, nat_le, nat_lt, Bool, List, length}
-use Rattle.std.specs.Prelude.{slice_index}
+-- The vacant slots, and the slots that the kernel chooses.
+use Rattle.std.specs.Prelude.{◌≡◌, ℕ, ◌-◌, ◌<◌, ◌==◌, ◌&&◌, nat_le, nat_lt, Bool, true, false, List}
+use Rattle.std.specs.Prelude.{[], ◌∷◌}
+use Rattle.std.specs.List.{list_any}
 use Rattle.fx_direct.specs.declared.slot_order.SlotRange.{SlotRange}
 
 -- the slot is in the ring's allocation range, where the kernel chooses slots
 abbrev pub is_ranged : SlotRange → ℕ → Bool
 is_ranged range slot = nat_le range.first slot && nat_lt (slot - range.first) range.length
 
--- slots in some order, of which this number are vacant, the place of each slot in the order, and
--- the ring's allocation range, of which no slot is vacant
+-- the vacant slots, of which the last one is taken first, the number of all slots, and the ring's
+-- allocation range, of which no slot is vacant
 pub record Order : Type 0 where
-  pub order : List ℕ
-  pub place : List ℕ
-  pub vacant : ℕ
+  pub vacant : List ℕ
+  pub size : ℕ
   pub range : SlotRange
 
-abbrev pub ordered : List ℕ → List ℕ → ℕ → SlotRange → Order
-ordered order place vacant range =
-    record { order = order; place = place; vacant = vacant; range = range }
+abbrev pub ordered : List ℕ → ℕ → SlotRange → Order
+ordered vacant size range = record { vacant = vacant; size = size; range = range }
+
+-- the slot is one of these
+abbrev pub is_among : List ℕ → ℕ → Bool
+is_among slots slot = list_any (λ other. slot == other) slots
 
 -- the slot is one of the vacant ones
 abbrev pub is_among_vacant : Order → ℕ → Bool
-is_among_vacant v slot = nat_lt (slice_index v.place slot) v.vacant
+is_among_vacant v slot = is_among v.vacant slot
 
--- the slots and the places name each other
+-- none of these slots is there twice
+abbrev pub AreOnce : List ℕ → Type 0
+AreOnce [] = Unit {0}
+AreOnce (slot ∷ slots) = (is_among slots slot ≡ false) × AreOnce slots
+
+-- each vacant slot is there once, and is one of all slots
 pub record IsOrder (v : Order) : Type 0 where
-  pub same : length v.order ≡ length v.place
-  pub small : length v.place < 2 ^ 32
-  pub few : v.vacant ≤ length v.place
-  pub named : (slot : ℕ) → slot < length v.place → slice_index v.place slot < length v.place
-  pub back : (slot : ℕ) → slot < length v.place
-      → slice_index v.order (slice_index v.place slot) ≡ slot
-  pub placed : (i : ℕ) → i < length v.place → slice_index v.order i < length v.place
-  pub there : (i : ℕ) → i < length v.place → slice_index v.place (slice_index v.order i) ≡ i
+  pub once : AreOnce v.vacant
+  pub inside : (slot : ℕ) → is_among v.vacant slot ≡ true → slot < v.size

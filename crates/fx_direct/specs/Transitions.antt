@@ -4,9 +4,10 @@ use Rattle.std.specs.Prelude.{length, slice_set, Option, Some, None, ◌⊎◌, 
 use Rattle.fx_direct.specs.Phases.{Free, Opening, Live, Ending, Closing, Chained, Installed, Failed}
 use Rattle.fx_direct.specs.Phases.{Unseen, Later, Due, Awaited, Took, Left, chain, chain_of}
 use Rattle.fx_direct.specs.Phases.{chain_phase, slot_numbered, phase_at, requests_in, users_in}
-use Rattle.fx_direct.specs.Phases.{is_live, is_closing, ends_anyway}
+use Rattle.fx_direct.specs.Phases.{calls_of_chain, is_live, is_closing, ends_anyway}
 use Rattle.fx_direct.specs.declared.chain.ChainEnd.{ChainEnd}
 use Rattle.fx_direct.specs.declared.chain.ChainOpen.{ChainOpen}
+use Rattle.fx_direct.specs.declared.chain.LifeChain.{LifeChain}
 use Rattle.fx_direct.specs.declared.chain.Member.{Member}
 use Rattle.fx_direct.specs.declared.chain.Member.TheVariants.{Open, Request, Close}
 use Rattle.fx_direct.specs.declared.key.LifeKey.{LifeKey}
@@ -159,9 +160,34 @@ phase_after (Asks k) p = Closing
 phase_after (Closes k) p = when_closed p
 phase_after (FailsToClose k) p = when_left p
 
+-- the chain goes on after the success of this member, as another chain
+abbrev pub KeepsChain : LifeKey → Member → LifeChain → LifeChain → Type 0
+KeepsChain k member old new =
+    FitsPhase (completion k member true) (Chained old)
+    × (phase_after (completion k member true) (Chained old) ≡ Chained new)
+    × (calls_of_chain old ≡ calls_of_chain new + 1)
+
 -- the slots, with this life and phase at the slot of a key
 abbrev pub with_phase : List Slot → LifeKey → Phase → List Slot
 with_phase slots k phase = slice_set slots k.slot (record { number = k.number; phase = phase })
+
+-- the same of the chain under a key
+abbrev pub GoesOn : List Slot → LifeKey → Member → List Slot → Type 0
+GoesOn old k member new =
+    HasLife old k × (c : LifeChain) × (d : LifeChain) × (phase_at old k.slot ≡ Chained c)
+    × KeepsChain k member c d × (new ≡ with_phase old k (Chained d))
+
+-- the success of this member is usual in this phase: the close of its chain is to come after it, or
+-- it is that close and comes last
+abbrev pub IsUsual : Member → Phase → Type 0
+IsUsual Close p = p ≡ Chained (chain 0 Installed Awaited)
+IsUsual Open (Chained c) = (c.opened ≡ Unseen) × (c.end ≡ Awaited)
+IsUsual Request (Chained c) = (0 < c.requests) × (c.end ≡ Awaited)
+IsUsual member p = ⊥
+
+-- the same of the life under a key
+abbrev pub IsUsualAt : List Slot → LifeKey → Member → Type 0
+IsUsualAt slots k member = NamesLastLife slots k × IsUsual member (phase_at slots k.slot)
 
 -- the slots after a transition
 abbrev pub slots_with : List Slot → Transition → List Slot

@@ -2,10 +2,12 @@
 //!
 //! Their completions come in any order, and each of them comes once. Until the last one the slot
 //! is taken: a hard link's close runs although the open failed.
-ghost use Rattle.std.specs.Prelude.{◌≡◌, ◌≤◌, ◌+◌, ◌^◌, MatchOption, true, false};
+ghost use Rattle.std.specs.Prelude.{◌≡◌, ◌≢◌, ◌≤◌, ◌+◌, ◌^◌, Decides, MatchOption, true, false};
 ghost use Rattle.fx_direct.specs.Phases.{Chained, calls_of_chain, chain_of, phase_of_chain};
-ghost use Rattle.fx_direct.specs.Transitions.{FitsPhase, completion, phase_after};
+ghost use Rattle.fx_direct.specs.Transitions.{FitsPhase, IsUsual, KeepsChain, completion};
+ghost use Rattle.fx_direct.specs.Transitions.{phase_after};
 ghost use Rattle.fx_direct.specs.Transitions.{when_closed, when_left, when_opened};
+ghost use Rattle.fx_direct.specs.declared.chain.Member.TheVariants.{Close};
 ghost use Rattle.fx_direct.specs.declared.key.LifeKey.{LifeKey};
 
 use crate::phase::Phase;
@@ -128,6 +130,30 @@ impl LifeChain {
             (Member::Close, true, ChainOpen::Failed, ChainEnd::Awaited) => None,
             (Member::Close, _, _, ChainEnd::Awaited) => Some(self.after_close(succeeded)),
             _ => None,
+        }
+    }
+
+    // Takes the success of the open or of a request, if the chain's close is to come. The chain
+    // goes on then.
+    #[inline(always)]
+    pub(crate) fn advance(&mut self, member: Member) -> bool
+        ensures went { result ≡ true → (key : LifeKey) → KeepsChain key member self.old self.new }
+        ensures stayed { result ≡ false → self.new ≡ self.old }
+        ensures usual { member ≢ Close → Decides result (IsUsual member (Chained self.old)) }
+    {
+        if self.end != ChainEnd::Awaited {
+            return false;
+        }
+        match member {
+            Member::Open if self.opened == ChainOpen::Unseen => {
+                self.opened = ChainOpen::Installed;
+                true
+            }
+            Member::Request if self.requests > 0 => {
+                self.requests -= 1;
+                true
+            }
+            _ => false,
         }
     }
 

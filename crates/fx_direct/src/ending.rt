@@ -3,7 +3,8 @@ ghost use Rattle.std.specs.Prelude.{◌≡◌, ℕ, ◌&&◌, ◌<◌, ◌==◌,
 ghost use Rattle.std.specs.Prelude.{if◌then◌else◌};
 ghost use Rattle.fx_direct.specs.Machine.{WritesPhase};
 ghost use Rattle.fx_direct.specs.Order.{is_among_vacant, is_ranged};
-ghost use Rattle.fx_direct.specs.Phases.{Closing, Ending, Free, is_free};
+ghost use Rattle.fx_direct.specs.Phases.{Closing, Ending, Free, calls_in, is_free, lives_in};
+ghost use Rattle.fx_direct.specs.Phases.{phase_at};
 ghost use Rattle.fx_direct.specs.Transitions.{with_phase};
 ghost use Rattle.fx_direct.specs.declared.key.TheConstants.{MOST_LIVES};
 
@@ -12,23 +13,25 @@ use crate::phase::Phase;
 use crate::slot_list::SlotList;
 use crate::slot_order::SlotOrder;
 
-// Frees the slot of a key. Unless that was its last life, or the slot is in the range, it is vacant
-// again.
+// Frees the slot of a key, of which one call was in flight. Unless that was its last life, or the
+// slot is in the range, it is vacant again.
 #[inline(always)]
 pub(crate) fn free(list: &mut SlotList, order: &mut SlotOrder, key: LifeKey)
     requires inside { key.slot < length list.old }
-    requires same { length order.old.place ≡ length list.old }
+    requires same { order.old.size ≡ length list.old }
     requires out { is_among_vacant order.old key.slot ≡ false }
+    requires life { lives_in (phase_at list.old key.slot) ≡ 1 }
+    requires call { calls_in (phase_at list.old key.slot) ≡ 1 }
     ensures list { list.new ≡ with_phase list.old key Free }
-    ensures same { length order.new.place ≡ length order.old.place }
+    ensures same { order.new.size ≡ order.old.size }
     ensures range { order.new.range ≡ order.old.range }
-    ensures order { (other : ℕ) → other < length order.old.place → is_among_vacant order.new other
+    ensures order { (other : ℕ) → other < order.old.size → is_among_vacant order.new other
         ≡
         (if other == key.slot
         then nat_lt key.number MOST_LIVES && not (is_ranged order.old.range key.slot)
         else is_among_vacant order.old other) }
 {
-    list.set(key, Phase::Free);
+    list.end(key);
     if key.number < MOST_LIVES {
         order.put(key.slot);
     }
@@ -73,12 +76,12 @@ pub(crate) fn write(
     phase: Phase,
 ) -> Option<u32>
     requires inside { key.slot < length list.old }
-    requires same { length order.old.place ≡ length list.old }
+    requires same { order.old.size ≡ length list.old }
     requires out { is_among_vacant order.old key.slot ≡ false }
     ensures list { WritesPhase list.old key phase result list.new }
-    ensures same { length order.new.place ≡ length order.old.place }
+    ensures same { order.new.size ≡ order.old.size }
     ensures range { order.new.range ≡ order.old.range }
-    ensures order { (other : ℕ) → other < length order.old.place → is_among_vacant order.new other
+    ensures order { (other : ℕ) → other < order.old.size → is_among_vacant order.new other
         ≡
         (if other == key.slot
         then (is_free phase && nat_lt key.number MOST_LIVES)
@@ -87,7 +90,10 @@ pub(crate) fn write(
 {
     match phase {
         Phase::Free => {
-            free(list, order, key);
+            list.set(key, phase);
+            if MOST_LIVES > key.number {
+                order.put(key.slot);
+            }
             None
         }
         Phase::Ending(requests, users) => set_ending(list, key, requests, users),

@@ -1,12 +1,16 @@
 //! The slots, with the counts of their lives and of their calls.
-ghost use Rattle.std.specs.Prelude.{◌≡◌, ◌≤◌, ◌<◌, length, IfOk, MatchOption, MatchResult};
+ghost use Rattle.std.specs.Prelude.{◌≡◌, ◌+◌, ◌^◌, ◌≤◌, ◌<◌, true, false, length, IfOk};
+ghost use Rattle.std.specs.Prelude.{◌≢◌, Decides, MatchOption, MatchResult};
 ghost use Rattle.fx_direct.specs.Living.{IsFirstFrom};
-ghost use Rattle.fx_direct.specs.Phases.{AllUnused, calls_in_flight, lives_of, phase_at};
-ghost use Rattle.fx_direct.specs.Phases.{slot_numbered};
-ghost use Rattle.fx_direct.specs.Transitions.{HasLife, with_phase};
+ghost use Rattle.fx_direct.specs.Phases.{AllUnused, Free, Opening};
+ghost use Rattle.fx_direct.specs.Phases.{calls_in, calls_in_flight, lives_in, lives_of};
+ghost use Rattle.fx_direct.specs.Phases.{phase_at, slot_numbered};
+ghost use Rattle.fx_direct.specs.Transitions.{GoesOn, HasLife, IsUsualAt, with_phase};
+ghost use Rattle.fx_direct.specs.declared.chain.Member.TheVariants.{Close};
 ghost use Rattle.fx_direct.specs.declared.key.TheConstants.{MOST_SLOTS};
 ghost use Rattle.fx_direct.specs.declared.refusal.LifeRefusal.TheVariants.{Stale};
 
+use crate::chain::{ChainEnd, ChainOpen, LifeChain, Member};
 use crate::key::LifeKey;
 use crate::phase::{Phase, PhaseName, Slot};
 use crate::refusal::LifeRefusal;
@@ -137,6 +141,112 @@ impl SlotList {
         };
         self.lives = self.lives - old.lives() + phase.lives();
         self.calls = self.calls - old.calls() + phase.calls();
+    }
+
+    // Begins a life at a free slot: its open is in flight.
+    #[inline(always)]
+    pub(crate) fn begin(&mut self, key: LifeKey)
+        requires inside { key.slot < length self.old }
+        requires free { phase_at self.old key.slot ≡ Free }
+        ensures { self.new ≡ with_phase self.old key Opening }
+    {
+        self.slots[key.slot as usize] = Slot {
+            number: key.number,
+            phase: Phase::Opening,
+        };
+        self.lives += 1;
+        self.calls += 1;
+    }
+
+    // Ends the life of a key, of which one call was in flight: its slot is free.
+    #[inline(always)]
+    pub(crate) fn end(&mut self, key: LifeKey)
+        requires inside { key.slot < length self.old }
+        requires life { lives_in (phase_at self.old key.slot) ≡ 1 }
+        requires call { calls_in (phase_at self.old key.slot) ≡ 1 }
+        ensures { self.new ≡ with_phase self.old key Free }
+    {
+        self.slots[key.slot as usize] = Slot {
+            number: key.number,
+            phase: Phase::Free,
+        };
+        self.lives -= 1;
+        self.calls -= 1;
+    }
+
+    // Writes a phase of a key's life, in which one more call is in flight.
+    #[inline(always)]
+    pub(crate) fn set_begun(&mut self, key: LifeKey, phase: Phase)
+        requires inside { key.slot < length self.old }
+        requires lives { lives_in phase ≡ lives_in (phase_at self.old key.slot) }
+        requires calls { calls_in phase ≡ calls_in (phase_at self.old key.slot) + 1 }
+        requires few { calls_in phase ≤ 2 ^ 32 + 1 }
+        ensures { self.new ≡ with_phase self.old key phase }
+    {
+        self.slots[key.slot as usize] = Slot {
+            number: key.number,
+            phase,
+        };
+        self.calls += 1;
+    }
+
+    // Writes a phase of a key's life, in which one call fewer is in flight.
+    #[inline(always)]
+    pub(crate) fn set_over(&mut self, key: LifeKey, phase: Phase)
+        requires inside { key.slot < length self.old }
+        requires lives { lives_in phase ≡ lives_in (phase_at self.old key.slot) }
+        requires calls { calls_in phase + 1 ≡ calls_in (phase_at self.old key.slot) }
+        ensures { self.new ≡ with_phase self.old key phase }
+    {
+        self.slots[key.slot as usize] = Slot {
+            number: key.number,
+            phase,
+        };
+        self.calls -= 1;
+    }
+
+    // Takes the success of a chain's open or request, if the chain goes on: its close is to come.
+    #[inline(always)]
+    pub(crate) fn advance(&mut self, key: LifeKey, member: Member) -> bool
+        ensures went { result ≡ true → GoesOn self.old key member self.new }
+        ensures stayed { result ≡ false → self.new ≡ self.old }
+        ensures usual { member ≢ Close → Decides result (IsUsualAt self.old key member) }
+    {
+        let Some(slot) = self.slots.get_mut(key.slot as usize) else {
+            return false;
+        };
+        if slot.number != key.number {
+            return false;
+        }
+        let Phase::Chained(chain) = &mut slot.phase else {
+            return false;
+        };
+        if !chain.advance(member) {
+            return false;
+        }
+        self.calls -= 1;
+        true
+    }
+
+    // Checks whether the success of the close is the last completion of the chain under a key.
+    #[inline(always)]
+    pub(crate) fn is_last_close(&self, key: LifeKey) -> bool
+        ensures { Decides result (IsUsualAt self.now key Close) }
+    {
+        match self.slots.get(key.slot as usize) {
+            Some(slot) => {
+                slot.number == key.number
+                    && matches!(
+                        slot.phase,
+                        Phase::Chained(LifeChain {
+                            requests: 0,
+                            opened: ChainOpen::Installed,
+                            end: ChainEnd::Awaited,
+                        })
+                    )
+            }
+            None => false,
+        }
     }
 
     // Returns the number of lives under way.

@@ -1,6 +1,6 @@
 //! The slots that may begin a life. Each call takes constant time.
-ghost use Rattle.std.specs.Prelude.{◌≡◌, ℕ, ◌<◌, ◌==◌, not, true, false, length, if◌then◌else◌, IfOk};
-ghost use Rattle.std.specs.Prelude.{IfSome, IfNone, vec_len, slice_index};
+ghost use Rattle.std.specs.Prelude.{◌≡◌, ℕ, ◌<◌, ◌==◌, not, true, false, if◌then◌else◌, IfOk};
+ghost use Rattle.std.specs.Prelude.{IfSome, IfNone};
 ghost use Rattle.fx_direct.specs.Order.{is_among_vacant, is_ranged};
 
 use fx_base::NoMemory;
@@ -26,55 +26,44 @@ impl SlotRange {
     }
 }
 
-// All slots in some order, of which the first ones are vacant, the place of each slot in that
-// order, and the range whose slots are never vacant.
+// The vacant slots, of which the last one is taken first, the number of all slots, and the range,
+// whose slots are never vacant.
 #[derive(Drop)]
 pub(crate) struct SlotOrder {
-    order: Vec<u32>,
-    place: Vec<u32>,
-    vacant: u32,
+    vacant: Vec<u32>,
+    size: u32,
     range: SlotRange,
 }
 
 impl Model for SlotOrder {
+    ghost use Rattle.std.specs.Prelude.{◌≤◌, vec_capacity};
     ghost use Rattle.fx_direct.specs.Order.{Order, IsOrder, ordered};
 
     ghost Value = { Order };
 
-    ghost view = { λ s. ordered s.order.items s.place.items s.vacant s.range };
+    ghost view = { λ s. ordered s.vacant.items s.size s.range };
 
-    ghost invariant = { λ s. IsOrder (ordered s.order.items s.place.items s.vacant s.range) };
+    ghost invariant = { λ s. IsOrder (ordered s.vacant.items s.size s.range)
+        × (s.size ≤ vec_capacity s.vacant) };
 }
 
 impl SlotOrder {
     // Creates the order of all slots below `n`, which are vacant outside the range.
     pub(crate) fn of_vacant(alloc: Global, n: u32, range: SlotRange) -> Result<SlotOrder, NoMemory>
-        ensures same { IfOk result (λ order. length order.place ≡ n) }
+        ensures same { IfOk result (λ order. order.size ≡ n) }
         ensures range { IfOk result (λ order. order.range ≡ range) }
         ensures all { IfOk result (λ order. (slot : ℕ) → slot < n
             → is_among_vacant order slot ≡ not (is_ranged range slot)) }
     {
-        let mut order = SlotOrder::of_taken(alloc, n, range)?;
+        let mut order = SlotOrder {
+            vacant: Vec::with_capacity(alloc, n as usize)?,
+            size: n,
+            range,
+        };
         for slot in 0..n {
             order.put(slot);
         }
         Ok(order)
-    }
-
-    // Creates the order of all slots below `n`, of which none is vacant.
-    fn of_taken(alloc: Global, n: u32, range: SlotRange) -> Result<SlotOrder, NoMemory>
-        ensures same { IfOk result (λ order. length order.place ≡ n) }
-        ensures range { IfOk result (λ order. order.range ≡ range) }
-        ensures none { IfOk result (λ order. (slot : ℕ) → is_among_vacant order slot ≡ false) }
-    {
-        let order = numbers(alloc, n)?;
-        let place = numbers(alloc, n)?;
-        Ok(SlotOrder {
-            order,
-            place,
-            vacant: 0,
-            range,
-        })
     }
 
     // Returns the range.
@@ -88,56 +77,31 @@ impl SlotOrder {
     // Takes a vacant slot, which is then not vacant, or returns `None` if no slot is vacant.
     #[inline(always)]
     pub(crate) fn take(&mut self) -> Option<u32>
-        ensures same { length self.new.place ≡ length self.old.place }
+        ensures same { self.new.size ≡ self.old.size }
         ensures range { self.new.range ≡ self.old.range }
-        ensures found { IfSome result (λ slot. (slot < length self.old.place)
+        ensures found { IfSome result (λ slot. (slot < self.old.size)
             × (is_among_vacant self.old slot ≡ true)
-            × ((other : ℕ) → other < length self.old.place
-            → is_among_vacant self.new other ≡
+            × ((other : ℕ) → is_among_vacant self.new other ≡
             (if other == slot then false else is_among_vacant self.old other))) }
         ensures none { IfNone result ((self.new ≡ self.old)
             × ((slot : ℕ) → is_among_vacant self.old slot ≡ false)) }
     {
-        if self.vacant == 0 {
-            return None;
-        }
-        self.vacant -= 1;
-        Some(self.order[self.vacant as usize])
+        self.vacant.pop()
     }
 
     // Adds a slot that isn't vacant to the vacant ones, unless it is in the range.
     #[inline(always)]
     pub(crate) fn put(&mut self, slot: u32)
-        requires inside { slot < length self.old.place }
+        requires inside { slot < self.old.size }
         requires out { is_among_vacant self.old slot ≡ false }
-        ensures same { length self.new.place ≡ length self.old.place }
+        ensures same { self.new.size ≡ self.old.size }
         ensures range { self.new.range ≡ self.old.range }
-        ensures after { (other : ℕ) → other < length self.old.place
-            → is_among_vacant self.new other ≡
+        ensures after { (other : ℕ) → is_among_vacant self.new other ≡
             (if other == slot then not (is_ranged self.old.range slot)
             else is_among_vacant self.old other) }
     {
-        if self.range.has(slot) {
-            return;
+        if !self.range.has(slot) {
+            self.vacant.push_reserved(slot);
         }
-        let at = self.place[slot as usize];
-        let other = self.order[self.vacant as usize];
-        self.order[self.vacant as usize] = slot;
-        self.order[at as usize] = other;
-        self.place[slot as usize] = self.vacant;
-        self.place[other as usize] = at;
-        self.vacant += 1;
     }
-}
-
-// Creates the list of the numbers below `n`.
-fn numbers(alloc: Global, n: u32) -> Result<Vec<u32>, NoMemory>
-    ensures len { IfOk result (λ list. vec_len list ≡ n) }
-    ensures each { IfOk result (λ list. (i : ℕ) → i < n → slice_index list.items i ≡ i) }
-{
-    let mut list = Vec::with_capacity(alloc, n as usize)?;
-    for i in 0..n {
-        list.push_reserved(i);
-    }
-    Ok(list)
 }

@@ -1,6 +1,6 @@
 //! The machine: the life of each slot of one ring's table of direct descriptors.
 ghost use Rattle.std.specs.Prelude.{◌≡◌, ◌≤◌, true, false, length, MatchOption, MatchResult};
-ghost use Rattle.std.specs.Prelude.{IfOk, IfSome, None, Some};
+ghost use Rattle.std.specs.Prelude.{Decides, IfOk, IfSome, None, Some};
 ghost use Rattle.fx_direct.specs.Keys.{FitsBits};
 ghost use Rattle.fx_direct.specs.Living.{IsFirstFrom};
 ghost use Rattle.fx_direct.specs.Phases.{AllFree, AllUnused, calls_in_flight, lives_of, phase_at};
@@ -9,7 +9,7 @@ ghost use Rattle.fx_direct.specs.Refusals.{RefusesAdopt, RefusesEnd, RefusesRese
 ghost use Rattle.fx_direct.specs.Refusals.{RefusesTransition};
 ghost use Rattle.fx_direct.specs.Refusals.{RefusesUnchained};
 ghost use Rattle.fx_direct.specs.Transitions.{HasLife, AdoptsFile, Advances, AdvancesAndAsks};
-ghost use Rattle.fx_direct.specs.Transitions.{EndsLife, completion, machine_with};
+ghost use Rattle.fx_direct.specs.Transitions.{EndsLife, IsUsualAt, completion, machine_with};
 ghost use Rattle.fx_direct.specs.declared.key.TheConstants.{MOST_SLOTS};
 ghost use Rattle.fx_direct.specs.declared.transition.Transition.TheVariants.{Reserves, Chains};
 ghost use Rattle.fx_direct.specs.declared.transition.Transition.TheVariants.{Opens};
@@ -101,7 +101,7 @@ impl DirectSlots {
             slot,
             number: self.list.number(slot) + 1,
         };
-        self.list.set(key, Phase::Opening);
+        self.list.begin(key);
         Ok(key)
     }
 
@@ -239,6 +239,29 @@ impl DirectSlots {
         }
     }
 
+    /// Reports that a member of the chain under a key succeeded, as [`Self::chained`] does, but
+    /// takes only the usual completions of a chain with a close: the open's and a request's while
+    /// the close is to come, and the close's if it comes last. It returns `false` exactly if the
+    /// completion isn't usual. Then it has changed nothing: call [`Self::chained`].
+    #[inline(always)]
+    pub fn advance(&mut self, key: LifeKey, member: Member) -> bool
+        ensures went { result ≡ true
+            → AdvancesAndAsks self.old (completion key member true) None self.new }
+        ensures stayed { result ≡ false → self.new ≡ self.old }
+        ensures usual { Decides result (IsUsualAt self.old.list key member) }
+    {
+        match member {
+            Member::Close => {
+                if !self.list.is_last_close(key) {
+                    return false;
+                }
+                free(&mut self.list, &mut self.order, key);
+                true
+            }
+            _ => self.list.advance(key, member),
+        }
+    }
+
     /// Counts a request on the file of a key, and returns the key's slot. Then submit the request:
     /// any operation on a fixed file. Between this call and [`Self::finish`] the file stays at the
     /// slot.
@@ -257,7 +280,7 @@ impl DirectSlots {
                 if requests == u32::MAX {
                     return Err(LifeRefusal::TooManyRequests);
                 }
-                self.list.set(key, Phase::Live(requests + 1, users));
+                self.list.set_begun(key, Phase::Live(requests + 1, users));
                 Ok(key.slot)
             }
             phase => Err(LifeRefusal::Is(phase)),
@@ -278,7 +301,7 @@ impl DirectSlots {
     {
         match self.list.get(key)? {
             Phase::Live(requests, users) if requests > 0 => {
-                self.list.set(key, Phase::Live(requests - 1, users));
+                self.list.set_over(key, Phase::Live(requests - 1, users));
                 Ok(None)
             }
             Phase::Ending(requests, users) if requests > 0 => {

@@ -4,7 +4,7 @@
 ghost use Rattle.std.specs.Prelude.{◌≡◌, ◌≢◌, ◌⊎◌, ◌↔◌, ◌≤◌, ◌<◌, true, int_le, nat_lt, pos};
 ghost use Rattle.fx_direct.specs.Keys.{key_in_bits};
 ghost use Rattle.fx_direct.specs.Phases.{calls_in_flight, lives_of};
-ghost use Rattle.fx_direct.specs.Transitions.{machine_with};
+ghost use Rattle.fx_direct.specs.Transitions.{completion, machine_with};
 ghost use Rattle.fx_direct.specs.declared.key.TheConstants.{MOST_SLOTS};
 ghost use Rattle.fx_direct.specs.declared.transition.Transition.TheVariants.{Chains, Opens};
 ghost use Rattle.fx_direct.specs.declared.transition.Transition.TheVariants.{Starts, Finishes};
@@ -19,7 +19,7 @@ ghost use Rattle.fx_direct_c.specs.declared.codes.TheConstants.{BAD_ARGUMENT, DO
 use crate::answers::{member_of, name_of, of_adopt, of_close, of_phase, of_refusal, of_reserve};
 use crate::codes::{BAD_ARGUMENT, CLOSE, DONE, NO_MEMORY, STALE};
 use crate::handle::{MachineHandle, MachinePlace};
-use fx_direct::{DirectSlots, LifeKey, MOST_SLOTS, SlotRange};
+use fx_direct::{DirectSlots, LifeKey, MOST_SLOTS, Member, SlotRange};
 use std::alloc::Global;
 
 /// Opens a machine of 1 to 1,048,576 slots, and the ring's allocation range: its first slot and its
@@ -166,11 +166,29 @@ pub extern "C" fn yacht_direct_chained(
         return BAD_ARGUMENT;
     };
     let its_key = LifeKey::from_bits(key).0;
+    if result_of_member >= 0 && machine.as_mut().advance(its_key, its_member) {
+        return DONE;
+    }
+    take_completion(machine, key, its_member, result_of_member, slot)
+}
+
+// Reports any completion of a chain's member. The arguments are those of its caller, in the same
+// places, so that the call is a jump.
+#[inline(never)]
+fn take_completion(
+    machine: &mut MachineHandle,
+    key: u64,
+    member: Member,
+    result_of_member: i32,
+    slot: &mut u32,
+) -> i32
+    ensures { ClosesAs machine.old.slots
+        (completion (key_in_bits key) member (int_le (pos 0) result_of_member)) result slot.old
+        slot.new machine.new.slots }
+{
+    let its_key = LifeKey::from_bits(key).0;
     let succeeded = result_of_member >= 0;
-    of_close(
-        machine.as_mut().chained(its_key, its_member, succeeded),
-        slot,
-    )
+    of_close(machine.as_mut().chained(its_key, member, succeeded), slot)
 }
 
 /// Counts a request, and writes the slot. It returns `DONE`; or why it is refused, and writes

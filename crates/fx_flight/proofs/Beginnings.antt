@@ -78,9 +78,7 @@ pub closes_once : (old : RingState) (front rest : List Happening) (file : Identi
 closes_once old front rest file legal again =
     let e : Happening = FileClosed file in
     let h : HasFlight first_of_call old (front ++ e ∷ []) = beginning first_of_call old (front ++ e ∷ []) rest (rw (append_assoc front (e ∷ []) rest) legal) in
-    let s : FlightSetting = record { old = old; first = first_of_call; answers = h.answers } in
-    let (earlier, is, same, may) = before_last s h.flight front e h.is h.same in
-    may.once (logged earlier e (rw same again))
+    grind (arith, e, h, before_last, logged)
 
 -- the earlier part of a flight
 pub earlier_part : (s : FlightSetting) (later earlier : List Moment) → IsFlight s (later ++ earlier) → IsFlight s earlier

@@ -1,11 +1,10 @@
 -- A chain whose answers were all seen is done. A call that is over before another one begins makes
 -- all its accesses before all of that one's.
-use Rattle.fx_flight.proofs.Words.{◌≡◌, ◌⊎◌, ℕ, ◌+◌, ◌<◌, ◌≤◌, List, [], ◌∷◌, ◌++◌, length, take, refl, sym, ap, ◌∙◌, arith, inl, inr, subst}
-use Rattle.fx_flight.proofs.Words.{append_assoc, append-nil, length-append, Option, ⊎_elim, Contains}
-use Rattle.fx_flight.proofs.Words.{Contains-append_left, Contains-append_right, contains_cases, contains_none, contains_tail}
-use Rattle.fx_flight.proofs.Words.{Identity, Asked, IsChainDone, Access, Happening, Called, Answered}
-use Rattle.fx_flight.proofs.Words.{LookCalled, LookAnswered, Moment, Logged, Accesses, FlightSetting, WasLogged, log_of, made_by, table_left_by}
-use Rattle.fx_flight.proofs.Words.{IsBegun, MayAccess, MayFollow, IsFlight}
+use Rattle.fx_flight.proofs.Words.{◌≡◌, ◌⊎◌, ◌+◌, ◌<◌, ◌≤◌, List, [], ◌∷◌, ◌++◌, take, refl, sym, arith, subst, Asked, Called, Moment, Logged, log_of}
+use Rattle.fx_flight.proofs.Words.{ℕ, length, Option, ⊎_elim, Access, Answered, Accesses, WasLogged, made_by, IsBegun, MayAccess, MayFollow, IsFlight}
+use Rattle.fx_flight.proofs.Words.{ap, ◌∙◌, inl, inr}
+use Rattle.fx_flight.proofs.Words.{append_assoc, append-nil, Identity, IsChainDone, Happening, LookCalled, LookAnswered, FlightSetting, table_left_by}
+use Rattle.fx_flight.proofs.Words.{length-append, Contains, Contains-append_left, Contains-append_right, contains_cases, contains_none, contains_tail}
 use Rattle.fx_flight.proofs.Beginnings.{earlier_part}
 use Rattle.fx_flight.proofs.Chains.{answer_place, same_length}
 use Rattle.fx_flight.proofs.Numbers.{new_number, one_call}
@@ -19,8 +18,6 @@ use Rattle.fx_order.specs.Order.{table_of}
 use Rattle.fx_order.specs.declared.access.Access.TheVariants.{Looks}
 use Rattle.fx_plain.proofs.Cells.{by_equality}
 use Rattle.std.proofs.Common.{if◌then◌else◌}
-use Rattle.std.specs.Prelude.{nat_le}
-use Rattle.std.proofs.lemmas.Bool.{leb-true}
 use Rattle.std.proofs.lemmas.List.{nil_from_length, take_all}
 use Rattle.std.specs.List.{AllByRecursion}
 
@@ -185,12 +182,7 @@ module _ (s : FlightSetting) where
         let lifted : WasLogged flight (LookCalled id own_slot) =
         lift flight newer moment.before (LookCalled id own_slot) reaches own_there in
         let same_call : LookCalled id own_slot ≡ LookCalled id slot = one (LookCalled id own_slot) (LookCalled id slot) lifted there refl refl in
-        let same : own_slot ≡ slot = cc in
-        let count : length (made_by id moment.before) + length (made_by id newer) ≡ 0 =
-        sym (ap length (ap (made_by id) reaches ∙ made_by-parts id newer moment.before)
-        ∙ length-append (made_by id moment.before) (made_by id newer)) ∙ ap length none in
-        either_way {R = ⊥} (nat_le s.old.size own_slot) (λ past y. let low = leb-true s.old.size own_slot past in omega arith)
-        (λ _ y. let some = ap length y in omega arith) done
+        grind (arith, moment, newer, reaches, made_by-parts, either_way)
 
     -- so a call that is over makes no further access
     further : (later : List Moment) → IsOne (later ++ rest) → IsFlight s (later ++ rest) → IsAllOver s rest id → (a : Access)
@@ -221,9 +213,7 @@ module _ (s : FlightSetting) where
     no_more (Accesses x ∷ later) one is over =
         let smaller : IsOne (later ++ rest) = λ d e a b. one d e (contains_tail (Accesses x) (later ++ rest) (Logged d) a)
         (contains_tail (Accesses x) (later ++ rest) (Logged e) b) in
-        let before : made_by id later ≡ [] = no_more later smaller is.0 over in
-        by_equality x.chain id (λ b. (if b then made_by id later ++ x.access ∷ [] else made_by id later) ≡ [])
-        (λ same. absurd (further later smaller is.0 over x.access (rw same at is.1.1) is.1.0)) (λ _. before)
+        grind (arith, no_more later smaller is.0 over, smaller, by_equality, further)
 
   -- the last access of a call has made a beginning of its chain
   last_begun : (id : ℕ) (flight : List Moment) → IsFlight s flight
@@ -232,20 +222,14 @@ module _ (s : FlightSetting) where
       ⊎ ((slot : ℕ) × WasLogged flight (LookCalled id slot))
   last_begun id [] is = inl refl
   last_begun id (Logged e ∷ flight) is =
-      ⊎_elim (λ none. inl none) (λ some. inr (⊎_elim
-      (λ x. inl (x.0, contains_tail (Logged e) flight (Logged (Called id x.0)) x.1, x.2))
-      (λ x. inr (x.0, contains_tail (Logged e) flight (Logged (LookCalled id x.0)) x.1)) some)) (last_begun id flight is.0)
+      grind (arith, last_begun id flight is.0, contains_tail)
   last_begun id (Accesses x ∷ flight) is =
       by_equality x.chain id (λ b. ((if b then made_by id flight ++ x.access ∷ [] else made_by id flight) ≡ [])
       ⊎ ((requests : List Asked) × WasLogged (Accesses x ∷ flight) (Called id requests)
       × IsBegun s id requests (if b then made_by id flight ++ x.access ∷ [] else made_by id flight))
       ⊎ ((slot : ℕ) × WasLogged (Accesses x ∷ flight) (LookCalled id slot)))
-      (λ same. let next : MayAccess s flight id x.access = rw same at is.1.1 in inr (⊎_elim
-      (λ y. inl (y.0, contains_tail (Accesses x) flight (Logged (Called id y.0)) y.1, y.2))
-      (λ y. inr (y.0, contains_tail (Accesses x) flight (Logged (LookCalled id y.0)) y.2)) next))
-      (λ _. ⊎_elim (λ none. inl none) (λ some. inr (⊎_elim
-      (λ y. inl (y.0, contains_tail (Accesses x) flight (Logged (Called id y.0)) y.1, y.2))
-      (λ y. inr (y.0, contains_tail (Accesses x) flight (Logged (LookCalled id y.0)) y.1)) some)) (last_begun id flight is.0))
+      (grind (arith, contains_tail))
+      (grind (arith, last_begun id flight is.0, contains_tail))
 
   no_rest : (id : ℕ) (flight : List Moment) → IsOne id flight flight → (requests : List Asked) → IsFlight s flight
       → WasLogged flight (Called id requests) → AllByRecursion (λ c. WasLogged flight (Answered id c)) (s.answers id)

@@ -1,7 +1,6 @@
 -- The calls of a log: no two have the same number.
-use Rattle.fx_flight.proofs.Words.{◌≡◌, ℕ, ◌+◌, ◌<◌, ◌≤◌, List, [], ◌∷◌, ◌++◌, length, refl, sym, ◌∙◌, arith, length-append, Option, Some}
-use Rattle.fx_flight.proofs.Words.{None, ⊎_elim, Contains, Contains-append_right, contains_cases, contains_head, contains_none, Happening, Called}
-use Rattle.fx_flight.proofs.Words.{LookCalled}
+use Rattle.fx_flight.proofs.Words.{◌≡◌, ℕ, ◌+◌, ◌<◌, ◌≤◌, List, [], ◌∷◌, ◌++◌, refl, sym, ◌∙◌, arith, Option, Some, None, ⊎_elim, Contains, Called}
+use Rattle.fx_flight.proofs.Words.{length, length-append, Contains-append_right, contains_cases, contains_head, contains_none, Happening, LookCalled}
 use Rattle.fx_flight.specs.Faults.{event_fault, fault_of_log, or_in_rest, progress_after}
 use Rattle.fx_flight.specs.Laws.{IsCallOf}
 use Rattle.fx_flight.specs.declared.fault.EventFault.{EventFault}
@@ -25,9 +24,7 @@ call_grows calls e id is = absurd is
 
 -- a call's number is that of the calls before it and 1 more
 number_of : (calls : List CallProgress) (e : Happening) (id : ℕ) → event_fault calls e ≡ None → IsCallOf id e → id ≡ length calls + 1
-number_of calls (Called other requests) id fits is = grind arith
-number_of calls (LookCalled other slot) id fits is = grind arith
-number_of calls e id fits is = absurd is
+number_of calls e id fits is = grind arith
 
 module _ (id : ℕ) where
   later_number : (at : ℕ) (calls : List CallProgress) (log : List Happening) (e : Happening) → fault_of_log at calls log ≡ None → Contains log e

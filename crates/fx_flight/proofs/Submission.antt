@@ -1,11 +1,10 @@
 -- A submission that follows an order of its requests has a flight: all calls, then the order, then
 -- all answers, all closes.
-use Rattle.fx_flight.proofs.Words.{◌≡◌, ◌⊎◌, ℕ, ◌+◌, ◌<◌, ◌≤◌, ◌==◌, List, [], ◌∷◌, ◌++◌, length, map, refl, sym, ap, ◌∙◌, arith, inl, inr}
-use Rattle.fx_flight.proofs.Words.{append_assoc, append-nil, Some, ⊎_elim, Contains, Contains-append_cases}
-use Rattle.fx_flight.proofs.Words.{Contains-append_left, Contains-append_right, contains_cases, contains_head, contains_none, contains_tail}
-use Rattle.fx_flight.proofs.Words.{Identity, Completed, Asked, IsChainDone, Access, ChainAccess, RingState, Happening, Called, Answered}
-use Rattle.fx_flight.proofs.Words.{LookAnswered, FileClosed, AllSettled, Moment, Logged, Accesses, FlightSetting, WasLogged, log_of}
-use Rattle.fx_flight.proofs.Words.{made_by, taken_in, table_left_by, MayAccess, MayFollow, IsFlight, HasFlight, first_member}
+use Rattle.fx_flight.proofs.Words.{◌≡◌, ◌⊎◌, ◌+◌, ◌<◌, ◌≤◌, ◌==◌, List, [], ◌∷◌, ◌++◌, map, refl, sym, ap, ◌∙◌, inl, inr, Some, Asked, Logged, log_of}
+use Rattle.fx_flight.proofs.Words.{ℕ, append_assoc, contains_tail, IsChainDone, ChainAccess, LookAnswered, FlightSetting, table_left_by, first_member}
+use Rattle.fx_flight.proofs.Words.{length, arith, ⊎_elim, Contains, Identity, Access, Called, Answered, Moment, Accesses, made_by, taken_in, IsFlight}
+use Rattle.fx_flight.proofs.Words.{append-nil, Completed, RingState, Happening, FileClosed, AllSettled, WasLogged, MayAccess, MayFollow, HasFlight}
+use Rattle.fx_flight.proofs.Words.{Contains-append_cases, Contains-append_left, Contains-append_right, contains_cases, contains_head, contains_none}
 use Rattle.fx_flight.proofs.Chains.{answer_chain, part_done}
 use Rattle.fx_flight.specs.Laws.{answer_of_chain, calls_of, log_of_submission}
 use Rattle.fx_base.specs.Catalogue.{FileEntry}
@@ -75,11 +74,7 @@ removed-making : (xs : List ChainAccess) (flight : List Moment) (f : Identity) �
     → Contains (files_removed_in (accesses_of xs)) f ⊎ Contains (taken_in flight) f
 removed-making [] flight f h = inr h
 removed-making (x ∷ xs) flight f h =
-    let own : List Identity = option_to_list (file_removed_by x.access) in
-    ⊎_elim (λ l. inl (Contains-append_right own (files_removed_in (accesses_of xs)) f l))
-    (λ r. ⊎_elim (λ t. inl (Contains-append_left own (files_removed_in (accesses_of xs)) f t)) (λ t. inr t)
-    (Contains-append_cases own (taken_in flight) f r))
-    (removed-making xs (Accesses x ∷ flight) f h)
+    grind (arith, removed-making xs (Accesses x ∷ flight) f h, Contains-append_right, Contains-append_left, Contains-append_cases)
 
 removed-made : (xs : List ChainAccess) (flight : List Moment) (f : Identity)
     → Contains (files_removed_in (accesses_of xs)) f ⊎ Contains (taken_in flight) f → Contains (taken_in (making xs flight)) f
@@ -112,9 +107,7 @@ is_logged (d ∷ es) flight e h =
 from-logging : (es : List Happening) (flight : List Moment) (e : Happening) → WasLogged (logging es flight) e → Contains es e ⊎ WasLogged flight e
 from-logging [] flight e h = inr h
 from-logging (d ∷ es) flight e h =
-    ⊎_elim (λ l. inl (contains_tail d es e l))
-    (λ r. ⊎_elim (λ same. let own : e ≡ d = cc in inl (0, omega arith, sym own)) (λ t. inr t) (contains_cases (Logged d) flight (Logged e) r))
-    (from-logging es (Logged d ∷ flight) e h)
+    grind (arith, from-logging es (Logged d ∷ flight) e h, contains_tail, contains_cases)
 
 from-making : (xs : List ChainAccess) (flight : List Moment) (e : Happening) → WasLogged (making xs flight) e → WasLogged flight e
 from-making [] flight e h = h
@@ -189,15 +182,7 @@ module _ (catalogue : List FileEntry) (size submission : ℕ) (order : List Chai
       })
       (λ tail. let rest : IsOfChain (chain + 1) runs x.1 x.4 c = of_chain (chain + 1) runs x.1 x.4 c tail in
       let low = call_low (chain + 1) runs c.place.chain rest.run rest.called in
-      record {
-        run = rest.run;
-        called = contains_tail (Called chain run) (calls_of (chain + 1) runs) (Called c.place.chain rest.run) rest.called;
-        front = rest.front;
-        rest = rest.rest;
-        answers = by_equality c.place.chain chain
-            (λ b. (if b then x.0 else answers_of (chain + 1) runs x.1 x.4 c.place.chain) ≡ rest.front ++ c ∷ rest.rest)
-            (λ same. absurd (omega arith)) (λ _. rest.answers);
-      })
+      grind (arith, rest, contains_tail, by_equality))
       (Contains-append_cases x.0 x.1 c (rw x.2 at h))
 
 -- the accesses of a chain in two parts of an order
@@ -209,9 +194,7 @@ of_parts id front rest =
 -- an access is one of its own chain's
 at_own : (id : ℕ) (front : List Access) (x : ChainAccess) (rest : List Access) → id ≡ x.chain
     → (if x.chain == id then front ++ x.access ∷ [] else front) ++ rest ≡ (front ++ x.access ∷ []) ++ rest
-at_own id front x rest same =
-    by_equality x.chain id (λ b. (if b then front ++ x.access ∷ [] else front) ++ rest ≡ (front ++ x.access ∷ []) ++ rest) (λ _. refl)
-    (λ other. absurd (other (sym same)))
+at_own id front x rest same = grind (arith, by_equality)
 
 got_front : {X : Type 0} (front rest : List X) (k : ℕ) (x : X) → k < length front → slice_index_or front k x ≡ x → slice_get (front ++ rest) k ≡ Some x
 got_front [] rest k x low at = absurd (omega arith)
@@ -295,19 +278,7 @@ module _ (old : RingState) (requests : List Asked) (report : Reported) (order : 
       let whole = chain_done catalogue old.size report.submission order 1 runs report.completions done id mine.run mine.called in
       let part = part_done catalogue old.size (first_member report.submission id) mine.run (accesses_of_chain id order) _ mine.front c mine.rest whole
       mine.answers in
-      let may : MayFollow setting flight (Answered id c) = (
-        mine.run,
-        there (Called id mine.run) mine.called,
-        record {
-          earlier = mine.front;
-          later = mine.rest;
-          answer = mine.answers;
-          own = part.0;
-          others = part.1;
-          accesses = so id ∙ part.2;
-          done = part.3;
-        },
-      ) in
+      let may : MayFollow setting flight (Answered id c) = grind (arith, id, mine, part) in
       answered_all cs (Logged (Answered id c) ∷ flight) (λ d h. each d (contains_tail c cs d h)) so
       (λ e h. contains_tail (Logged (Answered id c)) flight (Logged e) (there e h)) (is, may)
 

@@ -1,10 +1,9 @@
 -- The places of a call's steps.
-use Rattle.fx_lasting.proofs.Words.{Placement, ◌≡◌, ◌<◌, ◌≤◌, ℕ, arith, Start, LastingTable, list_place, slot_place, hold_place, node_place, word_of}
-use Rattle.fx_lasting.proofs.Words.{hold_word_of, nodes_of, slots_of, HasPlace, IsAtWork, Sat, LastingPass, IsPassOfTable, Option, Closed, List, Bool, cond}
-use Rattle.fx_lasting.proofs.Words.{le-ltb, length, pass_in, get_elem?, some, ◌∙◌, sym, ap, groups_in, group_place, range_at_start, IsGroup, tag_place}
-use Rattle.fx_lasting.proofs.Words.{number_place, tag_word_of, number_word_of, MOST_NODES}
-use Rattle.fx_lasting.proofs.Frames.{HasBesides, alone_cases}
-use Rattle.table_range.proofs.GroupSlots.{few_groups}
+use Rattle.fx_lasting.proofs.Words.{◌≡◌, ◌<◌, ◌≤◌, ℕ, arith, Start, LastingTable, list_place, slot_place, hold_place, node_place, word_of}
+use Rattle.fx_lasting.proofs.Words.{hold_word_of, nodes_of, slots_of, HasPlace, IsAtWork, Sat, LastingPass, IsPassOfTable, Option, Closed, List, Bool}
+use Rattle.fx_lasting.proofs.Words.{cond, le-ltb, length, pass_in, get_elem?, some, ◌∙◌, sym, ap, groups_in, group_place, range_at_start, IsGroup}
+use Rattle.fx_lasting.proofs.Words.{tag_place, number_place, tag_word_of, number_word_of, MOST_NODES, few_groups}
+use Rattle.fx_lasting.proofs.Frames.{alone_cases}
 use Rattle.fx_lasting.proofs.Running.{its_inside, stock_is}
 
 -- a slot of the table, as its rule names it
@@ -19,10 +18,6 @@ slot_inside t {slot} l is = omega (arith, l, is, t.words)
 pub list_inside : (t : LastingTable) {p i : ℕ} → p ≤ 1024 → i ≡ list_place p → i < t.table.shared.table_id.words
 list_inside t {p} few is = omega (arith, few, is, t.words)
 
--- a range has few groups, and they are those of the rule
-pub few_in : (t : LastingTable) → groups_in t.range_len ≤ 64
-few_in t = few_groups t.range_len (omega (arith, t.range_inside, t.few_slots))
-
 pub same_groups : (t : LastingTable) → groups_in t.range_len ≡ groups_in (range_at_start t.table.shared.key).1
 same_groups t = ap (λ (z : ℕ × ℕ). groups_in z.1) t.same_range
 
@@ -31,7 +26,7 @@ its_group t {g} l = omega (arith, l, same_groups t)
 
 -- the word of a group is one of the table
 pub group_word : (t : LastingTable) {g i : ℕ} → g < groups_in t.range_len → i ≡ group_place g → i < t.table.shared.table_id.words
-group_word t {g} l is = omega (arith, l, is, few_in t, t.words)
+group_word t {g} l is = omega (arith, l, is, (few_groups t.range_len (omega (arith, t.range_inside, t.few_slots))), t.words)
 
 -- the hold word of a pass is one of the table
 pub hold_inside : (t : LastingTable) {p i : ℕ} → p ≤ t.table.shared.key.passes → i ≡ hold_place t.size p → i < t.table.shared.table_id.words
@@ -63,13 +58,9 @@ number_inside t {n} l is = omega (arith, l, is, t.words, t.same_size, t.key.0)
 pub number_word : (t : LastingTable) (n : ℕ) {i : ℕ} → i ≡ number_place t.size t.passes n → i ≡ number_word_of t.table.shared.key n
 number_word t n is = omega (arith, is, t.same_size, t.key.0)
 
--- the node on which a pass has placed a file, if it has another node besides
-besides_inside : {k : Start} {p n : ℕ} {l : Placement} {m : Sat} → IsAtWork k p m → HasBesides m.0.work n l → n < nodes_of k
-besides_inside h1 has = grind (arith, its_inside)
-
 -- the node whose place is with the pass
 pub place_inside : {k : Start} {p n : ℕ} {x : Option Closed} {m : Sat} → IsAtWork k p m → HasPlace n x m → n < nodes_of k
-place_inside h1 has = grind (arith, its_inside, besides_inside, alone_cases)
+place_inside h1 has = grind (arith, its_inside, alone_cases)
 
 -- a table has few nodes
 pub few_nodes : (t : LastingTable) → nodes_of t.table.shared.key ≤ MOST_NODES

@@ -1,15 +1,14 @@
 -- Steps at which no slot and no node changes: they change the pass alone, and perhaps its hold word
 -- or a word that counts or asks.
-use Rattle.fx_lasting.proofs.Words.{alone_in, ◌≡◌, ◌≢◌, ℕ, ◌+◌, ◌<◌, List, set, length, refl, ap, arith, Option, Bool, held_by, File, Event, range_at_start}
-use Rattle.fx_lasting.proofs.Words.{IsAllowed, Agrees, RangeCounts, Survey, slots_of, state_after_all, held_in, held_of, taken_of, taking, Work, Glance, Change}
-use Rattle.fx_lasting.proofs.Words.{◌⊎◌, inr, word_of, hold_word_of, count_in, name_in, full_name_in, HoldAgrees, GuardAgrees, WorkAgrees, sum_set, length-set}
-use Rattle.fx_lasting.proofs.Words.{set-get_or, [], IsSeenBy, part_of_pass, ◌≤◌, inl, true, list_place, IsListedIn, Watch, WatchAgrees, changes_in}
-use Rattle.fx_lasting.proofs.Frames.{busy, nodes_untouched, slot_same, node_same, Leaves, keeps_other, guards_same, covers_same, sees_same}
-use Rattle.fx_lasting.proofs.Keeping.{Turn, After, as_it_was, Keeps, word_at, slot_word, step_kept, w, end, its_log, in_range, stocks_untouched, LabelSame}
-use Rattle.fx_lasting.proofs.Keeping.{end_read, node_in, met_same, found_same, range_left, LeavesFiles}
-use Rattle.fx_lasting.proofs.slot_lemmas.Watching.{watch_same}
+use Rattle.fx_lasting.proofs.{alone_in, ◌≡◌, ◌≢◌, ℕ, ◌+◌, ◌<◌, List, set, length, refl, ap, arith, Option, Bool, held_by, File, Event, range_at_start}
+use Rattle.fx_lasting.proofs.{IsAllowed, Agrees, RangeCounts, Survey, slots_of, state_after_all, held_in, held_of, taken_of, taking, Work, Glance}
+use Rattle.fx_lasting.proofs.{Change, ◌⊎◌, inr, word_of, hold_word_of, count_in, name_in, full_name_in, HoldAgrees, GuardAgrees, WorkAgrees, sum_set}
+use Rattle.fx_lasting.proofs.{length-set, set-get_or, [], IsSeenBy, part_of_pass, ◌≤◌, inl, true, list_place, IsListedIn, Watch, WatchAgrees}
+use Rattle.fx_lasting.proofs.{changes_in, busy, nodes_untouched, slot_same, node_same, Leaves, keeps_other, guards_same, covers_same, sees_same, Turn}
+use Rattle.fx_lasting.proofs.{After, as_it_was, Keeps, word_at, slot_word, step_kept, w, end, its_log, in_range, stocks_untouched, LabelSame}
+use Rattle.fx_lasting.proofs.{end_read, node_in, met_same, found_same, range_left, LeavesFiles, watch_same, hold_words, hold_here, hold_node}
+use Rattle.fx_lasting.proofs.{hold_slot, hold_else, hold_alike, hold_list, hold_label}
 use Rattle.fx_lasting.proofs.hold_lemmas.Lists.{ListGoesOn}
-use Rattle.fx_lasting.proofs.Places.{hold_words, hold_here, hold_node, hold_slot, hold_else, hold_alike, hold_list, hold_label}
 
 module _ (turn : Turn) (found : List ℕ) (more_found : (s : ℕ) → changes_in s turn.x ≤ changes_in s (record turn.x { changed = found }))
     (h' front : List Event) (words' : List ℕ) (d : Work) (g : Glance) (c : Change) (q : Survey) (l : Bool)

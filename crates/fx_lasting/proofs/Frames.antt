@@ -1,11 +1,11 @@
 -- A step of one seat leaves other seats, slots and nodes as they were.
 use Rattle.fx_lasting.proofs.Words.{alone_in, Placement, Renewing, Nearing, Relieving, HoldsBesides, ◌≡◌, ◌≢◌, ℕ, ◌+◌, ◌<◌, ◌≤◌, List, set, sym, refl, ap, ◌∙◌}
-use Rattle.fx_lasting.proofs.Words.{subst, arith, Option, Some, None, File, inl, inr, some, some-injective, get_elem?, set_here, set_else, stands_at, ◌⊎◌, dite}
+use Rattle.fx_lasting.proofs.Words.{subst, arith, Option, Some, File, inl, inr, some, some-injective, get_elem?, set_here, set_else, stands_at, ◌⊎◌, dite}
 use Rattle.fx_lasting.proofs.Words.{ℕ_discrete, SlotAgrees, NodeAgrees, OwnerAgrees, WorkAgrees, LogAgrees, HoldAgrees, GuardAgrees, Does, GlanceAgrees, Heats}
-use Rattle.fx_lasting.proofs.Words.{MayBeUncharged, in_stock, Contains, IsHot, HoldsAt, Home, IsFileOfNode, IsVacant, IsBorn, full_name_in, count_in, word_of}
+use Rattle.fx_lasting.proofs.Words.{MayBeUncharged, in_stock, Contains, IsHot, HoldsAt, Home, IsFileOfNode, full_name_in, count_in, word_of}
 use Rattle.fx_lasting.proofs.Words.{hold_word_of, slots_of, nodes_of, state_after_all, held_in, Nodes, Start, Phase, free, seated, leaving, owner, Glance, Log}
 use Rattle.fx_lasting.proofs.Words.{View, Work, Idle, Announced, Counted, Guarded, Owing, Yielding, Searching, Placing, Retiring, Emptying, Keeping, taken_of}
-use Rattle.fx_lasting.proofs.Words.{owed, sum_by, Deed, untouched, over, Written, Unlabelled, label_of, written_in, file_in, Event}
+use Rattle.fx_lasting.proofs.Words.{owed, sum_by, Deed, untouched, over, label_of, written_in, file_in, Event}
 use Rattle.fx_lasting.proofs.Counts.{tally_same}
 use Rattle.fx_lasting.proofs.Keeping.{Turn, After, Homes, Keeps, NodesStep, LeavesFiles, LabelSame, labels_same, w, word_at, slot_word}
 
@@ -33,11 +33,6 @@ alone_cases _ is = inl is
 
 pub busy_alone : (w : Work) → busy w ≡ busy (alone_in w)
 busy_alone w = grind arith
-
--- the label of a file, if there is one
-abbrev label_in : Option File → Written
-label_in None = Unlabelled
-label_in (Some f) = label_of f.identity
 
 -- a node with an open file has the file's label
 pub written_of : (ph : Phase) {f : File} → file_in ph ≡ Some f → written_in ph ≡ label_of f.identity
@@ -78,18 +73,10 @@ file_same later homed o = grind arith
 module _ {at at' : ℕ → Option File} (size : ℕ) {takes_at takes_at' : ℕ → ℕ} (node_of : Nodes) {next next' : ℕ} (n : ℕ)
     {word word' taken taken' owing owing' : ℕ} {home home' : Home} (later : next ≤ next') (worded : word' ≡ word) (counted : taken' ≡ taken)
     (owed : owing' ≡ owing) (homed : home' ≡ home) where
-  vacant_same : {first : ℕ} {lies : Home} → IsVacant at size takes_at node_of next n word taken owing home first lies
-      → IsVacant at' size takes_at' node_of next' n word' taken' owing' home' first lies
-  vacant_same o = grind arith
-
-  born_same : {lost : ℕ} {lies : Home} → IsBorn at size takes_at node_of next n word taken owing home lost lies
-      → IsBorn at' size takes_at' node_of next' n word' taken' owing' home' lost lies
-  born_same o = grind arith
-
   pub node_same : (ph : Phase) → ((s : ℕ) (f : File) → ph ≡ seated s f → at s ≡ Some f → (at' s ≡ at s) × (takes_at' s ≡ takes_at s))
       → NodeAgrees at size takes_at node_of next n word taken owing home ph
       → NodeAgrees at' size takes_at' node_of next' n word' taken' owing' home' ph
-  node_same ph same o = grind (arith, vacant_same, born_same, file_same)
+  node_same ph same o = grind (arith, file_same)
 
 -- a slot whose word and file stay
 pub slot_same : {k : Start} {node_of : Nodes} {phase phase' : ℕ → Phase} {deed deed' : ℕ → Deed} {slot word word' : ℕ}

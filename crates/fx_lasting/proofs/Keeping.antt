@@ -1,19 +1,18 @@
 -- A step of a seat with one pass keeps the rule, if it keeps what the step changes.
 pub use Rattle.fx_lasting.proofs.Turns.{Homes, NodeIn, node_in, word_at, LabelSame, labels_same, slot_word, now, logged, met_same, Turn, turn_of, Made, by_turn}
 pub use Rattle.fx_lasting.proofs.Turns.{few_in_range}
-use Rattle.fx_lasting.proofs.Words.{Contains, contains_head, contains_only, ◌≡◌, ◌≢◌, ℕ, ◌+◌, ◌<◌, ◌≤◌, List, [], ◌∷◌, ◌++◌, map, set, length, sym, refl, ap}
-use Rattle.fx_lasting.proofs.Words.{◌∙◌, subst, arith, Option, inl, some, get_elem?, Closed, part_of_pass, Event, Action, sum_by, sum_set, Bool, true, ⊎_elim}
-use Rattle.fx_lasting.proofs.Words.{held_by, IsSeenBy, at_set, SlotAgrees, NodeAgrees, OwnerAgrees, WorkAgrees, LogAgrees, ViewAgrees, Agrees, RangeCounts}
-use Rattle.fx_lasting.proofs.Words.{HoldAgrees, GuardAgrees, GlanceAgrees, Heats, IsAllowed, count_in, word_of, hold_word_of, Shared, slots_of, nodes_of}
-use Rattle.fx_lasting.proofs.Words.{range_at_start, state_after_all, IsHistory, held_in, held_of, taken_of, owed, Stepped, IsInside, pass_event, Phase, free}
-use Rattle.fx_lasting.proofs.Words.{removed_in, Change, Glance, Log, View, Work, IsInStock, name_in, first_log, Whereabouts, in_stock, NamesItsNode}
-use Rattle.fx_lasting.proofs.Words.{StockAgrees, ◌⊎◌, list_place, IsListedIn, Deed, untouched, Watch, changes_in, WatchAgrees, Survey, as_asked, Labels}
-use Rattle.fx_lasting.proofs.Words.{written_in, MOST_SLOTS, HasSeen, its_pass, its_range, not_there, seats}
-use Rattle.table_range.proofs.Counting.{AskAlike, CountAlike, counts_same, moved_one}
+use Rattle.fx_lasting.proofs.Words.{Contains, contains_head, contains_only, ◌≡◌, ◌≢◌, ℕ, ◌+◌, ◌<◌, ◌≤◌, List, [], ◌∷◌, ◌++◌, map, set, length, sym}
+use Rattle.fx_lasting.proofs.Words.{refl, ap, ◌∙◌, subst, arith, Option, inl, some, get_elem?, Closed, part_of_pass, Event, Action, sum_by, sum_set}
+use Rattle.fx_lasting.proofs.Words.{Bool, true, ⊎_elim, held_by, IsSeenBy, at_set, SlotAgrees, NodeAgrees, OwnerAgrees, WorkAgrees, LogAgrees}
+use Rattle.fx_lasting.proofs.Words.{ViewAgrees, Agrees, RangeCounts, HoldAgrees, GuardAgrees, GlanceAgrees, Heats, IsAllowed, count_in, word_of}
+use Rattle.fx_lasting.proofs.Words.{hold_word_of, Shared, slots_of, nodes_of, range_at_start, state_after_all, IsHistory, held_in, held_of, taken_of}
+use Rattle.fx_lasting.proofs.Words.{owed, Stepped, IsInside, pass_event, Phase, free, removed_in, Change, Glance, Log, View, Work, IsInStock, name_in}
+use Rattle.fx_lasting.proofs.Words.{first_log, Whereabouts, in_stock, NamesItsNode, StockAgrees, ◌⊎◌, list_place, IsListedIn, Deed, untouched, Watch}
+use Rattle.fx_lasting.proofs.Words.{changes_in, WatchAgrees, Survey, as_asked, Labels, written_in, MOST_SLOTS, HasSeen, its_pass, its_range}
+use Rattle.fx_lasting.proofs.Words.{not_there, seats, AskAlike, CountAlike, counts_same, moved_one, seats_step}
 use Rattle.fx_lasting.proofs.Histories.{Grows, grows_none, legal_before}
 use Rattle.fx_lasting.proofs.hold_lemmas.Lists.{ListGoesOn, stays_listed, was_listed}
 use Rattle.fx_lasting.proofs.slot_lemmas.Watching.{MovesOn, watch_on}
-use Rattle.table_seats.proofs.Together.{stepped as seats_step}
 
 -- as many changes as before
 pub found_same : (x : Log) (s : ℕ) → changes_in s x ≤ changes_in s x

@@ -17,3 +17,15 @@ pub mod life_lemmas
 pub mod node_lemmas
 pub mod range_lemmas
 pub mod slot_lemmas
+-- The names that many of these proofs cite, passed on from one place.
+pub use Words.*
+pub use Calling.*
+pub use Counts.*
+pub use Frames.*
+pub use Histories.*
+pub use Keeping.*
+pub use Passing.*
+pub use Places.*
+pub use Running.*
+pub use hold_lemmas.Unheld.*
+pub use slot_lemmas.Watching.*

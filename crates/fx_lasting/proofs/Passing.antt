@@ -1,19 +1,19 @@
 -- A pass between two calls, and what a call adds to it.
-use Rattle.fx_lasting.proofs.Words.{Renewing, Relieving, HoldsAlone, MeetsMore, as_listed, get_elem?, some, ◌≡◌, ℕ, ◌+◌, ◌-◌, ◌≤◌, ◌<◌, ◌^◌, ◌⊎◌, List, [], sym}
-use Rattle.fx_lasting.proofs.Words.{refl, ap, ◌∙◌, subst, arith, Bool, true, false, Option, Some, None, Start, Sat, Work, Glance, Change, Nothing, Outside}
-use Rattle.fx_lasting.proofs.Words.{Runs, IsAtWork, as_swapped, nodes_of, set, part_of_pass, TableId, Idle, Counted, Guarded, Retiring, Keeping, LastingPass}
-use Rattle.fx_lasting.proofs.Words.{LastingTable, IsSeatOf, IsPassOf, IsPassOfTable, IsBetweenCalls, Knows, MayPlace, opening_of, view_of, pass_of, pass_in}
-use Rattle.fx_lasting.proofs.Words.{numbers_of_pass, doing_in, hold_at, retired_at, retiring_work, IsHistory, Action, ◌▷◌, Put, Take, Close, Look, File, Closed}
-use Rattle.fx_lasting.proofs.Words.{numbered, full_name_in, count_in, LetsFileGo, option_map, Result, Ok, Err, ok_or, is_some, not, ◌≢◌, not-false, Use, no_use}
-use Rattle.fx_lasting.proofs.Words.{one_number, one_look, Adds, IsNewFile, Placed, Taken, ReleasesFile, LookedAfter, LookedUp, adds_then, HoldsOn, new_round}
-use Rattle.fx_lasting.proofs.Words.{LetsChargeGo, Announced, first_visit, inl, inr, Opening, PassView, IsIdle, IsFileRemoval, Doing, DoesNothing, Holding, Hold}
+use Rattle.fx_lasting.proofs.Words.{Renewing, Relieving, HoldsAlone, MeetsMore, as_listed, get_elem?, some, ◌≡◌, ℕ, ◌+◌, ◌-◌, ◌≤◌, ◌<◌, ◌^◌, ◌⊎◌}
+use Rattle.fx_lasting.proofs.Words.{List, [], sym, refl, ap, ◌∙◌, subst, arith, Bool, true, false, Option, Some, None, Start, Sat, Work, Glance}
+use Rattle.fx_lasting.proofs.Words.{Change, Nothing, Outside, Runs, IsAtWork, as_swapped, nodes_of, set, part_of_pass, TableId, Idle, Counted}
+use Rattle.fx_lasting.proofs.Words.{Guarded, Retiring, Keeping, LastingPass, LastingTable, IsSeatOf, IsPassOf, IsPassOfTable, IsBetweenCalls, Knows}
+use Rattle.fx_lasting.proofs.Words.{MayPlace, opening_of, view_of, pass_of, pass_in, numbers_of_pass, doing_in, hold_at, retired_at, retiring_work}
+use Rattle.fx_lasting.proofs.Words.{IsHistory, Action, ◌▷◌, Put, Take, Close, Look, File, Closed, numbered, full_name_in, count_in, LetsFileGo}
+use Rattle.fx_lasting.proofs.Words.{option_map, Result, Ok, Err, ok_or, is_some, not, ◌≢◌, not-false, Use, no_use, one_number, one_look, Adds}
+use Rattle.fx_lasting.proofs.Words.{IsNewFile, Placed, Taken, ReleasesFile, LookedAfter, LookedUp, adds_then, HoldsOn, new_round, LetsChargeGo}
+use Rattle.fx_lasting.proofs.Words.{Announced, first_visit, inl, inr, Opening, PassView, IsIdle, IsFileRemoval, Doing, DoesNothing, Holding, Hold}
 use Rattle.fx_lasting.proofs.Words.{Retired, IsIdleSeatOf, HasNoFile, is_in, account, uncounted, group_of, Covered, groups_in, range_at_start}
+use Rattle.fx_lasting.proofs.Words.{FreesFirst, HasRemoved}
 use Rattle.fx_table.specs.declared.values.Doing.TheVariants.{Retiring as Retires}
 use Rattle.fx_table.specs.declared.values.Empty.{Empty}
 use Rattle.fx_table.specs.declared.values.LookFault.{LookFault}
 use Rattle.fx_table.specs.declared.values.LookFault.TheVariants.{Spent, Empty as EmptySlot}
-use Rattle.fx_lasting.specs.slots.ReplaceByKey.{FreesFirst}
-use Rattle.fx_lasting.specs.slots.SwapSteps.{HasRemoved}
 use Rattle.fx_lasting.proofs.Running.{does_then, still_at_work, number_is, at_listed, at_swapped}
 
 -- the meetings and the changes that a pass found, over two calls
@@ -161,16 +161,12 @@ module _ (passes visit entry : ℕ) (idle guarded keeps : Bool) (stock : List �
   work_retiring : (f : File) (retired : Retired) (w : Work) → Is w → doing_in w ≡ Retires f retired → IsToRetire passes visit f retired w
   work_retiring f retired w knows is = grind arith
 
--- a pass that keeps no node may look for one
-looks_for : (stock : List ℕ) (entry : ℕ) (w : Work) {keeps : Bool} → MayPlace keeps stock entry w → keeps ≡ false → HasNoFile w
-looks_for stock entry w may unkept = subst (λ (b : Bool). MayPlace b stock entry w) unkept may
-
 module _ {id : TableId} {k : Start} {p : LastingPass} (fits : IsPassOf id k p) where
   pub its_place : IsIdle (view_of p) → MayPlace p.keeps p.stock.items p.next_entry p.seat.me.0.work
   its_place = work_may k.passes p.next_visit p.next_entry p.idle p.guarded p.keeps p.stock.items p.seat.me.0.work fits.knows
 
   pub its_idle : IsIdle (view_of p) → p.keeps ≡ false → HasNoFile p.seat.me.0.work
-  its_idle idle unkept = looks_for p.stock.items p.next_entry p.seat.me.0.work (its_place idle) unkept
+  its_idle idle unkept = subst (λ (b : Bool). MayPlace b p.stock.items p.next_entry p.seat.me.0.work) unkept (its_place idle)
 
   pub its_flag : IsIdle (view_of p) → p.idle ≡ true
   its_flag = work_flag k.passes p.next_visit p.next_entry p.idle p.guarded p.keeps p.stock.items p.seat.me.0.work fits.knows
@@ -273,9 +269,6 @@ up_then k u v w slot (Err EmptySlot) (Some file) never before looked = (
 pub frees_then : (k : Start) (u v w : PassView) (slot : ℕ) (r : Result Hold LookFault) (freed : Option Closed) → r ≢ Err Spent
     → FreesFirst (opening_of k) u freed v → LookedUp (opening_of k) v slot r None w → LookedUp (opening_of k) u slot r freed w
 frees_then k u v w slot r freed never before looked = grind (arith, after_then)
-
-pub frees_number : (o : Opening) (u v : PassView) (freed : Option Closed) → FreesFirst o u freed v → v.number ≡ u.number
-frees_number o u v freed before = grind arith
 
 -- a look-up after a withdrawal
 pub charges_then : {id : TableId} {k : Start} {p : LastingPass} (seated : IsSeatOf id k p) {m' : Sat} (w : PassView) (slot : ℕ) {n : ℕ}

@@ -1,12 +1,10 @@
 -- A load that leaves the pass as it was keeps the rule.
-use Rattle.fx_lasting.proofs.Words.{ℕ, List, [], refl, Option, none, keeps, step, Closed, Peeks, PeeksKeep, Goes, inl, arith, sum_by, lengths, ◌≡◌, ◌<◌, ◌≤◌}
-use Rattle.fx_lasting.proofs.Words.{LastingTable, IsAtWork, Seat, View, Allows, Agrees, IsGroup, groups_in, group_place, group_len, range_at_start}
+use Rattle.fx_lasting.proofs.{ℕ, List, [], refl, Option, none, keeps, step, Closed, Peeks, PeeksKeep, Goes, inl, arith, sum_by, lengths, ◌≡◌, ◌<◌}
+use Rattle.fx_lasting.proofs.{◌≤◌, LastingTable, IsAtWork, Seat, View, Allows, Agrees, IsGroup, groups_in, group_place, group_len, range_at_start}
+use Rattle.fx_lasting.proofs.{group_word, its_group, grows_none, none_added, Turn, turn_of, Made, by_turn, its_log, its_work, tells, w, word_at}
+use Rattle.fx_lasting.proofs.{group_back}
 use Rattle.fx_lasting.specs.Effects.{IsGroupFull}
-use Rattle.table_range.proofs.GroupSlots.{group_back}
 use Rattle.table_range.proofs.Owing.{each_full}
-use Rattle.fx_lasting.proofs.Calling.{group_word, its_group}
-use Rattle.fx_lasting.proofs.Histories.{grows_none}
-use Rattle.fx_lasting.proofs.Keeping.{none_added, Turn, turn_of, Made, by_turn, its_log, its_work, tells, w, word_at}
 use Rattle.fx_lasting.proofs.Calm.{read_after, Reads, read_kept}
 use Rattle.fx_lasting.proofs.range_lemmas.GroupSteps.{its_inside, idle}
 

@@ -1,8 +1,7 @@
 -- Places are inside, and apart; and what a write to one of them leaves as it was.
 use Rattle.fx_lasting.proofs.Words.{◌≡◌, ◌≢◌, ℕ, ◌<◌, ◌≤◌, List, set, sym, arith, get_or-set_other, get_or-set_same, list_place, slot_place, word_of}
 use Rattle.fx_lasting.proofs.Words.{hold_word_of, slots_of, nodes_of, slot_of, pass_at, Start, PlacesAreInside, PlacesAreApart, LabelsAreApart}
-use Rattle.fx_lasting.proofs.Words.{NodesAreInOneLine, IsNoLabel, tag_word_of, number_word_of, length, length-set, ap, ◌∙◌}
-use Rattle.table_range.proofs.Counting.{CountAlike}
+use Rattle.fx_lasting.proofs.Words.{NodesAreInOneLine, IsNoLabel, tag_word_of, number_word_of, length, length-set, ap, ◌∙◌, CountAlike}
 use Rattle.fx_lasting.proofs.Keeping.{Turn, word_at, slot_word, LabelSame}
 
 pub places_inside : (size passes nodes : ℕ) → PlacesAreInside size passes nodes
@@ -44,10 +43,6 @@ pub record LeavesElse (turn : Turn) (n : ℕ) (words' : List ℕ) : Type 0 where
   pub nodes : (m : ℕ) → m ≢ n → word_at words' (word_of turn.v.start m) ≡ word_at turn.st.words (word_of turn.v.start m)
   pub labels : (m : ℕ) → m ≢ n → LabelSame turn.v.start words' turn.st.words m
 
--- no word is written
-pub leaves_all : (turn : Turn) (n : ℕ) → LeavesElse turn n turn.st.words
-leaves_all turn n = grind arith
-
 -- the word of a node is written
 module _ (turn : Turn) (q : ℕ) (its : q < nodes_of turn.v.start) (new : ℕ) where
   open turn use {st, v, r}
@@ -60,9 +55,6 @@ module _ (turn : Turn) (q : ℕ) (its : q < nodes_of turn.v.start) (new : ℕ) w
 
   node_apart : {place : ℕ} → place ≢ word_of v.start q → word_at node_words place ≡ word_at st.words place
   node_apart {place} other = get_or-set_other st.words (word_of v.start q) place new 0 other
-
-  pub node_else : (n : ℕ) → n ≢ q → word_at node_words (word_of v.start n) ≡ word_at st.words (word_of v.start n)
-  node_else n other = node_apart (λ same. other (omega arith))
 
   pub node_slot : (s : ℕ) → s < slots_of v.start → slot_word node_words s ≡ slot_word st.words s
   node_slot s l = node_apart (λ same. omega arith)
@@ -79,7 +71,7 @@ module _ (turn : Turn) (q : ℕ) (its : q < nodes_of turn.v.start) (new : ℕ) w
     slots = node_slot;
     alike = (node_apart (λ same. omega arith), λ g l. node_apart (λ same. omega arith));
     lists = λ p few. node_apart (λ same. omega arith);
-    nodes = node_else;
+    nodes = λ n other. node_apart (λ same. other (omega arith));
     labels = λ m other. node_label m;
   }
 

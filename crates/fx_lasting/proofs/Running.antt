@@ -116,9 +116,8 @@ at_swapped {k} {p} {m} at entry node inside = at_work_as at (pass_in m).listed (
     stock_of = record {
       count = length-set (pass_in m).stock entry node ∙ its.count;
       inside = λ e n is. dite (ℕ_discrete e entry)
-          (λ same. let l = (stands_at (set (pass_in m).stock entry node) e n is).0 in
-          let here : get_elem? (set (pass_in m).stock entry node) entry ≡ some node = set_here (pass_in m).stock entry node
-          (let a = length-set (pass_in m).stock entry node in omega (arith, l, same, a)) in
+          (λ same. let here : get_elem? (set (pass_in m).stock entry node) entry ≡ some node = set_here (pass_in m).stock entry node
+          (let a = length-set (pass_in m).stock entry node in omega (arith, (stands_at (set (pass_in m).stock entry node) e n is).0, same, a)) in
           let z : node ≡ n = some-injective node n (sym here ∙ (ap (get_elem? (set (pass_in m).stock entry node)) (sym same) ∙ is)) in
           subst (λ (i : ℕ). i < nodes_of k) z inside)
           (λ away. its.inside e n (sym (set_else (pass_in m).stock entry e node away) ∙ is));
@@ -140,8 +139,7 @@ looks_then {m' = m'} {m'' = m''} {ys = ys} {w' = w'} {g' = g'} {n' = n'} a b =
 -- a pass with the same work looks on
 pub stays_then : {m m' m'' : Sat} {xs ys : List Action} {w : Work} {g g' : Glance} {c : Change} {n n' : ℕ} → Runs m xs w g c n m'
     → Runs m' ys m'.0.work g' m'.0.change n' m'' → Runs m (xs ▷▷ ys) w g' c (n + n') m''
-stays_then {m' = m'} {m'' = m''} {ys = ys} {g' = g'} {n' = n'} a b =
-    looks_then a (subst (λ (z : Work). Runs m' ys z g' m'.0.change n' m'') a.work b)
+stays_then {m' = m'} {m'' = m''} {ys = ys} {g' = g'} {n' = n'} a b = looks_then a (subst (λ (z : Work). Runs m' ys z g' m'.0.change n' m'') a.work b)
 
 -- a pass that looks nothing up begins or ends a change
 pub turns_then : {m m' m'' : Sat} {xs ys : List Action} {w : Work} {g : Glance} {c c' : Change} {n n' : ℕ} → Runs m xs w g c n m'

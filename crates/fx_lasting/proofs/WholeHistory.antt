@@ -1,18 +1,14 @@
 -- One history has what all passes did, and each removed file that is open has a user.
-use Rattle.fx_lasting.proofs.Words.{its_pass, Relieving, StillNames, ◌≡◌, ℕ, suc, ◌+◌, ◌<◌, ◌≤◌, List, [], ◌∷◌, length, sym, refl, ap, ◌∙◌, subst, arith, Some}
-use Rattle.fx_lasting.proofs.Words.{None, some, get_elem?, ⊎_elim, dite, dec_le, Bool, true, false, at_index, found_sum, File, Agrees, WorkAgrees, HoldAgrees}
-use Rattle.fx_lasting.proofs.Words.{HoldsAt, OwnerAgrees, Shared, Start, View, Work, Phase, Guarded, Yielding, Retiring, seated, leaving, retired, file_in}
-use Rattle.fx_lasting.proofs.Words.{removed_in, file_if_numbered, eq-eqb, taken_of, taking, owed, sum_by, bit_else, nodes_of, state_after_all, state_at_start}
-use Rattle.fx_lasting.proofs.Words.{node_of_number, ℕ_discrete, named_same, opening_is_start, numbered_anew, PassView, find_pass, ◌⊎◌}
-use Rattle.fx_lasting.proofs.Frames.{alone_cases}
-use Rattle.fx_table.specs.Numbers.{once as once_in}
+use Rattle.fx_lasting.proofs.{its_pass, Relieving, StillNames, ◌≡◌, ℕ, suc, ◌+◌, ◌<◌, ◌≤◌, List, [], ◌∷◌, length, sym, refl, ap, ◌∙◌, subst, arith}
+use Rattle.fx_lasting.proofs.{Some, None, some, get_elem?, ⊎_elim, dite, dec_le, Bool, true, false, at_index, found_sum, File, Agrees, WorkAgrees}
+use Rattle.fx_lasting.proofs.{HoldAgrees, HoldsAt, OwnerAgrees, Shared, Start, View, Work, Phase, Guarded, Yielding, Retiring, seated, leaving}
+use Rattle.fx_lasting.proofs.{retired, file_in, removed_in, file_if_numbered, eq-eqb, taken_of, taking, owed, sum_by, bit_else, nodes_of}
+use Rattle.fx_lasting.proofs.{state_after_all, state_at_start, node_of_number, ℕ_discrete, named_same, opening_is_start, numbered_anew, PassView}
+use Rattle.fx_lasting.proofs.{find_pass, alone_cases, owed_found, same_shape, NodeIn}
 use Rattle.fx_plain.proofs.Cells.{named}
 use Rattle.fx_plain.proofs.LawHolds.{tally, tally_start, tally_all, placed_one, closed_at_most_once}
 use Rattle.fx_plain.specs.Laws.{IsStart, closes_of}
-use Rattle.fx_lasting.proofs.Counts.{owed_found}
-use Rattle.fx_lasting.proofs.Histories.{same_shape}
 use Rattle.fx_lasting.proofs.hold_lemmas.Holds.{holds_at}
-use Rattle.fx_lasting.proofs.Keeping.{NodeIn}
 use Rattle.fx_lasting.specs.WholeHistory.{IsPassAt, IsPartOf, IsOfAllPasses, Uses, HasUser}
 
 -- the passes begin in a state from which the laws of histories speak
@@ -22,10 +18,6 @@ start_is k = grind (arith, opening_is_start, numbered_anew)
 -- the file of a phase, if it has the number
 found_file : (number : ℕ) (g f : File) → file_if_numbered number g ≡ Some f → (g ≡ f) × (f.number ≡ number)
 found_file number g f is = grind arith
-
--- no pass has a number that is 0 or too high
-once_not : (n p : ℕ) → (p ≡ 0) ⊎ (n < p) → once_in n p ≡ 0
-once_not n p far = grind arith
 
 module _ (k : Start) (s : Shared) (r : Agrees k s) where
   parts : (seat : ℕ) (pass : PassView) → IsPassAt s seat pass → IsPartOf pass r.history
@@ -66,7 +58,7 @@ module _ (k : Start) (s : Shared) (r : Agrees k s) where
       none (g ∷ l) is = absurd (omega arith)
 
   pub is_of_all_passes : IsOfAllPasses k s r
-  is_of_all_passes = grind (arith, start_is, parts, once_not, once, unclosed, holds_at)
+  is_of_all_passes = grind (arith, start_is, parts, once, unclosed, holds_at)
 
   -- who uses a node that isn't free
   module _ (n : ℕ) (f : File) (file : file_in (r.phase n) ≡ Some f) where
@@ -97,8 +89,7 @@ module _ (k : Start) (s : Shared) (r : Agrees k s) where
     somebody : 0 < sum_by (taken_of n) s.views + owed r.debt k.passes n → HasOne
     somebody more = dite (ℕ_discrete (sum_by (taken_of n) s.views) 0)
         (λ none. let z = owed_found r.debt k.passes n (omega (arith, more, none)) in let y = find_pass r.life z.1 z.2 in
-        let o = (r.holds.views y.0 y.1 y.3).logs y.2 y.4 in
-        (y.0, y.1, y.3, owes y.0 y.1.work _ _ (ap r.debt y.5 ∙ z.3) o.hold (r.holds.views y.0 y.1 y.3).work))
+        (y.0, y.1, y.3, owes y.0 y.1.work _ _ (ap r.debt y.5 ∙ z.3) ((r.holds.views y.0 y.1 y.3).logs y.2 y.4).hold (r.holds.views y.0 y.1 y.3).work))
         (λ taken. let z = found_sum (taken_of n) s.views (omega (arith, taken)) in
         let there = at_index s.views z.1.0 z.0 z.1.1 (sym z.1.2) in (z.1.0, z.0, there, takes z.1.0 z.0 there z.2))
 

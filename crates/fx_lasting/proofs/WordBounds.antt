@@ -1,11 +1,9 @@
 -- The bounds of the words.
-use Rattle.fx_lasting.proofs.Words.{◌≡◌, ℕ, ◌+◌, ◌<◌, ◌≤◌, Option, subst, arith, File, Agrees, Names, IsSeated, WorkAgrees, slots_of, state_after_all, count_in}
-use Rattle.fx_lasting.proofs.Words.{full_name_in, Shared, Start, range_at_start, group_start, group_len, full_few, cold_takes, has_acted, has_heated}
-use Rattle.fx_lasting.proofs.Words.{AreBounded, slot_word_in, node_word_in}
+use Rattle.fx_lasting.proofs.{◌≡◌, ℕ, ◌+◌, ◌<◌, ◌≤◌, Option, subst, arith, File, Agrees, Names, IsSeated, WorkAgrees, slots_of, state_after_all}
+use Rattle.fx_lasting.proofs.{count_in, full_name_in, Shared, Start, range_at_start, group_start, group_len, full_few, cold_takes, has_acted}
+use Rattle.fx_lasting.proofs.{has_heated, AreBounded, slot_word_in, node_word_in, tally_few, few_cold, node_in}
 use Rattle.table_range.proofs.GroupSlots.{few_slots}
 use Rattle.fx_lasting.proofs.range_lemmas.GroupSteps.{owing_most}
-use Rattle.fx_lasting.proofs.Counts.{tally_few, few_cold}
-use Rattle.fx_lasting.proofs.Keeping.{node_in}
 
 module _ (k : Start) (s : Shared) (r : Agrees k s) where
   pub few_takes : (slot : ℕ) → slot < slots_of k → count_in (slot_word_in s slot) ≤ cold_takes k.passes + k.passes

@@ -17,15 +17,17 @@ pub use Rattle.fx_lasting.specs.Counts.{tally, owed}
 pub use Rattle.fx_lasting.specs.Ends.{LetsChargeGo, LetsFileGo, Parked, TakenOut}
 pub use Rattle.fx_lasting.specs.life.Cuts.{seats}
 pub use Rattle.table_seats.proofs.Gathered.{AreGathered}
-pub use Rattle.table_seats.proofs.Together.{HasLaws, Moves, find_pass, its_pass, its_range, not_there}
+pub use Rattle.table_seats.proofs.Together.{HasLaws, Moves, find_pass, its_pass, its_range, not_there, stepped as seats_step, opens as seats_open}
+pub use Rattle.table_seats.proofs.Together.{renewed, reseated as seats_reseated, known, learned as seats_learn}
 pub use Rattle.table_seats.specs.Seats.{dealt, first_alone, first_view, joined, new_logs, shown_view, spent, without_first}
 pub use Rattle.table_seats.specs.Together.{HasSeen, Together}
-pub use Rattle.fx_lasting.specs.Laws.{AimsKeep, TakesBesideKeep, ReplacesHeldKeep, HasToLetGo, IsOffCount, TakesOutKeep, ExchangesKeep, HasPass, GlancesKeep}
-pub use Rattle.fx_lasting.specs.Laws.{AnnouncesKeep, ConfirmsKeep, WithdrawsKeep, TakesOnceKeep, HeatsKeep, SplitsKeep, JoinsKeep, LowersKeep, RaisesKeep}
-pub use Rattle.fx_lasting.specs.Laws.{AsksKeep, ChecksKeep, BreaksKeep, BeginsKeep, CountsKeep, DecidesKeep, IsGroup, PeeksKeep, InstallsKeep, StepsDownKeep}
-pub use Rattle.fx_lasting.specs.Laws.{LettingGoKeeps, SeeksKeep, BirthsKeep, RestsKeep, VisitsKeep, ChargesKeep, ParksKeep, ResumesKeep, SettlesKeep}
-pub use Rattle.fx_lasting.specs.Laws.{HasItsPlace, RecallsTagKeep, TagsKeep, NumbersKeep, ReadsTagKeep, ReadsNumberKeep, RetiresKeep, IsInRange, ListsKeep}
-pub use Rattle.fx_lasting.specs.Laws.{SkimsKeep, IsPassed, SeesKeep, FinishesKeep, SwapsOutKeep, MayAnnounce, EndsItsHoldKeep, SwapsHeldKeep, TakesHeldKeep}
+pub use Rattle.fx_lasting.specs.Laws.{AimsKeep, TakesBesideKeep, ReplacesHeldKeep, HasToLetGo, IsOffCount, TakesOutKeep, ExchangesKeep, HasPass}
+pub use Rattle.fx_lasting.specs.Laws.{GlancesKeep, AnnouncesKeep, ConfirmsKeep, WithdrawsKeep, TakesOnceKeep, HeatsKeep, SplitsKeep, JoinsKeep}
+pub use Rattle.fx_lasting.specs.Laws.{LowersKeep, RaisesKeep, AsksKeep, ChecksKeep, BreaksKeep, BeginsKeep, CountsKeep, DecidesKeep, IsGroup}
+pub use Rattle.fx_lasting.specs.Laws.{PeeksKeep, InstallsKeep, StepsDownKeep, LettingGoKeeps, SeeksKeep, BirthsKeep, RestsKeep, VisitsKeep}
+pub use Rattle.fx_lasting.specs.Laws.{ChargesKeep, ParksKeep, ResumesKeep, SettlesKeep, HasItsPlace, RecallsTagKeep, TagsKeep, NumbersKeep}
+pub use Rattle.fx_lasting.specs.Laws.{ReadsTagKeep, ReadsNumberKeep, RetiresKeep, IsInRange, ListsKeep, SkimsKeep, IsPassed, SeesKeep, FinishesKeep}
+pub use Rattle.fx_lasting.specs.Laws.{SwapsOutKeep, MayAnnounce, EndsItsHoldKeep, SwapsHeldKeep, TakesHeldKeep, Kind}
 pub use Rattle.fx_lasting.specs.nodes.LabelSteps.{RecallsTag, Tags, Numbers, ReadsTag, ReadsNumber}
 pub use Rattle.fx_lasting.specs.nodes.Labels.{number_of_mark, label_of, as_written}
 pub use Rattle.fx_lasting.specs.nodes.KeepSteps.{Parks, Resumes, SettlesNode}
@@ -42,7 +44,7 @@ pub use Rattle.fx_lasting.specs.nodes.Stocks.{Whereabouts, at_slot, in_stock, Is
 pub use Rattle.fx_lasting.proofs.slot_lemmas.SlotWords.{name_of_file, same_full_name, empty_name_made, empty_file_made, empty_takes_made, name_left}
 pub use Rattle.fx_lasting.proofs.slot_lemmas.SlotWords.{no_file_left, no_takes_left, mask_leaves_name, name_carried, full_name_carried, entry_carried}
 pub use Rattle.fx_lasting.proofs.slot_lemmas.SlotWords.{takes_carried, heat_carried, takes_are_few, one_less}
-pub use Rattle.std.specs.Prelude.{bit_and, sum_by, Contains, Ok, Err, Result, is_some, not, option_map, ok_or, vec_len}
+pub use Rattle.std.specs.Prelude.{bit_and, sum_by, Contains, Ok, Err, Result, is_some, not, option_map, ok_or, vec_len, is_ok, ◌==◌, ◌&&◌}
 pub use Rattle.fx_lasting.specs.nodes.Phases.{Phase, owner, file_in, file_if_numbered, removed_in, written_in, free, placed, seated, leaving, retired, emptied}
 pub use Rattle.fx_lasting.specs.nodes.Phases.{kept}
 pub use Rattle.fx_lasting.specs.Runs.{Runs}
@@ -90,10 +92,10 @@ pub use Rattle.fx_table.proofs.SumLemmas.{contains_head, contains_map, contains_
 pub use Rattle.fx_table.proofs.SumLemmas.{counted_once, found_sum, sum_at, sum_two, sum_set, sum_le_at, sum_of, sum_zero_at, sum_only, contains_tail}
 pub use Rattle.fx_table.proofs.SumLemmas.{contains_none, sum_zero, sum_map, contains_alone, each_all, read_at}
 pub use Rattle.fx_words.specs.Words.{name_in, entry_in, last_node}
-pub use Rattle.std.proofs.Common.{IsTrue, ◌↔◌, bit_or, eq-eqb, ne_eqb, length-append, true, map, get_or, IsSome, ◌*◌, get_or-set_other, get_or-set_same, ◌/◌}
-pub use Rattle.std.proofs.Common.{lt-ltb, le-ltb, Option, Some, None, IfSome, slice_index, ◌+◌, ◌-◌, ◌%◌, ◌^◌, false, eqb, inl, ◌++◌, ◌⊎◌, inr, ⊎_elim}
-pub use Rattle.std.proofs.Common.{length-set, ◌≡◌, ◌≢◌, ℕ, zero, suc, ◌<◌, ◌≤◌, Bool, cond, nat_lt, List, [], ◌∷◌, length, set, sym, refl, ap, ◌∙◌, subst}
-pub use Rattle.std.proofs.Common.{arith, rules, All, reverse, vec_capacity, suc-mul, add-one, append_assoc}
+pub use Rattle.std.proofs.Common.{IsTrue, ◌↔◌, bit_or, eq-eqb, ne_eqb, length-append, true, map, get_or, IsSome, ◌*◌, get_or-set_other}
+pub use Rattle.std.proofs.Common.{get_or-set_same, ◌/◌, lt-ltb, le-ltb, Option, Some, None, IfSome, slice_index, ◌+◌, ◌-◌, ◌%◌, ◌^◌, false, eqb, inl}
+pub use Rattle.std.proofs.Common.{◌++◌, ◌⊎◌, inr, ⊎_elim, length-set, ◌≡◌, ◌≢◌, ℕ, zero, suc, ◌<◌, ◌≤◌, Bool, cond, nat_lt, List, [], ◌∷◌, length}
+pub use Rattle.std.proofs.Common.{set, sym, refl, ap, ◌∙◌, subst, arith, rules, All, reverse, vec_capacity, suc-mul, add-one, append_assoc}
 pub use Rattle.std.proofs.Math.Nat.{mul-le-mul_right, mod-eq_of_lt, le-mul_of_pos_right}
 pub use Rattle.std.proofs.lemmas.List.{length-map, set-get_or, append-nil, set-set, length-replicate, get_or_default}
 pub use Rattle.std.proofs.lemmas.List.FromFn.{length-map-range_with_len, get_or-map-range_with_len, length-range_with_len}
@@ -103,7 +105,7 @@ pub use Rattle.std.specs.List.{range_with_len, AllWithin}
 pub use Rattle.fx_table.proofs.FullSlots.{full_few}
 pub use Rattle.fx_table.specs.FullSlots.{full_in, if_full}
 pub use Rattle.fx_table.specs.Shells.{IsShell}
-pub use Rattle.fx_lasting.specs.life.Lives.{logs_in, IsNewPass, IsIdleSeatOf, AllAreIdle, Leaves}
+pub use Rattle.fx_lasting.specs.life.Lives.{logs_in, IsNewPass, IsIdleSeatOf, AllAreIdle}
 pub use Rattle.std.specs.Mem.Slots.{slots_items, slots_len, IsFull, slots_filled}
 pub use lib.ListN.{get_elem?}
 pub use mathlib.Core.Logic.{dite}
@@ -112,7 +114,7 @@ pub use native.Mathlib.Decide.{ℕ_discrete, dec_le}
 pub use Rattle.std.proofs.lemmas.List.Elements.{All-contains, Contains-append_left, All-set, AllWithin-more_set}
 pub use Rattle.fx_table.proofs.Calls.{seen_further, adds_then, adds_nothing, learned_so}
 pub use Rattle.fx_table.specs.Calls.{Adds, LookedUp, ReleasesFile, Released, Use, no_use, one_number, one_look, IsNewFile, Placed, Taken, LookedAfter}
-pub use Rattle.fx_table.specs.Opening.{Opening, HasSameFiles}
+pub use Rattle.fx_table.specs.Opening.{Opening, HasSameFiles, state_at}
 pub use Rattle.fx_table.specs.Pass.{PassView, IsIdle, IsFileRemoval, new_pass, new_passes}
 pub use Rattle.fx_table.specs.Showing.{Learns}
 pub use Rattle.fx_table.specs.declared.values.Doing.{Doing}
@@ -142,7 +144,17 @@ pub use Rattle.std.proofs.Math.ListN.{get_or-eq_default, replicate}
 pub use Rattle.std.proofs.lemmas.Nat.Bits.{bit_at-zero, bit_at-trailing_zeros, bit_at_above}
 pub use Rattle.std.proofs.lemmas.Nat.{div-mul-add, mod-mul-add, shr-shr}
 pub use Rattle.fx_lasting.specs.slots.PutSteps.{Aims, TakesBeside, ReplacesHeld}
-pub use Rattle.fx_lasting.specs.slots.SwapSteps.{SwapsOut, HasEmptied, SwapsHeld, TakesHeld}
+pub use Rattle.fx_lasting.specs.slots.SwapSteps.{SwapsOut, HasEmptied, SwapsHeld, TakesHeld, HasRemoved}
 pub use prog.Atomic.{either}
 pub use Rattle.fx_lasting.specs.range.Tries.{IsPlacing, HasAllocated, StillPlaces, group_steps}
 pub use Rattle.std.specs.Mem.Slots.Ownership.{Filled}
+pub use Rattle.table_range.proofs.GroupSlots.{few_groups, group_back, group_short, in_group, is_group, of_group, by_size, in_range_so, was_in}
+pub use Rattle.table_range.proofs.GroupSlots.{group_by}
+pub use Rattle.fx_lasting.specs.range.Scans.{LeadsToAll, EachFrom, EachInGroup, EachInRange, WasFull}
+pub use Rattle.table_range.proofs.Counting.{AskAlike, CountAlike, counts_same, moved_one, counts_alone, counts_emptied, counts_filled}
+pub use Rattle.fx_lasting.specs.slots.ReplaceByKey.{FreesFirst, TakesOn, TriedRenewal, RenewsAlone, PutsAlone, IsBeside, TriedReplaceHeld, Compared}
+pub use Rattle.fx_lasting.specs.slots.ReplaceByKey.{HoldsBeside, aim_at}
+pub use Rattle.fx_lasting.specs.slots.RemoveByKey.{TriedOutHeld, LeftAlone}
+pub use Rattle.fx_lasting.specs.declared.key.Key.{Key}
+pub use Rattle.table_seats.proofs.Moving.{alone_is_dealt, IsRule, may_join, may_split, may_show as seats_show, last_is_dealt, rest_is_dealt}
+pub use Rattle.table_seats.proofs.Moving.{IsGathering}

@@ -1,7 +1,6 @@
 //! The calls of a pass that never wait, allocate or retry: each makes at most as many atomic steps
-//! as its clause says. They are inlined into their caller, except for a withdrawal, for the visits
-//! of a retirement, and for taking a file out of a node that isn't kept. These hints change no
-//! proof.
+//! as its clause says. They are inlined into their caller with all that they call: if a withdrawal
+//! were a call, each look-up would have a stack frame. These hints change no proof.
 ghost use Rattle.std.specs.Prelude.{◌≡◌, ◌≢◌, ◌+◌, ◌*◌, ◌-◌, ◌/◌, ◌<◌, ◌≤◌, false, Option};
 ghost use Rattle.std.specs.Prelude.{option_map, Err};
 ghost use Rattle.fx_plain.specs.declared.event.Action.TheVariants.{Take};

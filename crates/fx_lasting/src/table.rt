@@ -2,7 +2,7 @@
 ghost use Rattle.std.specs.Prelude.{◌≡◌, ◌≤◌, ◌<◌, ◌+◌, ◌^◌};
 ghost use Rattle.table_range.specs.Groups.{group_size};
 ghost use Rattle.fx_lasting.specs.declared.life.layout.TheConstants.{MOST_SLOTS, MOST_PASSES, MOST_INSTALLING, MOST_NODES};
-ghost use Rattle.fx_lasting.specs.life.Layout.{words_for, node_place, tag_place, number_place};
+ghost use Rattle.fx_lasting.specs.life.Layout.{words_for, hold_place, node_place, tag_place, number_place};
 ghost use Rattle.fx_lasting.specs.Passes.{slots_of, range_at_start, nodes_of};
 
 use crate::kinds::OneHistory;
@@ -24,6 +24,8 @@ pub struct LastingTable {
     pub(crate) size: u32,
     pub(crate) range_start: u32,
     pub(crate) range_len: u32,
+    // The place of the line before the first hold word.
+    pub(crate) before_holds: u32,
     // The place of the first node's word.
     pub(crate) first_node: u32,
     // The exponent of the size of a group, which is a power of 2.
@@ -35,7 +37,8 @@ pub struct LastingTable {
         × (installing ≡ table.shared.key.installing) },
     pub ghost same_size: { size ≡ slots_of table.shared.key },
     pub ghost same_range: { (range_start, range_len) ≡ range_at_start table.shared.key },
-    pub ghost places: { first_node ≡ node_place size passes 0 },
+    pub ghost places: { (before_holds ≡ hold_place size 0)
+        × (first_node ≡ node_place size passes 0) },
     pub ghost groups: { (group_size range_len ≡ 2 ^ group_bits) × (group_bits < 32) },
     pub ghost few_slots: { size ≤ MOST_SLOTS },
     pub ghost range_inside: { range_start + range_len ≤ size },
@@ -46,6 +49,15 @@ pub struct LastingTable {
 // These find a place by the first node's: after an atomic step, which may change any word, it is
 // loaded again, and the rest of the sum would be added up again.
 impl LastingTable {
+    // Returns the place of a pass's hold word.
+    #[inline(always)]
+    pub(crate) fn hold_place(&self, pass: u32) -> usize
+        requires { pass ≤ self.now.passes }
+        ensures { result ≡ hold_place self.now.size pass }
+    {
+        (self.before_holds + 8 * pass) as usize
+    }
+
     // Returns the place of a node's word.
     #[inline(always)]
     pub(crate) fn node_place(&self, node: u32) -> usize

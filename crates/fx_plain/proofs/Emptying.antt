@@ -94,8 +94,7 @@ module _ (slots : List (Option ℕ)) (first nodes : List Node) (s : ℕ) (placed
       let was : removed_count_of (node_at nodes m) ≡ 0 = ap removed_count_of here in let before = w.opened in record {
         len = length-set nodes m Gone ∙ w.len;
         left = left_without slots first nodes s placed left (Some m) is;
-        same = λ n. each_set (λ k x. SameButPlaced (node_at first k) x) nodes m Gone Gone inside (rw there.1
-            (record { same_fresh = refl; same_leaving = refl; same_retired = refl; same_removed = λ _. refl })) n (λ _. w.same n);
+        same = λ n. each_set (λ k x. SameButPlaced (node_at first k) x) nodes m Gone Gone inside (grind (arith, there.1)) n (λ _. w.same n);
         opened = omega arith;
       }
 

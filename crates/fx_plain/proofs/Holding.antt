@@ -1,5 +1,5 @@
 -- A file gets a hold, loses one, or is retired.
-use Rattle.fx_plain.proofs.Words.{◌≡◌, ◌≢◌, ℕ, ◌+◌, ◌-◌, ◌<◌, ◌≤◌, ◌^◌, ◌==◌, Bool, true, false, if◌then◌else◌, [], length, refl, sym, ap, ◌∙◌}
+use Rattle.fx_plain.proofs.Words.{◌≡◌, ◌≢◌, ℕ, ◌+◌, ◌-◌, ◌<◌, ◌≤◌, ◌^◌, Bool, true, false, [], length, refl, sym, ap, ◌∙◌}
 use Rattle.fx_plain.proofs.Words.{slice_index, slice_index_or, slice_set, Option, Some, None, arith, length-set, get_or-set_same, get_or-set_other}
 use Rattle.fx_plain.proofs.Words.{Closed, File, Look, Release, Steps, changed_at, after, Leads, close_of, ◌▷▷◌, Contents, IsTable, IsCounted}
 use Rattle.fx_plain.proofs.Words.{state_of, slot_at, node_at, file_at, placed_at, leaving, removed_at, is_fresh, is_leaving, is_retired, identity_in}
@@ -96,15 +96,7 @@ module _ {c : Contents} (n : ℕ) (t : IsTable c) (going : leaving c n ≡ true)
   -- a file that nobody holds is closed as it is retired
   pub retire_closes : slice_index c.holds n ≡ 0 → Leads (state_of c) (close_of (closed_by_retirement c n)) (state_of (closed_at c n))
   retire_closes unheld =
-      let removed : (state_of c).removed n ≡ Some (numbered n was_leaving.0) = ap (removed_at n) was_leaving.1 in
-      let closed : closed_by_retirement c n ≡ Some (numbered n was_leaving.0) = ap (λ (h : ℕ). if h == 0 then (state_of c).removed n else None) unheld
-      ∙ removed in
-      rw closed (
-        (tt, (removed, unheld)),
-        state_of-nodes Gone t node_inside off
-            ∙ ap (λ (f : ℕ → Bool). record (state_of c) { removed = changed_at (state_of c).removed n None; fresh = f })
-            (unchanged (state_of c).fresh n false (ap is_fresh (sym was_leaving.1))),
-      )
+      grind (arith, was_leaving, Gone, node_inside, off, state_of-nodes Gone t node_inside off, unchanged (state_of c).fresh n false (ap is_fresh (sym was_leaving.1)))
 
   -- a held file stays, and is retired
   abbrev pub retired_at : Contents
@@ -114,14 +106,7 @@ module _ {c : Contents} (n : ℕ) (t : IsTable c) (going : leaving c n ≡ true)
   retires = ap node_after_retirement was_leaving.1
 
   pub retire_waits : slice_index c.holds n ≢ 0 → Leads (state_of c) (close_of (closed_by_retirement c n)) (state_of retired_at)
-  retire_waits held =
-      let none : closed_by_retirement c n ≡ None = grind arith in rw none (
-        tt,
-        state_of-nodes (Retired was_leaving.0) t node_inside off ∙ λ i. record (state_of c) {
-          removed = unchanged (state_of c).removed n (Some (numbered n was_leaving.0)) (sym (ap (removed_at n) was_leaving.1)) i;
-          fresh = unchanged (state_of c).fresh n false (sym (ap is_fresh was_leaving.1)) i;
-        },
-      )
+  retire_waits held = grind (arith, was_leaving, node_inside, off, unchanged, state_of-nodes (Retired was_leaving.0) t node_inside off)
 
   pub retire_close_keeps : {full held removed : ℕ} → IsCounted c full held removed
       → IsTable (closed_at c n) × IsCounted (closed_at c n) full held (removed - 1)

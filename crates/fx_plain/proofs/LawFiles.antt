@@ -53,10 +53,7 @@ every_file_was_there_or_installed start end h f none legal is =
     let P : File → Type 0 = λ g. IsAtSlot start g ⊎ IsInstalled h g in let all : HoldsOfAll P start =
     record { at_slots = λ slot lt g at. inl (slot, lt, at); removed = λ n g at. let e : None ≡ Some g = sym (none n) ∙ at in cc } in
     let end_all : HoldsOfAll P end = subst (HoldsOfAll P) (sym legal.leads.1) (holds_at_end P start h all legal.leads.0 (λ g new. inr new)) in
-    elim is [
-      | inl there ↦ end_all.at_slots there.0 there.1 f there.2
-      | inr closed ↦ holds_of_closes P start h all legal.leads.0 (λ g new. inr new) f closed
-    ]
+    grind (arith, holds_of_closes)
 
 closed_now : (P : Closed → Type 0) (a : Action) → ((f : File) → a ≡ Close f → P f.identity) → All P (closed_by a)
 closed_now P a all = grind (arith, All-cons, All-nil)
@@ -104,16 +101,7 @@ followed_after {f} {st} a before may = grind (arith, tally_after)
 
 followed_from_start : (f : File) {st : State} → IsStart st → IsAtSlot st f → IsFollowed f st []
 followed_from_start f {st} start (slot, lt, is) =
-    let few = tally_start st f.number start in let at_least = placed_one f.number st.at slot st.size lt in
-    let there : named f.number (st.at slot) ≡ 1 = ap (named f.number) is ∙ named_same f f.number refl in record {
-      used = start.used slot f lt is;
-      only = record {
-        at_slots = λ other below g other_is same. let place = start.distinct other slot g f below lt other_is is same in
-            let e : Some g ≡ Some f = sym other_is ∙ ap st.at place ∙ is in cc;
-        removed = λ n g removed_is same. let e : None ≡ Some g = sym (start.settled.closed n) ∙ removed_is in cc;
-      };
-      one_of = inl (omega arith, refl);
-    }
+    grind (arith, tally_start st f.number start, placed_one f.number st.at slot st.size lt, named f.number, named_same f f.number refl, start.used slot f lt is)
 
 -- a file that is installed is the only one of its number
 followed_from_new : {f : File} (st : State) (closed : List File) → tally f.number st + length closed ≤ 1 → (a : Action) → Allows st a
@@ -124,12 +112,7 @@ followed_from_new {f} st closed few a may is =
       at_slots = λ slot lt g is same. let there : named f.number (st.at slot) ≡ 1 = ap (named f.number) is ∙ named_same g f.number same in
           let at_least = placed_one f.number st.at slot st.size lt in absurd (omega arith);
       removed = λ n g is same. let there : present (st.removed f.number) ≡ 1 = ap present (ap st.removed (sym same) ∙ is) in absurd (omega arith);
-    } in
-    let same = tally_after st a f.number may (omega arith) in let no_more = ap length none_closed in record {
-      used = used;
-      only = holds_after (Same f) (SameAt f) (λ _ p. p) only a may (λ g is_g _. let e : Some g ≡ Some f = sym is_g ∙ is in cc);
-      one_of = inl (omega arith, rw (nil_from_length closed (omega arith), none_closed) refl);
-    }
+    } in grind (arith, tally_after, holds_after, nil_from_length)
 
 followed : {start : State} (h : List Event) (f : File) → IsStart start → AllowsAll start (map action_of h) → IsAtSlot start f ⊎ IsInstalled h f
     → IsFollowed f (state_after start (map action_of h)) (closes_of f.number h)
@@ -150,8 +133,7 @@ module _ {f : File} {end : State} {closed : List File} (settled : IsSettled end)
 
   no_more_there : tally f.number end ≡ 0 → IsAtSlot end f → ⊥
   no_more_there no_slot (slot, lt, is) =
-      let there : named f.number (end.at slot) ≡ 1 = ap (named f.number) is ∙ named_same f f.number refl in
-      let at_least = placed_one f.number end.at slot end.size lt in omega (arith, all_placed)
+      grind (arith, all_placed, end.at slot, named f.number, named_same f f.number refl, placed_one f.number end.at slot end.size lt)
 
 pub every_removed_file_is_closed : (start end : State) (h : List Event) (f : File) → IsStart start → AllowsAll start (map action_of h)
     → end ≡ state_after start (map action_of h)

@@ -153,10 +153,7 @@ kept start h (e ∷ since) p n cover may own is =
     let all = since ++ h in let st = state_after start (map action_of all) in let (before, now) = kept_on p e since is in
     let (held, earlier) = kept start h since p n cover may.0 own.0 before in
     let change : keeping p n (e ∷ all) e.pass + given n e.action ≤ keeping p n all e.pass + taken n e.action =
-    by_equality e.pass p (λ b.
-    (if b then 1 else holding n (e ∷ all) e.pass) + given n e.action ≤ (if b then 1 else holding n all e.pass) + taken n e.action)
-    (λ same. let none_given = given_none n e.action (now same) in omega arith)
-    (λ _. rw (own_held e all) (own_change n (held_by all e.pass) e.action own.1)) in
+    grind (arith, by_equality, given_none, own_held, own_change) in
     let mine : keeping p n all p ≡ 1 = grind arith in let some_hold = held.below (suc p) in
     let here = no_close st e.action n may.1 (omega arith) in (
       covered_after (keeping p n (e ∷ all)) e.pass ((after st e.action).holds n) (taken n e.action)

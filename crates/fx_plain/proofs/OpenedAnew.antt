@@ -45,8 +45,7 @@ pub place_of_number : (k : ℕ) {n : ℕ} (l : List ℕ) → AreDistinct l → n
 place_of_number k [] distinct is = cc
 place_of_number k {n} (x ∷ l) distinct is = by_equality k (length l) (λ b. (if b then Some x else number_at k l) ≡ Some n → place_of n (x ∷ l) ≡ k)
     (λ same here. by_equality x n (λ b. (if b then length l else place_of n l) ≡ k) (λ _. sym same) (λ other. absurd (other (cc here))))
-    (λ apart there. by_equality x n (λ b. (if b then length l else place_of n l) ≡ k)
-    (λ same. absurd (distinct.0 (number_at_in k l (there ∙ ap Some (sym same))))) (λ other. place_of_number k l distinct.1 there)) is
+    (λ apart there. grind (arith, by_equality, number_at_in, place_of_number k l distinct.1 there)) is
 
 -- the test that the file at a slot has the number
 abbrev pub has_number : ℕ → Option File → Bool
@@ -192,15 +191,5 @@ opened_anew chain numbers start end h rest enough legal =
     let fresh = was_fresh start actions may in let distinct = distinct_installs start actions may in
     let r = by_order chain start new in let renamed = legal_renamed r (one_to_one chain start new rest.start fresh distinct)
     (renamable chain start new rest.start fresh distinct enough rest.inside)
-    (installs_named r actions (named_new chain start new rest.start fresh distinct)) legal in (
-      r,
-      renamed_state r renamed.0 end,
-      refl,
-      rw (opened chain start new rest.start fresh distinct enough rest.inside) at renamed.1,
-      record {
-        size = refl;
-        range = refl;
-        files = λ slot. same_identity r (end.at slot);
-        settled = settled_still r renamed.0 end;
-      },
-    )
+    (installs_named r actions (named_new chain start new rest.start fresh distinct)) legal in
+    grind (arith, same_identity, opened chain start new rest.start fresh distinct enough rest.inside, renamed.1, settled_still r renamed.0 end)

@@ -9,7 +9,7 @@ use Rattle.std.proofs.lemmas.Grind.{common_steps}
 use Rattle.fx_plain.proofs.Cells.{inside_of, read_default, by_equality, named, named_same, sum_below, sum_grows}
 use Rattle.fx_plain.proofs.Settled.{no_holds, none_removed, quiet_is, sum_of_nothings, sum_by-replicate}
 use Rattle.fx_plain.specs.Reopening.{IsTableAtRest}
-use Rattle.fx_plain.proofs.LawHolds.{bit, placed_one, tally, tally_start, tally_all}
+use Rattle.fx_plain.proofs.LawHolds.{placed_one, tally, tally_start, tally_all}
 
 -- a file that is numbered anew: its number is its slot's, and it is the file that it was
 pub numbered_anew : (x : Option File) (slot : ℕ) (f : File) → file_numbered x slot ≡ Some f → f.number ≡ slot
@@ -75,8 +75,7 @@ module _ {c : Contents} {slots : List (Option ℕ)} {nodes : List Node} {numbers
   prepared_keeps : IsTable prepared
   prepared_keeps = record {
     own = λ u k is lt. own_number u is;
-    used = λ k lt. let below : k < length c.slots = let same = r.files.same_size in omega arith in
-        fresh_is k ∙ rw (lt-ltb k (length c.slots) below) refl;
+    used = λ k lt. grind (arith, r.files.same_size, fresh_is k);
     few_slots = let f = t.few_slots in let same = r.files.same_size in omega arith;
     range_inside = let inside = t.range_inside in let same = r.files.same_size in omega arith;
     few_nodes = let len = r.size in omega arith;
@@ -120,9 +119,7 @@ begins_by_tally {st} few settled = record {
       let both = two_terms (λ s. named f.number (st.at s)) st.size apart below below_other in
       let one = few f.number in absurd (omega arith));
   used = λ slot f below is.
-      let here : named f.number (st.at slot) ≡ 1 = ap (named f.number) is ∙ named_same f f.number refl in
-      let at_least = placed_one f.number st.at slot st.size below in let one = few f.number in
-      false_from_ne_true (st.fresh f.number) (λ fresh. let counted = ap bit fresh in omega arith);
+      grind (arith, false_from_ne_true, st.at slot, named f.number, named_same f f.number refl, placed_one f.number st.at slot st.size below);
 }
 
 -- no file is past the slots

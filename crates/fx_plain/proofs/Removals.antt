@@ -137,9 +137,7 @@ module _ {c : Contents} {slot : ℕ} {x : Option ℕ} (y : Option ℕ) (nodes : 
       let nodes_total = opened-gave_way nodes x slot names in
       let all = sum_by-le removed_count_of 1 changed.nodes (λ k d lt. opened_le (slice_index_or changed.nodes k d)) in
       let most = sum_by-le file_count_of 1 c.slots (λ k d lt. filled_le (slice_index_or c.slots k d)) in
-      let size = length-gave_way nodes x in let few = t.few_nodes in let few_slots = t.few_slots in let f = k.full_slots in
-      let r = k.all_removed in
-      (omega arith, omega arith, record { full_slots = omega arith; all_holds = k.all_holds; small_holds = k.small_holds; all_removed = omega arith })
+      let size = length-gave_way nodes x in grind arith
 
 -- a table, after the file of a slot was taken
 abbrev pub taken : Contents → ℕ → ℕ → Contents
@@ -174,12 +172,7 @@ pub record IsFree (c : Contents) (slot n : ℕ) : Type 0 where
   quiet : removed_count_of (node_at c.nodes n) ≡ 0
 
 pub fresh_free : {c : Contents} (slot n : ℕ) → IsTable c → is_fresh (node_at c.nodes n) ≡ true → IsFree c slot n
-fresh_free {c} slot n t fresh = record {
-  room = inside_told is_fresh c.nodes n refl fresh;
-  unnamed = λ u m at same. let there = t.placed u m at in grind (arith, there.1);
-  own = λ lt. let clash : true ≡ false = sym fresh ∙ t.used n lt in cc;
-  quiet = ap removed_count_of (fresh_is _ fresh);
-}
+fresh_free {c} slot n t fresh = grind (arith, fresh_is, inside_told is_fresh c.nodes n refl fresh)
 
 -- the slot's own number is free, if the slot is empty and no file waits for its close
 pub own_free : {c : Contents} {slot : ℕ} → IsTable c → IsSettled (state_of c) → slot < length c.slots → slot < length c.nodes

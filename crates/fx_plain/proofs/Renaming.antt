@@ -1,5 +1,5 @@
 -- One step of a table, and a history, with other numbers.
-use Rattle.fx_plain.proofs.Words.{◌≡◌, ◌≢◌, ℕ, ◌<◌, Bool, true, false, List, [], ◌∷◌, map, refl, sym, ap, subst, ◌∙◌, Option, Some, None}
+use Rattle.fx_plain.proofs.Words.{◌≡◌, ◌≢◌, ℕ, ◌<◌, Bool, true, false, List, [], ◌∷◌, map, refl, sym, ap, ◌∙◌, Option, Some, None}
 use Rattle.fx_plain.proofs.Words.{IsSome, if◌then◌else◌, State, Allows, AllowsAll, after, state_after, changed_at, with_removed, IsLegal}
 use Rattle.fx_plain.proofs.Words.{action_of, File, Event, Action, Put, Take, Allocate, installed_by}
 use Rattle.fx_plain.specs.History.{held_after, held_by, ReleasesItsOwn, AllReleaseTheirOwn}
@@ -166,15 +166,5 @@ pub legal_renamed : (r : Renaming) → IsOneToOne r → {fresh : ℕ → Bool} {
     → InstallsNamed r (map action_of h) → IsLegal start h end
     → (left : ℕ → Bool) × IsLegal (renamed_state r fresh start) (map (renamed_event r) h) (renamed_state r left end) × IsRenamable r left end
 legal_renamed r one {fresh} {start} {h} k known legal =
-    let actions = map action_of h in let may = legal.leads.0 in let left = fresh_behind r fresh actions in (
-      left,
-      record {
-        leads = (
-          subst (AllowsAll (renamed_state r fresh start)) (sym (actions_renamed r h)) (allowed_behind r one k actions known may),
-          sym (ap (state_after (renamed_state r fresh start)) (actions_renamed r h) ∙ state_behind r one k actions known may
-              ∙ ap (renamed_state r left) (sym legal.leads.1)),
-        );
-        releases = all_release r h legal.releases;
-      },
-      subst (IsRenamable r left) (sym legal.leads.1) (renamable_behind r one k actions known may),
-    )
+    let actions = map action_of h in let may = legal.leads.0 in
+    grind (arith, actions_renamed, allowed_behind, state_after, state_behind, all_release r h legal.releases, legal.leads.1, renamable_behind r one k actions known may)

@@ -1,9 +1,8 @@
 -- The counters of a table, and its state; sums over lists of nothings.
 use Rattle.fx_plain.proofs.Words.{◌≡◌, sum_by-cons, sum_by, List, [], arith, ap, ◌∙◌, replicate, slice_index_or, suc, zero, ℕ, ◌∷◌, ◌≤◌, false}
-use Rattle.fx_plain.proofs.Words.{length, length-append, refl, Option, None, IsSettled, files_in_order, files_of, identities_of, Contents}
-use Rattle.fx_plain.proofs.Words.{IsTable, IsCounted, state_of, slot_at, node_at, file_at, removed_at, is_leaving, is_retired, file_count_of}
-use Rattle.fx_plain.proofs.Words.{removed_count_of, take, add-one, length-replicate, Gone, Node, All-from_get_or, sum_by-le}
-use Rattle.fx_plain.proofs.Words.{sum_by_more, take_all}
+use Rattle.fx_plain.proofs.Words.{length, length-append, refl, Option, None, IsSettled, files_in_order, files_of, identities_of, Contents, IsTable}
+use Rattle.fx_plain.proofs.Words.{IsCounted, state_of, slot_at, node_at, file_at, removed_at, is_leaving, is_retired, file_count_of, removed_count_of}
+use Rattle.fx_plain.proofs.Words.{take, add-one, length-replicate, Gone, Node, All-from_get_or, sum_by-le, sum_by_more, take_all}
 use Rattle.fx_plain.proofs.Cells.{read_default}
 
 pub sum_of_nothings : {X : Type 0} (f : X → ℕ) (xs : List X) (d : X) → ((i : ℕ) → f (slice_index_or xs i d) ≡ 0) → sum_by f xs ≡ 0

@@ -1,25 +1,20 @@
 -- A worker goes on by one chain that its pass drew.
-use Rattle.fx_ring.proofs.Words.{◌≡◌, ◌≢◌, ℕ, ◌+◌, ◌-◌, ◌<◌, ◌≤◌, List, [], ◌∷◌, ◌++◌, map, length, sym, ap, subst, ◌∙◌, All, Contains, Some, None}
-use Rattle.fx_ring.proofs.Words.{⊎_elim, length-append, arith, map-append, map-id, map-map, All-append, FileEntry, CloseListView, Closed, Event}
-use Rattle.fx_ring.proofs.Words.{Action, action_of, closes_in, part_of_chain, ◌▷◌, Opening, size_of, PassView, event_of, Completed, Explains}
-use Rattle.fx_ring.proofs.Words.{first_member, Asked, all_weights, IsEnoughFor, WorkerState, worker_state, run_of_chain, completions_of_chain}
-use Rattle.fx_ring.proofs.Words.{HasWorked, HasRoom, drop, slice_index_or, sum_by, sum_by-drop_more, drop-drop, Contains-append_cases}
-use Rattle.fx_ring.proofs.Words.{sum_by-take-drop, closes_in-then, Draws, Use, contains_head, contains_tail, contains_cases, contains_map, each_all}
-use Rattle.fx_ring.proofs.Words.{PlaysChain, player, explained_count}
+use Rattle.fx_ring.proofs.Words.{common_steps, ◌≡◌, ◌≢◌, ℕ, ◌+◌, ◌-◌, ◌<◌, ◌≤◌, List, [], ◌∷◌, ◌++◌, map, length, sym, ap, subst, ◌∙◌, All, Contains}
+use Rattle.fx_ring.proofs.Words.{Some, None, ⊎_elim, length-append, arith, map-append, map-id, map-map, All-append, FileEntry, CloseListView, Closed}
+use Rattle.fx_ring.proofs.Words.{Event, ◌▷◌, Action, action_of, closes_in, part_of_chain, Opening, size_of, PassView, event_of, Completed, Explains}
+use Rattle.fx_ring.proofs.Words.{first_member, Asked, all_weights, IsEnoughFor, WorkerState, worker_state, run_of_chain, completions_of_chain, drop}
+use Rattle.fx_ring.proofs.Words.{HasWorked, HasRoom, slice_index_or, sum_by, sum_by-drop_more, drop-drop, Contains-append_cases, sum_by-take-drop}
+use Rattle.fx_ring.proofs.Words.{closes_in-then, Draws, Use, contains_head, contains_tail, contains_cases, contains_map, each_all, PlaysChain, player}
+use Rattle.fx_ring.proofs.Words.{looks_least, explained_count}
 use Rattle.fx_ring.proofs.Parts.{only_first, only_second, not_first, not_second}
 use Rattle.fx_ring.proofs.CompletionPlaces.{explained_of_members}
-use Rattle.fx_table.proofs.Calls.{looks_least}
 
 -- the element at a further place of a list, counted from 1, and the elements after it
 pub sum_behind : {X : Type 0} (f : X → ℕ) (xs : List X) (d : X) (i : ℕ) {c : ℕ} → i < c → c ≤ length xs
     → f (slice_index_or xs (c - 1) d) + sum_by f (drop c xs) ≤ sum_by f (drop i xs)
 sum_behind f xs d i {c} further inside =
     let here = sum_by-drop_more f xs (c - 1) d (omega arith) in
-    let parts = sum_by-take-drop f (drop i xs) (c - 1 - i) in
-    let rest = ap (sum_by f) (drop-drop (c - 1 - i) i xs) in
-    let place = ap (λ (n : ℕ). sum_by f (drop n xs)) (let e : i + (c - 1 - i) ≡ c - 1 = omega arith in e) in
-    let next = ap (λ (n : ℕ). sum_by f (drop n xs)) (let e : c - 1 + 1 ≡ c = omega arith in e) in
-    omega arith
+    grind (arith, sum_by-take-drop f (drop i xs) (c - 1 - i), ap (sum_by f) (drop-drop (c - 1 - i) i xs))
 
 abbrev chain_of : Event → ℕ
 chain_of e = e.chain
@@ -69,8 +64,7 @@ module _ {o : Opening} {catalogue : List FileEntry} {submission : ℕ} {runs : L
 
   -- those before are of chains before it
   old_events : All (λ e. chain_of e ≢ chain) v.own
-  old_events = each_all (λ e. chain_of e ≢ chain) v.own
-      (λ e h same. let low = (worked.inside e.chain (worked.own e h)).1 in absurd (omega arith))
+  old_events = each_all (λ e. chain_of e ≢ chain) v.own (λ e h same. let low = (worked.inside e.chain (worked.own e h)).1 in absurd (omega arith))
 
   old_completions : All (λ c. chain_of_completed c ≢ chain) before
   old_completions k d l same = let low = (worked.inside _ (worked.completed k d l)).1 in absurd (omega arith)
@@ -121,23 +115,14 @@ module _ {o : Opening} {catalogue : List FileEntry} {submission : ℕ} {runs : L
       → HasRoom runs (worker_state x now files) more
   room_left {more} room grows =
       let requests = sum_behind (λ (run : List Asked). length run) runs [] v.chain further inside in
-      let weights = sum_behind all_weights runs [] v.chain further inside in
-      let count =
-      explained_count catalogue (size_of o) (first_member submission chain) (run_of_chain runs chain) played.2.actions played.0 played.2.says in
-      let longer = ap length played.1 ∙ length-append before played.0 in
-      let few = played.2.few_looks in
-      let looks = goes.looks_left in
-      let filled = played.2.acts.room in
-      let weigh = played.2.few_files in
-      grind arith
+      grind (arith, common_steps, sum_behind, explained_count, chain)
 
 -- what is left to a worker suffices for a further chain
 pub enough : {runs : List (List Asked)} {w : WorkerState} {capacity : ℕ} {chain : ℕ} → HasRoom runs w capacity → w.pass.chain < chain
     → chain ≤ length runs → IsEnoughFor (run_of_chain runs chain) w capacity
 enough {runs} {w} room further inside =
     let requests = sum_behind (λ (run : List Asked). length run) runs [] w.pass.chain further inside in
-    let weights = sum_behind all_weights runs [] w.pass.chain further inside in
-    (omega arith, omega arith, omega arith)
+    grind (arith, sum_behind all_weights runs [] w.pass.chain further inside)
 
 -- and the worker goes on
 module _ {o : Opening} {catalogue : List FileEntry} {submission : ℕ} {runs : List (List Asked)} {v w x : PassView}

@@ -1,11 +1,11 @@
 -- The places of completions: of a chain, and of a submission in parts.
-use Rattle.fx_ring.proofs.Words.{◌≡◌, ℕ, ◌+◌, ◌-◌, ◌<◌, List, [], length, slice_index_or, sym, ap, subst, ◌∙◌, All, arith, get_or-map}
-use Rattle.fx_ring.proofs.Words.{length-map, IsChain, IsShortRun, members_of, Asked, all_asked, runs_of, all_installs, Chain, Request, AreCutInto}
-use Rattle.fx_ring.proofs.Words.{InstallAtMost, All-map, All-weaker, ◌≤◌, ◌*◌, ◌∷◌, refl, All-nil, All-cons, FileEntry, Action, Completed}
-use Rattle.fx_ring.proofs.Words.{next_member, Explains, canceled, severs, Place, either_case, suc, ◌++◌, length-append, map, sum_by, IsPermutation}
-use Rattle.fx_ring.proofs.Words.{flat_map, IsNonDecreasingBy, All-head, All-tail, All-append, sum_by-cons, IsPermutation-sym, IsPermutation-trans}
-use Rattle.fx_ring.proofs.Words.{length_permutation, MOST_MEMBERS, part_of_chain, action_of, Event, first_member, ExplainsParts, completions_of_chain}
-use Rattle.fx_ring.proofs.Words.{run_of_chain, Contains, HasWorked, WorkerState, range_with_len, asked_of}
+use Rattle.fx_ring.proofs.Words.{◌≡◌, ℕ, ◌+◌, ◌-◌, ◌<◌, List, [], length, slice_index_or, sym, ap, subst, ◌∙◌, All, arith, get_or-map, length-map}
+use Rattle.fx_ring.proofs.Words.{IsChain, IsShortRun, members_of, Asked, all_asked, runs_of, all_installs, Chain, Request, AreCutInto, InstallAtMost}
+use Rattle.fx_ring.proofs.Words.{All-map, All-weaker, ◌≤◌, ◌*◌, ◌∷◌, refl, All-nil, All-cons, FileEntry, Action, Completed, next_member, Explains}
+use Rattle.fx_ring.proofs.Words.{canceled, severs, Place, either_case, suc, ◌++◌, length-append, map, sum_by, IsPermutation, flat_map, All-head}
+use Rattle.fx_ring.proofs.Words.{IsNonDecreasingBy, All-tail, All-append, sum_by-cons, IsPermutation-sym, IsPermutation-trans, length_permutation}
+use Rattle.fx_ring.proofs.Words.{MOST_MEMBERS, part_of_chain, action_of, Event, first_member, ExplainsParts, completions_of_chain, run_of_chain}
+use Rattle.fx_ring.proofs.Words.{Contains, HasWorked, WorkerState, range_with_len, asked_of}
 use Rattle.fx_ring.proofs.Installs.{answered}
 use Rattle.fx_ring.proofs.OneOrder.{Rises, one_list_in_order}
 use Rattle.fx_ring.proofs.Parts.{made_by_key, split_by_key}
@@ -30,8 +30,7 @@ module _ {requests : List Asked} {chains : List Chain} (cut : AreCutInto request
 
   -- the runs are short
   pub runs_within : All IsShortRun (runs_of requests)
-  runs_within = subst (All IsShortRun) cut.members (All-map IsShortRun (members_of requests) chains
-      (All-weaker (IsChain requests) (λ chain. IsShortRun (members_of requests chain)) (λ chain is. is.run) chains cut.within))
+  runs_within = subst (All IsShortRun) cut.members (All-map IsShortRun (members_of requests) chains (grind (arith, All-weaker)))
 
 -- The places of the completions of a chain.
 
@@ -69,8 +68,7 @@ pub explained_of_members : (catalogue : List FileEntry) (size : ℕ) (place : Pl
 explained_of_members catalogue size place [] events it = subst (AreOfMembers place []) (sym it.1) (none_of_members place)
 explained_of_members catalogue size place (request ∷ requests) events (own, others, c, cs, parts, are, answers, behind) =
     subst (AreOfMembers place (request ∷ requests)) (sym are) (more_of_members request (answered catalogue place size request.operation answers).at
-    (either_case (severs request c)
-    (λ cut. subst (AreOfMembers (next_member place) requests) (sym cut.1) (canceled_of_members (next_member place) requests))
+    (either_case (severs request c) (grind (arith, next_member place, canceled_of_members (next_member place) requests))
     (λ more. explained_of_members catalogue size (next_member place) requests others more) behind))
 
 -- The completions of a submission, once they are in order of place: they are the chains' parts, one
@@ -81,8 +79,7 @@ rises_append : {m : ℕ} (xs ys : List Completed) → Rises place_key xs → Ris
 rises_append [] ys left right below above = right
 rises_append {m} (x ∷ xs) ys left right below above =
     let one : place_key x < m = All-head (λ c. place_key c < m) x xs below in (
-      All-append (λ y. place_key x < place_key y) xs ys left.0
-          (All-weaker (λ c. m ≤ place_key c) (λ y. place_key x < place_key y) (λ y le. omega arith) ys above),
+      All-append (λ y. place_key x < place_key y) xs ys left.0 (grind (arith, All-weaker)),
       rises_append xs ys left.1 right (All-tail (λ c. place_key c < m) x xs below) above,
     )
 
@@ -134,12 +131,10 @@ module _ (catalogue : List FileEntry) (size submission : ℕ) (history : List Ev
   module _ (runs : List (List Asked)) (few : All IsShortRun runs) (inside : All (λ c. (1 ≤ c.place.chain) × (c.place.chain ≤ length runs)) all)
       (explained : (c : ℕ) → 1 ≤ c → c ≤ length runs → IsExplainedPart c (run_of_chain runs c)) where
     whole : AreInOrder 1 runs
-    whole = in_order 1 runs few (λ i lt. let same : 1 + i - 1 ≡ i = omega arith in
-        subst (λ j. IsExplainedPart (1 + i) (slice_index_or runs j [])) same (explained (1 + i) (omega arith) (omega arith)))
+    whole = in_order 1 runs few (grind arith)
 
     all_parts : IsPermutation all (parts 1 runs)
-    all_parts = made_by_key (λ c. c.place.chain) (λ l. l) refl (split_by_key (λ c. c.place.chain)) 1 (length runs) all
-        (λ k d lt. let it = inside k d lt in let low = it.0 in let high = it.1 in (omega arith, omega arith))
+    all_parts = made_by_key (λ c. c.place.chain) (λ l. l) refl (split_by_key (λ c. c.place.chain)) 1 (length runs) all (grind arith)
 
     -- there is one completion of each request
     pub one_of_each_request : length all ≡ sum_by (λ run. length run) runs

@@ -1,13 +1,11 @@
-use Rattle.std.proofs.Common.{rules}
 -- Crews: new ones, and those whose passes have played.
-use Rattle.fx_ring.proofs.Words.{◌≡◌, ℕ, ◌≤◌, List, [], ◌∷◌, map, flat_map, length, All, sum_by, refl, sym, ap, subst, ◌∙◌, arith, vec_capacity}
-use Rattle.fx_ring.proofs.Words.{length-map, map-map, length-flat_map, All-nil, All-contains, sum_by-cons, sum_by-append, FileEntry}
-use Rattle.fx_ring.proofs.Words.{PassView, new_pass, new_passes, all_completed, Asked, runs_of, all_weights, weight_of, Completion}
-use Rattle.fx_ring.proofs.Words.{HasRoomFor, HasWorked, HasRoom, worker_state, Outcome, Worker, Contains, contains_none, contains_map}
-use Rattle.fx_ring.proofs.Words.{contains_mapped, each_all, PASS_LOOKS, range_with_len, map-id, length-map-range_with_len, ◌*◌, sum_by-le, All-weaker}
-use Rattle.fx_ring.proofs.Words.{IsShortRun, Chain, AreCutInto, MOST_MEMBERS, map-append, Closed, completed_of, state_of_worker, WorkerState}
-use Rattle.fx_ring.proofs.Words.{flat_map-map, ◌+◌, ◌<◌, take, slice_index_or, sum_by_more_le, IsAccepted, all_asked, asked_of, operation_of, Request}
-use Rattle.fx_ring.proofs.Words.{sum_map, accepted-each, accepted-length, all_weights-small}
+use Rattle.fx_ring.proofs.Words.{rules, length-map, sum_by-cons, new_passes, all_weights, Completion, HasRoomFor, PASS_LOOKS, All-weaker, WorkerState}
+use Rattle.fx_ring.proofs.Words.{◌≡◌, FileEntry, PassView, weight_of, HasWorked, sum_by-le, IsShortRun, AreCutInto, map-append, IsAccepted, all_asked}
+use Rattle.fx_ring.proofs.Words.{ℕ, ◌≤◌, ◌∷◌, map, All, sum_by, refl, sym, ap, ◌∙◌, arith, Asked, Worker, map-id, ◌*◌, Chain, Closed, ◌+◌, ◌<◌, take}
+use Rattle.fx_ring.proofs.Words.{List, vec_capacity, All-contains, worker_state, contains_map, MOST_MEMBERS, completed_of, flat_map-map, operation_of}
+use Rattle.fx_ring.proofs.Words.{[], length-flat_map, contains_mapped, length-map-range_with_len, state_of_worker, accepted-length, all_weights-small}
+use Rattle.fx_ring.proofs.Words.{flat_map, sum_by-append, all_completed, contains_none, range_with_len, slice_index_or, sum_by_more_le, accepted-each}
+use Rattle.fx_ring.proofs.Words.{length, subst, map-map, All-nil, new_pass, runs_of, HasRoom, Outcome, Contains, each_all, asked_of, Request, sum_map}
 use Rattle.fx_ring.proofs.CompletionPlaces.{as_many, runs_within}
 use Rattle.fx_chain.proofs.Runs.{are_runs}
 use Rattle.fx_ring.proofs.Parts.{made_of_parts}
@@ -63,9 +61,7 @@ pub weight_fits : (requests : List Request) (i : ℕ) (x : Request) → i < leng
     → IsAccepted (all_asked requests) → sum_by weight_of_one (take i requests) + weight_of_one x ≤ 261888
 weight_fits requests i x inside is accepted =
     let small = all_weights-small (all_asked requests) (accepted-each (all_asked requests) accepted) in
-    let all = sum_map (λ a. weight_of a.operation) asked_of requests in
-    let few = accepted-length (all_asked requests) accepted in
-    omega (arith, sum_by_more_le weight_of_one requests i x inside, ap weight_of_one is, all, few, small)
+    grind (arith, sum_map, accepted-length, sum_by_more_le)
 
 pub runs_weigh_all : (requests : List Asked) → sum_by all_weights (runs_of requests) ≡ all_weights requests
 runs_weigh_all requests = sym (weights_joined (runs_of requests)) ∙ ap all_weights (are_runs requests).whole

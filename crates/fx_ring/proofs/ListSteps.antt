@@ -1,11 +1,10 @@
 -- Lists that are applied to slots, one number after another.
-use Rattle.fx_ring.proofs.Words.{◌≡◌, ℕ, zero, suc, ◌==◌, ◌||◌, not, Bool, false, ℤ, pos, negsuc, List, [], ◌∷◌, length, refl, ap, ◌∙◌, eq-eqb}
-use Rattle.fx_ring.proofs.Words.{length-map, list_any, zip, are_bad_tags, is_bad_tag, no_tags, tag_at, sym, Some, slice_get, arith, le-ltb}
-use Rattle.fx_ring.proofs.Words.{is_bad_entry, is_bad_file, or_from, or_parts, ◌+◌, ◌-◌, ◌<◌, ◌≤◌, if◌then◌else◌, ◌++◌, nat_lt, length-append}
-use Rattle.fx_ring.proofs.Words.{append_assoc, append-nil, Option, drop, slice_index_or, lt-ltb, slice_get_past, drop-cons, CloseListView, Registered}
-use Rattle.fx_ring.proofs.Words.{Closed, State, IsSettled, changed_at, by_equality, file_after, file_listed, files_after, removed_by_number}
-use Rattle.fx_ring.proofs.Words.{removed_from, files_at, SetsList, SetsNumber, drop-length, slice_get-get_or}
-use Rattle.std.proofs.lemmas.Bool.Decides.{nat_tests}
+use Rattle.fx_ring.proofs.Words.{common_steps, ◌≡◌, ℕ, zero, suc, ◌==◌, ◌||◌, not, Bool, false, ℤ, pos, negsuc, List, [], ◌∷◌, length, refl, ap, ◌∙◌}
+use Rattle.fx_ring.proofs.Words.{eq-eqb, zip, length-map, list_any, are_bad_tags, is_bad_tag, no_tags, tag_at, sym, Some, slice_get, arith, le-ltb}
+use Rattle.fx_ring.proofs.Words.{is_bad_entry, is_bad_file, or_from, or_parts, ◌+◌, ◌-◌, ◌<◌, ◌≤◌, if◌then◌else◌, ◌++◌, nat_lt, length-append, Option}
+use Rattle.fx_ring.proofs.Words.{append_assoc, append-nil, drop, slice_index_or, lt-ltb, slice_get_past, drop-cons, CloseListView, Registered, Closed}
+use Rattle.fx_ring.proofs.Words.{State, IsSettled, changed_at, by_equality, file_after, file_listed, files_after, removed_by_number, removed_from}
+use Rattle.fx_ring.proofs.Words.{files_at, SetsList, SetsNumber, drop-length, slice_get-get_or, nat_tests}
 
 none_bad : (list : List ℤ) → list_any (λ pair. is_bad_tag pair.0 pair.1) (zip list (no_tags list)) ≡ false
 none_bad [] = refl
@@ -14,10 +13,7 @@ none_bad (negsuc n ∷ list) = none_bad list
 
 -- they are as many as the numbers, and no number below 0 has one
 pub no_bad_tags : (list : List ℤ) → are_bad_tags list (no_tags list) ≡ false
-no_bad_tags list =
-    ap (λ (n : ℕ). not (length list == n) || list_any (λ pair. is_bad_tag pair.0 pair.1) (zip list (no_tags list))) (length-map list (λ _. 0))
-    ∙ ap (λ (b : Bool). not b || list_any (λ pair. is_bad_tag pair.0 pair.1) (zip list (no_tags list))) (eq-eqb (length list) (length list) refl)
-    ∙ none_bad list
+no_bad_tags list = grind (arith, common_steps, none_bad)
 
 -- each of them is 0
 pub no_tag_at : (list : List ℤ) (i : ℕ) → tag_at (no_tags list) i ≡ 0
@@ -76,10 +72,7 @@ module _ (k : ℕ) (at : ℕ → Option Closed) (off : ℕ) (list : List ℤ) (t
 
     -- the files that the rest of the list removes, with the next number before it
     pub removed_next : removed_from at (off + i) (drop i list) ≡ removed_by_number z (at (off + i)) ++ removed_from at (off + (i + 1)) (drop (i + 1) list)
-    removed_next = ap (removed_from at (off + i)) (drop-cons list i (pos 0) inside) ∙ ap (λ (y : ℤ). removed_by_number y (at (off + i))
-        ++ removed_from at (off + i + 1) (drop (suc i) list)) (sym is)
-        ∙ ap (λ (n : ℕ × ℕ). removed_by_number z (at (off + i)) ++ removed_from at n.0 (drop n.1 list))
-        (let e : off + i + 1 ≡ off + (i + 1) = omega arith in let f : suc i ≡ i + 1 = omega arith in λ j. (e j, f j))
+    removed_next = grind (arith, common_steps, removed_from)
 
 -- the first `i` numbers of a list were applied; the rest has still to be removed, and has its room
 pub record IsApplied (k off : ℕ) (list : List ℤ) (tags : List ℕ) (old cur : State) (before mid : CloseListView) (i : ℕ) : Type 0 where
@@ -92,28 +85,13 @@ pub record IsApplied (k off : ℕ) (list : List ℤ) (tags : List ℕ) (old cur 
 
 pub none_applied : {k off : ℕ} {list : List ℤ} {tags : List ℕ} {old cur : State} {before : CloseListView} → cur.size ≡ old.size
     → cur.range ≡ old.range → files_at cur ≡ files_at old → IsSettled cur → IsApplied k off list tags old cur before before 0
-none_applied {k} {off} {list} {tags} {old} {before = before} size range files settled = record {
-  size = size;
-  range = range;
-  at_slots = files ∙ sym (upto_none k (files_at old) off list tags);
-  settled = settled;
-  closed = let e : off + 0 ≡ off = omega arith in ap (λ (n : ℕ). before.files ++ removed_from (files_at old) n list) e;
-  room = let e : off ≡ off + 0 = omega arith in ap (λ (n : ℕ). before.room + length (removed_from (files_at old) n list)) e;
-}
+none_applied {k} {off} {list} {tags} {old} {before = before} size range files settled = grind (arith, upto_none k (files_at old) off list tags)
 
 module _ {k off : ℕ} {list : List ℤ} {tags : List ℕ} {old cur : State} {before mid : CloseListView} where
   pub all_applied : IsApplied k off list tags old cur before mid (length list) → SetsList k off list tags old cur before mid
   all_applied done =
       let none = ap (removed_from (files_at old) (off + length list)) (drop-length list) in
-      let rest = ap length none in
-      record {
-        size = done.size;
-        range = done.range;
-        at_slots = done.at_slots ∙ upto_all k (files_at old) off list tags;
-        settled = done.settled;
-        closed = sym (append-nil mid.files) ∙ ap (λ (l : List Closed). mid.files ++ l) (sym none) ∙ done.closed;
-        room = omega arith;
-      }
+      grind (arith, common_steps, ap length none, upto_all k (files_at old) off list tags)
 
   module _ {i : ℕ} (inside : i < length list) (done : IsApplied k off list tags old cur before mid i) where
     abbrev number : ℤ
@@ -137,18 +115,4 @@ module _ {k off : ℕ} {list : List ℤ} {tags : List ℕ} {old cur : State} {be
 
     pub applied_next : {new : State} {later : CloseListView} → SetsNumber k off i (tag_at tags i) number cur new mid later
         → IsApplied k off list tags old new before later (i + 1)
-    applied_next next =
-        let both = parts in
-        record {
-          size = next.size ∙ done.size;
-          range = next.range ∙ done.range;
-          at_slots = next.at_slots
-              ∙ ap (λ (x : Option Closed). changed_at (files_at cur) (off + i) (file_after (Registered k i) (tag_at tags i) number x)) here
-              ∙ ap (λ (a : ℕ → Option Closed). changed_at a (off + i) (file_after (Registered k i) (tag_at tags i) number (files_at old (off + i))))
-              done.at_slots
-              ∙ sym (upto_next k (files_at old) off list tags i number inside refl);
-          settled = next.settled;
-          closed = ap (λ (l : List Closed). l ++ rest) next.closed ∙ append_assoc mid.files (removed_by_number number (files_at cur (off + i))) rest
-              ∙ ap (λ (l : List Closed). mid.files ++ l) (sym split) ∙ done.closed;
-          room = omega arith;
-        }
+    applied_next next = let both = parts in grind (arith, common_steps, here, upto_next k (files_at old) off list tags i number inside refl)

@@ -1,16 +1,14 @@
-use Rattle.std.proofs.Common.{rules}
 -- A pass alone plays the chains of a submission, one after another.
-use Rattle.fx_ring.proofs.Words.{◌≡◌, ◌≢◌, ℕ, ◌+◌, ◌-◌, ◌*◌, ◌<◌, ◌≤◌, false, cond, List, [], ◌∷◌, ◌++◌, map, length, refl, sym, ap}
-use Rattle.fx_ring.proofs.Words.{nat_tests, subst, ◌∙◌, arith, Option, None, All, All-head, All-tail, All-weaker, Contains, by_equality}
-use Rattle.fx_ring.proofs.Words.{IsPermutation, IsNonDecreasingBy, FileEntry, CloseListView, Closed, State, opening, IsLegal, action_of, closes_in}
-use Rattle.fx_ring.proofs.Words.{closed_by, part_of_chain, File, Event, Action, Opening, size_of, state_at, PassView, numbers_for, Completed}
-use Rattle.fx_ring.proofs.Words.{Explains, first_member, Asked, runs_of, IsShortRun, HasClosed, ring_of, ring_with, with_table, installed_by, sum_by}
-use Rattle.fx_ring.proofs.Words.{sum_by-cons, IsOneHistory, HasWorked, worker_state, completions_of_chain, run_of_chain, MOST_SLOTS, same_size}
-use Rattle.fx_ring.proofs.Words.{start_of, IsSettledSoFar, contains_map, contains_mapped, each_all, table_with_files, chain_less, begun_after}
-use Rattle.fx_ring.proofs.Words.{sum_by-le, map-map, Some, map-append, append_assoc, ◌▷◌, IsIdle, event_of, HasRoom, vec_capacity, all_completed}
-use Rattle.fx_ring.proofs.Words.{HasRoomFor, MOST_MEMBERS, Outcome, add-one, Draws, PlaysChain, player, chains_to, zero, suc}
-use Rattle.fx_ring.proofs.Words.{filter_passes, contains_head, contains_tail, stays_at_rest, begins_at_rest, legal_behind, IsFront, ◌▷▷◌}
-use Rattle.fx_plain.specs.History.{held_by}
+use Rattle.fx_ring.proofs.Words.{common_steps, rules, ◌≡◌, ◌≢◌, ℕ, ◌+◌, ◌-◌, ◌*◌, ◌<◌, ◌≤◌, false, cond, List, [], ◌∷◌, ◌++◌, map, length, refl, sym}
+use Rattle.fx_ring.proofs.Words.{ap, nat_tests, subst, ◌∙◌, arith, Option, None, All, All-head, All-tail, All-weaker, Contains, by_equality, Closed}
+use Rattle.fx_ring.proofs.Words.{IsPermutation, IsNonDecreasingBy, FileEntry, CloseListView, State, opening, IsLegal, action_of, closes_in, closed_by}
+use Rattle.fx_ring.proofs.Words.{part_of_chain, File, Event, Action, Opening, size_of, state_at, PassView, numbers_for, Completed, Explains, Asked}
+use Rattle.fx_ring.proofs.Words.{first_member, runs_of, IsShortRun, HasClosed, ring_of, ring_with, with_table, installed_by, sum_by, sum_by-cons, ◌▷◌}
+use Rattle.fx_ring.proofs.Words.{IsOneHistory, HasWorked, worker_state, completions_of_chain, run_of_chain, MOST_SLOTS, same_size, start_of, Some}
+use Rattle.fx_ring.proofs.Words.{IsSettledSoFar, contains_map, contains_mapped, each_all, table_with_files, chain_less, begun_after, sum_by-le, Draws}
+use Rattle.fx_ring.proofs.Words.{map-map, map-append, append_assoc, IsIdle, event_of, HasRoom, vec_capacity, all_completed, HasRoomFor, MOST_MEMBERS}
+use Rattle.fx_ring.proofs.Words.{Outcome, add-one, PlaysChain, player, chains_to, zero, suc, filter_passes, contains_head, contains_tail, IsFront}
+use Rattle.fx_ring.proofs.Words.{stays_at_rest, begins_at_rest, legal_behind, ◌▷▷◌, held_by, looks_least}
 use Rattle.fx_plain.specs.Reopening.{Renaming, renamed, renamed_event, numbers_given, with_number_of, IsTableAtRest, HasOtherNumbers}
 use Rattle.fx_plain.proofs.OpenedAnew.{opened_anew}
 use Rattle.fx_chain.proofs.OtherNumbers.{explains, few_given, given_one}
@@ -19,7 +17,6 @@ use Rattle.fx_ring.proofs.Parts.{few_by_key}
 use Rattle.fx_ring.proofs.CompletionPlaces.{drawn_inside, in_order_explained}
 use Rattle.fx_ring.proofs.Crews.{IsNew, new_has_worked, new_has_room}
 use Rattle.fx_ring.proofs.ChainPlayed.{GoesOn, drawing, worked_on, room_left}
-use Rattle.fx_table.proofs.Calls.{looks_least}
 
 -- a table is at rest wherever all is settled
 pub at_rest_of : {o : Opening} {v : PassView} → IsSettledSoFar o v → IsTableAtRest (state_at o v.own)
@@ -46,8 +43,7 @@ given_by e = length (with_number_of (installed_by e.action) [])
 
 given_sum : (h : List Event) → given h ≡ sum_by given_by h
 given_sum [] = refl
-given_sum (e ∷ h) =
-    omega (arith, given_one e.action (numbers_given (map action_of h)), sum_by-cons given_by e h, given_sum h)
+given_sum (e ∷ h) = omega (arith, given_one e.action (numbers_given (map action_of h)), sum_by-cons given_by e h, given_sum h)
 
 -- the history with other numbers and chains
 
@@ -92,8 +88,7 @@ module _ {catalogue : List FileEntry} {o : Opening} {before after : PassView} {d
   less = map (chain_less base) since
 
   behind : IsLegal st since end
-  behind = legal_behind (start_of o) end before.own since (none_held before.own authors first.held)
-      (subst (λ (h : List Event). IsLegal (start_of o) h end) own last.legal)
+  behind = legal_behind (start_of o) end before.own since (none_held before.own authors first.held) (grind arith)
 
   few_numbers : given since ≤ 64 * length runs
   few_numbers =
@@ -149,13 +144,7 @@ module _ {catalogue : List FileEntry} {o : Opening} {before after : PassView} {d
         (completions_of_chain c completions) (worked.explained c (all_drawn c low high)))) same rises);
     closed = subst (λ (l : List Closed). HasClosed l files) (worked.closed ∙ sym (closes_same opened.0 base since)) closed;
     submission = refl;
-    after = ring_so end (at_rest_of last).inside catalogue (submissions + 1) registrations
-        ∙ (λ i. record (with_table (ring_of (ring_with catalogue (table_with_files st) submissions registrations)) left) {
-          size = sym opened.4.size i;
-          range = sym opened.4.range i;
-          at = λ slot. sym (opened.4.files slot) i;
-          submissions = submissions + 1;
-        });
+    after = grind (arith, ring_so end (at_rest_of last).inside catalogue (submissions + 1) registrations);
   }
 
 -- a pass alone, which was so at first, has played `i` chains of a submission, and there is room for
@@ -182,8 +171,7 @@ pub begins : {P : Type 0} {V : P → PassView} {Fits : P → Type 0} {o : Openin
     → IsPlaying V Fits o catalogue submission requests (V pass) 0 pass (all_completed outcome.completions.items) outcome.closes
     (vec_capacity outcome.completions)
 begins {V} {requests} {pass} fits idle more room looks =
-    let new : IsNew (length requests) (begun_after (V pass).chain [] [] (V pass)) =
-    record { own = refl; drawn = refl; chain = omega arith; looks = looks } in
+    let new : IsNew (length requests) (begun_after (V pass).chain [] [] (V pass)) = grind arith in
     record {
       fits = fits;
       idle = idle;
@@ -220,8 +208,7 @@ module _ {P : Type 0} {V : P → PassView} {Fits : P → Type 0} {o : Opening} {
 
     goes : GoesOn (drawing o was (i + 1)) (begun_after start.chain (chains_to (i + 1)) since (V then)) played.2.actions played.2.used
     goes = record {
-      own = map-append (chain_less start.chain) (map (event_of w) played.2.actions) is.since
-          ∙ ap (λ (l : List Event). l ++ map (chain_less start.chain) is.since) (events_less played.2.actions);
+      own = grind (arith, common_steps, events_less);
       chain = omega (arith, drawn_chain, played.2.acts.adds.chain);
       drawn = ap chains_to (add-one i) ∙ ap (λ (c : ℕ). chains_to i ▷ c) (sym (add-one i));
       looks_left = let e = ap (λ (z : PassView). z.looks_left) drew.3 in omega (arith, e, looks_least played.2.acts.adds);
@@ -239,9 +226,7 @@ module _ {P : Type 0} {V : P → PassView} {Fits : P → Type 0} {o : Opening} {
       chain = omega (arith, drawn_chain, played.2.acts.adds.chain);
       looks = omega (arith, goes.looks_left, played.2.few_looks, short, is.looks);
       since = since;
-      own = played.2.acts.adds.own
-          ∙ ap (λ (l : List Event). map (event_of w) played.2.actions ++ l) (ap (λ (z : PassView). z.own) drew.3 ∙ is.own)
-          ∙ sym (append_assoc (map (event_of w) played.2.actions) is.since start.own);
+      own = grind (arith, common_steps);
       worked = worked_on is.worked further inside played goes;
       room = room_left is.worked further inside played goes is.room grows;
     }
@@ -253,6 +238,5 @@ authors_of settled front = grind (arith, All-weaker, filter_passes)
 -- each chain was drawn
 pub all_drawn : (n c : ℕ) → 1 ≤ c → c ≤ n → Contains (chains_to n) c
 all_drawn zero c low high = absurd (omega arith)
-all_drawn (suc n) c low high = by_equality c (suc n) (λ _. Contains (chains_to (suc n)) c)
-    (λ same. subst (Contains (chains_to (suc n))) (sym same) (contains_head (suc n) (chains_to n)))
+all_drawn (suc n) c low high = by_equality c (suc n) (λ _. Contains (chains_to (suc n)) c) (grind (arith, contains_head (suc n) (chains_to n)))
     (λ other. contains_tail (suc n) (chains_to n) c (all_drawn n c low (omega arith)))

@@ -1,8 +1,7 @@
 -- Tables and histories whose files have different marks.
-use Rattle.fx_ring.proofs.Words.{◌≡◌, ◌≢◌, ◌⊎◌, List, [], ◌∷◌, sym, subst, ⊎_elim, inl, inr, Option, Some, None, ◌▷◌, ◌▷▷◌, installed_by, File}
-use Rattle.fx_ring.proofs.Words.{Action, Close, MayClose, ℕ, refl, ◌∙◌, State, after, changed_at, state_after, Look, Put, Clear, Take, Allocate, suc}
-use Rattle.fx_ring.proofs.Words.{◌==◌, Bool, true, false, cond, map, Contains, ap, arith, eq-eqb, Submitted, part_of_chain, action_of, IsInstalled}
-use Rattle.fx_ring.proofs.Words.{Event}
+use Rattle.fx_ring.proofs.Words.{◌≡◌, ◌≢◌, ◌⊎◌, List, [], ◌∷◌, sym, subst, ⊎_elim, inl, inr, Option, Some, None, ◌▷◌, ◌▷▷◌, installed_by, File, Close}
+use Rattle.fx_ring.proofs.Words.{Action, MayClose, ℕ, refl, ◌∙◌, State, after, changed_at, state_after, Look, Put, Clear, Take, Allocate, suc, ◌==◌}
+use Rattle.fx_ring.proofs.Words.{Bool, true, false, cond, map, Contains, ap, arith, eq-eqb, Submitted, part_of_chain, action_of, IsInstalled, Event}
 
 -- one of the steps installs the file
 abbrev pub IsPut : List Action → File → Type 0
@@ -102,8 +101,7 @@ module _ (P : File → Type 0) where
   apart_after start [] begins fresh unlike = begins
   apart_after start (a ∷ h) begins fresh unlike =
       let before = apart_after start h begins fresh.0 (λ f g put was. unlike f g (inl put) was) in
-      let st = state_after start h in
-      grind (arith, kept_apart, changed_apart, slots_after)
+      grind (arith, state_after start h, kept_apart, changed_apart, slots_after)
 
 -- Where each chain's part of a history installs no mark twice, and marks of that chain alone, the
 -- history doesn't either.
@@ -127,7 +125,7 @@ put_in_part (e ∷ h) f (inl before) =
     more false xs is = is
 put_in_part (e ∷ h) f (inr now) = (
   e,
-  (0, omega arith, refl),
+  (grind arith),
   subst (λ b. IsPut (map action_of (cond b (e ∷ part_of_chain e.chain h) (part_of_chain e.chain h))) f)
       (sym (eq-eqb e.chain e.chain refl)) (inr now),
 )

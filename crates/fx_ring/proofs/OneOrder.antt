@@ -1,6 +1,6 @@
 -- A list in strict order is the only one of its elements that is in order.
-use Rattle.fx_ring.proofs.Words.{Bool, false, ◌∙◌, ◌≢◌, length, contains_head, contains_none, contains_tail, ◌≡◌, ℕ, suc, ◌<◌, List, [], ◌∷◌, All}
-use Rattle.fx_ring.proofs.Words.{Contains, IsPermutation, refl, sym, ap, ◌==◌, arith, ⊎_elim, slice_index_or, eq-eqb, ne_eqb, IsNonDecreasingBy}
+use Rattle.fx_ring.proofs.Words.{Bool, false, ◌∙◌, ◌≢◌, length, contains_head, contains_none, contains_tail, ◌≡◌, ℕ, suc, ◌<◌, List, [], ◌∷◌, All, ap}
+use Rattle.fx_ring.proofs.Words.{Contains, IsPermutation, refl, sym, ◌==◌, arith, ⊎_elim, slice_index_or, eq-eqb, ne_eqb, IsNonDecreasingBy}
 use Rattle.fx_ring.proofs.Words.{All-contains, Contains-permutation, IsPermutation-sym, contains_cases, IsDistinct-IsPermutation, IsDistinct-cons}
 use Rattle.fx_ring.proofs.Words.{apart_from_distinct, false≢true, nat_tests, recursion_from_All}
 use Rattle.std.specs.List.{IsDistinct}
@@ -30,20 +30,14 @@ module _ {X : Type 0} (key : X → ℕ) where
   -- without the first element, which both have, each element of one list is one of the other
   behind : {x y : X} (xs ys : List X) → x ≡ y → Rises (x ∷ xs) → ((z : X) → Contains (x ∷ xs) z → Contains (y ∷ ys) z)
       → (z : X) → Contains xs z → Contains ys z
-  behind {x} {y} xs ys is rises has z there = ⊎_elim
-      (λ first. absurd (let less : key x < key z = All-contains (λ w. key x < key w) xs z rises.0 there in
-      let same = ap key (is ∙ sym first) in omega arith))
-      (λ later. later) (contains_cases y ys z (has z (contains_tail x xs z there)))
+  behind {x} {y} xs ys is rises has z there = grind (arith, contains_cases y ys z (has z (contains_tail x xs z there)))
 
   one_order : (xs ys : List X) → Rises xs → Rises ys → ((z : X) → Contains xs z → Contains ys z) → ((z : X) → Contains ys z → Contains xs z) → xs ≡ ys
   one_order [] [] left right has had = refl
   one_order [] (y ∷ ys) left right has had = absurd (contains_none y (had y (contains_head y ys)))
   one_order (x ∷ xs) [] left right has had = absurd (contains_none x (has x (contains_head x xs)))
   one_order (x ∷ xs) (y ∷ ys) left right has had =
-      let is : x ≡ y = ⊎_elim (λ first. first) (λ later. ⊎_elim (λ same. sym same)
-      (λ too. absurd (let less : key y < key x = All-contains (λ w. key y < key w) ys x right.0 later in
-      let more : key x < key y = All-contains (λ w. key x < key w) xs y left.0 too in omega arith))
-      (contains_cases x xs y (had y (contains_head y ys)))) (contains_cases y ys x (has x (contains_head x xs))) in
+      let is : x ≡ y = grind (arith, contains_cases x xs y (had y (contains_head y ys)), contains_cases y ys x (has x (contains_head x xs))) in
       λ i. is i ∷ one_order xs ys left.1 right.1 (behind xs ys is left has) (behind ys xs (sym is) right had) i
 
   -- two lists of the same elements, one in strict order of key and one in order: they are equal

@@ -1,11 +1,11 @@
 -- Where the files of a ring come from, and how a file leaves its slot.
 use Rattle.fx_ring.proofs.Words.{◌≡◌, ℕ, ◌+◌, Bool, List, ◌++◌, length, refl, sym, ap, subst, ◌∙◌, Option, Some, None, option_to_list, CloseListView}
-use Rattle.fx_ring.proofs.Words.{Closed, File, State, IsSettled, changed_at, with_removed, files_at, Leads, close_of, identity_of, number_of}
-use Rattle.fx_ring.proofs.Words.{more_leaving, by_equality, changed_here, changed_else, SetsSlot, CanRetire, closes_of_removed, file_removed, ◌≢◌}
-use Rattle.fx_ring.proofs.Words.{◌⊎◌, zero, suc, ◌-◌, ◌<◌, ◌≤◌, false, ℤ, pos, negsuc, [], ◌∷◌, length-append, All, slice_get, inl, inr, ⊎_elim}
-use Rattle.fx_ring.proofs.Words.{arith, list_any, cases_lt, leb-false, All-append, Mark, Registered, is_bad_entry, RingState, IsRing, HasCounted}
-use Rattle.fx_ring.proofs.Words.{file_listed, removed_by_number, removed_from, registered, updated, is_bad_file, tag_at, IsPermutation}
-use Rattle.fx_ring.proofs.Words.{IsInOrderOfMark, state_of, RingContents, ListsFiles, ring_of, with_table, SetsList}
+use Rattle.fx_ring.proofs.Words.{Closed, File, State, IsSettled, changed_at, with_removed, files_at, Leads, close_of, identity_of, number_of, ◌≢◌, ℤ}
+use Rattle.fx_ring.proofs.Words.{more_leaving, by_equality, changed_here, changed_else, SetsSlot, CanRetire, closes_of_removed, file_removed, ◌⊎◌, []}
+use Rattle.fx_ring.proofs.Words.{zero, suc, ◌-◌, ◌<◌, ◌≤◌, false, pos, negsuc, ◌∷◌, length-append, All, slice_get, inl, inr, ⊎_elim, arith, list_any}
+use Rattle.fx_ring.proofs.Words.{cases_lt, leb-false, All-append, Mark, Registered, is_bad_entry, RingState, IsRing, HasCounted, file_listed, updated}
+use Rattle.fx_ring.proofs.Words.{removed_by_number, removed_from, registered, is_bad_file, tag_at, IsPermutation, IsInOrderOfMark, state_of, ring_of}
+use Rattle.fx_ring.proofs.Words.{RingContents, ListsFiles, with_table, SetsList}
 use Rattle.fx_ring.proofs.ListSteps.{good_get, good_files, files_below, files_from}
 use Rattle.fx_ring.proofs.Rings.{IsEntry, counted_still, entry_listed, none_rings, lists_files}
 

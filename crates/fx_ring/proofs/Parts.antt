@@ -1,12 +1,11 @@
-use Rattle.std.proofs.Common.{rules}
 -- Lists in parts, by a key of their elements.
-use Rattle.fx_ring.proofs.Words.{◌≡◌, ℕ, ◌+◌, ◌<◌, ◌≤◌, List, [], ◌∷◌, ◌++◌, flat_map, All, sum_by, refl, sym, ap, ◌∙◌, arith, append-nil, ⊎_elim}
-use Rattle.fx_ring.proofs.Words.{All-nil, All-append, sum_by-cons, sum_of, Contains, range_with_len, length-range_with_len, get_or-range_with_len}
-use Rattle.fx_ring.proofs.Words.{contains_none, contains_head, contains_tail, contains_cases, ◌≢◌, zero, suc, Bool, not, cond, filter, length}
-use Rattle.fx_ring.proofs.Words.{All-filter, filter_passes, nat_tests, sum_by-filter_both, IsPermutation, slice_index_or, subst, ◌==◌, ne_eqb}
-use Rattle.fx_ring.proofs.Words.{All-head, All-tail, IsPermutation-refl, IsPermutation-trans, IsPermutation-append_right, IsPermutation-filter_both}
-use Rattle.fx_ring.proofs.Words.{eq-eqb, filter-append, true, false, map, append_assoc, length-append, IsPermutation-append_left}
-use Rattle.fx_ring.proofs.Words.{IsPermutation-append_comm, Closed, action_of, closed_by, closes_in, Event}
+use Rattle.fx_ring.proofs.Words.{common_steps, rules, ◌≡◌, ℕ, ◌+◌, ◌<◌, ◌≤◌, List, [], ◌∷◌, ◌++◌, flat_map, All, sum_by, refl, sym, ap, ◌∙◌, arith}
+use Rattle.fx_ring.proofs.Words.{append-nil, ◌≢◌, ⊎_elim, All-nil, All-append, sum_by-cons, sum_of, Contains, range_with_len, length-range_with_len}
+use Rattle.fx_ring.proofs.Words.{contains_none, get_or-range_with_len, contains_head, contains_tail, contains_cases, zero, suc, Bool, not, cond, map}
+use Rattle.fx_ring.proofs.Words.{filter, length, All-filter, filter_passes, nat_tests, sum_by-filter_both, IsPermutation, slice_index_or, subst, ◌==◌}
+use Rattle.fx_ring.proofs.Words.{ne_eqb, eq-eqb, All-head, All-tail, IsPermutation-refl, IsPermutation-trans, IsPermutation-append_right, true, false}
+use Rattle.fx_ring.proofs.Words.{IsPermutation-filter_both, filter-append, append_assoc, length-append, IsPermutation-append_left, Event, Closed}
+use Rattle.fx_ring.proofs.Words.{IsPermutation-append_comm, action_of, closed_by, closes_in}
 
 pub number_within : {first : ℕ} (n : ℕ) {k : ℕ} → Contains (range_with_len first n) k → (first ≤ k) × (k < first + n)
 number_within n h2 = grind (arith, length-range_with_len, get_or-range_with_len)
@@ -69,8 +68,7 @@ module _ {X : Type 0} (key : X → ℕ) where
 
   pub within_lacking : (first n : ℕ) (xs : List X) → All (Within first (suc n)) xs → All (Within (first + 1) n) (filter (lacks first) xs)
   within_lacking first n xs all = λ k d lt.
-      let was = All-filter (lacks first) (Within first (suc n)) xs all k d lt in
-      let other = filter_passes (lacks first) xs k d lt in grind (arith, nat_tests)
+      grind (arith, common_steps, All-filter (lacks first) (Within first (suc n)) xs all k d lt, filter_passes (lacks first) xs k d lt, nat_tests)
 
   pub none_within : (first : ℕ) (xs : List X) → All (Within first 0) xs → xs ≡ []
   none_within first [] all = refl
@@ -176,6 +174,4 @@ module _ (key : Event → ℕ) where
 -- how many they are
 pub closes_sum : (h : List Event) → length (closes_of h) ≡ sum_by (λ e. length (closed_by e.action)) h
 closes_sum [] = refl
-closes_sum (e ∷ h) =
-    let sum = sum_by-cons (λ (e : Event). length (closed_by e.action)) e h in
-    omega (arith, length-append (closes_of h) (closed_by e.action), sum, closes_sum h)
+closes_sum (e ∷ h) = grind (arith, closes_sum h, common_steps)

@@ -1,14 +1,13 @@
 -- Rings: the tables and states that they have.
 use Rattle.fx_ring.proofs.Words.{◌≡◌, ℕ, Bool, zero, suc, ◌<◌, List, [], ◌++◌, length, refl, sym, ap, subst, ◌∙◌, Option, Some, None, All, arith, ◌+◌}
 use Rattle.fx_ring.proofs.Words.{◌≢◌, option_to_list, IsPermutation, All-append, All-cons, All-nil, All-permutation, CloseListView, IsInOrderOfMark}
-use Rattle.fx_ring.proofs.Words.{Closed, State, IsSettled, opening, vacant, state_of, identity_of, File, Contents, IsGivenBack, RingContents}
-use Rattle.fx_ring.proofs.Words.{RingState, IsAtRest, IsRing, HasCounted, Mark, Submitted, ◌≤◌, HasClosed, ListsFiles, AreEntries}
-use Rattle.fx_ring.proofs.Words.{ring_of, ring_with, with_table, files_at, same_identity, HasSameFiles, ring_files_in_order, files_of_ring}
-use Rattle.fx_ring.proofs.Words.{numbers_for, Asked, runs_of, Reported, IsOneHistory, IsLegal, opens_alike, map, slice_index_or}
-use Rattle.fx_ring.proofs.Words.{FileEntry, read_default, number_if, table_with_files, range_with_len, get_or_past}
-use Rattle.fx_ring.proofs.Words.{length-map-range_with_len, get_or-map-range_with_len, file_at, slot_at}
+use Rattle.fx_ring.proofs.Words.{Closed, State, IsSettled, opening, vacant, state_of, identity_of, File, Contents, IsGivenBack, RingContents, IsRing}
+use Rattle.fx_ring.proofs.Words.{RingState, IsAtRest, HasCounted, Mark, Submitted, ◌≤◌, HasClosed, ListsFiles, AreEntries, ring_of, ring_with, Asked}
+use Rattle.fx_ring.proofs.Words.{with_table, files_at, same_identity, HasSameFiles, ring_files_in_order, files_of_ring, numbers_for, runs_of, IsLegal}
+use Rattle.fx_ring.proofs.Words.{Reported, IsOneHistory, opens_alike, map, slice_index_or, FileEntry, read_default, number_if, table_with_files}
+use Rattle.fx_ring.proofs.Words.{range_with_len, get_or_past, length-map-range_with_len, get_or-map-range_with_len, file_at, slot_at, files_of_state}
+use Rattle.fx_ring.proofs.Words.{files_in_order_of_state}
 use Rattle.fx_plain.proofs.Emptying.{listed}
-use Rattle.fx_plain.specs.State.{files_in_order as files_in_order_of_state, files_of as files_of_state}
 use Rattle.fx_ring.specs.declared.ring.Ring.TheInside.{Inside}
 
 -- what a ring keeps, by its fields

@@ -1,13 +1,12 @@
-use Rattle.std.proofs.Common.{rules}
 -- Rings after a submission, and rings whose table is opened or closed.
-use Rattle.fx_ring.proofs.Words.{◌≡◌, ℕ, ◌+◌, ◌<◌, ◌≤◌, List, [], ◌∷◌, length, map, Contains, refl, sym, ap, subst, ◌∙◌, ⊎_elim, inl, Some}
-use Rattle.fx_ring.proofs.Words.{arith, FileEntry, Closed, State, IsSettled, opening, state_of, action_of, closes_in}
-use Rattle.fx_ring.proofs.Words.{File, Event, Action, by_equality, numbers_for, Completed, first_member, Asked, runs_of, RingContents, RingState}
-use Rattle.fx_ring.proofs.Words.{IsRing, IsAtRest, HasCounted, AreEntries, ring_of, with_table, ExplainsParts, Reported, IsOneHistory}
-use Rattle.fx_ring.proofs.Words.{MOST_SUBMISSIONS, ◌-◌, ◌*◌, Contents, All, All-head, length-map, length-append, ◌++◌, new_passes, Opening, state_at}
-use Rattle.fx_ring.proofs.Words.{PassView, IsIdle, new_pass, ClosesTable, ring_with, same_size, MOST_SLOTS, MAX_CHAINS, IsOpenedFor, HasSameFiles}
-use Rattle.fx_ring.proofs.Words.{start_of, IsSettledSoFar, contains_none, same_identity, ring_led_by, IsKeptOpen, IsAloneAt, MOST_MEMBERS}
-use Rattle.fx_ring.proofs.Words.{vec_capacity, contains_head, HoldsOfAll, holds_of_closes, all_closes_in}
+use Rattle.fx_ring.proofs.Words.{common_steps, rules, ◌≡◌, ℕ, ◌+◌, ◌<◌, ◌≤◌, List, [], ◌∷◌, length, map, Contains, refl, sym, ap, subst, ◌∙◌, ⊎_elim}
+use Rattle.fx_ring.proofs.Words.{inl, Some, arith, FileEntry, Closed, State, IsSettled, opening, state_of, action_of, closes_in, File, Event, Action}
+use Rattle.fx_ring.proofs.Words.{Completed, by_equality, numbers_for, first_member, Asked, runs_of, RingContents, RingState, IsRing, IsAtRest, ◌-◌}
+use Rattle.fx_ring.proofs.Words.{HasCounted, AreEntries, ring_of, with_table, ExplainsParts, Reported, IsOneHistory, MOST_SUBMISSIONS, ◌*◌, Contents}
+use Rattle.fx_ring.proofs.Words.{All, ◌++◌, All-head, length-map, length-append, new_passes, Opening, state_at, PassView, IsIdle, new_pass, ring_with}
+use Rattle.fx_ring.proofs.Words.{ClosesTable, same_size, MOST_SLOTS, MAX_CHAINS, IsOpenedFor, HasSameFiles, start_of, IsSettledSoFar, contains_none}
+use Rattle.fx_ring.proofs.Words.{same_identity, ring_led_by, IsKeptOpen, IsAloneAt, MOST_MEMBERS, vec_capacity, contains_head, HoldsOfAll}
+use Rattle.fx_ring.proofs.Words.{holds_of_closes, all_closes_in}
 use Rattle.fx_ring.proofs.Rings.{counted_still, file_told, not_yet, opening_files, entries_closed, told_at, size_there, table_settled}
 use Rattle.fx_ring.proofs.MarksApart.{IsPut, Puts, IsOfChain, part_actions, put_in_part, installed_put, whole_new, IsApart, IsUnlike, apart_after}
 use Rattle.fx_ring.proofs.Installs.{IsOfMembers, explained_puts}
@@ -24,8 +23,7 @@ part_puts : (catalogue : List FileEntry) (size : ℕ) {submission : ℕ} (first 
 part_puts catalogue size first [] history completions explained low high = absurd (omega arith)
 part_puts catalogue size {submission} first (run ∷ runs) history completions (own, others, parts, one, more) {chain} low high =
     by_equality chain first (λ _. Puts (IsOfMembers (length catalogue) (first_member submission chain)) (part_actions chain history))
-    (λ same. subst (λ c. Puts (IsOfMembers (length catalogue) (first_member submission c)) (part_actions c history)) (sym same)
-    (explained_puts catalogue size (first_member submission first) run (part_actions first history) own one))
+    (grind (arith, explained_puts catalogue size (first_member submission first) run (part_actions first history) own one))
     (λ apart. part_puts catalogue size (first + 1) runs history others more (omega arith) (omega arith))
 
 module _ (old new : RingContents) (requests : List Asked) (report : Reported) (is : IsRing (ring_of old))
@@ -55,10 +53,7 @@ module _ (old new : RingContents) (requests : List Asked) (report : Reported) (i
 
   parts : (e : Event) → Contains one.history e
       → Puts (IsOfMembers (length old.catalogue) (first_member report.submission e.chain)) (part_actions e.chain one.history)
-  parts e there =
-      let inside = one.chains e there in
-      let high = inside.1 in
-      part_puts old.catalogue (state_of old.table).size 1 (runs_of requests) one.history report.completions one.explained inside.0 (omega arith)
+  parts e there = let inside = one.chains e there in grind (arith, part_puts)
 
   put_is_new : (f : File) → IsPut actions f → IsNew f
   put_is_new f put = grind (arith, put_in_part, parts)
@@ -68,10 +63,8 @@ module _ (old new : RingContents) (requests : List Asked) (report : Reported) (i
 
   -- each file that was there, or was installed, keeps its mark apart
   ended : IsApart WasThere actions one.end.at
-  ended = subst (λ (st : State). IsApart WasThere actions st.at) (sym one.legal.leads.1) (apart_after WasThere start actions (record {
-    from = λ slot f at. inl (is.counted slot f.identity (at_start slot at), is.entries slot f.identity (at_start slot at));
-    distinct = λ slot other f g at too marks. is.distinct slot other f.identity g.identity (at_start slot at) (at_start other too) marks;
-  }) (whole_new report.submission one.history
+  ended = subst (λ (st : State). IsApart WasThere actions st.at) (sym one.legal.leads.1) (apart_after WasThere start actions
+      (grind (arith, at_start)) (whole_new report.submission one.history
       (λ e there. ((parts e there).1, λ f own. let member = (parts e there).0 f own in (member.0, member.1, member.3.0)))) unlike)
 
   put_counted : (f : File) → IsPut actions f → HasCounted behind f.identity.mark
@@ -123,8 +116,7 @@ same_ring : (catalogue : List FileEntry) {o : Opening} {v : PassView} (left : Co
 same_ring catalogue left submissions registrations settled files = grind (arith, size_there, told_at, at_rest_of)
 
 closed_files : {o : Opening} {v : PassView} {left : Contents} → ClosesTable o (v ∷ []) left → HasSameFiles (state_at o v.own) (state_of left)
-closed_files {o} {v} {left} closing = subst (λ (h : List Event). HasSameFiles (state_at o h) (state_of left))
-    (own_history v closing.history closing.authors (closing.own v (contains_head v []))) closing.files
+closed_files {o} {v} {left} closing = grind (arith, own_history v closing.history closing.authors (closing.own v (contains_head v [])))
 
 new_settled : (o : Opening) → IsSettledSoFar o (new_pass 1)
 new_settled o = grind (arith, contains_none)
@@ -135,9 +127,7 @@ module _ {P : Type 0} {V : P → PassView} {Fits : P → Type 0} {catalogue : Li
   pub closed_ring : {plain : Contents} → ClosesTable o (V pass ∷ []) plain
       → (ring_of (ring_with catalogue plain submissions registrations) ≡ ring_of (ring_led_by catalogue o (V pass) submissions registrations))
       × IsAtRest (ring_with catalogue plain submissions registrations)
-  closed_ring {plain} closing =
-      let same = same_ring catalogue plain submissions registrations kept.at.settled (closed_files closing) in
-      (same, assumption (closing.left_settled, subst IsRing (sym same) kept.rest.ring, kept.rest))
+  closed_ring {plain} closing = grind (arith, same_ring catalogue plain submissions registrations kept.at.settled (closed_files closing))
 
   pub size_shown : size ≡ (ring_of (ring_led_by catalogue o (V pass) submissions registrations)).size
   size_shown = kept.slots ∙ sym (same_size (start_of o) (state_at o (V pass).own) _ kept.at.settled.legal.leads)
@@ -158,10 +148,8 @@ module _ {P : Type 0} {V : P → PassView} {Fits : P → Type 0} {catalogue : Li
 -- the only pass of a list
 pub only_pass : {P : Type 0} (V : P → PassView) (Q : P → Type 0) {items : List P} (rest : List P) {pass : P} → items ≡ rest ++ pass ∷ []
     → map V items ≡ new_passes 1 → All Q items → (rest ≡ []) × (V pass ≡ new_pass 1) × Q pass
-only_pass V Q [] {pass} is new ready =
-    let one : V pass ∷ [] ≡ new_pass 1 ∷ [] = ap (map V) (sym is) ∙ new in (refl, cc one, All-head Q pass [] (subst (All Q) is ready))
-only_pass V Q (p ∷ rest) {pass} is new ready =
-    absurd (omega (arith, ap length (ap (map V) (sym is) ∙ new), length-map (p ∷ (rest ++ pass ∷ [])) V, length-append rest (pass ∷ [])))
+only_pass V Q [] {pass} is new ready = grind (arith, ap (map V) (sym is) ∙ new, All-head Q pass [] (subst (All Q) is ready))
+only_pass V Q (p ∷ rest) {pass} is new ready = grind (arith, common_steps)
 
 -- a table that was just opened
 module _ {o : Opening} {plain : Contents} {chains most : ℕ} (opened : IsOpenedFor plain chains most 1 o) where
@@ -170,8 +158,7 @@ module _ {o : Opening} {plain : Contents} {chains most : ℕ} (opened : IsOpened
 
   module _ {catalogue : List FileEntry} {submissions registrations : ℕ} {v : PassView} (new : v ≡ new_pass 1) where
     pub opened_ring : ring_of (ring_led_by catalogue o v submissions registrations) ≡ ring_of (ring_with catalogue plain submissions registrations)
-    opened_ring = ap (λ (v : PassView). ring_of (ring_led_by catalogue o v submissions registrations)) new
-        ∙ sym (same_ring catalogue plain submissions registrations (new_settled o) opened_files)
+    opened_ring = grind (arith, same_ring catalogue plain submissions registrations (new_settled o) opened_files)
 
   pub kept_opened : {P : Type 0} (V : P → PassView) (Fits : P → Type 0) {catalogue : List FileEntry} {submissions registrations size : ℕ} {pass : P}
       {list : Vec P} → IsAtRest (ring_with catalogue plain submissions registrations) → V pass ≡ new_pass 1

@@ -26,9 +26,9 @@ pub use Rattle.fx_plain.proofs.Cells.{by_equality, changed_else, changed_here, r
 pub use Rattle.fx_plain.proofs.Leading.{closes_in-then, same_size, legal_behind}
 pub use Rattle.fx_plain.proofs.Prepared.{opening_is_start, opens_alike, same_identity, stays_at_rest}
 pub use Rattle.fx_plain.specs.Contents.{Contents, leaving, state_of, file_at, slot_at}
-pub use Rattle.fx_plain.specs.History.{IsLegal, Leads, action_of, close_of, closed_by, closes_in, part_of_chain, state_after, ◌▷▷◌, ◌▷◌}
+pub use Rattle.fx_plain.specs.History.{IsLegal, Leads, action_of, close_of, closed_by, closes_in, part_of_chain, state_after, ◌▷▷◌, ◌▷◌, held_by}
 pub use Rattle.fx_plain.specs.Laws.{IsInstalled, installed_by}
-pub use Rattle.fx_plain.specs.State.{IsSettled, State, opening, vacant}
+pub use Rattle.fx_plain.specs.State.{IsSettled, State, opening, vacant, files_in_order as files_in_order_of_state, files_of as files_of_state}
 pub use Rattle.fx_plain.specs.Step.{after, changed_at, with_removed}
 pub use Rattle.fx_plain.specs.Table.{identity_of, more_leaving, number_of, numbered}
 pub use Rattle.fx_plain.specs.declared.event.Action.{Action}
@@ -52,7 +52,7 @@ pub use Rattle.fx_ring.specs.Work.{worker_state}
 pub use Rattle.fx_ring.specs.declared.outcome.Outcome.{Outcome}
 pub use Rattle.fx_ring.specs.declared.ring.TheConstants.{MOST_SUBMISSIONS}
 pub use Rattle.fx_ring.specs.declared.worker.Worker.{Worker}
-pub use Rattle.fx_table.proofs.Chains.{part_of_drawn, some_times}
+pub use Rattle.fx_table.proofs.Chains.{part_of_drawn, some_times, in_part}
 pub use Rattle.fx_table.proofs.SumLemmas.{contains_cases, contains_head, contains_map, contains_mapped, contains_none, contains_tail, each_all}
 pub use Rattle.fx_table.proofs.SumLemmas.{sum_map, sum_of}
 pub use Rattle.fx_table.specs.Calls.{Draws, Use}
@@ -62,11 +62,10 @@ pub use Rattle.fx_table.specs.Opening.{HasSameFiles, IsGivenBack, IsOpenedFor, O
 pub use Rattle.fx_table.specs.Pass.{IsIdle, IsOfDrawnChains, PassView, event_of, new_pass, new_passes, IsFront}
 pub use Rattle.fx_table.specs.Settling.{IsSettledSoFar}
 pub use Rattle.fx_table.specs.declared.limits.TheConstants.{MAX_CHAINS, PASS_LOOKS}
-pub use Rattle.std.proofs.Common.{All, Bool, Contains, IsPermutation, List, None, Option, Some, [], add-one, ap, append-nil, append_assoc, arith}
-pub use Rattle.std.proofs.Common.{cond, count_by, drop, eq-eqb, eqb, false, filter, flat_map, if◌then◌else◌, inl, inr, length}
-pub use Rattle.std.proofs.Common.{length-append, map, nat_lt, ne_eqb, negsuc, not, option_to_list, pos, refl, rules, slice_get, slice_index_or, subst}
-pub use Rattle.std.proofs.Common.{suc, sum_by, sym, take, true, vec_capacity, vec_len, zero, ℕ, ℤ, ⊎_elim, ◌*◌, ◌++◌, ◌+◌, ◌-◌, ◌<◌, ◌==◌, ◌||◌, ◌∙◌}
-pub use Rattle.std.proofs.Common.{◌∷◌, ◌≡◌, ◌≢◌, ◌≤◌, ◌⊎◌}
+pub use Rattle.std.proofs.Common.{All, Bool, Contains, IsPermutation, List, None, Option, Some, [], add-one, ap, append-nil, append_assoc, arith, eqb}
+pub use Rattle.std.proofs.Common.{cond, count_by, drop, eq-eqb, false, filter, flat_map, if◌then◌else◌, inl, inr, length, length-append, map, nat_lt}
+pub use Rattle.std.proofs.Common.{ne_eqb, negsuc, not, option_to_list, pos, refl, rules, slice_get, slice_index_or, subst, suc, sum_by, sym, take, ℕ}
+pub use Rattle.std.proofs.Common.{true, vec_capacity, vec_len, zero, ℤ, ⊎_elim, ◌*◌, ◌++◌, ◌+◌, ◌-◌, ◌<◌, ◌==◌, ◌||◌, ◌∙◌, ◌∷◌, ◌≡◌, ◌≢◌, ◌≤◌, ◌⊎◌}
 pub use Rattle.std.proofs.Math.Seq.{drop-cons, drop-length}
 pub use Rattle.std.proofs.lemmas.Bool.{cases_lt, false≢true, le-ltb, leb-false, lt-ltb, or_from, or_parts}
 pub use Rattle.std.proofs.lemmas.Bool.Decides.{nat_tests}
@@ -84,9 +83,11 @@ pub use Rattle.std.proofs.lemmas.List.Sums.{sum_by-append, sum_by-cons, sum_by-d
 pub use Rattle.std.proofs.lemmas.Map.Keys.{IsDistinct-IsPermutation, IsDistinct-cons, apart_from_distinct}
 pub use Rattle.std.proofs.lemmas.Option.{slice_get_past, slice_get-get_or}
 pub use Rattle.std.proofs.lemmas.Simd.{map-map}
-pub use Rattle.std.specs.List.{list_any, range_with_len, zip}
+pub use Rattle.std.specs.List.{list_any, range_with_len, zip, IsDistinct}
 pub use Rattle.std.specs.List.Sorted.{IsNonDecreasingBy}
 pub use Rattle.fx_chain.proofs.ChainGoesOn.{explained_count}
 pub use Rattle.fx_table.proofs.Seats.{begins_at_rest, start_is}
 pub use Rattle.fx_plain.proofs.LawFiles.{HoldsOfAll, holds_of_closes, all_closes_in, every_removed_file_is_closed}
 pub use Rattle.fx_plain.proofs.LawHolds.{closed_at_most_once, no_close_while_held}
+pub use Rattle.fx_table.proofs.Calls.{looks_least}
+pub use Rattle.std.proofs.lemmas.Grind.{common_steps}

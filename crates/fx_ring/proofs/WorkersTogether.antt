@@ -1,14 +1,13 @@
 -- The work of a submission's workers, taken together.
-use Rattle.fx_ring.proofs.Words.{◌≡◌, ℕ, ◌+◌, ◌-◌, ◌<◌, ◌≤◌, ◌==◌, true, List, [], map, flat_map, length, All, sum_by, count_by, slice_index_or}
-use Rattle.fx_ring.proofs.Words.{closed_by, filter, filter-append, refl, sym, ap, subst, ◌∙◌, arith, eqb, IsNonDecreasingBy, All-contains}
-use Rattle.fx_ring.proofs.Words.{IsPermutation-trans, length_permutation, FileEntry, IsInOrderOfMark, CloseListView, Closed, Contents, action_of}
-use Rattle.fx_ring.proofs.Words.{part_of_chain, Event, ClosesTable, times_drawn, Opening, size_of, state_at, PassView, IsOfDrawnChains, some_times}
-use Rattle.fx_ring.proofs.Words.{part_of_drawn, sum_map, Completed, Explains, first_member, Asked, IsShortRun, runs_of, all_weights, ring_with}
-use Rattle.fx_ring.proofs.Words.{IsOneHistory, WorkerState, HasWorked, run_of_chain, completions_of_chain, Contains, IsPermutation, contains_map}
-use Rattle.fx_ring.proofs.Words.{contains_mapped, each_all, range_with_len, flat_map-map, false, start_is}
+use Rattle.fx_ring.proofs.Words.{◌≡◌, ℕ, ◌+◌, ◌-◌, ◌<◌, ◌≤◌, ◌==◌, true, List, [], map, flat_map, length, All, sum_by, count_by, slice_index_or, refl}
+use Rattle.fx_ring.proofs.Words.{closed_by, filter, filter-append, sym, ap, subst, ◌∙◌, arith, eqb, IsNonDecreasingBy, All-contains, FileEntry, Event}
+use Rattle.fx_ring.proofs.Words.{IsPermutation-trans, length_permutation, IsInOrderOfMark, CloseListView, Closed, Contents, action_of, part_of_chain}
+use Rattle.fx_ring.proofs.Words.{ClosesTable, times_drawn, Opening, size_of, state_at, PassView, IsOfDrawnChains, some_times, part_of_drawn, sum_map}
+use Rattle.fx_ring.proofs.Words.{Completed, Explains, first_member, Asked, IsShortRun, runs_of, all_weights, ring_with, IsOneHistory, WorkerState}
+use Rattle.fx_ring.proofs.Words.{HasWorked, run_of_chain, completions_of_chain, Contains, IsPermutation, contains_map, contains_mapped, each_all}
+use Rattle.fx_ring.proofs.Words.{range_with_len, flat_map-map, false, start_is, in_part}
 use Rattle.fx_ring.proofs.Parts.{closes_of, closes_by_key, closes_sum, number_within, one_part, all_parts, made_of_parts, same_parts, few_by_key}
 use Rattle.fx_ring.proofs.Parts.{none_kept}
-use Rattle.fx_table.proofs.Chains.{in_part}
 use Rattle.fx_ring.proofs.CompletionPlaces.{place_key, drawn_inside, one_of_each_request, in_order_explained}
 use Rattle.fx_ring.proofs.Rings.{ring_as}
 
@@ -97,9 +96,7 @@ module _ {catalogue : List FileEntry} {submission : ℕ} {runs : List (List Aske
   ExplainsChain c h completions = Explains catalogue (size_of o) (first_member submission c) (run_of_chain runs c) (map action_of h) completions
 
   pub explained : (c : ℕ) → 1 ≤ c → c ≤ length runs → ExplainsChain c (part_of_chain c closing.history) (completions_of_chain c joined)
-  explained c low high =
-      let d = drawer c low high in
-      grind (arith, history_is, part_is, works)
+  explained c low high = grind (arith, drawer c low high, history_is, part_is, works)
 
   pub inside : All (λ c. (1 ≤ c.place.chain) × (c.place.chain ≤ length runs)) joined
   inside = all_parts completed_by (λ c. (1 ≤ c.place.chain) × (c.place.chain ≤ length runs)) crew

@@ -1,18 +1,16 @@
 -- The handle, the place and the parts of its box own what a box of a worker owns.
+use Rattle.fx_server.proofs.Words.{Some, Lender, Move}
 use mir.Syntax.{impl, tnil, dnil}
 use mathlib.Core.List.{[]}
 use mathlib.Core.Path.{◌≡◌, refl}
-use Rattle.std.specs.Prelude.{Some}
 use Rattle.std_alloc.proofs.BoxSteps.Form.{Bx}
-use Rattle.std_heap.specs.contracts.Global as Heap
 use Rattle.std_heap.specs.contracts.GlobalAllocator.TheImpl.{ghosts, dict}
+use Rattle.fx_server.specs.Lending.{with_worker}
+use Rattle.std_heap.specs.contracts.Global as Heap
 use Rattle.std_heap.proofs.Global.TheLaws as heap
-use Rattle.fx_box.proofs.Lends.{Lender}
-use Rattle.fx_box.proofs.Moves.{Move}
 use Rattle.fx_box.specs.contracts.BoxParts as Parts
 use Rattle.fx_server.specs.contracts.worker.TableWorker as TableWorker
 use Rattle.fx_server.proofs.worker.TableWorker.TheLaws as worker
-use Rattle.fx_server.specs.Lending.{with_worker}
 use Rattle.fx_server.specs.contracts.handle.Handle as Handle
 use Rattle.fx_server.specs.contracts.handle.WorkerPlace as WorkerPlace
 

@@ -1,34 +1,11 @@
 -- Each call installs files with the worker's own numbers, each for one file.
-use Rattle.std.proofs.Common.{◌≡◌, ◌≢◌, ◌⊎◌, inl, inr, ℕ, suc, ◌≤◌, List, [], ◌∷◌, map, Option, Some, None, Result, Ok, Err, refl, sym, ap, subst, ◌∙◌, arith, ◌++◌, append_assoc}
-use Rattle.fx_base.specs.Identity.{Identity}
-use Rattle.fx_plain.specs.History.{◌▷◌, ◌▷▷◌}
-use Rattle.fx_plain.specs.Laws.{IsInstalled, installed_by}
-use Rattle.fx_plain.specs.declared.event.Action.{Action}
-use Rattle.fx_plain.specs.declared.event.Event.{Event}
-use Rattle.fx_plain.specs.declared.event.File.{File}
-use Rattle.fx_plain.specs.declared.event.Action.TheVariants.{Release}
-use Rattle.fx_table.specs.Calls.{Adds, HasRetired, LookedUp, ReleasesFile, Use}
-use Rattle.fx_table.specs.Opening.{Opening}
-use Rattle.fx_table.specs.Pass.{PassView, event_of}
-use Rattle.fx_table.specs.declared.values.Doing.{Doing}
-use Rattle.fx_table.specs.declared.values.Hold.{Hold}
+use Rattle.fx_server.proofs.Words.{rules, List, [], Option, Some, None, Result, refl, subst, arith, ◌++◌, Action, Event, Doing, Spent, Retired, Start}
+use Rattle.fx_server.proofs.Words.{◌≡◌, Release, LookedUp, Opening, PassView, event_of, EmptySlot, HeldByKey, KeyFault, file_with, WasDrawn, its_pass}
+use Rattle.fx_server.proofs.Words.{◌≢◌, ◌⊎◌, inl, inr, ℕ, suc, ◌≤◌, ◌∷◌, map, Ok, Err, sym, ap, ◌∙◌, ◌▷◌, ◌▷▷◌, File, Adds, Use, Hold, Key, Identity}
+use Rattle.fx_server.proofs.Words.{append_assoc, installed_by, ReleasesFile, MOST_INSTALLING, number_drawn, DrawsItsNumbers, number_of_file}
+use Rattle.fx_server.proofs.Words.{IsInstalled, HasRetired, LookedByKey, after_draw, after_keep, without_kept, FileNumbers, TableWorker}
 use Rattle.fx_table.specs.declared.values.LookFault.{LookFault}
-use Rattle.fx_table.specs.declared.values.LookFault.TheVariants.{Empty as EmptySlot, Spent}
-use Rattle.fx_table.specs.declared.values.Retired.{Retired}
-use Rattle.fx_lasting.specs.slots.ByKey.{HeldByKey, LookedByKey}
-use Rattle.fx_lasting.specs.Tables.{opening_of}
-use Rattle.fx_lasting.specs.declared.key.Key.{Key}
-use Rattle.fx_lasting.specs.declared.key_answers.KeyFault.{KeyFault}
-use Rattle.fx_lasting.specs.declared.key_answers.KeyFault.TheVariants as fault
-use Rattle.fx_lasting.specs.declared.life.layout.TheConstants.{MOST_INSTALLING}
-use Rattle.fx_lasting.specs.declared.view.Start.{Start}
-use Rattle.fx_server.specs.FileNumbers.{after_draw, after_keep, number_drawn, without_kept}
-use Rattle.fx_server.specs.Files.{file_with}
-use Rattle.fx_server.specs.FilesNumbers.{DrawsItsNumbers, WasDrawn, number_of_file}
-use Rattle.fx_server.specs.Workers.{its_pass}
-use Rattle.fx_server.specs.declared.file_numbers.FileNumbers.{FileNumbers}
-use Rattle.fx_server.specs.Worker.{TableWorker}
-use Rattle.fx_server.proofs.FilesNumbers.{one_draw}
+use Rattle.fx_server.proofs.FileNumbers.{one_draw}
 
 -- the events of a pass go on
 pub record Grows (v w : PassView) : Type 0 where
@@ -58,10 +35,7 @@ installed_later h (e ∷ more) f (inr is) = inr is
 
 installed_in : (h more : List Event) (f : File) → IsInstalled (more ++ h) f → IsInstalled h f ⊎ IsInstalled more f
 installed_in h [] f it = inl it
-installed_in h (e ∷ more) f (inl was) = elim (installed_in h more f was) [
-  | inl before ↦ inl before
-  | inr after ↦ inr (inl after)
-]
+installed_in h (e ∷ more) f (inl was) = elim (installed_in h more f was) [ inl before ↦ inl before | inr after ↦ inr (inl after) ]
 installed_in h (e ∷ more) f (inr is) = inr (inr is)
 
 pub was_there : {v w : PassView} → AddsNone v w → (f : File) → IsInstalled w.own f → IsInstalled v.own f
@@ -101,10 +75,7 @@ pub added_one : (o : Opening) (v : PassView) (a : Action) (doing : Doing) (use' 
 added_one o v a doing use' w new adds is = record {
   grows = record { since = event_of v a ∷ []; own = adds.own; number = adds.number };
   there = inr is;
-  only = λ f it. elim it [
-    | inl bad ↦ absurd bad
-    | inr its ↦ its_file a new f is its
-  ];
+  only = λ f it. elim it [ inl bad ↦ absurd bad | inr its ↦ its_file a new f is its ];
 }
 
 pub same_none : (v w : PassView) → w ≡ v → AddsNone v w
@@ -116,20 +87,14 @@ same_none v w same = record {
 pub both_none : (a b c : PassView) → AddsNone a b → AddsNone b c → AddsNone a c
 both_none a b c one two = record {
   grows = grows_then one.grows two.grows;
-  none = λ f it. elim (installed_in one.grows.since two.grows.since f it) [
-    | inl was ↦ one.none f was
-    | inr is ↦ two.none f is
-  ];
+  none = λ f it. elim (installed_in one.grows.since two.grows.since f it) [ inl was ↦ one.none f was | inr is ↦ two.none f is ];
 }
 
 pub none_then : (a b c : PassView) (new : File) → AddsNone a b → AddsOne b c new → AddsOne a c new
 none_then a b c new one two = record {
   grows = grows_then one.grows two.grows;
   there = installed_later one.grows.since two.grows.since new two.there;
-  only = λ f it. elim (installed_in one.grows.since two.grows.since f it) [
-    | inl was ↦ absurd (one.none f was)
-    | inr is ↦ two.only f is
-  ];
+  only = λ f it. elim (installed_in one.grows.since two.grows.since f it) [ inl was ↦ absurd (one.none f was) | inr is ↦ two.only f is ];
 }
 
 -- a release, and an installation after it
@@ -138,20 +103,14 @@ pub added_after : (o : Opening) (v : PassView) (g : File) (a : Action) (doing : 
 added_after o v g a doing use' w new adds is = record {
   grows = record { since = event_of v a ∷ event_of v (Release g) ∷ []; own = adds.own; number = adds.number };
   there = inr is;
-  only = λ f it. elim it [
-    | inl was ↦ absurd (nones v ([] ▷ Release g) (refl, tt) f was)
-    | inr its ↦ its_file a new f is its
-  ];
+  only = λ f it. elim it [ inl was ↦ absurd (nones v ([] ▷ Release g) (refl, tt) f was) | inr its ↦ its_file a new f is its ];
 }
 
 pub one_then : (a b c : PassView) (new : File) → AddsOne a b new → AddsNone b c → AddsOne a c new
 one_then a b c new one two = record {
   grows = grows_then one.grows two.grows;
   there = installed_earlier one.grows.since two.grows.since new one.there;
-  only = λ f it. elim (installed_in one.grows.since two.grows.since f it) [
-    | inl was ↦ one.only f was
-    | inr is ↦ absurd (two.none f is)
-  ];
+  only = λ f it. elim (installed_in one.grows.since two.grows.since f it) [ inl was ↦ one.only f was | inr is ↦ absurd (two.none f is) ];
 }
 
 pub looked_none : (o : Opening) (v : PassView) (slot : ℕ) (found : Result Hold LookFault) (out : Option Identity) (w : PassView) → LookedUp o v slot found out w → AddsNone v w
@@ -171,17 +130,11 @@ retired_none o v retired None w it = added_none o v _ _ _ w it.2.1 tt
 retired_none o v retired (Some file) w it = added_none o v _ _ _ w it.2.1 (refl, tt)
 
 pub held_none : (k : Start) (v : PassView) (key : Key) (hold : Hold) (freed released : Option Identity) (w : PassView) → HeldByKey k v key hold freed released w → AddsNone v w
-held_none k v key hold freed released w it = both_none v it.between w (looked_none (opening_of k) v key.slot (Ok hold) freed it.between it.held.looked)
-    (released_none (opening_of k) it.between it.file released w it.releases)
+held_none k v key hold freed released w it = search (rules, both_none, looked_none, released_none)
 
 pub key_none : (k : Start) (v : PassView) (key : Key) (found : Result Hold KeyFault) (freed released : Option Identity) (w : PassView) → LookedByKey k v key found freed released w
     → AddsNone v w
-key_none k v key (Ok hold) freed released w it = looked_none (opening_of k) v key.slot (Ok hold) freed w it.2.looked
-key_none k v key (Err fault.NoSlot) freed released w it = same_none v w it.1
-key_none k v key (Err fault.Empty) freed released w it = looked_none (opening_of k) v key.slot (Err EmptySlot) freed w it.0
-key_none k v key (Err fault.Stale) freed released w it = both_none v it.between w
-    (looked_none (opening_of k) v key.slot (Ok it.hold) freed it.between it.held.looked) (released_none (opening_of k) it.between it.file released w it.releases)
-key_none k v key (Err fault.Again) freed released w it = absurd it
+key_none k v key found freed released w it = search (rules, looked_none, same_none, both_none, released_none)
 
 -- the number of a file that a worker made
 pub number_of_new : (new : File) (tag number : ℕ) → new.identity ≡ file_with tag number → number_of_file new ≡ number

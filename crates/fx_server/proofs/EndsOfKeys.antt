@@ -1,14 +1,9 @@
--- A file that was removed is at no slot again, and so a key ends once.
-use Rattle.std.proofs.Common.{◌≡◌, ◌≢◌, ◌⊎◌, inl, inr, ℕ, ◌<◌, ◌++◌, List, [], ◌∷◌, map, false, Some, None, sym, ap, ◌∙◌, arith}
-use Rattle.fx_plain.specs.History.{AllowsAll, action_of, state_after}
-use Rattle.fx_plain.specs.Laws.{IsInstalled, IsStart, installed_by}
-use Rattle.fx_plain.specs.State.{State}
-use Rattle.fx_plain.specs.Step.{Allows, after}
-use Rattle.fx_plain.specs.declared.event.Action.{Action}
-use Rattle.fx_plain.specs.declared.event.Action.TheVariants.{Look}
-use Rattle.fx_plain.specs.declared.event.Event.{Event}
-use Rattle.fx_plain.specs.declared.event.File.{File}
-use Rattle.fx_server.specs.EndsOfKeys.{KeysEndOnce, file_leaving}
+-- A file that was removed is at no slot again, so a key ends once. A call that is done ended it.
+use Rattle.fx_server.proofs.{◌≡◌, ◌≢◌, ◌⊎◌, inl, inr, ℕ, ◌<◌, ◌++◌, List, [], ◌∷◌, map, false, Some, None, sym, ap, ◌∙◌, arith, AllowsAll, Look}
+use Rattle.fx_server.proofs.{action_of, state_after, IsInstalled, IsStart, installed_by, State, Allows, after, Action, Event, File, KeysEndOnce}
+use Rattle.fx_server.proofs.{file_leaving, ℤ, KeyFault, IsDone, fault_code, IsRefused, IsRefusedAt, TableWorker, Ok, refl, ◌▷◌, ◌▷▷◌, Put, Release}
+use Rattle.fx_server.proofs.{Take, opening_of, Key, view_of, PassView, event_of, Retired, IsKeyOf, RemovesByOne, ReplacesByOne, DoneRemovalsEndKeys}
+use Rattle.fx_server.proofs.{HasEnded, DoneReplacementsEndKeys, RetiresAs, its_opening, its_pass, its_start, CoreOutcome, looked_none, retired_none}
 
 -- each file at a slot has a number that no other slot's file has, and that no new file gets
 pub record AreApart (st : State) : Type 0 where
@@ -51,10 +46,7 @@ was_at st a f may is = grind arith
 -- its number is past from then on
 past_now : (st : State) (a : Action) (f : File) → Allows st a → file_leaving a ≡ Some f → AreApart st → IsPast f.number (after st a)
 past_now st (Look slot None) f may is apart = cc
-past_now st _ f may is apart = record {
-  used = grind (arith, apart.used);
-  nowhere = λ s g low at_s same. grind (arith, apart.distinct, apart.used);
-}
+past_now st _ f may is apart = record { used = grind (arith, apart.used); nowhere = λ s g low at_s same. grind (arith, apart.distinct, apart.used) }
 
 -- a file at a slot was there before, or is installed
 installed_step : (st : State) (a : Action) (slot : ℕ) (f : File) → (after st a).at slot ≡ Some f → (st.at slot ≡ Some f) ⊎ (installed_by a ≡ Some f)
@@ -90,3 +82,48 @@ keys_end_once key start end before between first second begins empty legal own o
     let g_in : IsInstalled (second ∷ (between ++ first ∷ before)) g = inl (installed_at start (between ++ first ∷ before) is.slot g empty rest is.there) in
     let same : f ≡ g = own f g f_in g_in (λ none. one.its_key.0 (sym one.its_key.1 ∙ none)) (one.its_key.1 ∙ sym two.its_key.1) in
     past.nowhere is.slot g is.low is.there (sym (ap (λ (it : File). it.number) same))
+
+-- the numbers that a call of C's returns only if it is not done
+pub no_fault : (why : KeyFault) (answer : ℤ) → answer ≡ fault_code why → IsDone answer → ⊥
+no_fault why answer is done = grind arith
+
+pub no_refusal : (w : TableWorker) (answer : ℤ) → IsRefused w answer → IsDone answer → ⊥
+no_refusal w answer h3 done = grind arith
+
+pub no_refusal_at : (w : TableWorker) (slot : ℕ) (answer : ℤ) → IsRefusedAt w slot answer → IsDone answer → ⊥
+no_refusal_at w slot answer h4 done = grind (arith, no_refusal)
+
+-- an event of the worker's pass that ends the key, after some others
+ended : (w w' : TableWorker) (key : Key) (e : Event) (earlier : List Event) (f : File) (between : PassView) (retired : Retired) (answer : ℤ) (tag : ℕ)
+    → e.pass ≡ (its_pass w).number → file_leaving e.action ≡ Some f → IsKeyOf key f → between.own ≡ (its_pass w).own ▷▷ earlier ▷ e
+    → RetiresAs (its_opening w) between retired answer tag (its_pass w') → HasEnded key w w'
+ended w w' key e earlier f between retired answer tag mine removes its_key made retires =
+    let more = (retired_none (its_opening w) between retired retires.file (its_pass w') retires.retires).grows in grind arith
+
+removal_ends : (w w' : TableWorker) (key : Key) (answer : ℤ) (out : CoreOutcome) → RemovesByOne w key answer out w' → HasEnded key w w'
+removal_ends w w' key answer out it =
+    let r = it.takes.takes in
+    let look = (looked_none (opening_of (its_start w)) (its_pass w) key.slot (Ok r.hold) it.takes.freed r.between r.held.looked).grows in
+    ended w w' key (event_of r.between (Take key.slot (Some r.file))) (look.since ▷ event_of r.between (Release r.file)) r.file (view_of it.between) it.retired answer out.tag
+    look.number refl r.its_key (r.adds.own ∙ ap (λ (own : List Event). own ▷ event_of r.between (Release r.file) ▷ event_of r.between (Take key.slot (Some r.file))) look.own) it.retires
+
+replacement_ends : (w w' : TableWorker) (key : Key) (tag : ℕ) (answer : ℤ) (out : CoreOutcome) → ReplacesByOne w key tag answer out w' → HasEnded key w w'
+replacement_ends w w' key tag answer out it =
+    let r = it.puts.puts in
+    let look = (looked_none (opening_of (its_start w)) (its_pass w) key.slot (Ok r.hold) it.puts.freed r.between r.held.looked).grows in
+    ended w w' key (event_of r.between (Put key.slot r.new (Some r.old))) (look.since ▷ event_of r.between (Release r.old)) r.old (view_of it.between) it.retired answer out.tag
+    look.number refl r.its_key (r.adds.own ∙ ap (λ (own : List Event). own ▷ event_of r.between (Release r.old) ▷ event_of r.between (Put key.slot r.new (Some r.old))) look.own) it.retires
+
+pub done_removals : DoneRemovalsEndKeys
+done_removals w w' key answer out done is = elim done.removed [
+  | inl it ↦ removal_ends w w' key answer out it
+  | inr (inl left) ↦ absurd (no_fault left.why answer left.its_answer is)
+  | inr (inr refused) ↦ absurd (no_refusal w answer refused.2 is)
+]
+
+pub done_replacements : DoneReplacementsEndKeys
+done_replacements w w' key tag answer out done is = elim done.placed [
+  | inl it ↦ replacement_ends w w' key tag answer out it
+  | inr (inl kept) ↦ absurd (no_fault kept.why answer kept.its_answer is)
+  | inr (inr refused) ↦ absurd (no_refusal w answer refused.2 is)
+]

@@ -1,37 +1,15 @@
 -- Each export keeps the numbers of its worker's files.
-use Rattle.std.proofs.Common.{ℤ, ◌≡◌, inl, inr, ℕ, Option, Some, None, Ok, Err, refl, ap}
-use Rattle.fx_base.specs.Identity.{Identity}
-use Rattle.fx_plain.specs.declared.event.Action.TheVariants.{Allocate, Put}
-use Rattle.fx_plain.specs.declared.event.File.{File}
-use Rattle.fx_table.specs.Calls.{PlacedFile}
-use Rattle.fx_table.specs.Opening.{Opening}
-use Rattle.fx_table.specs.Pass.{PassView}
-use Rattle.fx_table.specs.declared.values.LookFault.TheVariants.{Empty as EmptySlot}
-use Rattle.fx_table.specs.declared.values.Retired.{Retired}
-use Rattle.fx_lasting.specs.Tables.{opening_of, view_of}
+use Rattle.fx_server.proofs.{rules, arith, ℤ, ◌≡◌, inl, inr, ℕ, Option, Some, None, Ok, Err, refl, ap, Identity, Put, File, Opening, PlacedFile, At}
+use Rattle.fx_server.proofs.{PassView, EmptySlot, Retired, opening_of, view_of, PutEmpty, Key, KeyFault, LastingPass, TriedPut, Full, Again, Start}
+use Rattle.fx_server.proofs.{TriedSo, TakesAlone, HasPutEmpty, HasSearched, GetsAtAs, KeepsIfFound, PutsAt, ReleasesAs, get, RemovesAtAs, RetiresAny}
+use Rattle.fx_server.proofs.{ChecksCurrentAs, UsesIfTried, GetsAs, RemovesAs, RemovesByOne, ReplacesByOne, after_draw, after_keep, without_kept}
+use Rattle.fx_server.proofs.{KeepsItsNumbers, hold_in, its_opening, its_pass, its_start, CoreOutcome, TableWorker, file_with, ExportsKeepNumbers}
+use Rattle.fx_server.proofs.{IsExportCall, get_at, release, is_current, insert, replace_at, replace, remove_at, remove, find, put_empty, AddsNone}
+use Rattle.fx_server.proofs.{AddsOne, Grows, added_after, added_none, added_one, none_then, both_none, held_none, installs, installs_kept, keeps}
+use Rattle.fx_server.proofs.{key_none, looked_none, number_of_new, one_then, released_none, retired_none, spends, same_none, stays}
 use Rattle.fx_lasting.specs.declared.answers.FoundSlot.{FoundSlot}
 use Rattle.fx_lasting.specs.declared.answers.FoundSlot.TheVariants as found
-use Rattle.fx_lasting.specs.declared.answers.PutEmpty.{PutEmpty}
 use Rattle.fx_lasting.specs.declared.answers.PutEmpty.TheVariants as empty
-use Rattle.fx_lasting.specs.declared.key.Key.{Key}
-use Rattle.fx_lasting.specs.declared.key_answers.KeyFault.{KeyFault}
-use Rattle.fx_lasting.specs.declared.pass.LastingPass.{LastingPass}
-use Rattle.fx_lasting.specs.declared.tried.TriedPut.{TriedPut}
-use Rattle.fx_lasting.specs.declared.tried.TriedPut.TheVariants.{At, Full, Again}
-use Rattle.fx_lasting.specs.declared.view.Start.{Start}
-use Rattle.fx_lasting.specs.range.Tries.{TriedSo}
-use Rattle.fx_lasting.specs.slots.RemoveByKey.{TakesAlone}
-use Rattle.fx_lasting.specs.slots.AtEmpty.{HasPutEmpty, HasSearched}
-use Rattle.fx_server.specs.Answers.{GetsAtAs, KeepsIfFound, PutsAt, ReleasesAs, RemovesAtAs, RetiresAny, ChecksCurrentAs, UsesIfTried}
-use Rattle.fx_server.specs.ByKey.{GetsAs, RemovesAs, RemovesByOne, ReplacesByOne}
-use Rattle.fx_server.specs.FileNumbers.{after_draw, after_keep, without_kept}
-use Rattle.fx_server.specs.FilesNumbers.{KeepsItsNumbers}
-use Rattle.fx_server.specs.Workers.{hold_in, its_opening, its_pass, its_start}
-use Rattle.fx_server.specs.declared.answers.CoreOutcome.{CoreOutcome}
-use Rattle.fx_server.specs.Worker.{TableWorker}
-use Rattle.fx_server.specs.Files.{file_with}
-use Rattle.fx_server.specs.KeysFindFiles.{ExportsKeepNumbers, IsExportCall, get_at, get, release, is_current, insert, replace_at, replace, remove_at, remove, find, put_empty}
-use Rattle.fx_server.proofs.DrawnByCalls.{AddsNone, AddsOne, Grows, added_after, added_none, added_one, none_then, both_none, held_none, installs, installs_kept, keeps, key_none, looked_none, number_of_new, one_then, released_none, retired_none, same_none, spends, stays}
 
 same : (w w' : TableWorker) → w' ≡ w → AddsNone (its_pass w) (its_pass w')
 same w w' is = same_none (its_pass w) (its_pass w') (ap its_pass is)
@@ -80,11 +58,7 @@ alone_none k p key why freed released p' (inl looked) = key_none k (view_of p) k
 alone_none k p key why freed released p' (inr left) = held_none k (view_of p) key left.hold freed released (view_of p') left.holder
 
 one_removes : (w w' : TableWorker) (key : Key) (answer : ℤ) (out : CoreOutcome) → RemovesByOne w key answer out w' → AddsNone (its_pass w) (its_pass w')
-one_removes w w' key answer out it =
-    let r = it.takes.takes in
-    both_none (its_pass w) r.between (its_pass w') (looked_none (opening_of (its_start w)) (its_pass w) key.slot (Ok r.hold) it.takes.freed r.between r.held.looked)
-    (both_none r.between (view_of it.between) (its_pass w') (added_none (opening_of (its_start w)) r.between _ _ _ (view_of it.between) r.adds (refl, (refl, tt)))
-    (retired_none (its_opening w) (view_of it.between) it.retired it.retires.file (its_pass w') it.retires.retires))
+one_removes w w' key answer out it = search (rules, both_none, its_pass, looked_none, added_none, retired_none)
 
 remove_none : (w w' : TableWorker) (key : Key) (answer : ℤ) (out : CoreOutcome) → RemovesAs w key answer out w' → AddsNone (its_pass w) (its_pass w')
 remove_none w w' key answer out it = elim it.removed [
@@ -100,21 +74,10 @@ pub record Makes (w w' : TableWorker) (tag number : ℕ) : Type 0 where
   pub identity : new.identity ≡ file_with tag number
 
 pub renewed : (w w' : TableWorker) (key : Key) (tag : ℕ) (answer : ℤ) (out : CoreOutcome) → ReplacesByOne w key tag answer out w' → Makes w w' tag w.numbers.next
-renewed w w' key tag answer out it = let r = it.puts.puts in record {
-  new = r.new;
-  one = none_then (its_pass w) r.between (its_pass w') r.new (looked_none (opening_of (its_start w)) (its_pass w) key.slot (Ok r.hold) it.puts.freed r.between r.held.looked)
-      (one_then r.between (view_of it.between) (its_pass w') r.new
-      (added_after (opening_of (its_start w)) r.between r.old (Put key.slot r.new (Some r.old)) _ _ (view_of it.between) r.new r.adds refl)
-      (retired_none (its_opening w) (view_of it.between) it.retired it.retires.file (its_pass w') it.retires.retires));
-  identity = r.is_new;
-}
+renewed w w' key tag answer out it = search (rules, none_then, its_pass, looked_none, one_then, added_after, retired_none)
 
 pub inserted : (w w' : TableWorker) (tag slot : ℕ) → TriedSo (its_opening w) (its_pass w) (file_with tag w.numbers.next) (At slot) (its_pass w') → Makes w w' tag w.numbers.next
-inserted w w' tag slot it = let new = it.1.0 in record {
-  new = new;
-  one = added_one (its_opening w) (its_pass w) (Allocate slot new) _ _ (its_pass w') new it.1.2 refl;
-  identity = it.1.1.identity;
-}
+inserted w w' tag slot it = search (rules, added_one, its_pass)
 
 placed_one : (o : Opening) (v : PassView) (slot : ℕ) (new : File) (result : Option Retired) (u : PassView) → PlacedFile o v slot new result u → AddsOne v u new
 placed_one o v slot new None u it = added_one o v (Put slot new None) _ _ u new it refl
@@ -125,19 +88,10 @@ any_none o v None answer tag u it = same_none v u it.2
 any_none o v (Some retired) answer tag u it = retired_none o v retired it.file u it.retires
 
 pub replaced_at : (w w' : TableWorker) (slot tag : ℕ) (answer : ℤ) (out : CoreOutcome) → PutsAt w slot tag answer out w' → Makes w w' tag w.numbers.next
-replaced_at w w' slot tag answer out put = let new = put.placed.0 in record {
-  new = new;
-  one = one_then (its_pass w) put.between (its_pass w') new (placed_one (its_opening w) (its_pass w) slot new put.retired put.between put.placed.2)
-      (any_none (its_opening w) put.between put.retired answer out.tag (its_pass w') put.retires);
-  identity = put.placed.1.identity;
-}
+replaced_at w w' slot tag answer out put = search (rules, one_then, its_pass, placed_one, any_none)
 
 pub put_in_empty : (w w' : TableWorker) (slot tag : ℕ) → HasPutEmpty (its_start w) w.pass slot (file_with tag w.numbers.kept) empty.Installed w'.pass → Makes w w' tag w.numbers.kept
-put_in_empty w w' slot tag it = let new = it.0 in record {
-  new = new;
-  one = added_one (opening_of (its_start w)) (its_pass w) (Allocate slot new) _ _ (its_pass w') new it.2 refl;
-  identity = it.1.identity;
-}
+put_in_empty w w' slot tag it = search (rules, added_one, its_pass)
 
 -- the files that a call of an export adds to its pass's events, and the numbers that it draws
 data Changes (w w' : TableWorker) : Type 0 where
@@ -197,11 +151,7 @@ changes w w' (put_empty slot tag answer it) = elim it.placed [
 ]
 
 grows_so : (w w' : TableWorker) → Changes w w' → Grows (its_pass w) (its_pass w')
-grows_so w w' (adds_none none numbers) = none.grows
-grows_so w w' (keeps_one none numbers) = none.grows
-grows_so w w' (spends_one none numbers) = none.grows
-grows_so w w' (adds_next tag made numbers) = made.one.grows
-grows_so w w' (adds_kept tag made numbers) = made.one.grows
+grows_so w w' h3 = grind arith
 
 keeps_so : (w w' : TableWorker) → Changes w w' → KeepsItsNumbers w w'
 keeps_so w w' (adds_none none numbers) installing place some low d = stays installing place some low w w' d none numbers

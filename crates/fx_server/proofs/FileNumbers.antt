@@ -1,13 +1,10 @@
--- The numbers that workers draw: each is the worker's place, and a step more for each draw before.
-use Rattle.std.proofs.Common.{◌≡◌, ◌≢◌, ◌==◌, ℕ, zero, suc, ◌+◌, ◌-◌, ◌*◌, ◌/◌, ◌^◌, ◌<◌, ◌≤◌, Bool, false, cond, refl, sym, ap, ◌∙◌, arith, nat_lt, suc-mul}
-use Rattle.std.proofs.Common.{lt-ltb, le-ltb, ne_eqb}
+-- Numbers that workers draw: the place, and a step more for each draw. Each but 0 is one file's.
+use Rattle.fx_server.proofs.Words.{◌≡◌, ◌≢◌, ℕ, zero, suc, ◌+◌, ◌-◌, ◌*◌, ◌/◌, ◌^◌, ◌<◌, ◌≤◌, Bool, cond, refl, sym, ap, ◌∙◌, arith, nat_lt, suc-mul}
+use Rattle.fx_server.proofs.Words.{lt-ltb, le-ltb, MOST_INSTALLING, number_after, after_draws, first_numbers, number_drawn, NumbersAreDrawnOnce}
+use Rattle.fx_server.proofs.Words.{NumbersLast, FileNumbers, inl, inr, List, [], ◌∷◌, subst, part_of_pass, IsInstalled, Event, File}
+use Rattle.fx_server.proofs.Words.{FilesHaveTheirOwnNumbers}
 use Rattle.std.proofs.Math.Nat.{zero-mul}
-use Rattle.std.proofs.Math.Decide.{dec_le}
-use Rattle.std.proofs.Math.Logic.{dite}
 use Rattle.std.proofs.lemmas.Nat.{div-mul-add}
-use Rattle.fx_lasting.specs.declared.life.layout.TheConstants.{MOST_INSTALLING}
-use Rattle.fx_server.specs.FileNumbers.{number_after, after_draws, first_numbers, number_drawn, NumbersAreDrawnOnce, NumbersLast}
-use Rattle.fx_server.specs.declared.file_numbers.FileNumbers.{FileNumbers}
 
 -- a number that has 64 bits, or else 0
 abbrev bounded : ℕ → ℕ
@@ -18,12 +15,6 @@ is_bounded n l = ap (λ (b : Bool). cond b n 0) (lt-ltb n (2 ^ 64) l)
 
 is_none : (n : ℕ) → 2 ^ 64 ≤ n → bounded n ≡ 0
 is_none n g = ap (λ (b : Bool). cond b n 0) (le-ltb n (2 ^ 64) g)
-
-not_zero : (n : ℕ) → 0 < n → (n == 0) ≡ false
-not_zero n low = ne_eqb n 0 (λ e. omega (arith, e, low))
-
-after_some : (step n : ℕ) → 0 < n → number_after step n ≡ bounded (n + step)
-after_some step n low = ap (λ (b : Bool). cond b 0 (bounded (n + step))) (not_zero n low)
 
 -- the next number after some draws, from this one on
 abbrev reach : (step first : ℕ) → ℕ → ℕ
@@ -50,10 +41,7 @@ module _ (step first : ℕ) (low : 0 < first) (few : first < 2 ^ 64) where
   lasts : (draws : ℕ) → reach step first draws ≡ bounded (total draws)
   lasts zero = let none = zero-mul step in let e : first ≡ total zero = omega (arith, none) in
       e ∙ sym (is_bounded (total zero) (omega (arith, none, few)))
-  lasts (suc draws) = let more = suc-mul draws step in let e : total draws + step ≡ total (suc draws) = omega (arith, more) in
-      ap (number_after step) (lasts draws) ∙ dite (dec_le (suc (total draws)) (2 ^ 64))
-      (λ l. ap (number_after step) (is_bounded (total draws) l) ∙ (after_some step (total draws) (omega (arith, low)) ∙ ap bounded e))
-      (λ g. ap (number_after step) (is_none (total draws) (omega (arith, g))) ∙ sym (is_none (total (suc draws)) (omega (arith, g, more))))
+  lasts (suc draws) = grind (arith, lasts draws, suc-mul draws step, low)
 
 module _ (installing worker : ℕ) (some : installing ≤ MOST_INSTALLING) (low : 1 ≤ worker) where
   module _ (high : worker ≤ installing) where
@@ -67,14 +55,7 @@ module _ (installing worker : ℕ) (some : installing ≤ MOST_INSTALLING) (low 
   -- a number that is drawn is the worker's place, and a step more for each draw before
   used : (draws : ℕ) → number_drawn installing worker draws ≢ 0
       → (worker ≤ installing) × (number_drawn installing worker draws ≡ worker + draws * installing)
-  used draws some_number = dite (dec_le worker installing)
-      (λ high. (
-        high,
-        dite (dec_le (suc (worker + draws * installing)) (2 ^ 64)) (λ l. drawn_is high draws ∙ is_bounded (worker + draws * installing) l)
-            (λ g. absurd (some_number (drawn_is high draws ∙ is_none (worker + draws * installing) (omega (arith, g))))),
-      ))
-      (λ reader. absurd (some_number (next_is (first_numbers installing worker) draws
-      ∙ (ap (λ (b : Bool). reach installing (cond b 0 worker) draws) (lt-ltb installing worker (omega (arith, reader))) ∙ reach_none installing draws))))
+  used draws some_number = grind (arith, drawn_is, is_bounded, is_none, next_is, reach_none)
 
 -- a number names the worker that drew it, and the draw
 same_draw : (installing worker other draws others : ℕ) → 1 ≤ worker → worker ≤ installing → 1 ≤ other → other ≤ installing
@@ -93,3 +74,35 @@ numbers_once installing worker other draws others some low low' some_number same
 
 pub numbers_last : NumbersLast
 numbers_last installing worker draws some low high = drawn_is installing worker some low high draws
+
+-- a file of a history was installed by some pass
+record OfPass (h : List Event) (f : File) : Type 0 where
+  pass : ℕ
+  there : IsInstalled (part_of_pass pass h) f
+
+of_pass : (h : List Event) (f : File) → IsInstalled h f → OfPass h f
+of_pass [] f it = absurd it
+of_pass (e ∷ h) f (inl was) = let o = of_pass h f was in record { pass = o.pass; there = more e.pass o.pass o.there }
+  where
+    more : (p q : ℕ) → IsInstalled (part_of_pass q h) f → IsInstalled (part_of_pass q (e ∷ h)) f
+    more p q was = grind arith
+of_pass (e ∷ h) f (inr is) = record { pass = e.pass; there = grind arith }
+
+-- two draws of one number are one
+pub one_draw : (installing place draw draws number : ℕ) → installing ≤ MOST_INSTALLING → 1 ≤ place → draw < draws → number ≢ 0
+    → number ≡ number_drawn installing place draw → number ≡ number_drawn installing place draws → ⊥
+one_draw installing place draw draws number some low earlier is one other = grind (arith, numbers_once)
+
+pub own_numbers : FilesHaveTheirOwnNumbers
+own_numbers installing h some each f g f_in g_in is same =
+    let o = of_pass h f f_in in let p = of_pass h g g_in in
+    let mine = (each o.pass).1 in let its = (each p.pass).1 in
+    elim (mine.drawn f o.there) [
+      | inl none ↦ absurd (is none)
+      | inr (low, (draw, earlier, one)) ↦ elim (its.drawn g p.there) [
+        | inl none ↦ absurd (is (same ∙ none))
+        | inr (low', (draw', earlier', other)) ↦
+            let pass : o.pass ≡ p.pass = (numbers_once installing o.pass p.pass draw draw' some low low' (λ none. is (one ∙ none)) (sym one ∙ (same ∙ other))).0 in
+            mine.apart f g o.there (subst (λ (n : ℕ). IsInstalled (part_of_pass n h) g) (sym pass) p.there) is same
+      ]
+    ]

@@ -1,11 +1,8 @@
 -- The places with the workers that were put there so far, the last one first.
-use Rattle.std.proofs.Common.{◌≡◌, ◌+◌, ◌<◌, List, Some, [], ◌∷◌, ◌++◌, ap, refl, sym, ◌∙◌, arith, length, map, take, drop, set, length-append}
-use Rattle.std.proofs.lemmas.List.{append_assoc, take-append-drop, take_at, drop_at, drop-set, map-set, length-map}
-use Rattle.std.specs.Global.{Box}
-use Rattle.fx_server.specs.Opened.{workers_in}
-use Rattle.fx_server.specs.Places.{workers_at}
+use Rattle.fx_server.proofs.Words.{◌≡◌, ◌+◌, ◌<◌, List, Some, [], ◌∷◌, ◌++◌, ap, refl, sym, ◌∙◌, arith, length, map, take, drop, set, length-append}
+use Rattle.fx_server.proofs.Words.{append_assoc, take-append-drop, take_at, drop_at, drop-set, map-set, length-map, Box, workers_in, workers_at}
+use Rattle.fx_server.proofs.Words.{TableWorker}
 use Rattle.fx_server.specs.declared.handle.WorkerPlace.{WorkerPlace}
-use Rattle.fx_server.specs.Worker.{TableWorker}
 
 -- the worker that is popped is the next one from the end
 pub from_end : (all items less : List (Box TableWorker)) (b : Box TableWorker) → items ≡ take (length items) all → items ≡ less ++ b ∷ [] → all ≡ less ++ b ∷ drop (length items) all

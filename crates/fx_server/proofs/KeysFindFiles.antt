@@ -1,46 +1,15 @@
 -- Files in use have numbers of their own, and so a key finds its file.
-use Rattle.std.proofs.Common.{ℤ, pos, ◌≡◌, ◌⊎◌, inl, inr, ℕ, zero, suc, ◌+◌, ◌<◌, ◌++◌, List, [], ◌∷◌, map, length, Option, Some, None, Ok, refl, sym, ap, subst, ◌∙◌, arith}
-use Rattle.std.proofs.lemmas.Bool.{eq-eqb, ne_eqb}
-use mathlib.Core.Logic.{dite}
-use native.Mathlib.Decide.{ℕ_discrete, dec_le}
-use Rattle.fx_base.specs.Identity.{Identity}
-use Rattle.fx_plain.specs.History.{AllowsAll, action_of, part_of_pass, state_after}
-use Rattle.fx_plain.specs.Laws.{IsInstalled}
-use Rattle.fx_plain.specs.State.{State, file_numbered}
-use Rattle.fx_plain.specs.Step.{Allows}
-use Rattle.fx_plain.specs.declared.event.Action.TheVariants.{Look}
-use Rattle.fx_plain.specs.declared.event.Event.{Event}
-use Rattle.fx_plain.specs.declared.event.File.{File}
-use Rattle.fx_table.specs.Calls.{LookedUp}
-use Rattle.fx_table.specs.Opening.{Opening, start_of}
-use Rattle.fx_table.specs.Pass.{PassView}
-use Rattle.fx_table.specs.declared.values.Doing.TheVariants.{Holding}
-use Rattle.fx_table.specs.declared.values.Hold.{Hold}
-use Rattle.fx_lasting.specs.Tables.{opening_of, opening_of_table}
-use Rattle.fx_lasting.specs.declared.key.Key.{Key}
-use Rattle.fx_lasting.specs.declared.answers.PutEmpty.{PutEmpty}
+use Rattle.fx_server.proofs.{ℤ, pos, ◌≡◌, ◌⊎◌, inl, inr, ℕ, zero, suc, ◌+◌, ◌<◌, ◌++◌, List, [], ◌∷◌, map, length, Option, Some, None, Ok, refl, sym}
+use Rattle.fx_server.proofs.{ap, subst, ◌∙◌, arith, Identity, AllowsAll, action_of, part_of_pass, state_after, IsInstalled, State, Look}
+use Rattle.fx_server.proofs.{file_numbered, Event, File, LookedUp, Opening, start_of, PassView, Holding, Hold, opening_of, Key, PutEmpty, At}
+use Rattle.fx_server.proofs.{opening_of_table, TriedPut, TriedSo, HasPutEmpty, LookedByKey, UsesIfTried, empty_code, tried_code, GetsAs, IsDone}
+use Rattle.fx_server.proofs.{file_with, DrawsItsNumbers, HaveDrawnNumbers, KeepsItsNumbers, number_of_file, AKeyFindsItsFile, AreExportCalls}
+use Rattle.fx_server.proofs.{FilesInUseHaveTheirNumbers, IsInUse, ReturnsKey, inserts, replaces_at, replaces, puts_empty, its_opening, its_pass}
+use Rattle.fx_server.proofs.{its_start, CoreOutcome, DONE, TableWorker, eq-eqb, ne_eqb, dite, ℕ_discrete, dec_le, Grows, grows_then}
+use Rattle.fx_server.proofs.{installed_earlier, installed_later, number_of_new, own_numbers, opened_draw, opened_pass}
 use Rattle.fx_lasting.specs.declared.answers.PutEmpty.TheVariants.{Installed}
-use Rattle.fx_lasting.specs.declared.tried.TriedPut.{TriedPut}
-use Rattle.fx_lasting.specs.declared.tried.TriedPut.TheVariants.{At}
-use Rattle.fx_lasting.specs.range.Tries.{TriedSo}
-use Rattle.fx_lasting.specs.slots.AtEmpty.{HasPutEmpty}
-use Rattle.fx_lasting.specs.slots.ByKey.{LookedByKey}
-use Rattle.fx_server.specs.Answers.{UsesIfTried, empty_code, tried_code}
-use Rattle.fx_server.specs.ByKey.{GetsAs}
-use Rattle.fx_server.specs.Files.{file_with}
-use Rattle.fx_server.specs.FilesNumbers.{DrawsItsNumbers, HaveDrawnNumbers, KeepsItsNumbers, number_of_file}
-use Rattle.fx_server.specs.KeysFindFiles.{AKeyFindsItsFile, FilesInUseHaveTheirNumbers, AreExportCalls, IsInUse, ReturnsKey, inserts, replaces_at, replaces, puts_empty}
-use Rattle.fx_server.specs.Outcomes.{IsDone}
-use Rattle.fx_server.specs.Workers.{its_opening, its_pass, its_start}
-use Rattle.fx_server.specs.declared.answers.CoreOutcome.{CoreOutcome}
-use Rattle.fx_server.specs.declared.codes.TheConstants.{DONE}
-use Rattle.fx_server.specs.Worker.{TableWorker}
-use Rattle.fx_server.proofs.DrawnByCalls.{Grows, grows_then, installed_earlier, installed_later, number_of_new}
-use Rattle.fx_server.proofs.EndsOfKeys.{installed_at}
+use Rattle.fx_server.proofs.EndsOfKeys.{installed_at, no_fault, no_refusal, no_refusal_at}
 use Rattle.fx_server.proofs.ExportsNumbers.{Makes, call_grows, exports_keep, inserted, put_in_empty, renewed, replaced_at}
-use Rattle.fx_server.proofs.FilesNumbers.{own_numbers}
-use Rattle.fx_server.proofs.OpenedNumbers.{opened_draw, opened_pass}
-use Rattle.fx_server.proofs.Outcomes.{no_fault, no_refusal, no_refusal_at}
 
 next_place : (place : ℕ) → 1 + place ≡ suc place
 next_place place = omega arith
@@ -93,28 +62,20 @@ found_earlier h (e ∷ more) f it = inl (found_earlier h more f it)
 found_whole : (q : ℕ) (h : List Event) (f : File) → HasFound (part_of_pass q h) f → HasFound h f
 found_whole q [] f it = it
 found_whole q (e ∷ h) f it = dite (ℕ_discrete e.pass q)
-    (λ same. elim (rw (eq-eqb e.pass q same) at it) [
-      | inl was ↦ inl (found_whole q h f was)
-      | inr is ↦ inr is
-    ])
+    (λ same. elim (rw (eq-eqb e.pass q same) at it) [ inl was ↦ inl (found_whole q h f was) | inr is ↦ inr is ])
     (λ other. inl (found_whole q h f (rw (ne_eqb e.pass q other) at it)))
 
 installed_whole : (q : ℕ) (h : List Event) (f : File) → IsInstalled (part_of_pass q h) f → IsInstalled h f
 installed_whole q [] f it = it
 installed_whole q (e ∷ h) f it = dite (ℕ_discrete e.pass q)
-    (λ same. elim (rw (eq-eqb e.pass q same) at it) [
-      | inl was ↦ inl (installed_whole q h f was)
-      | inr is ↦ inr is
-    ])
+    (λ same. elim (rw (eq-eqb e.pass q same) at it) [ inl was ↦ inl (installed_whole q h f was) | inr is ↦ inr is ])
     (λ other. inl (installed_whole q h f (rw (ne_eqb e.pass q other) at it)))
 
 -- a file that a look-up found was installed, if the table was opened empty
 found_installed : (start : State) (h : List Event) (f : File) → ((s : ℕ) → start.at s ≡ None) → AllowsAll start (map action_of h) → HasFound h f → IsInstalled h f
 found_installed start [] f empty may it = it
 found_installed start (e ∷ h) f empty may (inl was) = inl (found_installed start h f empty may.0 was)
-found_installed start (e ∷ h) f empty may (inr is) =
-    let looks : Allows (state_after start (map action_of h)) (Look is.0 (Some f)) = subst (Allows (state_after start (map action_of h))) is.1 may.1 in
-    inl (installed_at start h is.0 f empty may.0 (sym looks.1))
+found_installed start (e ∷ h) f empty may (inr is) = grind (arith, state_after, installed_at)
 
 -- a pass that looked a slot up has found the file that it holds
 looked_found : (o : Opening) (v w : PassView) (slot : ℕ) (hold : Hold) (out : Option Identity) (f : File) → LookedUp o v slot (Ok hold) out w → w.doing ≡ Holding f hold → HasFound w.own f

@@ -1,37 +1,14 @@
 -- A call by key that says `Stale`: the slot had another file at a moment of the call.
+use Rattle.fx_server.proofs.{arith, ℤ, None, Ok, Err, Identity, ◌▷◌, AllowsAll, IsSeenBy, action_of, part_of_pass, state_after, State, Allows, Action}
+use Rattle.fx_server.proofs.{Close, Look, Event, File, Adds, LookedUp, ReleasesFile, Use, one_look, Opening, IsFront, PassView, Doing, event_of}
+use Rattle.fx_server.proofs.{Holding, Hold, HeldByKey, LookedByKey, fault_for, state_at_start, opening_of, Key, KeyFault, Stale, Start, IN_USE}
+use Rattle.fx_server.proofs.{TakesAlone, dropped_or, fault_code, STALE, IsGood, IsRefused, its_pass, its_start, TableWorker, ◌≡◌, inl, inr, ℕ, ◌++◌}
+use Rattle.fx_server.proofs.{List, [], ◌∷◌, map, refl, sym, ap, subst, ◌∙◌, append_assoc, dite, ℕ_discrete, eq-eqb, Some, ne_eqb, Option}
 use Rattle.fx_table.proofs.Calls.{follows_shown, seen_further}
-use Rattle.fx_table.proofs.Words.{◌≡◌, inl, inr, ℕ, ◌++◌, List, [], ◌∷◌, map, refl, sym, ap, subst, ◌∙◌, append_assoc, dite, ℕ_discrete, eq-eqb, ne_eqb, Option, Some}
-use Rattle.std.proofs.Common.{ℤ, None, Ok, Err}
-use Rattle.fx_base.specs.Identity.{Identity}
-use Rattle.fx_plain.specs.History.{◌▷◌, AllowsAll, IsSeenBy, action_of, part_of_pass, state_after}
-use Rattle.fx_plain.specs.State.{State}
-use Rattle.fx_plain.specs.Step.{Allows}
-use Rattle.fx_plain.specs.declared.event.Action.{Action}
-use Rattle.fx_plain.specs.declared.event.Action.TheVariants.{Close, Look}
-use Rattle.fx_plain.specs.declared.event.Event.{Event}
-use Rattle.fx_plain.specs.declared.event.File.{File}
-use Rattle.fx_table.specs.Calls.{Adds, LookedUp, ReleasesFile, Use, one_look}
-use Rattle.fx_table.specs.Opening.{Opening}
-use Rattle.fx_table.specs.Pass.{IsFront, PassView, event_of}
-use Rattle.fx_table.specs.declared.values.Doing.{Doing}
-use Rattle.fx_table.specs.declared.values.Doing.TheVariants.{Holding}
-use Rattle.fx_table.specs.declared.values.Hold.{Hold}
 use Rattle.fx_lasting.specs.slots.ByNode.{FitsMiss, IsOn, WasSo}
-use Rattle.fx_lasting.specs.slots.ByKey.{HeldByKey, LookedByKey, fault_for}
-use Rattle.fx_lasting.specs.Passes.{state_at_start}
-use Rattle.fx_lasting.specs.Tables.{opening_of}
 use Rattle.fx_lasting.specs.declared.answers.Miss.{Miss}
-use Rattle.fx_lasting.specs.declared.answers.Miss.TheVariants as miss
-use Rattle.fx_lasting.specs.declared.key.Key.{Key}
-use Rattle.fx_lasting.specs.declared.key_answers.KeyFault.{KeyFault}
-use Rattle.fx_lasting.specs.declared.key_answers.KeyFault.TheVariants.{Stale}
-use Rattle.fx_lasting.specs.declared.view.Start.{Start}
-use Rattle.fx_lasting.specs.slots.RemoveByKey.{TakesAlone}
-use Rattle.fx_server.specs.Outcomes.{dropped_or, fault_code}
-use Rattle.fx_server.specs.declared.codes.TheConstants.{IN_USE, STALE}
 use Rattle.fx_server.specs.StaleKeys.{HadAnother, IsAnother, StaleKeysHadAnother}
-use Rattle.fx_server.specs.Workers.{IsGood, IsRefused, its_pass, its_start}
-use Rattle.fx_server.specs.Worker.{TableWorker}
+use Rattle.fx_lasting.specs.declared.answers.Miss.TheVariants as miss
 
 -- a history, split at its last event of a pass
 record SplitAt (since : List Event) (e : Event) : Type 0 where
@@ -79,12 +56,10 @@ module _ (k : Start) (slot : ℕ) (f : File) where
       let same : g ≡ f = cc (sym adds.now ∙ holds) in look_was v w ([] ▷ Close c) (Holding g hold) one_look front (subst (λ (z : File). Adds (opening_of k) v ([] ▷ Close c ▷ Look slot (Some z)) (Holding g hold) one_look w) same adds)
 
 looked_on : (o : Opening) (v w : PassView) (slot : ℕ) (hold : Hold) (freed : Option Identity) → LookedUp o v slot (Ok hold) freed w → IsSeenBy v.front w.front
-looked_on o v w slot hold None it = it.2.seen
-looked_on o v w slot hold (Some file) it = it.2.2.seen
+looked_on o v w slot hold freed it = grind arith
 
 released_on : (o : Opening) (v : PassView) (f : File) (out : Option Identity) (w : PassView) → ReleasesFile o v f out w → IsSeenBy v.front w.front
-released_on o v f None w it = it.seen
-released_on o v f (Some file) w it = it.1.seen
+released_on o v f out w it = grind arith
 
 module _ (k : Start) (key : Key) where
   -- that the slot had another file
@@ -114,15 +89,12 @@ module _ (k : Start) (key : Key) where
 
   left_other : (v between w : PassView) (node : ℕ) (m : Miss) → Stale ≡ fault_for m → WasSo k key.slot (FitsMiss k node m) between.front w.front
       → WasSo k key.slot (FitsMiss k node miss.Stale) between.front w.front
-  left_other v between w node miss.Stale is was = was
-  left_other v between w node _ is was = cc
+  left_other v between w node m is was = grind arith
 
 module _ (w w' : TableWorker) (key : Key) (good : IsGood w) where
   -- a pass of the worker found the other file
   by_pass : (out back : Option Identity) → LookedByKey (its_start w) (its_pass w) key (Err Stale) out back (its_pass w') → HadAnother w key w'
-  by_pass out back looked = record {
-    was = had_other (its_start w) key (its_pass w) (its_pass w') out back good.fits.front looked;
-  }
+  by_pass out back looked = record { was = had_other (its_start w) key (its_pass w) (its_pass w') out back good.fits.front looked }
 
   -- the pass alone left the slot as it was
   by_alone : (out back : Option Identity) → TakesAlone (its_start w) w.pass key (Err Stale) out back w'.pass → HadAnother w key w'
@@ -133,17 +105,14 @@ module _ (w w' : TableWorker) (key : Key) (good : IsGood w) where
   }
 
 other_of : (why : KeyFault) (answer : ℤ) → answer ≡ fault_code why → answer ≡ STALE → why ≡ Stale
-other_of Stale answer is stale = refl
-other_of _ answer is stale = absurd (cc (sym is ∙ stale))
+other_of why answer is stale = grind arith
 
 -- a call that is done or that the worker refused says another reason
 not_stale : (answer : ℤ) (file : Option Identity) → answer ≡ dropped_or IN_USE file → answer ≡ STALE → ⊥
-not_stale answer None is stale = cc (sym is ∙ stale)
-not_stale answer (Some file) is stale = cc (sym is ∙ stale)
+not_stale answer file is stale = grind arith
 
 not_refused : (w : TableWorker) (answer : ℤ) → IsRefused w answer → answer ≡ STALE → ⊥
-not_refused w answer (inl reader) stale = cc (sym reader.0 ∙ stale)
-not_refused w answer (inr busy) stale = cc (sym busy.0 ∙ stale)
+not_refused w answer h3 stale = grind arith
 
 pub stale_keys : StaleKeysHadAnother
 stale_keys = record {

@@ -14,8 +14,8 @@ impl TableWorker {
     pub fn get(&mut self, slot: u32, number: u64, out: &mut CoreOutcome) -> i64
         ensures found { GetsAs self.old (key_of slot number) result out.new self.new }
     {
-        *out = NO_OUTCOME;
         if self.held.is_some() {
+            *out = NO_OUTCOME;
             return BUSY;
         }
         let table = &self.shared.table;
@@ -32,7 +32,11 @@ impl TableWorker {
                 out.number = number;
                 DONE
             }
-            Err(fault) => fault_code(fault),
+            Err(fault) => {
+                out.number = 0;
+                out.tag = 0;
+                fault_code(fault)
+            }
         }
     }
 

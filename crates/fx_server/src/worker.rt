@@ -65,17 +65,21 @@ impl TableWorker {
     pub fn get_at(&mut self, slot: u32, out: &mut CoreOutcome) -> i64
         ensures found { GetsAtAs self.old slot result out.new self.new }
     {
-        *out = NO_OUTCOME;
         if self.held.is_some() {
+            *out = NO_OUTCOME;
             return BUSY;
         }
         let table = &self.shared.table;
         if slot >= table.size() {
+            *out = NO_OUTCOME;
             return NO_SLOT;
         }
         let LookUp { found, freed } = table.look_up(&mut self.pass, slot);
         consume(freed, DONE, &mut out.freed);
+        out.released = 0;
         let Ok(hold) = found else {
+            out.number = 0;
+            out.tag = 0;
             return EMPTY;
         };
         out.number = table.number_of(&mut self.pass, &hold);
@@ -89,8 +93,8 @@ impl TableWorker {
     pub fn release(&mut self, dropped: &mut u64) -> i64
         ensures released { ReleasesAs self.old result dropped.new self.new }
     {
-        *dropped = 0;
         let Some(Held { node, entry }) = self.held.take() else {
+            *dropped = 0;
             return IDLE;
         };
         let hold = Hold { node, entry };

@@ -1,15 +1,12 @@
 -- Calls in a row, and calls that empty or replace a slot.
-use Rattle.fx_table.proofs.Words.{◌≤◌, ℕ, ◌+◌, Bool, List, [], ◌++◌, sym, refl, ap, ◌∙◌, arith, map-append, Event, Action, IsSeenBy}
-use Rattle.fx_table.proofs.Words.{◌▷▷◌, Doing, Opening, PassView, IsFront, Use, Adds, ◌≡◌, None, Contents, state_of, append_assoc, no_use, both_uses}
-use Rattle.fx_table.proofs.Words.{Spends, one_number, IsNewFile, Placed, Cleared, Taken, Option, Some, option_map, Result, ok_or, ◌▷◌, numbered, File}
-use Rattle.fx_table.proofs.Words.{next_number, retired_of, IsFileRemoval, activity_of, retiring, Retired, opening, IsGivenBack}
-use Rattle.fx_table.proofs.Words.{filter-append}
-use Rattle.std.proofs.lemmas.List.{append_cancel_right, append-nil}
+use Rattle.fx_table.proofs.Words.{◌≤◌, ℕ, ◌+◌, Bool, List, [], ◌++◌, sym, refl, ap, ◌∙◌, arith, map-append, Event, Action, IsSeenBy, ◌▷▷◌, Doing, Use}
+use Rattle.fx_table.proofs.Words.{Opening, PassView, IsFront, Adds, ◌≡◌, None, Contents, state_of, append_assoc, no_use, both_uses, Spends, IsNewFile}
+use Rattle.fx_table.proofs.Words.{one_number, Placed, Cleared, Taken, Option, Some, option_map, Result, ok_or, ◌▷◌, numbered, File, next_number, Put}
+use Rattle.fx_table.proofs.Words.{retired_of, IsFileRemoval, activity_of, retiring, Retired, opening, IsGivenBack, filter-append, append_cancel_right}
+use Rattle.fx_table.proofs.Words.{append-nil, Clear, Take, same_identity, settled_at_opening}
 use Rattle.fx_table.specs.Showing.{FollowsShown, Learns}
 use Rattle.fx_base.specs.Identity.{Identity}
-use Rattle.fx_plain.specs.declared.event.Action.TheVariants.{Put, Clear, Take}
 use Rattle.fx_table.specs.declared.values.Empty.{Empty}
-use Rattle.fx_plain.proofs.Prepared.{same_identity, settled_at_opening}
 
 pub seen_again : (h : List Event) → IsSeenBy h h
 seen_again h = ([], refl)
@@ -95,8 +92,7 @@ module _ (o : Opening) (v : PassView) (slot : ℕ) where
       → (n : ℕ) (its new : Identity) → n ≡ next_number o v → its ≡ new
       → Adds o v ([] ▷ Put slot (numbered n its) file) (activity_of (retiring file takes)) one_number w → Placed o v slot new removed w
   placed_so None takes removed w is n its new next same adds = rw is (numbered n its, new_here n its new next same, adds)
-  placed_so (Some f) takes removed w is n its new next same adds =
-      rw is (numbered n its, new_here n its new next same, (f, is_removal f takes, adds))
+  placed_so (Some f) takes removed w is n its new next same adds = grind (arith, new_here, is_removal, new_here n its new next same, is_removal f takes)
 
 -- A prepared table has the same files, under other numbers.
 

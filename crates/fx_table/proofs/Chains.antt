@@ -1,13 +1,12 @@
 -- Chains: each is drawn once, by one pass.
-use Rattle.fx_table.proofs.Words.{◌≡◌, ℕ, ◌≤◌, true, false, cond, List, [], ◌∷◌, map, sym, refl, ap, subst, ◌∙◌, arith, eqb, eq-eqb, ⊎_elim, Contains}
-use Rattle.fx_table.proofs.Words.{dite, ℕ_discrete, sum_by, count_by, Contains-append_cases, sum_by-cons, Contents, part_of_pass, Event}
-use Rattle.fx_table.proofs.Words.{Action, Doing, Opening, PassView, event_of, Use, Adds, ClosesTable, times_drawn, suc, ◌+◌, ◌-◌, ◌<◌, ◌++◌, length}
-use Rattle.fx_table.proofs.Words.{take, All, range_with_len, ◌⊎◌, inl, zero, part_of_chain, IsOfDrawnChains, IsIdle, new_pass, new_passes}
-use Rattle.fx_table.proofs.Words.{next_number, length-append, ◌*◌, ◌/◌, ◌%◌, mul-le-mul_right, lt_of_not-le, div-add-mod', mod-lt, map_push}
-use Rattle.fx_table.proofs.Words.{All-push, All-contains, chains_of_pass, last_chain_of_pass, pass_of_chain, pass_of_number}
+use Rattle.fx_table.proofs.Words.{common_steps, ◌≡◌, ℕ, ◌≤◌, true, false, cond, List, [], ◌∷◌, map, sym, refl, ap, subst, ◌∙◌, arith, eqb, eq-eqb}
+use Rattle.fx_table.proofs.Words.{⊎_elim, Contains, dite, ℕ_discrete, sum_by, count_by, Contains-append_cases, sum_by-cons, Contents, part_of_pass}
+use Rattle.fx_table.proofs.Words.{Event, Action, Doing, Opening, PassView, event_of, Use, Adds, ClosesTable, times_drawn, suc, ◌+◌, ◌-◌, ◌<◌, ◌++◌}
+use Rattle.fx_table.proofs.Words.{length, take, All, range_with_len, ◌⊎◌, inl, zero, part_of_chain, IsOfDrawnChains, IsIdle, new_pass, new_passes}
+use Rattle.fx_table.proofs.Words.{next_number, length-append, ◌*◌, ◌/◌, ◌%◌, mul-le-mul_right, lt_of_not-le, div-add-mod', mod-lt, map_push, All-push}
+use Rattle.fx_table.proofs.Words.{All-contains, chains_of_pass, last_chain_of_pass, pass_of_chain, pass_of_number, map-range_with_len_more}
 use Rattle.fx_table.proofs.SumLemmas.{contains_none, contains_head, contains_tail, contains_cases, contains_map, bit_here, one_if, bit_else, found_by}
 use Rattle.fx_table.proofs.SumLemmas.{sum_of, sum_le_of}
-use Rattle.std.proofs.lemmas.List.FromFn.{map-range_with_len_more}
 use Rattle.fx_table.specs.Turns.{HasDrawnInTurn}
 
 -- an element of a list is counted at least once
@@ -39,8 +38,7 @@ one_pass_of_chain o passes left chain one other k h i d e = one_pass chain passe
 -- an event of a pass is in the pass's part
 pub in_part : (p : ℕ) (h : List Event) (e : Event) → Contains h e → e.pass ≡ p → Contains (part_of_pass p h) e
 in_part p [] e i is = absurd (contains_none e i)
-in_part p (x ∷ h) e i is = ⊎_elim
-    (λ (same : e ≡ x). rw (same, eq-eqb x.pass p (rw same at is)) (contains_head x (part_of_pass p h)))
+in_part p (x ∷ h) e i is = ⊎_elim (grind (arith, contains_head))
     (λ t. elim (eqb x.pass p) as (λ b. Contains (cond b (x ∷ part_of_pass p h) (part_of_pass p h)) e)
     [ true ↦ contains_tail x (part_of_pass p h) e (in_part p h e t is) | false ↦ in_part p h e t is ])
     (contains_cases x h e i)
@@ -111,21 +109,13 @@ module _ {P : Type 0} {Is : P → Type 0} {shown : P → PassView} {p n : ℕ} {
 
   new_now : map shown list ≡ new_passes p
   new_now =
-      let next : 1 + (p - 1) ≡ p = omega arith in
-      let so_many : (p - 1) + 1 ≡ p = omega arith in
-      rw (pushed, map_push, dealt.new, new.1) (sym (map-range_with_len_more new_pass 1 (p - 1) p next) ∙ ap new_passes so_many)
+      let next : 1 + (p - 1) ≡ p = omega arith in grind (arith, pushed, map_push, dealt.new, new.1, map-range_with_len_more new_pass 1 (p - 1) p next)
 
   count_now : length list ≡ p
   count_now = omega (arith, dealt.count, ap (length {A = P}) pushed, length-append old (x ∷ []))
 
   pub one_dealt : p < n → AreDealt Is shown (p + 1) n list
-  one_dealt few = record {
-    low = omega arith;
-    high = omega arith;
-    ready = ready_now;
-    new = new_now ∙ ap new_passes (let e : p ≡ (p + 1) - 1 = omega arith in e);
-    count = ap (λ (m : ℕ). m + 1) count_now;
-  }
+  one_dealt few = grind (arith, common_steps, ready_now, new_now, count_now)
 
   pub all_dealt : p ≡ n → All (IsReady Is shown) list × (length list ≡ n) × (map shown list ≡ new_passes n)
   all_dealt last = (ready_now, count_now ∙ last, new_now ∙ ap new_passes last)
@@ -134,8 +124,7 @@ module _ {P : Type 0} {Is : P → Type 0} {shown : P → PassView} {p n : ℕ} {
 
 chain_is_there : (p n count i : ℕ) → i < count → Contains (chains_of_pass p n count) (p + i * n)
 chain_is_there p n zero i l = absurd (omega arith)
-chain_is_there p n (suc k) i l = dite (ℕ_discrete i k)
-    (λ e. subst (λ (j : ℕ). Contains (chains_of_pass p n (suc k)) (p + j * n)) (sym e) (contains_head (p + k * n) (chains_of_pass p n k)))
+chain_is_there p n (suc k) i l = dite (ℕ_discrete i k) (grind (arith, contains_head))
     (λ other. contains_tail (p + k * n) (chains_of_pass p n k) (p + i * n) (chain_is_there p n k i (omega (arith, other, l))))
 
 chain_place : (p n count c : ℕ) → Contains (chains_of_pass p n count) c → (i : ℕ) × (i < count) × (c ≡ p + i * n)
@@ -147,9 +136,7 @@ chain_place p n (suc k) c (suc j, inside, is) = grind (arith, chain_place p n k 
 chain_below : (p n count c : ℕ) → Contains (chains_of_pass p n count) c → c ≤ last_chain_of_pass p n count
 chain_below p n zero c h = absurd (contains_none c h)
 chain_below p n (suc k) c h =
-    let (i, inside, is) = chain_place p n (suc k) c h in
-    let few : i ≤ k = omega (arith, inside) in
-    let m : i * n ≤ k * n = mul-le-mul_right n few in omega (arith, is, m)
+    let (i, inside, is) = chain_place p n (suc k) c h in grind (arith, common_steps, inside, is)
 
 -- the number of times that the chain is among the pass's first `count`
 abbrev times : ℕ → ℕ → ℕ → ℕ → ℕ
@@ -187,8 +174,7 @@ module _ (o : Opening) (vs : List PassView) (counts : (v : PassView) → Contain
   pub drawn_inside : (v : PassView) → Contains vs v → (c : ℕ) → Contains v.drawn c → (0 < c) × (c ≤ o.chains)
   drawn_inside v h c d =
       let (count, t) = counts v h in
-      let there = rw t.drawn at d in
-      let (i, inside, is) = chain_place v.number o.passes count c there in grind (arith, chain_below)
+      let there = rw t.drawn at d in grind (arith, chain_place v.number o.passes count c there, chain_below)
 
   -- no chain is drawn more often than there are passes of its number
   pub drawn_few : (c : ℕ) → sum_by (times_drawn c) vs ≤ count_by (λ v. eqb v.number (pass_of_chain o.passes c)) vs

@@ -1,22 +1,16 @@
 -- The numbers and places of files, and activities that name files by them.
-use Rattle.fx_table.proofs.Words.{◌≡◌, ◌≢◌, ℕ, true, false, List, sym, refl, ap, ◌∙◌, ◌⊎◌, inl, inr, ⊎_elim, dite, ℕ_discrete, None, State}
-use Rattle.fx_table.proofs.Words.{changed_at, Contents, state_of, Option, Some, with_removed, leaving, is_leaving, IsTable, node_at, placed_at}
-use Rattle.fx_table.proofs.Words.{removed_at, file_at, File, changed_here, changed_else, hold_of, retired_of, activity_of, Retired}
-use Rattle.fx_plain.specs.declared.node.Node.{Node}
+use Rattle.fx_table.proofs.Words.{◌≡◌, ◌≢◌, ℕ, true, false, refl, ap, ◌∙◌, ◌⊎◌, inl, inr, ⊎_elim, dite, ℕ_discrete, None, State, Contents, changed_at}
+use Rattle.fx_table.proofs.Words.{state_of, Option, Some, with_removed, leaving, is_leaving, IsTable, node_at, removed_at, File, changed_here, arith}
+use Rattle.fx_table.proofs.Words.{changed_else, hold_of, retired_of, activity_of, Retired}
 use Rattle.fx_plain.specs.declared.node.Node.TheVariants.{At}
 use Rattle.fx_table.specs.Files.{HasFile}
-use Rattle.fx_table.specs.declared.values.Doing.TheVariants as doing
 use Rattle.fx_table.specs.declared.values.Hold.{Hold}
 use Rattle.fx_table.specs.declared.values.Task.{Task}
 use Rattle.fx_table.specs.declared.values.Task.TheVariants.{Idle, Holding, Retiring}
-use Rattle.std.proofs.Common.{arith}
+use Rattle.fx_table.specs.declared.values.Doing.TheVariants as doing
 
 pub none_file : (f : File) → None ≡ Some f → ⊥
 none_file f e = cc
-
--- a file at a slot has the number that the slot names
-named : (nodes : List Node) (o : Option ℕ) (f : File) → file_at nodes o ≡ Some f → (n : ℕ) × (o ≡ Some n) × (placed_at n (node_at nodes n) ≡ Some f)
-named nodes o f e = grind (arith, none_file)
 
 -- the node of a file at a slot is `At` that slot
 pub node_of : (c : Contents) → IsTable c → (slot : ℕ) (f : File) → (state_of c).at slot ≡ Some f → node_at c.nodes f.number ≡ At slot f.identity
@@ -56,8 +50,7 @@ module _ (s : State) (slot : ℕ) (new found : Option File) (is : found ≡ s.at
 
   pub still_there : (f : File) → HasFile s f → ((k : ℕ) × (changed_at s.at slot new k ≡ Some f)) ⊎ (with_removed s.removed found f.number ≡ Some f)
   still_there f there = ⊎_elim
-      (λ p. dite (ℕ_discrete p.0 slot)
-      (λ e. inr (at_slot f found (is ∙ (ap s.at (sym e) ∙ p.1))))
+      (λ p. dite (ℕ_discrete p.0 slot) (grind arith)
       (λ n. inl (p.0, changed_else s.at slot new p.0 n ∙ p.1)))
       (λ out. inr (out_still f out found refl)) there
 

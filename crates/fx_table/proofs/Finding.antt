@@ -1,12 +1,10 @@
 -- The file at a slot after a history: the one that the last change of the slot left there.
-use Rattle.fx_table.proofs.Words.{◌≡◌, ◌⊎◌, ℕ, List, [], ◌∷◌, map, sym, refl, ◌∙◌, subst, inl, inr, ⊎_elim, Option, Some, None, IsSome, Contains, File, Event, Action}
-use Rattle.fx_table.proofs.Words.{State, changed_here, changed_else, ◌▷◌, ◌▷▷◌, Opening, start_of, state_at, action_of, ℕ_discrete, dite}
+use Rattle.fx_table.proofs.Words.{◌≡◌, ◌⊎◌, ℕ, List, [], ◌∷◌, map, sym, refl, ◌∙◌, subst, inl, inr, ⊎_elim, Option, Some, None, IsSome, Contains, ◌▷◌}
+use Rattle.fx_table.proofs.Words.{File, Event, Action, State, changed_here, changed_else, ◌▷▷◌, Opening, start_of, state_at, action_of, ℕ_discrete}
+use Rattle.fx_table.proofs.Words.{dite, same_shape, after, Look, Put, Clear, Take, Allocate, arith}
 use Rattle.fx_table.proofs.SumLemmas.{contains_none, contains_head, contains_tail, contains_cases}
-use Rattle.fx_plain.proofs.Leading.{same_shape}
-use Rattle.fx_plain.specs.Step.{Allows, after}
-use Rattle.fx_plain.specs.declared.event.Action.TheVariants.{Look, Put, Clear, Take, Allocate, Full}
-use Rattle.fx_table.specs.Finding.{LeavesAt, KeepsSlot, IsLegalAt, AllKeepSlot, LookUpFindsTheChange, LookUpFindsThePut, LookUpFindsTheRemoval, FullFollowsAnInstallation}
-use Rattle.std.proofs.Common.{arith}
+use Rattle.fx_table.specs.Finding.{LeavesAt, KeepsSlot, IsLegalAt, AllKeepSlot, LookUpFindsTheChange, LookUpFindsThePut, LookUpFindsTheRemoval}
+use Rattle.fx_table.specs.Finding.{FullFollowsAnInstallation}
 
 -- an action changes the slot or doesn't
 changes : (slot : ℕ) (a : Action) → ((left : Option File) × LeavesAt slot left a) ⊎ KeepsSlot slot a
@@ -48,12 +46,7 @@ module _ (o : Opening) (before : List Event) (change : Event) (slot : ℕ) (left
       (changes slot e.action)
 
 pub finds_the_change : LookUpFindsTheChange
-finds_the_change o before since change look slot left found legal leaves is =
-    let st = state_at o (before ▷ change ▷▷ since) in
-    let here : found ≡ st.at slot = (subst (Allows st) is legal.leads.0.1).1 in
-    ⊎_elim (λ e. inl (here ∙ e))
-    (grind arith)
-    (last_change o before change slot left leaves since)
+finds_the_change o before since change look slot left found legal leaves is = grind (arith, last_change, last_change o before change slot left leaves since)
 
 -- the same, if no action between changes the slot
 pub finds_what_was_left : (o : Opening) (before since : List Event) (change look : Event) (slot : ℕ) (left found : Option File)
@@ -79,8 +72,4 @@ pub full_follows : FullFollowsAnInstallation
 full_follows o before since removal full slot legal inside in_range leaves is =
     let st = state_at o (before ▷ removal ▷▷ since) in
     let shape = same_shape (start_of o) (map action_of (before ▷ removal ▷▷ since)) in
-    let allowed : Allows st Full = subst (Allows st) is legal.leads.0.1 in
-    let here : IsSome (st.at slot) = grind arith in
-    ⊎_elim (λ (e : st.at slot ≡ None). absurd (none_is_some (subst IsSome e here)))
-    (grind (arith, some_of))
-    (last_change o before removal slot None leaves since)
+    grind (arith, some_of, last_change o before removal slot None leaves since)

@@ -1,7 +1,7 @@
 -- The number of full slots when a slot changes, and of a table's files.
-use Rattle.fx_table.proofs.Words.{◌≡◌, ◌≢◌, ℕ, zero, suc, ◌+◌, ◌<◌, ◌≤◌, length, sym, ap, arith, subst, dite, ℕ_discrete, changed_at, refl}
-use Rattle.fx_table.proofs.Words.{State, length-append, Option, IsSome, changed_here, changed_else, file_numbered, files_in_order}
-use Rattle.fx_table.proofs.Words.{identities_of, File, if_full, full_in, first_at}
+use Rattle.fx_table.proofs.Words.{common_steps, ◌≡◌, ◌≢◌, ℕ, zero, suc, ◌+◌, ◌<◌, ◌≤◌, length, arith, dite, ℕ_discrete, changed_at, refl, State, File}
+use Rattle.fx_table.proofs.Words.{Option, IsSome, changed_here, changed_else, file_numbered, files_in_order, identities_of, if_full, full_in}
+use Rattle.fx_table.proofs.Words.{first_at}
 
 module _ (at : ℕ → Option File) (s : ℕ) (new : Option File) where
   pub full_else : (off len : ℕ) → ((i : ℕ) → i < len → off + i ≢ s) → full_in (changed_at at s new) off len ≡ full_in at off len
@@ -19,9 +19,6 @@ module _ (at : ℕ → Option File) (s : ℕ) (new : Option File) where
 pub full_one : (found : Option File) → if_full found ≤ 1
 full_one found = grind arith
 
-some_full : (found : Option File) → if_full found ≡ 1 → IsSome found
-some_full found e = grind arith
-
 module _ (at : ℕ → Option File) (off : ℕ) where
   pub full_few : (len : ℕ) → full_in at off len ≤ len
   full_few zero = omega arith
@@ -30,8 +27,7 @@ module _ (at : ℕ → Option File) (off : ℕ) where
   -- a range that has as many full slots as slots has no empty one
   pub full_all : (len : ℕ) → full_in at off len ≡ len → (slot : ℕ) → off ≤ slot → slot < off + len → IsSome (at slot)
   full_all zero e slot low high = absurd (omega arith)
-  full_all (suc len) e slot low high = let a = full_few len in let b = full_one (at (off + len)) in dite (ℕ_discrete slot (off + len))
-      (λ same. subst (λ (i : ℕ). IsSome (at i)) (sym same) (some_full (at (off + len)) (omega arith)))
+  full_all (suc len) e slot low high = let a = full_few len in let b = full_one (at (off + len)) in dite (ℕ_discrete slot (off + len)) (grind arith)
       (λ else. full_all len (omega arith) slot low (omega arith))
 
 as_many : (found : Option File) (slot : ℕ) → length (identities_of found) ≡ if_full (file_numbered found slot)
@@ -40,11 +36,4 @@ as_many found slot = grind arith
 -- the files of the first slots, and the full ones of these slots
 pub all_counted : (st : State) (n : ℕ) → length (files_in_order st.at n) ≡ full_in (first_at st) 0 n
 all_counted st zero = refl
-all_counted st (suc n) = let here : 0 + n ≡ n = omega arith in
-    omega (
-      arith,
-      length-append (files_in_order st.at n) (identities_of (st.at n)),
-      all_counted st n,
-      as_many (st.at n) n,
-      ap (λ (slot : ℕ). if_full (first_at st slot)) here,
-    )
+all_counted st (suc n) = grind (arith, all_counted st n, common_steps, as_many)

@@ -1,12 +1,10 @@
 -- Histories continued by one pass or by others, and those of all passes.
 use Rattle.fx_table.proofs.Words.{◌≡◌, ◌≢◌, ℕ, List, [], ◌∷◌, ◌++◌, map, refl, ap, ◌∙◌, eq-eqb, ne_eqb, Contains, map-append, State, held_by, IsLegal}
 use Rattle.fx_table.proofs.Words.{part_of_pass, ◌▷▷◌, Event, Action, ◌<◌, ◌≤◌, true, sym, None, sum_by, Contains-append_right, Contents, state_of}
-use Rattle.fx_table.proofs.Words.{IsSeenBy, ClosesTable, times_drawn, Opening, PassView, IsFront, filter-append, Leads, action_of, held_after}
-use Rattle.fx_table.proofs.Words.{AllReleaseTheirOwn, IsSettled, start_of, state_at, HasSameFiles}
-use Rattle.fx_plain.proofs.Leading.{leads_then}
+use Rattle.fx_table.proofs.Words.{IsSeenBy, ClosesTable, times_drawn, Opening, PassView, IsFront, filter-append, Leads, action_of, held_after, arith}
+use Rattle.fx_table.proofs.Words.{AllReleaseTheirOwn, IsSettled, start_of, state_at, HasSameFiles, leads_then}
 use Rattle.fx_table.proofs.SumLemmas.{contains_head, contains_tail, contains_map, contains_only}
 use Rattle.fx_table.specs.Settling.{IsSettledSoFar}
-use Rattle.std.proofs.Common.{arith}
 
 part_none : (q : ℕ) (es : List Event) → ((e : Event) → Contains es e → e.pass ≢ q) → part_of_pass q es ≡ []
 part_none q [] n = refl
@@ -82,8 +80,7 @@ module _ (o : Opening) (v : PassView) (h : List Event) (whole : IsWhole o h (v �
   author : (e : Event) → Contains v.front e → e.pass ≡ v.number
   author e i =
       let seen = whole.seen v (contains_head v []) in
-      let a = whole.authors e (rw seen.1 (Contains-append_right seen.0 v.front e i)) in
-      a.2 ∙ ap (λ (w : PassView). w.number) (contains_only v a.0 a.1)
+      let a = whole.authors e (rw seen.1 (Contains-append_right seen.0 v.front e i)) in grind (arith, contains_only)
 
   pub settles : IsSettledSoFar o v
   settles = record {

@@ -1,13 +1,11 @@
 -- Passes in seats: as they begin, move and come back.
-use Rattle.fx_table.proofs.Words.{◌≡◌, ℕ, Bool, false, State, state_of, Opening, ◌≢◌, List, [], ◌∷◌, ◌++◌, map, length, reverse, sym, refl, ap}
-use Rattle.fx_table.proofs.Words.{◌∙◌, subst, Contains, sum_by, reverse-append, some, get_elem?, All, zero, suc, ◌+◌, set, take}
-use Rattle.fx_table.proofs.Words.{◌⊎◌, inl, inr, ⊎_elim, Contains-append_left, Contains-append_right, Contains-append_cases, sum_by-append}
-use Rattle.fx_table.proofs.Words.{some-injective, some-ne-none, arith, drop, opening, numbers_for, start_of, is_fresh_at_first, flat_map}
-use Rattle.fx_table.proofs.Words.{All-contains, Contains-push, nil_from_length, take-append-drop}
-use Rattle.std.proofs.lemmas.Grind.{common_steps}
+use Rattle.fx_table.proofs.Words.{◌≡◌, ℕ, Bool, false, State, state_of, Opening, ◌≢◌, List, [], ◌∷◌, ◌++◌, map, length, reverse, sym, refl, ap, ◌∙◌}
+use Rattle.fx_table.proofs.Words.{subst, Contains, sum_by, reverse-append, some, get_elem?, All, zero, suc, ◌+◌, set, take, ◌⊎◌, inl, inr, ⊎_elim}
+use Rattle.fx_table.proofs.Words.{Contains-append_left, Contains-append_right, Contains-append_cases, sum_by-append, some-injective, some-ne-none}
+use Rattle.fx_table.proofs.Words.{arith, drop, opening, numbers_for, start_of, is_fresh_at_first, flat_map, All-contains, Contains-push, common_steps}
+use Rattle.fx_table.proofs.Words.{nil_from_length, take-append-drop, opens_inside, opening_is_start}
 use Rattle.fx_plain.specs.Laws.{IsStart}
 use Rattle.fx_plain.specs.Reopening.{IsTableAtRest}
-use Rattle.fx_plain.proofs.Prepared.{opens_inside, opening_is_start}
 use Rattle.fx_table.proofs.SumLemmas.{contains_none, contains_head, contains_tail, sum_map, sum_only, sum_reverse, sum_two, sum_set}
 
 -- a table that doesn't last has fresh numbers up to the last chain's last
@@ -19,10 +17,7 @@ starts st numbers lasts = grind (arith, opening_is_start, common_steps)
 
 -- each table begins at rest
 pub begins_at_rest : (o : Opening) → IsTableAtRest (start_of o)
-begins_at_rest o = record {
-  start = starts (state_of o.contents) (numbers_for o.chains) o.lasts;
-  inside = opens_inside o.contents (numbers_for o.chains);
-}
+begins_at_rest o = grind (arith, common_steps, starts, opens_inside)
 
 -- All passes in one seat, which come back one after another.
 

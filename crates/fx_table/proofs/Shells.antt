@@ -1,10 +1,9 @@
 -- Files move between a table of one thread and the places of a shared one.
-use Rattle.fx_table.proofs.Words.{◌≡◌, ◌≢◌, ℕ, zero, suc, ◌+◌, ◌<◌, ◌≤◌, List, [], ◌∷◌, ◌++◌, length, sym, refl, ap, ◌∙◌, arith, ◌⊎◌, None, dite}
-use Rattle.fx_table.proofs.Words.{some, get_elem?, State, Contents, state_of, changed_at, cond, set, Bool, Option, Some, nat_lt, option_map, dec_le}
-use Rattle.fx_table.proofs.Words.{Closed, IsSettled, identity_of, numbered, slots_in_order, number_of, HasSameFiles, IsShell, IsShellOf, AreBack}
-use Rattle.fx_table.proofs.Words.{file_in_place, lt-ltb, le-ltb, File}
+use Rattle.fx_table.proofs.Words.{common_steps, ◌≡◌, ◌≢◌, ℕ, zero, suc, ◌+◌, ◌<◌, ◌≤◌, List, [], ◌∷◌, ◌++◌, length, sym, refl, ap, ◌∙◌, arith, ◌⊎◌}
+use Rattle.fx_table.proofs.Words.{None, dite, some, get_elem?, State, Contents, state_of, changed_at, cond, set, Bool, Option, Some, nat_lt, dec_le}
+use Rattle.fx_table.proofs.Words.{option_map, Closed, IsSettled, identity_of, numbered, slots_in_order, number_of, HasSameFiles, IsShell, IsShellOf}
+use Rattle.fx_table.proofs.Words.{AreBack, file_in_place, lt-ltb, le-ltb, File, get_or-map-range_with_len, length-map-range_with_len}
 use Rattle.std.proofs.Math.ListN.{get_or-eq_default}
-use Rattle.std.proofs.lemmas.List.FromFn.{get_or-map-range_with_len, length-map-range_with_len}
 use Rattle.fx_table.proofs.SumLemmas.{read_at, stands_at}
 use Rattle.fx_table.proofs.Seats.{set_here, set_else}
 
@@ -21,13 +20,7 @@ all_taken files settled is = rw is assumption
 pub files_taken : (plain same : Contents) {before homes : List (Option Closed)} → HasSameFiles (state_of plain) (state_of same) → before ≡ []
     → homes ≡ before ++ slots_in_order (state_of same).at (state_of same).size
     → (place : ℕ) → file_in_place homes place ≡ identity_of ((state_of plain).at place)
-files_taken plain same {homes = homes} files none with_files place =
-    let at = (state_of same).at in let n = (state_of same).size in
-    let are : homes ≡ slots_in_order at n = with_files ∙ ap (λ (xs : List (Option Closed)). xs ++ slots_in_order at n) none in
-    ap (λ (xs : List (Option Closed)). file_in_place xs place) are ∙ dite (dec_le (suc place) n)
-    (λ l. get_or-map-range_with_len (λ s. identity_of (at s)) 0 n place place None (omega (arith, l)) (omega arith) ∙ files.files place)
-    (λ g. get_or-eq_default (slots_in_order at n) None (omega (arith, g, length-map-range_with_len (λ s. identity_of (at s)) 0 n))
-    ∙ sym (ap identity_of (none_outside plain (omega (arith, g, files.size)))))
+files_taken plain same {homes = homes} files none with_files place = grind (arith, common_steps, get_or-map-range_with_len, length-map-range_with_len, none_outside)
 
 -- one more empty place
 pub none_behind : (homes : List (Option Closed)) (place : ℕ) → file_in_place (homes ++ None ∷ []) place ≡ file_in_place homes place
@@ -117,9 +110,6 @@ module _ (size : ℕ) (place_at : ℕ → Option ℕ) where
 
     -- one slot's file comes back, if there is one
     module _ (home : AreAtHome xs) (inside : done < size) where
-      later : {slot : ℕ} → done ≤ slot → place_at slot ≢ place_at done → done + 1 ≤ slot
-      later {slot} le other = let ne : slot ≢ done = λ same. other (ap place_at same) in omega (arith, le, ne)
-
       pub none_named : place_at done ≡ None → AreComing shell xs (done + 1) now st
       none_named none = grind arith
 

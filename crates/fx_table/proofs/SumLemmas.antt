@@ -1,10 +1,9 @@
 -- Sums over lists, and membership in a list.
-use Rattle.fx_table.proofs.Words.{subst, ◌≡◌, ◌≢◌, ℕ, zero, suc, ◌+◌, ◌-◌, ◌<◌, ◌≤◌, cond, eqb, List, map, refl, ap, arith, eq-eqb, ne_eqb, ◌⊎◌, inl, inr}
-use Rattle.fx_table.proofs.Words.{count_by, range_with_len, sum_by-cons, dite, ℕ_discrete, changed_at, length, get_elem?, some, some-ne-none}
-use Rattle.fx_table.proofs.Words.{some-injective, [], ◌∷◌, reverse, sym, ◌∙◌, ⊎_elim, Contains, All, set, sum_by, Bool, once, slice_index_or}
-use Rattle.fx_table.proofs.Words.{length-map, get_or-map, get_or_default, All-contains_itself, sum}
+use Rattle.fx_table.proofs.Words.{common_steps, subst, ◌≡◌, ◌≢◌, ℕ, zero, suc, ◌+◌, ◌-◌, ◌<◌, ◌≤◌, cond, eqb, List, map, refl, ap, arith, eq-eqb, ◌⊎◌}
+use Rattle.fx_table.proofs.Words.{ne_eqb, inl, inr, count_by, range_with_len, sum_by-cons, dite, ℕ_discrete, changed_at, length, get_elem?, some, []}
+use Rattle.fx_table.proofs.Words.{some-ne-none, some-injective, ◌∷◌, reverse, sym, ◌∙◌, ⊎_elim, Contains, All, set, sum_by, Bool, once, length-map}
+use Rattle.fx_table.proofs.Words.{slice_index_or, get_or-map, get_or_default, All-contains_itself, sum, sum-map, sum_by-set, get_or-le-sum_by}
 use Rattle.std.proofs.lemmas.List.Sorted.{Contains-permutation, IsPermutation-reverse, IsPermutation-sym, sum_by-IsPermutation}
-use Rattle.std.proofs.lemmas.List.Sums.{sum-map, sum_by-set, get_or-le-sum_by}
 use Rattle.std.proofs.lemmas.Simd.{map-map}
 
 abbrev pub one_if : Bool → ℕ
@@ -44,9 +43,7 @@ module _ {X : Type 0} (number : X → ℕ) (new : ℕ → X) (its : (p : ℕ) �
 
   counted_from : (p n : ℕ) → counted (p + 1) n + once p q ≡ once (p + n) q
   counted_from p zero = let e : p ≡ p + 0 = omega arith in let f = ap (λ m. once m q) e in omega arith
-  counted_from p (suc n) =
-      let a = sum_by-cons (λ x. one_if (eqb (number x) q)) (new (p + 1)) (map new (range_with_len ((p + 1) + 1) n)) in
-      grind (arith, counted_from (p + 1) n, once_more, once)
+  counted_from p (suc n) = grind (arith, counted_from (p + 1) n, common_steps, sum_by-cons, once_more, once)
 
   pub counted_once : (n : ℕ) → counted 1 n ≡ once n q
   counted_once n = let e : 0 + n ≡ n = omega arith in omega (arith, counted_from 0 n, ap (λ m. once m q) e, once_is 0 q)
@@ -131,8 +128,7 @@ module _ {X : Type 0} (f : X → ℕ) where
   pub found_sum : (l : List X) → 1 ≤ sum_by f l → (x : X) × Contains l x × (1 ≤ f x)
   found_sum [] low = absurd (omega arith)
   found_sum (x ∷ l) low = dite (ℕ_discrete (f x) 0)
-      (λ none. let a = sum_by-cons f x l in let r = found_sum l (omega arith) in (r.0, contains_tail x l r.0 r.1, r.2))
-      (λ some. (x, contains_head x l, omega (arith, some)))
+      (λ none. let a = sum_by-cons f x l in let r = found_sum l (omega arith) in (r.0, contains_tail x l r.0 r.1, r.2)) (grind (arith, contains_head))
 
   pub sum_zero : (l : List X) → ((x : X) → Contains l x → f x ≡ 0) → sum_by f l ≡ 0
   sum_zero l each = grind (arith, found_sum)

@@ -1,12 +1,10 @@
 -- A pass that removed the file that it held by its hold word stores 0 there: nobody has charged the
 -- word, since it alone visits the node's passes.
-use Rattle.fx_lasting.proofs.Words.{Round, IsToVisit, NamesNode, StillNames, EndsItsHold, EndsItsHoldKeep, MayBeUncharged, ◌≡◌, ℕ, ◌+◌, ◌<◌, ◌≤◌, List, []}
-use Rattle.fx_lasting.proofs.Words.{refl, subst, arith, Option, none, keeps, Closed, File, Bool, true, false, slots_of, hold_word_of, leaving, Work, Retiring}
-use Rattle.fx_lasting.proofs.Words.{step, ⊎_elim, Goes, Agrees}
-use Rattle.fx_lasting.proofs.Counts.{owed_at}
-use Rattle.fx_lasting.proofs.Keeping.{Turn, turn_of, After, word_at, slot_word, Made, by_turn, its_log, in_range, w, end}
+use Rattle.fx_lasting.proofs.{Round, IsToVisit, NamesNode, StillNames, EndsItsHold, EndsItsHoldKeep, MayBeUncharged, ◌≡◌, ℕ, ◌+◌, ◌<◌, ◌≤◌, List, []}
+use Rattle.fx_lasting.proofs.{refl, subst, arith, Option, none, keeps, Closed, File, Bool, true, false, slots_of, hold_word_of, leaving, Work}
+use Rattle.fx_lasting.proofs.{Retiring, step, ⊎_elim, Goes, Agrees, owed_at, Turn, turn_of, After, word_at, slot_word, Made, by_turn, its_log}
+use Rattle.fx_lasting.proofs.{in_range, w, end, hold_words, hold_here, hold_node, hold_slot, hold_else, hold_label, hold_leaves}
 use Rattle.fx_lasting.proofs.node_lemmas.NodeSteps.{guards_else}
-use Rattle.fx_lasting.proofs.Places.{hold_words, hold_here, hold_node, hold_slot, hold_else, hold_label, hold_leaves}
 use Rattle.fx_lasting.proofs.hold_lemmas.RoundSteps.{its, node, retiring_same, round_after, round_kept, goes}
 
 module _ (turn : Turn) (f : File) (n t : ℕ) (nx : Round) (m : ℕ) (works : turn.v.work ≡ Retiring f n t nx m) (up : nx.guarded ≡ true) where

@@ -1,8 +1,8 @@
 -- A load by which a retirement finds that everybody has let its file go keeps the rule.
-use Rattle.fx_lasting.proofs.Words.{false, Round, IsPassed, ◌≡◌, ℕ, ◌+◌, ◌≤◌, List, ap, ◌∙◌, sym, arith, Option, Some, none, keeps, takes, Closed, File}
-use Rattle.fx_lasting.proofs.Words.{word_of, taking, owner, removed_in, Retiring, retirement_amount, step, inr, dite, ℕ_discrete, Finishes, FinishesKeep}
+use Rattle.fx_lasting.proofs.{false, Round, IsPassed, ◌≡◌, ℕ, ◌+◌, ◌≤◌, List, ap, ◌∙◌, sym, arith, Option, Some, none, keeps, takes, Closed, File}
+use Rattle.fx_lasting.proofs.{word_of, taking, owner, removed_in, Retiring, retirement_amount, step, inr, dite, ℕ_discrete, Finishes, FinishesKeep}
+use Rattle.fx_lasting.proofs.{Turn, turn_of, word_at, Made, by_turn, w}
 use Rattle.fx_lasting.proofs.Calm.{read_after, read_kept}
-use Rattle.fx_lasting.proofs.Keeping.{Turn, turn_of, word_at, Made, by_turn, w}
 use Rattle.fx_lasting.proofs.hold_lemmas.LettingGo.{out_after, IsGone, comes_out, takes_out}
 use Rattle.fx_lasting.proofs.Peeking.{goes_still, still}
 use Rattle.fx_lasting.proofs.hold_lemmas.Retiring.{its, node, lets, retiring_same, nobody}

@@ -1,13 +1,12 @@
 -- Steps of a pass on its own hold word keep the rule: it announces a node, withdraws, or steps
 -- down.
-use Rattle.fx_lasting.proofs.Words.{◌≡◌, ℕ, ◌+◌, ◌<◌, List, [], ◌∷◌, sym, refl, ap, ◌∙◌, subst, arith, Option, none, keeps, Closed, File, Event, Release, ◌▷◌}
-use Rattle.fx_lasting.proofs.Words.{WorkAgrees, HoldAgrees, GuardAgrees, NamesNode, HoldsAt, state_after_all, nodes_of, hold_word_of, held_in, taking}
-use Rattle.fx_lasting.proofs.Words.{pass_event, Work, Idle, Announced, Guarded, Owing, Yielding, Hot, Announces, Withdraws, StepsDown, AnnouncesKeep}
-use Rattle.fx_lasting.proofs.Words.{WithdrawsKeep, StepsDownKeep, Goes, announced, step, inl, ⊎_elim, dite, ℕ_discrete, one_less_at, bit_here, sum_at, IsInside}
-use Rattle.fx_lasting.proofs.Words.{IsAllowed, true, ◌⊎◌, inr, alone_in, announcing, MayAnnounce, Placement, Placing, Nearing, IsIn, placed}
-use Rattle.fx_lasting.proofs.Histories.{grows_none, grows_one, legal_more, part_mine, held_mine}
-use Rattle.fx_lasting.proofs.Frames.{busy}
-use Rattle.fx_lasting.proofs.Keeping.{none_added, Turn, turn_of, word_at, slot_word, Made, by_turn, its_log, its_work, tells, w}
+use Rattle.fx_lasting.proofs.{◌≡◌, ℕ, ◌+◌, ◌<◌, List, [], ◌∷◌, sym, refl, ap, ◌∙◌, subst, arith, Option, none, keeps, Closed, File, Event, Release}
+use Rattle.fx_lasting.proofs.{◌▷◌, WorkAgrees, HoldAgrees, GuardAgrees, NamesNode, HoldsAt, nodes_of, hold_word_of, held_in, taking}
+use Rattle.fx_lasting.proofs.{pass_event, Work, Idle, Announced, Guarded, Owing, Yielding, Hot, Announces, Withdraws, StepsDown, AnnouncesKeep}
+use Rattle.fx_lasting.proofs.{WithdrawsKeep, StepsDownKeep, Goes, announced, step, inl, ⊎_elim, dite, ℕ_discrete, one_less_at, bit_here, sum_at}
+use Rattle.fx_lasting.proofs.{IsInside, IsAllowed, true, ◌⊎◌, inr, alone_in, announcing, MayAnnounce, Placement, Placing, Nearing, IsIn, placed}
+use Rattle.fx_lasting.proofs.{grows_none, grows_one, legal_more, part_mine, held_mine, busy, none_added, Turn, turn_of, word_at, slot_word, Made}
+use Rattle.fx_lasting.proofs.{by_turn, its_log, its_work, tells, w}
 use Rattle.fx_lasting.proofs.Calm.{own_words, own_after, Own, own_kept}
 
 module _ (turn : Turn) (carried : List (ℕ × Option Closed)) where
@@ -100,11 +99,8 @@ module _ (turn : Turn) (carried : List (ℕ × Option Closed)) where
     abbrev h₁ : List Event
     h₁ = pass_event x (Release f) ∷ r.history
 
-    held_now : 0 < (state_after_all v.start r.history).holds f.number
-    held_now = grind (arith, bit_here, sum_at)
-
     released : r.debt x.number ≡ 0 → Own turn 0 Idle h₁
-    released none_owed = grind (arith, grows_one, legal_more, held_now, its_log, taking, held_mine, one_less_at)
+    released none_owed = grind (arith, grows_one, legal_more, bit_here, sum_at, its_log, taking, held_mine, one_less_at)
 
     step_down : (slots : ℕ) → Made turn carried (hold_word_of v.start x.number) (λ _. 0)
         (StepsDown (step slots (hold_word_of v.start x.number) 0 0 none) (v, carried))

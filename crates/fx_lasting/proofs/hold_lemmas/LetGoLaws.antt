@@ -1,17 +1,14 @@
 -- A pass that subtracts a charge or a take from the word of a node keeps the rule.
-use Rattle.fx_lasting.proofs.Words.{◌≡◌, ◌≢◌, ℕ, ◌+◌, ◌-◌, ◌%◌, ◌^◌, ◌<◌, ◌≤◌, List, [], ◌∷◌, set, sym, refl, ap, ◌∙◌, subst, arith, Option, Some, none, some}
-use Rattle.fx_lasting.proofs.Words.{keeps, takes, Closed, ◌▷◌, File, Event, Release, Action, pass_event, NodeAgrees, OwnerAgrees, MayBeUncharged, HoldsAt}
-use Rattle.fx_lasting.proofs.Words.{WorkAgrees, state_after_all, slots_of, nodes_of, word_of, hold_word_of, held_in, taken_of, taking, owed, count_in, Phase}
-use Rattle.fx_lasting.proofs.Words.{seated, leaving, retired, owner, file_in, removed_in, changed_at, changed_here, changed_else, Idle, Counted, Owing}
-use Rattle.fx_lasting.proofs.Words.{Yielding, Goes, TakesOut, Sat, LettingGo, LettingGoKeeps, step, inl, inr, ⊎_elim, ◌⊎◌, dite, ℕ_discrete, eqb, one_if}
-use Rattle.fx_lasting.proofs.Words.{sum_by, sum_at, one_less_at, get_elem?, bit_here, bit_else, Agrees}
-use Rattle.fx_lasting.proofs.Counts.{owed_changed, owed_at}
-use Rattle.fx_lasting.proofs.Histories.{grows_one, legal_more, part_mine, held_mine}
-use Rattle.fx_lasting.proofs.Frames.{busy, owner_stays, covers_same}
-use Rattle.fx_lasting.proofs.Keeping.{none_added, Turn, turn_of, word_at, slot_word, Made, by_turn, its_log, its_work, in_range, w, end}
+use Rattle.fx_lasting.proofs.{◌≡◌, ◌≢◌, ℕ, ◌+◌, ◌-◌, ◌%◌, ◌^◌, ◌<◌, ◌≤◌, List, [], ◌∷◌, set, sym, refl, ap, ◌∙◌, subst, arith, Option, Some, none}
+use Rattle.fx_lasting.proofs.{some, keeps, takes, Closed, ◌▷◌, File, Event, Release, Action, pass_event, NodeAgrees, OwnerAgrees, MayBeUncharged}
+use Rattle.fx_lasting.proofs.{HoldsAt, WorkAgrees, state_after_all, slots_of, nodes_of, word_of, hold_word_of, held_in, taken_of, taking, owed}
+use Rattle.fx_lasting.proofs.{count_in, Phase, seated, leaving, retired, owner, file_in, removed_in, changed_at, changed_here, changed_else, Idle}
+use Rattle.fx_lasting.proofs.{Counted, Owing, Yielding, Goes, TakesOut, Sat, LettingGo, LettingGoKeeps, step, inl, inr, ⊎_elim, ◌⊎◌, dite, ℕ_discrete}
+use Rattle.fx_lasting.proofs.{eqb, one_if, sum_by, sum_at, one_less_at, get_elem?, bit_here, bit_else, Agrees, owed_changed, owed_at, grows_one}
+use Rattle.fx_lasting.proofs.{legal_more, part_mine, held_mine, busy, owner_stays, covers_same, none_added, Turn, turn_of, word_at, slot_word, Made}
+use Rattle.fx_lasting.proofs.{by_turn, its_log, its_work, in_range, w, end, NodeNow, in_phase}
 use Rattle.fx_lasting.proofs.hold_lemmas.LettingGo.{IsLetGo, words₁, same_slots, open_after, stays_open, goes_open, out_after, IsGone, comes_out, takes_out}
 use Rattle.fx_lasting.proofs.hold_lemmas.LettingGo.{sub_wraps, taking_few, taken_now}
-use Rattle.fx_lasting.proofs.hold_lemmas.Unheld.{NodeNow, in_phase}
 
 -- The counts of the node become one less.
 module _ {turn : Turn} {n : ℕ} {f : File} {h₁ : List Event} {debt' : ℕ → ℕ} {xs : List Action} (g : IsLetGo turn n f h₁ debt' xs)
@@ -123,14 +120,11 @@ module _ (turn : Turn) (n : ℕ) where
     abbrev h₁ : List Event
     h₁ = pass_event x (Release f) ∷ r.history
 
-    held_now : 0 < (state_after_all v.start r.history).holds f.number
-    held_now = grind (arith, bit_here, sum_at)
-
     hold_lets : (debt' : ℕ → ℕ) → busy v.work ≡ 0 → ((m : ℕ) → m ≢ n → owed debt' v.start.passes m ≡ owed r.debt v.start.passes m)
         → ((m : ℕ) → m ≢ n → taking m v.work ≡ 0) → ((q : ℕ) → q ≢ x.number → debt' q ≡ r.debt q) → debt' x.number ≡ 0
         → word_at st.words (hold_word_of v.start x.number) ≡ 0 → IsLetGo turn n f h₁ debt' ([] ▷ Release f)
     hold_lets debt' calm owed_else taken_else debts no_debt empty =
-        grind (arith, grows_one, legal_more, held_now, its_log, part_mine, one_less_at, held_mine)
+        grind (arith, grows_one, legal_more, bit_here, sum_at, its_log, part_mine, one_less_at, held_mine)
 
 module _ (turn : Turn) (slots n : ℕ) (carried : List (ℕ × Option Closed))
     (fits : word_at turn.st.words (word_of turn.v.start n) < 18446744073709551616) where

@@ -1,17 +1,15 @@
 -- A pass lets a file go: it subtracts a take or a charge from the word of the file's node, or it
 -- retires the file.
-use Rattle.fx_lasting.proofs.Words.{◌≡◌, ◌≢◌, ℕ, ◌+◌, ◌-◌, ◌%◌, ◌^◌, ◌<◌, ◌≤◌, List, ◌∷◌, ◌++◌, map, set, sym, refl, ap, ◌∙◌, arith, Option, Some, None, none}
-use Rattle.fx_lasting.proofs.Words.{some, set_here, set_else, Closed, ◌▷◌, File, Event, Close, Action, pass_event, held_by, part_of_pass, NodeAgrees}
-use Rattle.fx_lasting.proofs.Words.{OwnerAgrees, MayBeUncharged, HoldsAt, state_after_all, slots_of, hold_word_of, held_of, taken_of, taking, if_file, owed}
-use Rattle.fx_lasting.proofs.Words.{count_in, IsHistory, Phase, free, seated, emptied, owner, file_in, removed_in, file_if_numbered, changed_at, changed_here}
-use Rattle.fx_lasting.proofs.Words.{changed_else, View, Work, Idle, Emptying, Goes, TakesOut, length-set, inr, ◌⊎◌, dite, ℕ_discrete, eq-eqb, ne_eqb, sum_by}
-use Rattle.fx_lasting.proofs.Words.{by_equality, sum_set, Agrees, get_elem?, Labels, written_in, subst}
-use Rattle.fx_lasting.proofs.Histories.{Grows, grows_more, legal_more, part_mine, held_mine, each_changed}
-use Rattle.fx_lasting.proofs.Frames.{busy, does_now, written_of}
-use Rattle.fx_lasting.proofs.Keeping.{Turn, After, Homes, word_at, slot_word, in_range, tells, w, end, labels_same, LeavesFiles}
+use Rattle.fx_lasting.proofs.{◌≡◌, ◌≢◌, ℕ, ◌+◌, ◌-◌, ◌%◌, ◌^◌, ◌<◌, ◌≤◌, List, ◌∷◌, ◌++◌, map, set, sym, refl, ap, ◌∙◌, arith, Option, Some, None}
+use Rattle.fx_lasting.proofs.{none, some, set_here, set_else, Closed, ◌▷◌, File, Event, Close, Action, pass_event, held_by, part_of_pass, NodeAgrees}
+use Rattle.fx_lasting.proofs.{OwnerAgrees, MayBeUncharged, HoldsAt, state_after_all, slots_of, hold_word_of, held_of, taken_of, taking, if_file, owed}
+use Rattle.fx_lasting.proofs.{count_in, IsHistory, Phase, free, seated, emptied, owner, file_in, removed_in, file_if_numbered}
+use Rattle.fx_lasting.proofs.{changed_here, changed_else, View, Work, Idle, Emptying, Goes, TakesOut, length-set, inr, ◌⊎◌, dite, ℕ_discrete, eq-eqb}
+use Rattle.fx_lasting.proofs.{ne_eqb, sum_by, by_equality, sum_set, Agrees, get_elem?, Labels, written_in, subst, Grows, grows_more, legal_more}
+use Rattle.fx_lasting.proofs.{part_mine, held_mine, each_changed, busy, does_now, written_of, Turn, After, Homes, word_at, slot_word, in_range, tells}
+use Rattle.fx_lasting.proofs.{w, end, labels_same, LeavesFiles, node_words, node_here, node_slot, node_hold, node_label, node_leaves, held_alone}
+use Rattle.fx_lasting.proofs.{held_not, on_node}
 use Rattle.fx_lasting.proofs.node_lemmas.NodeSteps.{own_keeps, guards_else, after, node_kept}
-use Rattle.fx_lasting.proofs.Places.{node_words, node_here, node_slot, node_hold, node_label, node_leaves}
-use Rattle.fx_lasting.proofs.hold_lemmas.Unheld.{held_alone, held_not, on_node}
 
 pub taking_few : (n : ℕ) (d : Work) → taking n d ≤ 1
 taking_few n d = grind (arith, by_equality)
@@ -135,24 +133,11 @@ module _ {turn : Turn} {n : ℕ} {f : File} {h₁ : List Event} {debt' : ℕ →
     unheld : (state_after_all v.start h₁).holds f.number ≡ 0
     unheld = grind (arith, held_alone)
 
-    was_removed : (state_after_all v.start h₁).removed f.number ≡ Some f
-    was_removed = grind (arith, on_this)
-
     legal₂ : IsHistory v.start h₂
-    legal₂ = legal_more v.start g.files.legal (was_removed, unheld) tt
+    legal₂ = legal_more v.start g.files.legal (grind (arith, on_this), unheld) tt
 
     grows₂ : Grows x.number r.history h₂
     grows₂ = grows_more refl g.files.grows
-
-    -- what is removed now
-    removed₂ : (m : ℕ) → (state_after_all v.start h₂).removed m ≡ removed_in m (changed_at r.phase n (emptied id) (r.node_of m))
-    removed₂ m = let old = (state_after_all v.start h₁).removed in dite (ℕ_discrete m f.number)
-        (λ same. changed_here old f.number None m same ∙ sym (ap (removed_in m)
-        (changed_here r.phase n (emptied id) (r.node_of m) (ap r.node_of same ∙ on_this))))
-        (λ other. changed_else old f.number None m other ∙ (ap (λ (z : ℕ → Option File). z m) g.files.removed ∙ (r.nodes.removed m
-        ∙ sym (each_changed (λ k z. removed_in m z ≡ removed_in m (r.phase k)) r.phase
-        (λ is. sym (ap (λ (k : ℕ). removed_in m (r.phase k)) is ∙ (o.gone m ∙ rw (ne_eqb f.number m (λ e. other (sym e))) refl)))
-        (λ _. refl)))))
 
     pub comes_out : Agrees v.start (end turn out_after)
     comes_out = node_kept turn n g.its.0 (emptied id) h₂ words₁ homes₂ debt' (Emptying n) v.glance record {
@@ -162,7 +147,13 @@ module _ {turn : Turn} {n : ℕ} {f : File} {h₁ : List Event} {debt' : ℕ →
       legal = legal₂;
       at = g.files.at;
       fresh = g.files.fresh;
-      removed = removed₂;
+      removed = λ m. let old = (state_after_all v.start h₁).removed in dite (ℕ_discrete m f.number)
+          (λ same. changed_here old f.number None m same ∙ sym (ap (removed_in m)
+          (changed_here r.phase n (emptied id) (r.node_of m) (ap r.node_of same ∙ on_this))))
+          (λ other. changed_else old f.number None m other ∙ (ap (λ (z : ℕ → Option File). z m) g.files.removed ∙ (r.nodes.removed m
+          ∙ sym (each_changed (λ k z. removed_in m z ≡ removed_in m (r.phase k)) r.phase
+          (λ is. sym (ap (λ (k : ℕ). removed_in m (r.phase k)) is ∙ (o.gone m ∙ rw (ne_eqb f.number m (λ e. other (sym e))) refl)))
+          (λ _. refl)))));
       label = tt;
       home_else = λ m l other. set_else st.homes n m none other;
       owed_else = g.owed_else;
@@ -177,12 +168,7 @@ module _ {turn : Turn} {n : ℕ} {f : File} {h₁ : List Event} {debt' : ℕ →
           omega arith);
       guards = λ p e other range. guards_else turn n g.its.0 (emptied id) h₂ words₁ homes₂ debt' (Emptying n) v.glance same_slots p e
           (node_hold turn n g.its.0 less p range.1) (g.debts p other) (λ may. absurd (o.charged p other range may));
-      node = rw (node_here turn n g.its.0 less) record {
-        counts = o.left;
-        at_home = set_here st.homes n none (let a = r.shape.homes in let b = g.its.0 in omega arith);
-        untaken = let a = taken_now (w turn out_after) refl in let b = o.none_taken in omega arith;
-        unowed = o.none_owed;
-      };
+      node = grind (arith, node_here, set_here, none, taken_now);
       known = does_now st.views id v (w turn out_after) (Emptying n) here refl;
       held = held_mine (pass_event x (Close f)) h₁ refl ∙ g.held;
       allowed = tt;

@@ -1,20 +1,13 @@
 -- A step that sets a pass's bit in the list keeps the rule.
-use Rattle.fx_lasting.proofs.Words.{ℕ, ◌≤◌, ◌^◌, List, Option, Closed, refl, inl, inr, arith, none, keeps, true, bit_or, bit_of, list_place, step, length-set}
-use Rattle.fx_lasting.proofs.Words.{Work, IsAllowed, Lists, ListsKeep, [], Bool, ◌≡◌, ◌+◌, ◌%◌, ◌<◌, ◌∙◌, false, Agrees, first_log}
-use Rattle.fx_lasting.proofs.Histories.{grows_none}
-use Rattle.fx_lasting.proofs.Frames.{guards_same, covers_same, sees_same}
-use Rattle.fx_lasting.proofs.Keeping.{Turn, turn_of, After, word_at, Made, by_turn, its_log, its_work, in_range, w, end, met_same, none_added, range_left}
-use Rattle.fx_lasting.proofs.Keeping.{tells_as}
-use Rattle.fx_lasting.proofs.slot_lemmas.Watching.{watch_same}
+use Rattle.fx_lasting.proofs.{ℕ, ◌≤◌, ◌^◌, List, Option, Closed, refl, inl, inr, arith, none, keeps, true, bit_or, bit_of, list_place, step}
+use Rattle.fx_lasting.proofs.{length-set, Lists, ListsKeep, [], ◌≡◌, ◌+◌, ◌%◌, ◌<◌, ◌∙◌, false, Agrees, first_log, grows_none}
+use Rattle.fx_lasting.proofs.{guards_same, covers_same, sees_same, Turn, turn_of, After, word_at, Made, by_turn, its_log, its_work, in_range, w, end}
+use Rattle.fx_lasting.proofs.{met_same, none_added, range_left, tells_as, watch_same, list_words, list_here, list_apart, list_node, list_hold}
+use Rattle.fx_lasting.proofs.{list_slot, list_alike, list_label}
 use Rattle.fx_lasting.proofs.Calm.{calm_after, calm_kept}
 use Rattle.fx_lasting.proofs.hold_lemmas.Lists.{ListGoesOn}
 use Rattle.table_range.proofs.Bits.{bit_now, bit_added}
 use Rattle.fx_lasting.proofs.range_lemmas.GroupSteps.{its_inside}
-use Rattle.fx_lasting.proofs.Places.{list_words, list_here, list_apart, list_node, list_hold, list_slot, list_alike, list_label}
-
--- a pass that is listed may do what it did
-allowed_more : (stock : List ℕ) (l : Bool) (d : Work) → IsAllowed stock l d → IsAllowed stock true d
-allowed_more stock l d ok = grind arith
 
 module _ (turn : Turn) (not_yet : turn.x.listed ≡ false) (fits : word_at turn.st.words (list_place turn.x.number) < 18446744073709551616) where
   open turn use {st, v, r, id, x, here, one}
@@ -56,17 +49,11 @@ module _ (turn : Turn) (not_yet : turn.x.listed ≡ false) (fits : word_at turn.
         taken = λ n. refl;
         owners = inl refl;
         held = o.held;
-        allowed = allowed_more x.stock x.listed v.work o.allowed;
+        allowed = grind arith;
         lists = λ p few. goes_on p;
         its_bit = λ l. inr (rw (list_here turn x.number few new ∙ is_set) (bit_now x.number (word_at st.words (list_place x.number))));
         watches = watch_same v.start x.number ([], refl) same (list_alike turn x.number few new).0 x.watch o.watch;
-        its = record {
-          hold = own.0;
-          guarded = own.1;
-          sees = sees_same v.start (λ s. r.deed s x.number) same v.glance o.sees;
-          heats = o.heats;
-          work = its_work turn;
-        };
+        its = grind (arith, sees_same, its_work);
         holds = λ n. refl;
       }
 

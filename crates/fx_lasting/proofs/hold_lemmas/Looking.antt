@@ -1,20 +1,16 @@
 -- A look-up loads the slot's word: at first, and again when it has announced a node.
-use Rattle.fx_lasting.proofs.Words.{Aims, IsIn, List, refl, Some, None, none, File, Look, Work, Idle, Cold, Goes, Shows, IsHot, Deed, Start, AimsKeep, alone_in}
-use Rattle.fx_lasting.proofs.Words.{guarding, IsOnList, first_log, arith, NamesNode, Announced, untouched, IsHistory, HasNoFile, HasAnnounced, GuardAgrees}
-use Rattle.fx_lasting.proofs.Words.{GlanceAgrees, state_after_all, GlancesKeep, ConfirmsKeep, full_name_in, hold_word_of, IsAllowed, Placement, Relieving}
-use Rattle.fx_lasting.proofs.Words.{subst, WorkAgrees, pass_event, has_heated, slot_place, ℕ_discrete, one_more_at, Nearing, slots_of, nodes_of, held_in}
-use Rattle.fx_lasting.proofs.Words.{if_file, file_in, Guarded, Heating, Nothing, Confirms, IsInside, placed, ℕ, Option, keeps, Closed, Event, Heats, taking}
-use Rattle.fx_lasting.proofs.Words.{seated, Glance, Glances, heat_in, heated, ⊎_elim, Log, ◌≡◌, ◌≢◌, ◌+◌, ◌-◌, ◌<◌, [], ◌∷◌, sym, ap, ◌∙◌, ◌▷◌, Hot, over, step}
-use Rattle.fx_lasting.proofs.Words.{inl, inr, ◌⊎◌, dite, true}
+use Rattle.fx_lasting.proofs.{Aims, IsIn, List, refl, Some, None, none, File, Look, Work, Idle, Cold, Goes, Shows, IsHot, Deed, Start, AimsKeep}
+use Rattle.fx_lasting.proofs.{alone_in, guarding, IsOnList, first_log, arith, NamesNode, Announced, untouched, IsHistory, HasNoFile, HasAnnounced}
+use Rattle.fx_lasting.proofs.{GuardAgrees, GlanceAgrees, state_after_all, GlancesKeep, ConfirmsKeep, full_name_in, hold_word_of, IsAllowed, Placement}
+use Rattle.fx_lasting.proofs.{Relieving, subst, WorkAgrees, pass_event, has_heated, slot_place, ℕ_discrete, one_more_at, Nearing, slots_of, nodes_of}
+use Rattle.fx_lasting.proofs.{held_in, if_file, file_in, Guarded, Heating, Nothing, Confirms, IsInside, placed, ℕ, Option, keeps, Closed, Event}
+use Rattle.fx_lasting.proofs.{Heats, taking, seated, Glance, Glances, heat_in, heated, ⊎_elim, Log, ◌≡◌, ◌≢◌, ◌+◌, ◌-◌, ◌<◌, [], ◌∷◌, sym, ap, ◌∙◌}
+use Rattle.fx_lasting.proofs.{◌▷◌, Hot, over, step, inl, inr, ◌⊎◌, dite, true, grows_none, grows_one, legal_more, part_mine, held_mine, same_shape}
+use Rattle.fx_lasting.proofs.{busy, tally_at, Turn, turn_of, After, word_at, slot_word, Made, by_turn, its_log, its_work, in_range, tells, w}
+use Rattle.fx_lasting.proofs.{LeavesFiles, none_added, slot_back, Kind}
 use Rattle.fx_lasting.proofs.range_lemmas.GroupSteps.{its_inside}
-use Rattle.fx_lasting.proofs.Histories.{grows_none, grows_one, legal_more, part_mine, held_mine, same_shape}
-use Rattle.fx_lasting.proofs.Frames.{busy}
-use Rattle.fx_lasting.proofs.Counts.{tally_at}
-use Rattle.fx_lasting.proofs.Keeping.{Turn, turn_of, After, word_at, slot_word, Made, by_turn, its_log, its_work, in_range, tells, w, LeavesFiles, none_added}
-use Rattle.fx_lasting.specs.Laws.{Kind}
 use Rattle.fx_lasting.proofs.Calm.{read_after, Reads, read_kept}
 use Rattle.fx_lasting.proofs.node_lemmas.Choosing.{no_file, no_take, not_busy, holds_none}
-use Rattle.fx_lasting.proofs.Places.{slot_back}
 
 module _ (turn : Turn) (s : ℕ) (inside : s < slots_of turn.v.start) where
   open turn use {st, v, r, id, x, here, one}
@@ -280,9 +276,6 @@ module _ (turn : Turn) (s : ℕ) (inside : s < slots_of turn.v.start) where
       found_inside : IsInside v.start (guarding f v.work)
       found_inside = grind (arith, guarding, placed, its_work)
 
-    moved_on : ((full_name_in word ≡ n + 1) × IsHot word → ⊥) → r.deed s x.number ≡ untouched
-    moved_on not_so = let o = rw saw at (its_log turn).sees in ⊎_elim (λ z. absurd (not_so z)) (λ out. out) o.2
-
     pub confirm : (slots : ℕ) (carried : List (ℕ × Option Closed))
         → Made turn carried (slot_place s) (λ word. word) (Confirms (step slots (slot_place s) 0 0 none) (v, carried))
     confirm slots carried = ⊎_elim
@@ -304,7 +297,10 @@ module _ (turn : Turn) (s : ℕ) (inside : s < slots_of turn.v.start) where
             moved = λ i k saw' works' not_so. let same : n ≡ k = cc (sym saw ∙ saw') in absurd (not_so (rw (← same) so));
           },
         ))
-        (λ not_so. let sees : GlanceAgrees v.start (slot_word st.words) (λ i. r.deed i x.number) (Cold s) = (inside, moved_on not_so) in
+        (λ not_so. let sees : GlanceAgrees v.start (slot_word st.words) (λ i. r.deed i x.number) (Cold s) = (
+          inside,
+          (let o = rw saw at (its_log turn).sees in ⊎_elim (λ z. absurd (not_so z)) (λ out. out) o.2),
+        ) in
         loads v.work (inl refl) (Cold s) calm_hot sees (its_inside turn) Confirms slots carried
         (λ goes. record {
           holds = λ i k saw' works' names is_hot. let same : n ≡ k = cc (sym saw ∙ saw') in absurd (not_so (rw same (names, is_hot)));
@@ -325,8 +321,7 @@ glances_keep k slots id i s m x has nothing inside place = by_turn slots (λ (k 
 pub confirms_keep : ConfirmsKeep Confirms
 confirms_keep k slots id i s n m x has works saw place = by_turn slots (λ _. Unit {0}) (λ _. slot_place s) (λ word. word)
     (λ i. Confirms (step slots i 0 0 none) m) has tt place
-    (λ st r here _ fits. let turn = turn_of m x has.1 id st r here in let o = rw saw at (its_log turn).sees in
-    confirm turn s o.0 n works saw slots m.1)
+    (λ st r here _ fits. let turn = turn_of m x has.1 id st r here in confirm turn s (rw saw at (its_log turn).sees).0 n works saw slots m.1)
 
 pub aims_keep : AimsKeep Aims
 aims_keep k slots id i s m x has unheld nothing inside place = by_turn slots (λ (k : Start). s < slots_of k) (λ _. slot_place s) (λ word. word)

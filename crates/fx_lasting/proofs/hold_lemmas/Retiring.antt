@@ -1,12 +1,10 @@
 -- A retirement keeps the rule, when all hold words were visited.
-use Rattle.fx_lasting.proofs.Words.{Bool, StillNames, false, hold_word_of, Round, IsPassed, ⊎_elim, ◌≢◌, ◌≡◌, ℕ, ◌+◌, ◌-◌, ◌%◌, ◌^◌, ◌<◌, ◌≤◌, List, [], sym}
-use Rattle.fx_lasting.proofs.Words.{refl, ap, ◌∙◌, subst, arith, Option, Some, none, keeps, takes, Closed, File, WorkAgrees, MayBeUncharged, state_after_all}
-use Rattle.fx_lasting.proofs.Words.{nodes_of, word_of, held_in, if_file, taken_of, taking, owed, leaving, retired, owner, file_in, removed_in, Work, Retiring}
-use Rattle.fx_lasting.proofs.Words.{Retires, RetiresKeep, retirement_amount, step, inr, dite, ℕ_discrete, sum_by}
-use Rattle.fx_lasting.proofs.Frames.{busy}
-use Rattle.fx_lasting.proofs.Keeping.{none_added, Turn, turn_of, word_at, slot_word, Made, by_turn, its_log, its_work, w}
+use Rattle.fx_lasting.proofs.{Bool, StillNames, false, hold_word_of, Round, IsPassed, ⊎_elim, ◌≢◌, ◌≡◌, ℕ, ◌+◌, ◌-◌, ◌%◌, ◌^◌, ◌<◌, ◌≤◌, List, []}
+use Rattle.fx_lasting.proofs.{sym, refl, ap, ◌∙◌, subst, arith, Option, Some, none, keeps, takes, Closed, File, WorkAgrees, MayBeUncharged}
+use Rattle.fx_lasting.proofs.{nodes_of, word_of, held_in, if_file, taken_of, taking, owed, leaving, retired, owner, file_in}
+use Rattle.fx_lasting.proofs.{removed_in, Work, Retiring, Retires, RetiresKeep, retirement_amount, step, inr, dite, ℕ_discrete, sum_by, busy}
+use Rattle.fx_lasting.proofs.{none_added, Turn, turn_of, word_at, slot_word, Made, by_turn, its_log, its_work, w, NodeNow, in_phase, on_node}
 use Rattle.fx_lasting.proofs.hold_lemmas.LettingGo.{IsLetGo, open_after, stays_open, goes_open, out_after, IsGone, comes_out, takes_out, sub_wraps, taken_now}
-use Rattle.fx_lasting.proofs.hold_lemmas.Unheld.{NodeNow, in_phase, on_node}
 
 module _ (turn : Turn) (f : File) (n t : ℕ) (nx : Round) (m : ℕ) (works : turn.v.work ≡ Retiring f n t nx m) (down : nx.guarded ≡ false)
     (done : (p : ℕ) → nx.next ≤ p → p ≤ turn.v.start.passes → IsPassed turn.x.number nx p) where
@@ -49,9 +47,6 @@ module _ (turn : Turn) (f : File) (n t : ℕ) (nx : Round) (m : ℕ) (works : tu
   pub retiring_same : {g : File} {i a : ℕ} {b : Round} {c : ℕ} → v.work ≡ Retiring g i a b c → (f ≡ g) × (n ≡ i)
   retiring_same its = (cc (sym works ∙ its), cc (sym works ∙ its))
 
-  still_removed : (state_after_all v.start r.history).removed f.number ≡ Some f
-  still_removed = grind (arith, on_node, its)
-
   -- nobody has still to be visited
   pub nobody : (q : ℕ) → q ≢ x.number → (0 < q) × (q ≤ v.start.passes) → MayBeUncharged (slot_word st.words) q (r.phase n) → ⊥
   nobody q other range may = let z = subst (MayBeUncharged (slot_word st.words) q) its.1 may in ⊎_elim other z.1 (done q z.0 range.1)
@@ -92,8 +87,7 @@ module _ (turn : Turn) (f : File) (n t : ℕ) (nx : Round) (m : ℕ) (works : tu
             (λ q other range may. absurd (nobody q other range may))
             record { file = node.file; counts = omega arith; somebody = omega arith } tt,
         record {
-          waits = λ g i a b c its' _. let same = retiring_same its' in
-              (goes_open lets carried less (retired f), rw (← same.0) still_removed);
+          waits = λ g i a b c its' _. (goes_open lets carried less (retired f), rw (← (retiring_same its').0) (grind (arith, on_node, its)));
           closes = λ g i a b c its' is. absurd (more is);
         },
       ))

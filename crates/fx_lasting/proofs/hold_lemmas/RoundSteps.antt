@@ -1,14 +1,10 @@
 -- A step of a pass that retires a file: its round moves on, and the file's node stays with it.
-use Rattle.fx_lasting.proofs.Words.{false, Round, ◌≡◌, ◌≢◌, ℕ, ◌+◌, ◌^◌, ◌<◌, ◌≤◌, List, [], sym, refl, ap, ◌∙◌, subst, arith, Option, Closed, File, WorkAgrees}
-use Rattle.fx_lasting.proofs.Words.{HoldAgrees, GuardAgrees, StillNames, nodes_of, word_of, hold_word_of, held_in, if_file, taken_of, taking, owed, Phase}
-use Rattle.fx_lasting.proofs.Words.{leaving, owner, file_in, removed_in, changed_at, changed_here, Work, Retiring, inr, Goes, sum_set, true, Bool, Agrees}
-use Rattle.fx_lasting.proofs.Words.{Labels, label_of, written_in}
-use Rattle.fx_lasting.proofs.Histories.{grows_none, each_changed}
-use Rattle.fx_lasting.proofs.Frames.{busy, does_now}
-use Rattle.fx_lasting.proofs.Keeping.{Turn, After, word_at, slot_word, its_log, its_work, tells, w, end, LabelSame, labels_same}
+use Rattle.fx_lasting.proofs.{false, Round, ◌≡◌, ◌≢◌, ℕ, ◌+◌, ◌^◌, ◌<◌, ◌≤◌, List, [], sym, refl, ap, ◌∙◌, subst, arith, Option, Closed, File}
+use Rattle.fx_lasting.proofs.{WorkAgrees, HoldAgrees, GuardAgrees, StillNames, nodes_of, word_of, hold_word_of, held_in, if_file, taken_of, taking}
+use Rattle.fx_lasting.proofs.{owed, Phase, leaving, owner, file_in, removed_in, changed_at, changed_here, Work, Retiring, inr, Goes, sum_set, true}
+use Rattle.fx_lasting.proofs.{Bool, Agrees, Labels, label_of, written_in, grows_none, each_changed, busy, does_now, Turn, After, word_at, slot_word}
+use Rattle.fx_lasting.proofs.{its_log, its_work, tells, w, end, LabelSame, labels_same, LeavesElse, NodeNow, in_phase}
 use Rattle.fx_lasting.proofs.node_lemmas.NodeSteps.{after, node_kept, own_keeps}
-use Rattle.fx_lasting.proofs.Places.{LeavesElse, leaves_all}
-use Rattle.fx_lasting.proofs.hold_lemmas.Unheld.{NodeNow, in_phase}
 
 module _ (turn : Turn) (f : File) (n t : ℕ) (nx : Round) (m : ℕ) (works : turn.v.work ≡ Retiring f n t nx m) where
   open turn use {st, v, r, id, x, here, one}
@@ -95,4 +91,4 @@ module _ (turn : Turn) (f : File) (n t : ℕ) (nx : Round) (m : ℕ) (works : tu
       → GuardAgrees (slot_word st.words) r.phase p (r.debt p) e
       → GuardAgrees (slot_word st.words) (changed_at r.phase n (leaving id t nx' m f)) p (r.debt p) e)
       → RoundStep st.words r.debt nx' m
-  reads nx' own few_charges few_visits down guards = grind (arith, leaves_all)
+  reads nx' own few_charges few_visits down guards = grind arith

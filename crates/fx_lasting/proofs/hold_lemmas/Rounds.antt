@@ -1,8 +1,8 @@
 -- The round of a retirement: the passes that it has visited, and those that it need not visit.
-use Rattle.fx_lasting.proofs.Words.{◌%◌, ◌≡◌, ◌≢◌, ℕ, ◌+◌, ◌-◌, ◌*◌, ◌/◌, ◌^◌, ◌<◌, ◌≤◌, ◌∙◌, ap, sym, refl, subst, arith, dite, dec_le, File, Sat, []}
-use Rattle.fx_lasting.proofs.Words.{Retiring, Runs, HasVisited, Round, round_at, round_from, round_to, IsPassed, IsIdleIn, list_place, bit_at, Skims, At, Start}
-use Rattle.fx_lasting.proofs.Words.{IsAtWork, shr-shr, bit_at-trailing_zeros, bit_at_above, bit_at-zero, w64, trailing_zeros}
-use Rattle.fx_lasting.proofs.Running.{does_then, runs_goes, placed_none}
+use Rattle.fx_lasting.proofs.{◌%◌, ◌≡◌, ◌≢◌, ℕ, ◌+◌, ◌-◌, ◌*◌, ◌/◌, ◌^◌, ◌<◌, ◌≤◌, ◌∙◌, ap, sym, refl, subst, arith, dite, dec_le, File, Sat, []}
+use Rattle.fx_lasting.proofs.{Retiring, Runs, HasVisited, Round, round_at, round_from, round_to, IsPassed, IsIdleIn, list_place, bit_at, Skims, At}
+use Rattle.fx_lasting.proofs.{Start, IsAtWork, shr-shr, bit_at-trailing_zeros, bit_at_above, bit_at-zero, w64, trailing_zeros, does_then, runs_goes}
+use Rattle.fx_lasting.proofs.{placed_none}
 
 -- the same pass retires the file
 pub passed_by : (round : Round) {number other p : ℕ} → number ≡ other → IsPassed number round p → IsPassed other round p

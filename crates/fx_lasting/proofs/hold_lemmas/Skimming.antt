@@ -1,11 +1,9 @@
 -- A pass that removed a hot file loads a word of the list: the passes without their bits hold
 -- nothing of the node that isn't charged.
-use Rattle.fx_lasting.proofs.Words.{Relieving, StillNames, false, ◌≡◌, ◌≢◌, ℕ, ◌+◌, ◌*◌, ◌<◌, ◌≤◌, List, [], sym, refl, ap, ◌∙◌, subst, arith, Option, none}
-use Rattle.fx_lasting.proofs.Words.{keeps, Closed, File, HoldAgrees, GuardAgrees, MayBeUncharged, hold_word_of, leaving, Work, Guarded, Retiring, step, dite}
-use Rattle.fx_lasting.proofs.Words.{dec_le, ⊎_elim, set-get_or, Round, round_from, IsToVisit, IsPassed, IsListedIn, list_place, Skims, SkimsKeep, Goes}
-use Rattle.fx_lasting.proofs.Words.{changed_at, true, Bool, IsAllowed, find_pass}
-use Rattle.fx_lasting.proofs.Histories.{each_changed}
-use Rattle.fx_lasting.proofs.Keeping.{Turn, turn_of, its_log, word_at, slot_word, Made, by_turn, w}
+use Rattle.fx_lasting.proofs.{Relieving, StillNames, false, ◌≡◌, ◌≢◌, ℕ, ◌+◌, ◌*◌, ◌<◌, ◌≤◌, List, [], sym, refl, ap, ◌∙◌, subst, arith, Option, none}
+use Rattle.fx_lasting.proofs.{keeps, Closed, File, HoldAgrees, GuardAgrees, MayBeUncharged, hold_word_of, leaving, Work, Guarded, Retiring, step}
+use Rattle.fx_lasting.proofs.{⊎_elim, set-get_or, Round, round_from, IsToVisit, IsPassed, IsListedIn, list_place, Skims, SkimsKeep, Goes, changed_at}
+use Rattle.fx_lasting.proofs.{true, Bool, IsAllowed, find_pass, each_changed, Turn, turn_of, its_log, word_at, slot_word, Made, by_turn, w}
 use Rattle.fx_lasting.proofs.hold_lemmas.RoundSteps.{its, node, retiring_same, round_after, RoundStep, round_kept, goes, reads}
 
 -- a pass whose hold word isn't 0 is listed
@@ -31,21 +29,12 @@ module _ (turn : Turn) (f : File) (n t : ℕ) (nx : Round) (m : ℕ) (works : tu
 
   -- who had still to be visited has still to be, if it holds a file by its hold word
   still : (p : ℕ) → p ≢ x.number → (0 < p) × (p ≤ v.start.passes) → word_at st.words (hold_word_of v.start p) ≢ 0 → IsToVisit nx p → IsToVisit nx' p
-  still p ne range some may = (
-    dite (dec_le (64 * index + 1) p) (λ g. omega (arith, g)) (λ l. absurd (⊎_elim ne may.1 (between p may.0 (omega (arith, l))))),
-    λ idle. let bit = its_bit p range.0 range.1 some in let at : list_place p ≡ 6 + index = (let a = idle.0 in omega arith) in
-        let clear = idle.1 in let set = subst (λ (i : ℕ). IsListedIn (word_at st.words i) p) at bit in omega (arith, clear, set),
-  )
+  still p ne range some may = grind (arith, its_bit)
 
   guard_on : (p : ℕ) (e : Work) → p ≢ x.number → (0 < p) × (p ≤ v.start.passes) → HoldAgrees (word_at st.words (hold_word_of v.start p)) (r.debt p) e
       → GuardAgrees (slot_word st.words) r.phase p (r.debt p) e
       → GuardAgrees (slot_word st.words) (changed_at r.phase n (leaving id t nx' m f)) p (r.debt p) e
-  guard_on p (Guarded h k) ne range hold guard = λ clean. each_changed (λ i z. MayBeUncharged (slot_word st.words) p z) r.phase
-      (λ is. still p ne range
-      (⊎_elim (λ (c : (word_at st.words (hold_word_of v.start p) ≡ k + 1) × (r.debt p ≡ 0)). λ none. let a = c.0 in omega (arith, none))
-      (λ (c : (word_at st.words (hold_word_of v.start p) ≡ k + 1 + 4294967296) × (r.debt p ≡ k + 1)). λ none. let a = c.0 in omega (arith, none)) hold)
-      (subst (MayBeUncharged (slot_word st.words) p) (ap r.phase is ∙ (its turn f n t nx m works).1) (guard clean)))
-      (λ _. guard clean)
+  guard_on p (Guarded h k) ne range hold guard = grind (arith, each_changed, still, its)
   guard_on p (Relieving h k own l) ne range hold guard = λ clean. each_changed (λ i z. MayBeUncharged (slot_word st.words) p z) r.phase
       (λ is. still p ne range
       (⊎_elim (λ (c : (word_at st.words (hold_word_of v.start p) ≡ k + 1) × (r.debt p ≡ 0)). λ none. let a = c.0 in omega (arith, none))
@@ -67,8 +56,7 @@ module _ (turn : Turn) (f : File) (n t : ℕ) (nx : Round) (m : ℕ) (works : tu
     tt,
     rw (set-get_or st.words (6 + index) 0) (round_kept turn f n t nx m works st.words r.debt nx' m skimmed),
     record {
-      goes = λ g i a b c its'. let e = retiring_same turn f n t nx m works its' in
-          let same : Retiring f n t nx' m ≡ Retiring g i a nx' c = cc e in
+      goes = λ g i a b c its'. let same : Retiring f n t nx' m ≡ Retiring g i a nx' c = cc (retiring_same turn f n t nx m works its') in
           subst (λ (d : Work). Goes (v, carried) [] d v.glance (w turn (round_after turn f n t nx m works st.words r.debt nx' m), carried)) same
           (goes turn f n t nx m works st.words r.debt nx' m carried);
       inside = λ p low few at is. r.holds.listed p low few (subst (λ (i : ℕ). IsListedIn (word_at st.words i) p) (sym at) is);

@@ -1,31 +1,23 @@
 -- A take of what a slot names, and the heat of a slot that had its takes.
-use Rattle.fx_lasting.proofs.Words.{alone_in, HoldAgrees, GuardAgrees, IsAllowed, HoldsAt, TakesAs, TakesBeside, TakesBesideKeep, Placement, Phase, Start}
-use Rattle.fx_lasting.proofs.Words.{as_written, Unlabelled, carried_after, subst, Renewing, ◌⊎◌, ◌≡◌, ◌≢◌, ℕ, ◌+◌, ◌%◌, ◌^◌, ◌<◌, ◌≤◌, List, [], ◌∷◌, sym, refl}
-use Rattle.fx_lasting.proofs.Words.{ap, ◌∙◌, arith, Option, Some, None, none, keeps, Closed, File, Event, Look, ◌▷◌, WorkAgrees, GlanceAgrees, Heats}
-use Rattle.fx_lasting.proofs.Words.{state_after_all, slots_of, nodes_of, held_in, if_file, taken_of, taking, pass_event, seated, file_in, Work, Glance, Idle}
-use Rattle.fx_lasting.proofs.Words.{Counted, Cold, Heating, Deed, untouched, over, heated, has_acted, has_heated, Nothing, Takes, HeatsSlot, TakesOnceKeep}
-use Rattle.fx_lasting.proofs.Words.{HeatsKeep, IsHot, heat_in, name_in, full_name_in, same_full_name, entry_in, count_in, cold_takes, glance_after, heat_unit}
-use Rattle.fx_lasting.proofs.Words.{slot_place, step, inl, inr, ⊎_elim, dite, ℕ_discrete, dec_le, one_more_at, Bool, true, false, cond, le-ltb, tally, sum_set}
-use Rattle.fx_lasting.proofs.Words.{changed_at, changed_here, changed_else, one_if, bit_here, bit_else, IsInside, Placing}
+use Rattle.fx_lasting.proofs.{alone_in, HoldAgrees, GuardAgrees, IsAllowed, HoldsAt, TakesAs, TakesBeside, TakesBesideKeep, Placement, Phase, Start}
+use Rattle.fx_lasting.proofs.{as_written, Unlabelled, carried_after, subst, Renewing, ◌⊎◌, ◌≡◌, ◌≢◌, ℕ, ◌+◌, ◌%◌, ◌^◌, ◌<◌, ◌≤◌, List, [], ◌∷◌, sym}
+use Rattle.fx_lasting.proofs.{refl, ap, ◌∙◌, arith, Option, Some, None, none, keeps, Closed, File, Event, Look, ◌▷◌, WorkAgrees, GlanceAgrees, Heats}
+use Rattle.fx_lasting.proofs.{state_after_all, slots_of, nodes_of, held_in, if_file, taken_of, taking, pass_event, seated, file_in, Work, Glance}
+use Rattle.fx_lasting.proofs.{Idle, Counted, Cold, Heating, Deed, untouched, over, heated, has_acted, has_heated, Nothing, Takes, HeatsSlot}
+use Rattle.fx_lasting.proofs.{TakesOnceKeep, HeatsKeep, IsHot, heat_in, name_in, full_name_in, same_full_name, entry_in, count_in, cold_takes}
+use Rattle.fx_lasting.proofs.{glance_after, heat_unit, slot_place, step, inl, inr, ⊎_elim, dite, ℕ_discrete, dec_le, one_more_at, Bool, true, false}
+use Rattle.fx_lasting.proofs.{cond, le-ltb, tally, sum_set, changed_at, changed_here, changed_else, one_if, bit_here, bit_else, IsInside, Placing}
+use Rattle.fx_lasting.proofs.{tally_few, tally_one, tally_room, bit_few, few_cold, grows_none, grows_one, legal_more, part_mine, held_mine, busy}
+use Rattle.fx_lasting.proofs.{guards_same, Turn, turn_of, After, slot_word, Made, by_turn, its_log, its_work, in_range, tells, w, none_added}
+use Rattle.fx_lasting.proofs.{slot_words, slot_hold, in_phase}
 use Rattle.fx_lasting.proofs.range_lemmas.GroupSteps.{its_inside}
-use Rattle.fx_lasting.proofs.Counts.{tally_few, tally_one, tally_room, bit_few, few_cold}
-use Rattle.fx_lasting.proofs.Histories.{grows_none, grows_one, legal_more, part_mine, held_mine}
-use Rattle.fx_lasting.proofs.Frames.{busy, guards_same}
-use Rattle.fx_lasting.proofs.Keeping.{Turn, turn_of, After, slot_word, Made, by_turn, its_log, its_work, in_range, tells, w, none_added}
 use Rattle.fx_lasting.proofs.hold_lemmas.Looking.{word, there, size_so, named, unnamed, name_cases}
-use Rattle.fx_lasting.proofs.Places.{slot_words, slot_hold}
 use Rattle.fx_lasting.proofs.slot_lemmas.SlotSteps.{NamesSame, DeedStep, slot_after, SlotStep, slot_kept, covers_slot}
-use Rattle.fx_lasting.proofs.hold_lemmas.Unheld.{in_phase}
 
 -- one take more, and nothing else
 pub one_take : (word : ℕ) → count_in word + 1 < 1048576 → (full_name_in (word + 1) ≡ full_name_in word) × (entry_in (word + 1) ≡ entry_in word)
     × (heat_in (word + 1) ≡ heat_in word) × (count_in (word + 1) ≡ count_in word + 1) × (name_in (word + 1) ≡ name_in word)
 one_take word room = grind (arith, same_full_name)
-
--- one heat more, and nothing else
-pub one_heat : (word : ℕ) → heat_in word + 1 < 2048 → (full_name_in (word + 2097152) ≡ full_name_in word) × (entry_in (word + 2097152) ≡ entry_in word)
-    × (heat_in (word + 2097152) ≡ heat_in word + 1) × (count_in (word + 2097152) ≡ count_in word) × (name_in (word + 2097152) ≡ name_in word)
-one_heat word room = grind (arith, same_full_name)
 
 -- a pass with the one work may take a file, and has the other work then
 pub record MayTake (none : Work) (holding : File → ℕ → Work) : Type 0 where
@@ -46,9 +38,6 @@ pub record MayTake (none : Work) (holding : File → ℕ → Work) : Type 0 wher
 abbrev placed_in : Work → ℕ × Placement
 placed_in (Placing own l) = (own, l)
 placed_in _ = (0, as_written 0 Unlabelled)
-
-idle_may : MayTake Idle Counted
-idle_may = grind arith
 
 placing_may : (own : ℕ) (l : Placement) → MayTake (Placing own l) (λ f n. Renewing f n own l)
 placing_may own l = grind arith
@@ -124,9 +113,6 @@ module _ (turn : Turn) (s : ℕ) (inside : s < slots_of turn.v.start) where
       pub sees : GlanceAgrees v.start (slot_word (slot_words turn s inside new)) (λ i. deed' i x.number) g
       pub heats : Heats v.start (λ i. deed' i x.number) g
       pub is : g ≡ glance_after v.start.passes s found
-
-    cold_still : count_in found < cold_takes v.start.passes → Standing Nothing r.deed
-    cold_still few = grind (arith, one_more, same_heat, inside, no_heat)
 
     heats_now : cold_takes v.start.passes ≤ count_in found → Standing (Heating s) (does_here over)
     heats_now many = record {
@@ -251,21 +237,18 @@ module _ (turn : Turn) (s : ℕ) (inside : s < slots_of turn.v.start) where
         → Made turn carried (slot_place s) (λ word. (word + 1) % 2 ^ 64) (TakesAs d holding (step slots (slot_place s) 1 0 none) (v, carried))
     takes_once slots carried = dite (dec_le (cold_takes v.start.passes) (count_in found))
         (λ many. takes_either (Heating s) (does_here over) (heats_now (omega (arith, many))) slots carried)
-        (λ few. takes_either Nothing r.deed (cold_still (omega (arith, few))) slots carried)
+        (λ few. takes_either Nothing r.deed (grind (arith, one_more, same_heat, inside, no_heat)) slots carried)
 
   -- the slot becomes hot, or hotter
   module _ (has : x.listed ≡ true) (saw : v.glance ≡ Heating s) (fits : found < 18446744073709551616) where
     abbrev hot_word : ℕ
     hot_word = (found + heat_unit) % 2 ^ 64
 
-    not_yet : r.deed s x.number ≢ heated
-    not_yet = (rw saw at (its_log turn).sees).1
-
     not_counted : has_heated (r.deed s x.number) ≡ false
     not_counted = go (r.deed s x.number) refl
       where
         go : (e : Deed) → r.deed s x.number ≡ e → has_heated e ≡ false
-        go heated is = absurd (not_yet is)
+        go heated is = absurd ((rw saw at (its_log turn).sees).1 is)
         go _ is = refl
 
     -- a heat leaves room: no pass heats twice
@@ -278,7 +261,7 @@ module _ (turn : Turn) (s : ℕ) (inside : s < slots_of turn.v.start) where
 
     parts_of : (full_name_in hot_word ≡ full_name_in found) × (entry_in hot_word ≡ entry_in found) × (heat_in hot_word ≡ heat_in found + 1)
         × (count_in hot_word ≡ count_in found) × (name_in hot_word ≡ name_in found)
-    parts_of = grind (arith, one_heat, heat_room, hot_is)
+    parts_of = grind (arith, same_full_name, heat_room, hot_is)
 
     is_hot : IsHot hot_word
     is_hot = let a = parts_of.2 in omega arith
@@ -341,7 +324,7 @@ pub takes_once_keep : TakesOnceKeep Takes
 takes_once_keep k slots id i s m x has listed works saw place = by_turn slots (λ _. Unit {0}) (λ _. slot_place s) (λ word. (word + 1) % 2 ^ 64)
     (λ i. Takes (step slots i 1 0 none) m) has tt place
     (λ st r here _ fits. let turn = turn_of m x has.1 id st r here in let o = rw saw at (its_log turn).sees in
-    takes_once turn s o.0 Idle Counted idle_may listed works saw fits slots m.1)
+    takes_once turn s o.0 Idle Counted (grind arith) listed works saw fits slots m.1)
 
 pub takes_beside_keep : TakesBesideKeep TakesBeside
 takes_beside_keep k slots id i s own l m x has listed works saw place = by_turn slots (λ _. Unit {0}) (λ _. slot_place s) (λ word. (word + 1) % 2 ^ 64)
@@ -359,5 +342,4 @@ takes_beside_keep k slots id i s own l m x has listed works saw place = by_turn 
 pub heats_keep : HeatsKeep HeatsSlot
 heats_keep k slots id i s m x has listed saw place = by_turn slots (λ _. Unit {0}) (λ _. slot_place s) (λ word. (word + heat_unit) % 2 ^ 64)
     (λ i. HeatsSlot (step slots i heat_unit 0 none) m) has tt place
-    (λ st r here _ fits. let turn = turn_of m x has.1 id st r here in let o = rw saw at (its_log turn).sees in
-    heats_up turn s o.0 listed saw fits slots m.1)
+    (λ st r here _ fits. let turn = turn_of m x has.1 id st r here in heats_up turn s (rw saw at (its_log turn).sees).0 listed saw fits slots m.1)

@@ -1,16 +1,13 @@
 -- A pass that removed a hot file visits the hold words of the others: where one names the node, the
 -- pass charges it.
-use Rattle.fx_lasting.proofs.Words.{Relieving, StillNames, Bool, false, Round, round_at, IsToVisit, IsPassed, ◌≡◌, ◌≢◌, ℕ, ◌+◌, ◌<◌, ◌≤◌, List, [], set, sym}
-use Rattle.fx_lasting.proofs.Words.{refl, ap, ◌∙◌, subst, arith, Option, none, keeps, Closed, File, HoldAgrees, GuardAgrees, MayBeUncharged, slots_of}
-use Rattle.fx_lasting.proofs.Words.{hold_word_of, owed, Phase, leaving, changed_at, changed_here, changed_else, Work, Guarded, Retiring, Visits, Charges}
-use Rattle.fx_lasting.proofs.Words.{VisitsKeep, ChargesKeep, step, inr, dite, ℕ_discrete, eqb, one_if, announced, charge, set-get_or, exchanged, bit_here}
-use Rattle.fx_lasting.proofs.Words.{bit_else, NamesNode, Goes, Start, Agrees, either, find_pass}
-use Rattle.fx_lasting.proofs.Counts.{owed_changed}
-use Rattle.fx_lasting.proofs.Histories.{each_changed}
-use Rattle.fx_lasting.proofs.Frames.{covers_same}
-use Rattle.fx_lasting.proofs.Keeping.{Turn, turn_of, word_at, slot_word, Made, by_turn, its_log, w}
+use Rattle.fx_lasting.proofs.{Relieving, StillNames, Bool, false, Round, round_at, IsPassed, ◌≡◌, ◌≢◌, ℕ, ◌+◌, ◌<◌, ◌≤◌, List, [], set}
+use Rattle.fx_lasting.proofs.{sym, refl, ap, ◌∙◌, subst, arith, Option, none, keeps, Closed, File, HoldAgrees, GuardAgrees, MayBeUncharged, slots_of}
+use Rattle.fx_lasting.proofs.{hold_word_of, owed, Phase, leaving, changed_at, changed_here, changed_else, Work, Guarded, Retiring, Visits, Charges}
+use Rattle.fx_lasting.proofs.{VisitsKeep, ChargesKeep, step, inr, dite, ℕ_discrete, eqb, one_if, announced, charge, set-get_or, exchanged, bit_here}
+use Rattle.fx_lasting.proofs.{bit_else, NamesNode, Goes, Start, Agrees, either, find_pass, owed_changed, each_changed, covers_same, Turn, turn_of}
+use Rattle.fx_lasting.proofs.{word_at, slot_word, Made, by_turn, its_log, w, hold_words, hold_here, hold_node, hold_slot, hold_else, hold_label}
+use Rattle.fx_lasting.proofs.{pass_back, hold_leaves, rules}
 use Rattle.fx_lasting.proofs.node_lemmas.NodeSteps.{guards_else}
-use Rattle.fx_lasting.proofs.Places.{hold_words, hold_here, hold_node, hold_slot, hold_else, hold_label, pass_back, hold_leaves}
 use Rattle.fx_lasting.proofs.hold_lemmas.RoundSteps.{its, node, retiring_same, round_after, RoundStep, round_kept, goes, reads}
 
 module _ (turn : Turn) (f : File) (n t : ℕ) (nx : Round) (m : ℕ) (works : turn.v.work ≡ Retiring f n t nx m) (down : nx.guarded ≡ false) where
@@ -29,14 +26,10 @@ module _ (turn : Turn) (f : File) (n t : ℕ) (nx : Round) (m : ℕ) (works : tu
     abbrev word : ℕ
     word = word_at st.words (hold_word_of v.start pass)
 
-    -- who was not visited before isn't now, but this pass
-    past : (p : ℕ) → IsToVisit nx p → p ≢ x.number → p ≢ pass → IsToVisit (round_at nx pass) p
-    past p may ne not_pass = grind arith
-
     cover : (words' : List ℕ) (m' : ℕ) → ((s : ℕ) → s < slots_of v.start → slot_word words' s ≡ slot_word st.words s) → (p : ℕ)
         → p ≢ x.number → p ≢ pass → (k : ℕ) → MayBeUncharged (slot_word st.words) p (r.phase k)
         → MayBeUncharged (slot_word words') p (changed_at r.phase n (leaving id t (round_at nx pass) m' f) k)
-    cover words' m' same p ne not_pass k may = grind (arith, each_changed, past, its, covers_same)
+    cover words' m' same p ne not_pass k may = grind (arith, each_changed, its, covers_same)
 
     -- what a file held by a hold word needs, of a pass that isn't this one
     guard_else : (words' : List ℕ) (m' : ℕ) → ((s : ℕ) → s < slots_of v.start → slot_word words' s ≡ slot_word st.words s) → (p : ℕ) (e : Work)
@@ -52,13 +45,7 @@ module _ (turn : Turn) (f : File) (n t : ℕ) (nx : Round) (m : ℕ) (works : tu
     guard_here not_so e hold guard = grind (arith, each_changed)
 
     unnamed : word ≢ announced n → RoundStep turn f n t nx m works st.words r.debt (round_at nx pass) m
-    unnamed not_so = let a = (node turn f n t nx m works).few_charges in let b = r.shape.passes in
-        reads turn f n t nx m works (round_at nx pass) own_none (omega arith) (omega arith) down
-        (λ p e ne range hold guard. dite (ℕ_discrete p pass)
-        (λ same. subst (λ (p : ℕ). HoldAgrees (word_at st.words (hold_word_of v.start p)) (r.debt p) e
-        → GuardAgrees (slot_word st.words) r.phase p (r.debt p) e
-        → GuardAgrees (slot_word st.words) (changed_at r.phase n (leaving id t (round_at nx pass) m f)) p (r.debt p) e) (sym same) (guard_here not_so e) hold guard)
-        (λ apart. guard_else st.words m (λ s l. refl) p e ne apart guard))
+    unnamed not_so = grind (arith, node, reads, own_none, leaving, guard_here, guard_else)
 
     -- of a word that names a node: it isn't charged, and its pass owes nothing
     named_clean : (k : ℕ) → NamesNode word (r.debt pass) k → word ≡ announced n → (r.debt pass ≡ 0) × (k ≡ n)
@@ -92,38 +79,30 @@ module _ (turn : Turn) (f : File) (n t : ℕ) (nx : Round) (m : ℕ) (works : tu
           clean_debt a.1.work o is
 
       owes : (k : ℕ) → owed debt₁ v.start.passes k ≡ owed r.debt v.start.passes k + one_if (eqb (n + 1) (k + 1))
-      owes k = let a = owed_changed r.debt v.start.passes pass (n + 1) more high k in
-          let b = ap (λ (d : ℕ). one_if (eqb d (k + 1))) no_debt in let c : one_if (eqb 0 (k + 1)) ≡ 0 = bit_else (k + 1) 0 (λ e. omega arith) in omega arith
+      owes k = grind (arith, owed_changed, no_debt, bit_else)
 
       made : RoundStep turn f n t nx m works words₁ debt₁ (round_at nx pass) (m + 1)
-      made = let same = hold_slot turn pass more high (announced n + charge) in
-          let guards : (p : ℕ) (e : Work) → p ≢ x.number → (0 < p) × (p ≤ v.start.passes)
-          → HoldAgrees (word_at st.words (hold_word_of v.start p)) (r.debt p) e → GuardAgrees (slot_word st.words) r.phase p (r.debt p) e
-          → HoldAgrees (word_at words₁ (hold_word_of v.start p)) (debt₁ p) e
-          × GuardAgrees (slot_word words₁) (changed_at r.phase n (leaving id t (round_at nx pass) (m + 1) f)) p (debt₁ p) e =
-          λ p e ne range hold guard. dite (ℕ_discrete p pass)
-          (λ at. subst (λ (p : ℕ). HoldAgrees (word_at st.words (hold_word_of v.start p)) (r.debt p) e
-          → HoldAgrees (word_at words₁ (hold_word_of v.start p)) (debt₁ p) e
-          × GuardAgrees (slot_word words₁) (changed_at r.phase n (leaving id t (round_at nx pass) (m + 1) f)) p (debt₁ p) e) (sym at)
-          (λ h. rw (hold_here turn pass more high (announced n + charge), changed_here r.debt pass (n + 1) pass refl)
-          (now_charged e h is, excused (slot_word words₁) (changed_at r.phase n (leaving id t (round_at nx pass) (m + 1) f)) e)) hold)
-          (λ apart. rw (hold_else turn pass more high (announced n + charge) p apart, changed_else r.debt pass (n + 1) p apart)
-          (hold, guard_else words₁ (m + 1) same p e ne apart guard)) in
-          let a = (node turn f n t nx m works).few_charges in let b = r.shape.passes in let c = owes n in let d = bit_here (n + 1) (n + 1) refl in record {
-            leaves_else = hold_leaves turn pass more high (announced n + charge) n;
-            same_word = hold_node turn pass more high (announced n + charge) n;
-            same_label = hold_label turn pass more high (announced n + charge) n;
-            own = (
-              hold_else turn pass more high (announced n + charge) x.number (λ e. other (sym e)) ∙ own_none.0,
-              changed_else r.debt pass (n + 1) x.number (λ e. other (sym e)) ∙ own_none.1,
-            );
-            owed_else = λ k ne. let o = owes k in let z = bit_else (k + 1) (n + 1) (λ e. ne (omega arith)) in omega arith;
-            owed_more = omega arith;
-            few_charges = omega arith;
-            few_visits = omega arith;
-            still_down = down;
-            guards = guards;
-          }
+      made =
+          search (
+            rules,
+            hold_slot,
+            leaving,
+            hold_here,
+            changed_here,
+            now_charged,
+            excused,
+            hold_else,
+            changed_else,
+            guard_else,
+            node,
+            owes,
+            bit_here,
+            hold_leaves,
+            hold_node,
+            hold_label,
+            own_none,
+            bit_else,
+          )
 
     -- a step that writes what it read
     read_so : (d : ℕ → ℕ) (nx' : Round) (m' : ℕ) → RoundStep turn f n t nx m works st.words d nx' m'
@@ -201,11 +180,6 @@ module _ (turn : Turn) (f : File) (n t : ℕ) (nx : Round) (m : ℕ) (works : tu
       },
     )
 
--- the number of a pass that is visited isn't 0, since charges were counted before it
-more_than_none : (turn : Turn) (f : File) (n t : ℕ) (nx : Round) (m : ℕ) → turn.v.work ≡ Retiring f n t nx m → nx.guarded ≡ false → {pass : ℕ} → nx.next ≤ pass
-    → 0 < pass
-more_than_none turn f n t nx m works down low = let a = (node turn f n t nx m works).few_charges in omega arith
-
 pub visits_keep : VisitsKeep Visits
 visits_keep k slots id i n t m pass nx f s x has works down low high other between place = by_turn slots (λ (k : Start). pass ≤ k.passes)
     (λ k. hold_word_of k pass) (λ word. word) (λ i. Visits (step slots i 0 0 none) s) has high place
@@ -218,5 +192,6 @@ charges_keep k slots id i n t m pass nx f s x has works down low high other betw
     (λ st r here high fits. let turn = turn_of s x has.1 id st r here in
     exchanged (word_at st.words (hold_word_of s.0.start pass)) (announced n) (announced n + charge)
     (λ y. Goal turn f n t nx m works down pass low high other between slots y)
-    (λ is. charges_won turn f n t nx m works down pass low high other between slots (more_than_none turn f n t nx m works down low) is)
+    (λ is. charges_won turn f n t nx m works down pass low high other between slots
+    (let a = (node turn f n t nx m works).few_charges in omega arith) is)
     (λ not_so. charges_lost turn f n t nx m works down pass low high other between slots not_so) s.1)

@@ -1,14 +1,11 @@
 -- The end, when one seat has all passes again, and does nothing: everything is settled, and each
 -- file is at its slot.
-use Rattle.fx_lasting.proofs.Words.{◌≡◌, ℕ, ◌<◌, ◌≤◌, sym, ap, ◌∙◌, subst, arith, Option, Some, None, sum_by, dite, some, get_elem?, Closed, State, IsSettled}
-use Rattle.fx_lasting.proofs.Words.{File, sum_zero_at, ℕ_discrete, Does, OwnerAgrees, Agrees, Shared, slots_of, nodes_of, state_after_all, held_of, if_file}
-use Rattle.fx_lasting.proofs.Words.{taken_of, owed, Phase, free, placed, seated, leaving, retired, emptied, kept, removed_in, Start, View, Work, HasNoFile}
-use Rattle.fx_lasting.proofs.Words.{IsSeated, refl, inside_behind, opens_inside, find_pass}
+use Rattle.fx_lasting.proofs.{◌≡◌, ℕ, ◌<◌, ◌≤◌, sym, ap, ◌∙◌, subst, arith, Option, Some, None, sum_by, dite, some, get_elem?, Closed, State}
+use Rattle.fx_lasting.proofs.{IsSettled, File, sum_zero_at, ℕ_discrete, Does, OwnerAgrees, Agrees, Shared, slots_of, nodes_of, state_after_all}
+use Rattle.fx_lasting.proofs.{held_of, if_file, taken_of, owed, Phase, free, placed, seated, leaving, retired, emptied, kept, removed_in, Start, View}
+use Rattle.fx_lasting.proofs.{Work, HasNoFile, IsSeated, refl, inside_behind, opens_inside, find_pass, busy, busy_alone, owed_found, same_shape}
+use Rattle.fx_lasting.proofs.{NodeIn, node_in}
 use Rattle.fx_lasting.proofs.node_lemmas.Choosing.{no_file, no_take, not_busy, holds_none}
-use Rattle.fx_lasting.proofs.Frames.{busy, busy_alone}
-use Rattle.fx_lasting.proofs.Counts.{owed_found}
-use Rattle.fx_lasting.proofs.Histories.{same_shape}
-use Rattle.fx_lasting.proofs.Keeping.{NodeIn, node_in}
 
 -- no pass does anything
 module _ {k : Start} {s : Shared} (r : Agrees k s) (all_idle : (i : ℕ) (u : View) → get_elem? s.views i ≡ some u → HasNoFile u.work) where
@@ -28,9 +25,7 @@ module _ {k : Start} {s : Shared} (r : Agrees k s) (all_idle : (i : ℕ) (u : Vi
   unowed : (n : ℕ) → owed r.debt k.passes n ≡ 0
   unowed n = dite (ℕ_discrete (owed r.debt k.passes n) 0) (λ none. none) (λ some_owed. absurd (
       let z = owed_found r.debt k.passes n (omega (arith, some_owed)) in let y = find_pass r.life z.1 z.2 in
-      let h = ((r.holds.views y.0 y.1 y.3).logs y.2 y.4).hold in
-      let i = holds_none (all_idle y.0 y.1 y.3) h in
-      let e = ap r.debt y.5 in omega (arith, z.3, i.1, e)))
+      let e = ap r.debt y.5 in omega (arith, z.3, (holds_none (all_idle y.0 y.1 y.3) ((r.holds.views y.0 y.1 y.3).logs y.2 y.4).hold).1, e)))
 
   removed_none : (m n : ℕ) (ph : Phase) → NodeIn r n ph → OwnerAgrees s.views n ph → removed_in m ph ≡ None
   removed_none m n (leaving i t nx z f) a o = let bad = nobody i o in absurd (omega arith)

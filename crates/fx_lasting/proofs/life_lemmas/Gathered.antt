@@ -1,13 +1,12 @@
 -- Passes as they are dealt out, and all of them in one seat again: what the one history says of
 -- each.
-use Rattle.fx_lasting.proofs.Words.{pass_in, LastingPass, first_stock, opening_of, first_alone, ClosesTable, times_drawn, HasSameFiles, AreGathered, ◌≡◌}
-use Rattle.fx_lasting.proofs.Words.{IsPassOf, IsSeatOf, IsNewPass, get_elem?, Contains, IsSettled, first_log, HasNoFile, IsHistory, new_passes, ℕ, ◌≤◌, [], ◌∷◌}
-use Rattle.fx_lasting.proofs.Words.{sym, refl, ap, ◌∙◌, All, map, Sat, Log, View, some, inl, true, false, Seat, fits, seats, List, numbers_of_pass}
-use Rattle.fx_lasting.proofs.Words.{contains_head, contains_map, state_after_all, first_passes, contains_tail, contains_none, subst, TableId, reverse, new_log}
-use Rattle.fx_lasting.proofs.Words.{pass_of, Contents, state_of, IsAtWork, as_first, PassView, new_pass, sum_zero, arith, Option, length, Closed, view_of}
-use Rattle.fx_lasting.proofs.Words.{Start, dealt, sum_by, Agrees, logs_in, Shared, IsReady, sum_map}
+use Rattle.fx_lasting.proofs.{pass_in, LastingPass, first_stock, opening_of, first_alone, ClosesTable, times_drawn, HasSameFiles, AreGathered, ◌≡◌}
+use Rattle.fx_lasting.proofs.{IsPassOf, IsSeatOf, IsNewPass, get_elem?, Contains, IsSettled, first_log, HasNoFile, IsHistory, new_passes, ℕ, ◌≤◌, []}
+use Rattle.fx_lasting.proofs.{◌∷◌, sym, refl, ap, ◌∙◌, All, map, Sat, Log, View, some, inl, true, false, Seat, fits, seats, List, numbers_of_pass}
+use Rattle.fx_lasting.proofs.{contains_head, contains_map, state_after_all, first_passes, contains_tail, contains_none, subst, TableId, reverse}
+use Rattle.fx_lasting.proofs.{new_log, pass_of, Contents, state_of, IsAtWork, as_first, PassView, new_pass, sum_zero, arith, Option, length, Closed}
+use Rattle.fx_lasting.proofs.{view_of, Start, dealt, Agrees, logs_in, Shared, IsReady, sum_map, alone_is_dealt}
 use Rattle.table_seats.proofs.Gathered.{each_rests, whole as gathered_whole}
-use Rattle.table_seats.proofs.Moving.{alone_is_dealt}
 use Rattle.fx_table.proofs.Histories.{IsWhole, closes_table}
 use Rattle.fx_lasting.proofs.life_lemmas.Ending.{settled_end}
 use Rattle.fx_lasting.proofs.life_lemmas.Openings.{first_stock_is, laws}
@@ -86,15 +85,10 @@ module _ (id : TableId) (k : Start) where
     pub all_idle : (i : ℕ) (u : View) → get_elem? s.views i ≡ some u → HasNoFile u.work
     all_idle = each_rests r.life all (λ u. HasNoFile u.work) idle (λ u rests. inl rests.0)
 
-    -- a lasting table has no chains
-    none_drawn : (c : ℕ) → sum_by (times_drawn c) (map view_of ps) ≡ 0
-    none_drawn c = sum_map (times_drawn c) view_of ps ∙ sum_zero (λ (p : LastingPass). times_drawn c (view_of p)) ps (λ p h. refl)
-
     pub whole : IsWhole (opening_of k) r.history (map view_of ps)
     whole = gathered_whole r.life all view_of (λ p. (refl, refl, refl)) (settled_end r all_idle) record {
-      inside = λ w h c d. let p = contains_map view_of ps w h in
-          absurd (contains_none c (subst (λ (z : PassView). Contains z.drawn c) p.2 d));
-      once = λ c. omega (arith, none_drawn c);
+      inside = λ w h c d. absurd (contains_none c (subst (λ (z : PassView). Contains z.drawn c) (contains_map view_of ps w h).2 d));
+      once = λ c. omega (arith, (sum_map (times_drawn c) view_of ps ∙ sum_zero (λ (p : LastingPass). times_drawn c (view_of p)) ps (λ p h. refl)));
       all = λ ended c low high. absurd (omega arith);
     }
 

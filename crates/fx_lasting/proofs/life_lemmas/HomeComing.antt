@@ -1,12 +1,12 @@
 -- The files at the settled end of a table whose passes are all idle: they are in the places of
 -- their nodes.
-use Rattle.fx_lasting.proofs.Words.{◌≡◌, ◌≤◌, ℕ, sym, ap, ◌∙◌, arith, Option, Some, None, List, subst, Closed, State, slice_index, some, get_elem?}
-use Rattle.fx_lasting.proofs.Words.{file_node_in, slot_place, stands_at, some-injective, File, Names, Agrees, slots_of, state_after_all, LastingTable, Start}
-use Rattle.fx_lasting.proofs.Words.{View, HasNoFile, option_map, Final, Seen, number_of, identity_of, files_at_slots, AreAtHome, AreStored, at_home, file_at}
-use Rattle.fx_lasting.proofs.Words.{files_are, AllAreIdle, Leaves}
+use Rattle.fx_lasting.proofs.{◌≡◌, ◌≤◌, ℕ, sym, ap, ◌∙◌, arith, Option, Some, None, List, subst, Closed, State, slice_index, some, get_elem?}
+use Rattle.fx_lasting.proofs.{file_node_in, slot_place, stands_at, some-injective, File, Names, Agrees, slots_of, state_after_all, LastingTable}
+use Rattle.fx_lasting.proofs.{Start, View, HasNoFile, option_map, Final, Seen, number_of, identity_of, files_at_slots, AreAtHome, AreStored, at_home}
+use Rattle.fx_lasting.proofs.{file_at, files_are, AllAreIdle, same_shape}
+use Rattle.fx_lasting.specs.life.Lives.{Leaves}
 use Rattle.fx_lasting.proofs.life_lemmas.Listed.{with_files, has_files, at_rest, same_list}
 use Rattle.fx_lasting.proofs.life_lemmas.Ending.{home_file, file_home, one_slot, none_outside_end}
-use Rattle.fx_lasting.proofs.Histories.{same_shape}
 
 -- the node that a slot's word names, which is its file's place
 abbrev pub node_at : List ℕ → ℕ → Option ℕ
@@ -41,10 +41,8 @@ module _ (t : LastingTable) {id : ℕ} {v : View} {words : List ℕ} (xs : List 
     there = λ slot f l at. final.4 _ _ (file_home r all_idle l at).1;
     apart = λ slot other f g l m at at' same. one_slot r all_idle l m at at' same;
     others = λ place file there.
-        let inside = (stands_at xs place (Some file) there).0 in
-        let h = home_file r all_idle {n = place} (omega (arith, inside, final.3, r.shape.homes)) in
-        let here = final.4 place h.0 h.1 in
-        let is : h.0 ≡ Some file = some-injective h.0 (Some file) (sym here ∙ there) in
+        let h = home_file r all_idle {n = place} (omega (arith, (stands_at xs place (Some file) there).0, final.3, r.shape.homes)) in
+        let is : h.0 ≡ Some file = some-injective h.0 (Some file) (sym (final.4 place h.0 h.1) ∙ there) in
         let o = h.2 file is in
         (o.0, o.1, o.2, o.3, o.5);
     outside = λ slot g. none_outside_end r all_idle g;

@@ -1,9 +1,9 @@
 -- The files of a closed table, listed with their slots, and a table of one thread that has them.
-use Rattle.fx_lasting.proofs.Words.{◌≡◌, ℕ, ◌+◌, ◌<◌, ◌≤◌, List, [], ◌∷◌, ◌++◌, sym, refl, ap, ◌∙◌, arith, inl, Option, Some, None, Closed, State, Contents}
-use Rattle.fx_lasting.proofs.Words.{state_of, IsSettled, changed_at, numbered, some, get_elem?, set, range_with_len, map, length-map-range_with_len, add-one}
-use Rattle.fx_lasting.proofs.Words.{append-nil, get_or-eq_default, get_or-map-range_with_len, slot_at, node_at, moved_node, removed_at, vacant, identity_of}
-use Rattle.fx_lasting.proofs.Words.{HasSameFiles, IsShell, AreAtHome, AreComing, file_at, none_came, none_named, some_came, none_there, file_put, Becomes}
-use Rattle.fx_lasting.proofs.Words.{with_slot, files_at_slots}
+use Rattle.fx_lasting.proofs.{◌≡◌, ℕ, ◌+◌, ◌<◌, ◌≤◌, List, [], ◌∷◌, ◌++◌, sym, refl, ap, ◌∙◌, arith, inl, Option, Some, None, Closed, State, Contents}
+use Rattle.fx_lasting.proofs.{state_of, IsSettled, changed_at, numbered, some, get_elem?, set, range_with_len, map, length-map-range_with_len}
+use Rattle.fx_lasting.proofs.{add-one, append-nil, get_or-eq_default, get_or-map-range_with_len, slot_at, node_at, moved_node, vacant}
+use Rattle.fx_lasting.proofs.{identity_of, HasSameFiles, AreAtHome, AreComing, file_at, none_came, none_named, some_came, none_there}
+use Rattle.fx_lasting.proofs.{file_put, Becomes, with_slot, files_at_slots}
 use Rattle.fx_plain.specs.Contents.{file_at as file_in}
 use Rattle.fx_plain.specs.declared.node.Node.{Node}
 use Rattle.fx_plain.specs.declared.node.Node.TheVariants.{Gone}
@@ -11,9 +11,6 @@ use Rattle.fx_plain.specs.declared.node.Node.TheVariants.{Gone}
 -- one more slot's file
 pub listed_next : (file : ℕ → Option Closed) (n : ℕ) → files_at_slots file (n + 1) ≡ files_at_slots file n ++ with_slot n (file n)
 listed_next file n = ap (files_at_slots file) (add-one n)
-
-empty_shell : (size : ℕ) → IsShell (vacant size)
-empty_shell size = record { vacant = λ slot. refl; settled = record { unheld = λ n. refl; closed = λ n. refl } }
 
 -- the files of the slots so far are in the list, and those of the others in their places
 module _ (size : ℕ) (place_at : ℕ → Option ℕ) where
@@ -26,7 +23,12 @@ module _ (size : ℕ) (place_at : ℕ → Option ℕ) where
     pub listed : files ≡ files_at_slots (file_at size place_at xs) done
 
   pub none_listed : {xs : List (Option Closed)} {files : List (ℕ × Closed)} → AreAtHome size place_at xs → files ≡ [] → AreListed xs 0 xs files
-  none_listed home none = record { state = vacant size; coming = none_came size place_at (empty_shell size) home; listed = none }
+  none_listed home none = record {
+    state = vacant size;
+    coming = none_came size place_at
+        (record { vacant = λ slot. refl; settled = record { unheld = λ n. refl; closed = λ n. refl } }) home;
+    listed = none;
+  }
 
   module _ {xs : List (Option Closed)} {done : ℕ} {now : List (Option Closed)} {files : List (ℕ × Closed)} (so_far : AreListed xs done now files)
       (home : AreAtHome size place_at xs) (inside : done < size) where
@@ -99,17 +101,11 @@ module _ (st : State) (past : (slot : ℕ) → st.size ≤ slot → st.at slot �
   its_file : (slot : ℕ) → identity_of ((state_of with_files).at slot) ≡ found slot
   its_file slot = grind (arith, slot_is, placed, node_is, none_at)
 
-  moved_none : (number slot : ℕ) (x : Option Closed) → removed_at number (moved_node x slot) ≡ None
-  moved_none number slot x = grind arith
-
-  none_removed : (number : ℕ) → removed_at number (node_at nodes number) ≡ None
-  none_removed number = grind (arith, node_is, moved_none, gone_at)
-
   pub has_files : HasSameFiles st (state_of with_files)
   has_files = record { size = length-map-range_with_len (λ s. slot_for s (found s)) 0 st.size; range = refl; files = its_file }
 
   pub at_rest : IsSettled (state_of with_files)
-  at_rest = record { unheld = λ n. get_or-eq_default [] 0 {n = n} (omega arith); closed = none_removed }
+  at_rest = record { unheld = λ n. get_or-eq_default [] 0 {n = n} (omega arith); closed = λ number. grind (arith, node_is, gone_at) }
 
   -- the files of both, listed
   pub same_list : files_at_slots found st.size ≡ files_at_slots (λ slot. identity_of ((state_of with_files).at slot)) (state_of with_files).size

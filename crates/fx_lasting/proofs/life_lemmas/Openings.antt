@@ -1,18 +1,15 @@
 -- A table that is opened keeps the rule.
-use Rattle.fx_lasting.proofs.Words.{◌≡◌, ℕ, zero, suc, ◌+◌, ◌<◌, ◌≤◌, Bool, nat_lt, cond, List, [], ◌∷◌, map, sym, refl, ap, ◌∙◌, subst, arith, lt-ltb, le-ltb}
-use Rattle.fx_lasting.proofs.Words.{Option, None, slice_index, dite, some, some-injective, some-ne-none, dec_le, get_elem?, Closed, File, State, SlotAgrees}
-use Rattle.fx_lasting.proofs.Words.{NodeAgrees, LogAgrees, ViewAgrees, Agrees, new_logs, word_of, slot_place, count_in, slots_of, nodes_of, state_after_all}
-use Rattle.fx_lasting.proofs.Words.{new_log, Phase, free, Log, Start, View, Idle, Nothing, length-map, at_map, first_view, contains_map, once_is, counted_once}
-use Rattle.fx_lasting.proofs.Words.{range_with_len, one_if, owed, ne_eqb, false, Contains, eqb, sum_of, OpensWith, bit_here, node_of_number, bit_of, IsListedIn}
-use Rattle.fx_lasting.proofs.Words.{bit_at-zero, not, opening, untouched, list_place, ◌-◌, ◌*◌, ◌/◌, ◌%◌, Whereabouts, at_slot, in_stock, NamesItsNode}
-use Rattle.fx_lasting.proofs.Words.{IsStockOf, StockAgrees, name_in, empty_name_made, empty_file_made, empty_takes_made, stock_start, stock_for, first_stock}
-use Rattle.fx_lasting.proofs.Words.{mul-le-mul_right, length-range_with_len, div-mul-add, mod-mul-add, suc-mul, HasLaws, seats, full_in, if_full, file_numbered}
-use Rattle.fx_lasting.proofs.Words.{read_default, range_at_start, group_place, group_start, group_len, question_place}
+use Rattle.fx_lasting.proofs.{◌≡◌, ℕ, zero, suc, ◌+◌, ◌<◌, ◌≤◌, Bool, nat_lt, cond, List, [], ◌∷◌, sym, refl, ap, ◌∙◌, subst, arith, lt-ltb}
+use Rattle.fx_lasting.proofs.{le-ltb, Option, None, slice_index, dite, some, some-injective, some-ne-none, dec_le, get_elem?, Closed, File, State}
+use Rattle.fx_lasting.proofs.{SlotAgrees, LogAgrees, ViewAgrees, Agrees, new_logs, word_of, slot_place, slots_of, nodes_of}
+use Rattle.fx_lasting.proofs.{state_after_all, new_log, Phase, free, Log, Start, View, Idle, Nothing, length-map, at_map, first_view, contains_map}
+use Rattle.fx_lasting.proofs.{once_is, counted_once, range_with_len, one_if, ne_eqb, false, Contains, eqb, sum_of, OpensWith, bit_here}
+use Rattle.fx_lasting.proofs.{node_of_number, bit_of, IsListedIn, bit_at-zero, not, opening, untouched, list_place, ◌-◌, ◌*◌, ◌/◌, ◌%◌, Whereabouts}
+use Rattle.fx_lasting.proofs.{at_slot, in_stock, IsStockOf, StockAgrees, name_in, empty_name_made, empty_file_made, empty_takes_made}
+use Rattle.fx_lasting.proofs.{stock_start, stock_for, first_stock, mul-le-mul_right, length-range_with_len, div-mul-add, mod-mul-add, suc-mul}
+use Rattle.fx_lasting.proofs.{HasLaws, seats, full_in, if_full, file_numbered, read_default, range_at_start, group_place, group_start, group_len}
+use Rattle.fx_lasting.proofs.{question_place, tally_none, tally_same, counts_alone, few_groups, seats_open}
 use Rattle.fx_plain.specs.Contents.{file_at}
-use Rattle.fx_lasting.proofs.Counts.{tally_none, tally_same}
-use Rattle.table_range.proofs.Counting.{counts_alone}
-use Rattle.table_range.proofs.GroupSlots.{few_groups}
-use Rattle.table_seats.proofs.Together.{opens as seats_open}
 
 pub laws : HasLaws seats
 laws = grind arith
@@ -20,12 +17,6 @@ laws = grind arith
 -- where each node is at first
 abbrev first_where : Start → ℕ → Whereabouts
 first_where k n = cond (nat_lt n (slots_of k)) (at_slot n) (in_stock ((n - slots_of k) / k.passes + 1) ((n - slots_of k) % k.passes))
-
-slot_where : (k : Start) {n : ℕ} → n < slots_of k → first_where k n ≡ at_slot n
-slot_where k l = grind (arith, at_slot)
-
-none_owed : (passes n : ℕ) → owed (λ p. 0) passes n ≡ 0
-none_owed passes n = tally_same (λ p. eqb 0 (n + 1)) (λ p. false) passes (λ p low high. ne_eqb 0 (n + 1) (λ e. omega arith)) ∙ tally_none passes
 
 -- the numbers of a list of numbers in a row
 in_row : (a n e m : ℕ) → get_elem? (range_with_len a n) e ≡ some m → (e < n) × (m ≡ a + e)
@@ -75,9 +66,6 @@ module _ (k : Start) (words : List ℕ) (homes : List (Option Closed)) (o : Open
   none_full off zero = refl
   none_full off (suc len) = let rest = none_full off len in let here = ap if_full (none_at (off + len)) in omega (arith, rest, here)
 
-  more_nodes : slots_of k ≤ nodes_of k
-  more_nodes = omega arith
-
   slot_opens : (slot : ℕ) → slot < slots_of k
       → SlotAgrees k (node_of_number k) first_phase (λ p. untouched) slot (s.at slot) (slice_index words (slot_place slot))
   slot_opens slot l = let z = empty_takes_made slot in
@@ -85,22 +73,9 @@ module _ (k : Start) (words : List ℕ) (homes : List (Option Closed)) (o : Open
       (subst (SlotAgrees k (node_of_number k) first_phase (λ p. untouched) slot None) (sym (o.named slot l))
       record { names = empty_file_made slot; seat = tt; takes = omega arith; heat = z.1 ∙ sym (tally_none k.passes) })
 
-  node_opens : (n : ℕ) → n < nodes_of k → NodeAgrees s.at (slots_of k) (λ i. count_in (slice_index words (slot_place i))) (node_of_number k) (slots_of k) n
-      (slice_index words (word_of k n)) 0 (owed (λ p. 0) k.passes n) (get_elem? (map some homes) n) free
-  node_opens n l = record {
-    counts = o.others (word_of k n) (λ slot inside bad. omega (arith, bad, inside));
-    at_home = at_map some homes n None (o.vacant n l);
-    untaken = refl;
-    unowed = none_owed k.passes n;
-  }
-
   -- the list has no bits
   no_bits : (p : ℕ) → p ≤ 1024 → IsListedIn (slice_index words (list_place p)) p → ⊥
   no_bits p high is = let z = subst (λ (i : ℕ). IsListedIn i p) (o.others (list_place p) (λ slot inside bad. omega (arith, bad, high))) is in let a = bit_at-zero (bit_of p) in omega (arith, z, a)
-
-  -- the view of the seat that opens the table
-  log_opens : (p : ℕ) → 0 < p → p ≤ k.passes → LogAgrees k [] words first_phase (λ q. 0) (λ i q. untouched) Idle Nothing (new_log k p)
-  log_opens p low high = grind (arith, no_bits)
 
   -- the numbers of new passes
   in_order : (x : Log) → Contains (new_logs seats k 1 k.passes) x → (p : ℕ) × (0 < p) × (p ≤ k.passes) × (x ≡ new_log k p)
@@ -113,19 +88,10 @@ module _ (k : Start) (words : List ℕ) (homes : List (Option Closed)) (o : Open
   view_opens : (j : ℕ) (v : View) → get_elem? (first_view seats k ∷ []) j ≡ some v
       → ViewAgrees k [] words first_phase (λ q. 0) (λ i q. untouched) j v
   view_opens zero v e = subst (ViewAgrees k [] words first_phase (λ q. 0) (λ i q. untouched) 0) (some-injective (first_view seats k) v e) record {
-    logs = λ x h. let z = in_order x h in
-        subst (LogAgrees k [] words first_phase (λ q. 0) (λ i q. untouched) Idle Nothing) (sym z.3) (log_opens z.0 z.1 z.2);
+    logs = λ x h. subst (LogAgrees k [] words first_phase (λ q. 0) (λ i q. untouched) Idle Nothing) (sym (in_order x h).3) (grind (arith, no_bits));
     work = tt;
   }
   view_opens (suc j) v e = absurd (some-ne-none v (sym e))
-
-  named_opens : (slot : ℕ) → slot < slots_of k → NamesItsNode k (first_where k) slot (slice_index words (slot_place slot))
-  named_opens slot l = let m = more_nodes in record {
-    node = slot;
-    named = ap name_in (o.named slot l) ∙ empty_name_made slot;
-    inside = omega arith;
-    here = slot_where k l;
-  }
 
   stocks_open : (j : ℕ) (v : View) (x : Log) → get_elem? (first_view seats k ∷ []) j ≡ some v → Contains v.logs x → StockAgrees k (first_where k) x.number x.stock
   stocks_open zero v x e has = let z = in_order x (subst (λ (y : View). Contains y.logs x) (sym (some-injective (first_view seats k) v e)) has) in
@@ -143,14 +109,24 @@ module _ (k : Start) (words : List ℕ) (homes : List (Option Closed)) (o : Open
     deed = λ i q. untouched;
     nodes = record {
       next_number = slots_of k;
-      each = node_opens;
+      each = λ n l. record {
+        counts = o.others (word_of k n) (λ slot inside bad. omega (arith, bad, inside));
+        at_home = at_map some homes n None (o.vacant n l);
+        untaken = refl;
+        unowed = tally_same (λ p. eqb 0 (n + 1)) (λ p. false) k.passes (λ p low high. ne_eqb 0 (n + 1) (λ e. omega arith)) ∙ tally_none k.passes;
+      };
       owners = λ n l. tt;
       labels = λ n l. tt;
       removed = λ number. refl;
       unborn = λ n l. refl;
       fresh = λ number l. ap not (le-ltb number (slots_of k) l);
       where_is = first_where k;
-      named = named_opens;
+      named = λ slot l. let m : slots_of k ≤ nodes_of k = omega arith in record {
+        node = slot;
+        named = ap name_in (o.named slot l) ∙ empty_name_made slot;
+        inside = omega arith;
+        here = grind (arith, at_slot);
+      };
       stocks = stocks_open;
     };
     slots = slot_opens;

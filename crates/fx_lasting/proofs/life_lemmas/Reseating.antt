@@ -1,9 +1,8 @@
 -- The views of a table change, and nothing else does: words, places and the history are as they
 -- were.
-use Rattle.fx_lasting.proofs.Words.{◌≡◌, ℕ, List, sym, ◌∙◌, subst, some, get_elem?, sum_by, Contains, NodeAgrees, OwnerAgrees, ViewAgrees, StockAgrees}
-use Rattle.fx_lasting.proofs.Words.{RangeCounts, Agrees, Phase, Shared, Start, View, Log, count_in, state_after_all, range_at_start, slots_of, word_of, owed}
-use Rattle.fx_lasting.proofs.Words.{taken_of, held_of, seats, Together}
-use Rattle.fx_lasting.proofs.Keeping.{word_at, slot_word}
+use Rattle.fx_lasting.proofs.{◌≡◌, ℕ, List, sym, ◌∙◌, subst, some, get_elem?, sum_by, Contains, NodeAgrees, OwnerAgrees, ViewAgrees, StockAgrees}
+use Rattle.fx_lasting.proofs.{RangeCounts, Agrees, Phase, Shared, Start, View, Log, count_in, state_after_all, range_at_start, slots_of, word_of}
+use Rattle.fx_lasting.proofs.{owed, taken_of, held_of, seats, Together, word_at, slot_word}
 
 module _ (k : Start) (s : Shared) (r : Agrees k s) (views : List View) where
   -- what the views have to keep

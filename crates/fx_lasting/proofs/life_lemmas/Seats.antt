@@ -1,16 +1,12 @@
 -- A seat is split off, and one is joined back.
-use Rattle.fx_lasting.proofs.Words.{◌≡◌, ℕ, List, sym, refl, ap, ◌∙◌, subst, arith, ⊎_elim, sum_by, WorkAgrees, LogAgrees, Agrees, Shared, Outside, Inside, Log}
-use Rattle.fx_lasting.proofs.Words.{Start, View, Work, Idle, Glance, SplitsKeep, JoinsKeep, spent, held_in, if_file, taking, get_elem?, some, set, set_here}
-use Rattle.fx_lasting.proofs.Words.{set_else, at_set, stands_at, sum_set, Contains, HasNoFile, ViewAgrees, taken_of, held_of, zero, suc, ◌∷◌, ◌≢◌, set-set}
-use Rattle.fx_lasting.proofs.Words.{without_first, seats, joined, first_alone, Moves}
+use Rattle.fx_lasting.proofs.{◌≡◌, ℕ, List, sym, refl, ap, ◌∙◌, subst, arith, ⊎_elim, sum_by, WorkAgrees, LogAgrees, Agrees, Shared, Outside, Inside}
+use Rattle.fx_lasting.proofs.{Log, Start, View, Work, Idle, Glance, SplitsKeep, JoinsKeep, spent, held_in, if_file, taking, get_elem?, some, set}
+use Rattle.fx_lasting.proofs.{set_here, set_else, at_set, stands_at, sum_set, Contains, HasNoFile, ViewAgrees, taken_of, held_of, zero, suc, ◌∷◌, ◌≢◌}
+use Rattle.fx_lasting.proofs.{set-set, without_first, seats, joined, first_alone, Moves, busy_alone, busy, owner_map, owner_stays, few_in_range}
+use Rattle.fx_lasting.proofs.{counts_same, moved_one, IsRule, may_join, may_split, renewed, seats_reseated}
 use Rattle.fx_lasting.proofs.node_lemmas.Choosing.{no_file, no_take, not_busy, holds_none}
-use Rattle.fx_lasting.proofs.Frames.{busy_alone, busy, owner_map, owner_stays}
-use Rattle.table_range.proofs.Counting.{counts_same, moved_one}
-use Rattle.fx_lasting.proofs.Keeping.{few_in_range}
 use Rattle.fx_lasting.proofs.life_lemmas.Openings.{laws}
 use Rattle.fx_lasting.proofs.life_lemmas.Reseating.{reseat}
-use Rattle.table_seats.proofs.Moving.{IsRule, may_join, may_split}
-use Rattle.table_seats.proofs.Together.{renewed, reseated as seats_reseated}
 
 -- the rule holds where passes are in other seats that do nothing
 module _ (k : Start) (s : Shared) (r : Agrees k s) (views : List View) (m : Moves seats k r.history s.views views) where

@@ -1,30 +1,16 @@
 -- A pass shows what it has seen, and another pass learns it: the rule holds afterwards. Neither is
 -- an atomic step.
-use Rattle.fx_lasting.proofs.Words.{◌≡◌, ℕ, ◌+◌, ◌≤◌, [], ◌∷◌, set, sym, refl, ap, ◌∙◌, subst, arith, some, get_elem?, ⊎_elim, at_set, sum_set, contains_only}
-use Rattle.fx_lasting.proofs.Words.{Contains, IsSeenBy, part_of_pass, LogAgrees, ViewAgrees, Agrees, Shared, Log, Start, View, IsInside, Runs, IsHistory}
-use Rattle.fx_lasting.proofs.Words.{taken_of, held_of, first_log, view_of, StockAgrees, TableId, LastingPass, IsPassOf, opening_of, contains_alone, learned_so}
-use Rattle.fx_lasting.proofs.Words.{changes_in, Splits, Seat, Closed, Option, no_use, Learns, its_pass, seats, shown_view}
+use Rattle.fx_lasting.proofs.{◌≡◌, ℕ, ◌+◌, ◌≤◌, [], ◌∷◌, set, sym, refl, ap, ◌∙◌, subst, arith, some, get_elem?, ⊎_elim, at_set, sum_set}
+use Rattle.fx_lasting.proofs.{contains_only, Contains, IsSeenBy, part_of_pass, LogAgrees, ViewAgrees, Agrees, Shared, Log, Start, View, IsInside}
+use Rattle.fx_lasting.proofs.{Runs, IsHistory, taken_of, held_of, first_log, view_of, StockAgrees, TableId, LastingPass, IsPassOf, opening_of}
+use Rattle.fx_lasting.proofs.{contains_alone, learned_so, changes_in, Seat, Closed, Option, no_use, Learns, its_pass}
+use Rattle.fx_lasting.proofs.{owner_same, few_in_range, adds_so, still_pass, at_rest, counts_same, moved_one, known, seats_learn}
 use Rattle.fx_lasting.specs.life.Showing.{HasLearned}
-use Rattle.fx_lasting.proofs.Frames.{owner_same}
-use Rattle.table_range.proofs.Counting.{counts_same, moved_one}
-use Rattle.fx_lasting.proofs.Keeping.{few_in_range}
-use Rattle.fx_lasting.proofs.life_lemmas.Openings.{laws}
-use Rattle.fx_lasting.proofs.life_lemmas.Seats.{is_rule}
-use Rattle.table_seats.proofs.Moving.{may_show as seats_show}
-use Rattle.table_seats.proofs.Together.{known, learned as seats_learn}
 use Rattle.fx_lasting.proofs.life_lemmas.Reseating.{reseat}
-use Rattle.fx_lasting.proofs.Passing.{adds_so, still_pass, at_rest}
-
--- a seat with one pass may show what the pass has seen
-pub may_show : (k : Start) (id : ℕ) (v : View) {x : Log} → v.logs ≡ x ∷ [] → Splits (Agrees k) id v v (shown_view seats v)
-may_show k id v one = seats_show is_rule laws k id v one
 
 -- a seat with one pass may learn the whole history
 module _ (k : Start) (id : ℕ) (v w : View) (x : Log) (one : v.logs ≡ x ∷ []) (begun : v.start ≡ k) (within : IsInside v.start v.work) (s : Shared) (r : Agrees k s)
     (at : get_elem? s.views id ≡ some v) (other : ℕ) (there : get_elem? s.views other ≡ some w) where
-  its_log : LogAgrees k r.history s.words r.phase r.debt r.deed v.work v.glance x
-  its_log = (r.holds.views id v at).logs x (contains_alone one)
-
   abbrev log : Log
   log = record x { front = r.history }
 
@@ -32,7 +18,7 @@ module _ (k : Start) (id : ℕ) (v w : View) (x : Log) (one : v.logs ≡ x ∷ [
   learned = record v { logs = log ∷ [] }
 
   now_log : LogAgrees k r.history s.words r.phase r.debt r.deed v.work v.glance log
-  now_log = grind (arith, its_log)
+  now_log = grind (arith, ((r.holds.views id v at).logs x (contains_alone one)))
 
   learned_agrees : Agrees k record { words = s.words; homes = s.homes; views = set s.views id learned }
   learned_agrees = reseat k s r (set s.views id learned) record {

@@ -1,6 +1,6 @@
 -- The words and places of a table that is opened with empty slots.
-use Rattle.fx_lasting.proofs.Words.{◌≡◌, ◌+◌, ◌≤◌, ℕ, List, sym, ap, ◌∙◌, arith, length, Option, None, Closed, Start, slots_of, nodes_of, MOST_SLOTS, AreNamed}
-use Rattle.fx_lasting.proofs.Words.{OpensWith, words_for, replicate, length-replicate, read_default, slice_index, in_place}
+use Rattle.fx_lasting.proofs.{◌≡◌, ◌+◌, ◌≤◌, ℕ, List, sym, ap, ◌∙◌, arith, length, Option, None, Closed, Start, slots_of, nodes_of, MOST_SLOTS}
+use Rattle.fx_lasting.proofs.{AreNamed, OpensWith, words_for, replicate, length-replicate, read_default, slice_index, in_place}
 
 pub same_size : (k : Start) → slots_of k ≡ k.size
 same_size k = length-replicate {A = Option ℕ} k.size None
@@ -17,6 +17,5 @@ opens_with k n few range passes nodes many are named = let same = same_size k in
   named = λ slot l. named.named slot (omega (arith, same, l));
   others = λ place apart. named.others place (λ slot l. apart slot (omega (arith, same, l)))
       ∙ (ap (λ (l : List ℕ). slice_index l place) are ∙ read_default (words_for k.size k.passes n) place 0);
-  vacant = λ m l. let long = length-replicate {A = Option Closed} n None in
-      in_place (replicate n None) m (omega (arith, l, many, long)) (read_default n m None);
+  vacant = λ m l. in_place (replicate n None) m (omega (arith, l, many, length-replicate {A = Option Closed} n None)) (read_default n m None);
 }

@@ -1,25 +1,18 @@
 -- A pass finds a free node of its stock, takes its place, and lays a node to rest.
-use Rattle.fx_lasting.proofs.Words.{◌⊎◌, HoldsAt, Renewing, File, IsIn, changed_else, ◌≡◌, ◌≢◌, ℕ, ◌+◌, ◌<◌, ◌≤◌, List, [], ◌∷◌, set, sym, refl, ap, ◌∙◌, subst}
-use Rattle.fx_lasting.proofs.Words.{arith, Option, Some, None, none, some, keeps, takes, gives, rest, set_here, set_else, Closed, WorkAgrees, MayBeUncharged}
-use Rattle.fx_lasting.proofs.Words.{nodes_of, word_of, hold_word_of, held_in, if_file, taken_of, taking, owed, free, placed, leaving, emptied, owner, file_in}
-use Rattle.fx_lasting.proofs.Words.{changed_here, Log, Work, Idle, Searching, Placing, Emptying, Seeks, Births, Rests, SeeksKeep, BirthsKeep, RestsKeep}
-use Rattle.fx_lasting.proofs.Words.{birth_word, step, inl, inr, ⊎_elim, dite, ℕ_discrete, sum_by, sum_set, length-set, Start, Agrees, first_log, HasNoFile}
-use Rattle.fx_lasting.proofs.Words.{HoldAgrees, IsAllowed, GuardAgrees, rested, IsInside, changed_at, IsInStock, Bool, Counted, Guarded, Announced, Nearing}
-use Rattle.fx_lasting.proofs.Words.{Relieving, HoldsBesides, cond, le-ltb, get_or, HasItsPlace, Placement, as_written, Unlabelled}
-use Rattle.fx_lasting.proofs.Histories.{grows_none}
-use Rattle.fx_lasting.proofs.Frames.{HasBesides, alone_cases, busy, covers_same, does_now}
-use Rattle.fx_lasting.proofs.Keeping.{passed, Turn, turn_of, After, Homes, word_at, slot_word, Made, by_turn, its_log, its_work, its_stock, in_its_stock, tells}
-use Rattle.fx_lasting.proofs.Keeping.{tells_less, w, end, none_added}
-use Rattle.fx_lasting.proofs.Places.{node_words, node_here, node_hold, node_slot, node_leaves}
+use Rattle.fx_lasting.proofs.{◌⊎◌, HoldsAt, Renewing, File, IsIn, changed_else, ◌≡◌, ◌≢◌, ℕ, ◌+◌, ◌<◌, ◌≤◌, List, [], ◌∷◌, set, sym, refl, ap, ◌∙◌}
+use Rattle.fx_lasting.proofs.{subst, arith, Option, Some, None, none, some, keeps, takes, gives, rest, set_here, set_else, Closed, WorkAgrees}
+use Rattle.fx_lasting.proofs.{MayBeUncharged, nodes_of, word_of, hold_word_of, held_in, taken_of, taking, owed, free, placed, leaving}
+use Rattle.fx_lasting.proofs.{emptied, owner, file_in, changed_here, Log, Work, Idle, Searching, Placing, Emptying, Seeks, Births, Rests, SeeksKeep}
+use Rattle.fx_lasting.proofs.{BirthsKeep, RestsKeep, birth_word, step, inl, inr, ⊎_elim, dite, ℕ_discrete, sum_by, sum_set, length-set, Start, Agrees}
+use Rattle.fx_lasting.proofs.{first_log, HasNoFile, HoldAgrees, IsAllowed, GuardAgrees, rested, changed_at, IsInStock, Bool, Counted}
+use Rattle.fx_lasting.proofs.{Guarded, Announced, Nearing, Relieving, cond, le-ltb, get_or, HasItsPlace, Placement, as_written}
+use Rattle.fx_lasting.proofs.{Unlabelled, grows_none, HasBesides, alone_cases, busy, covers_same, does_now, passed, Turn, turn_of, After, Homes}
+use Rattle.fx_lasting.proofs.{word_at, slot_word, Made, by_turn, its_log, its_work, its_stock, in_its_stock, tells, tells_less, w, end, none_added}
+use Rattle.fx_lasting.proofs.{node_words, node_here, node_hold, node_slot, node_leaves, in_phase}
 use Rattle.fx_lasting.proofs.Calm.{read_before, read_before_kept, Reads}
 use Rattle.fx_lasting.proofs.node_lemmas.Choosing.{no_file, no_take, not_busy, holds_none}
 use Rattle.fx_lasting.proofs.node_lemmas.FreeNodes.{some_free, entry_is, named_by}
-use Rattle.fx_lasting.proofs.hold_lemmas.Unheld.{in_phase}
 use Rattle.fx_lasting.proofs.node_lemmas.NodeSteps.{own_after, own_node_kept}
-
--- a pass that looks for a node works with none
-names_nothing : {d : Work} → HasNoFile d → named_by d ≡ 0
-names_nothing to = ⊎_elim (λ e. ap named_by e) (λ z. ap named_by z.1) to
 
 module _ (turn : Turn) where
   open turn use {st, v, r, id, x, here, one}
@@ -36,25 +29,23 @@ module _ (turn : Turn) where
     -- some node of its stock is free
     one_free : (e : ℕ) × (e < nodes_of v.start) × (r.phase e ≡ free) × IsInStock x.stock e
     one_free = let long = (its_stock turn).its.count ∙ ap (λ (b : Bool). cond b 0 v.start.passes) (le-ltb v.start.installing x.number installs) in
-        let z = some_free r id v x here one (names_nothing searches) (omega arith) in
+        let z = some_free r id v x here one (⊎_elim (λ e. ap named_by e) (λ z. ap named_by z.1) searches) (omega arith) in
         let at = entry_is x.stock z.0 z.1 in (get_or x.stock z.0 0, (its_stock turn).its.inside z.0 (get_or x.stock z.0 0) at, z.2, (z.0, at))
 
     searching : (e : ℕ) → e < nodes_of v.start → r.phase e ≡ free → IsInStock x.stock e → Reads turn (Searching e) v.glance r.history
-    searching e l is stocked = let o = its_log turn in record {
-      files = none_added turn;
-      taken = λ n. sym (no_take searches n);
-      owners = inr (not_busy searches);
-      held = o.held ∙ no_file searches;
-      allowed = stocked;
-      its = record {
-        hold = holds_none searches o.hold;
-        guarded = tt;
-        sees = o.sees;
-        heats = o.heats;
-        work = (l, is);
-      };
-      holds = λ n. let a = ap (if_file n) (no_file searches) in omega arith;
-    }
+    searching e l is stocked = grind (
+      arith,
+      its_log,
+      none_added,
+      no_take,
+      not_busy,
+      no_file,
+      holds_none,
+      its_log turn,
+      none_added turn,
+      not_busy searches,
+      no_file searches,
+    )
 
     -- the node that the pass settles on, after a load of this one
     module _ (n : ℕ) (stocked : IsInStock x.stock n) where
@@ -145,14 +136,7 @@ module _ (turn : Turn) where
           mine = inr (its.1, rw works at o.allowed);
           empty = ap file_in its.1;
           still_empty = refl;
-          node = let t = sum_set (taken_of n) st.views id v (w turn born_after) here in let a = ap (taking n) works in let b = node.untaken in
-              rw (node_here turn n its.0 birth_word) record {
-                counts = refl;
-                few_lost = omega arith;
-                at_home = set_here st.homes n none (let a = r.shape.homes in let b = its.0 in omega arith);
-                untaken = omega arith;
-                unowed = node.unowed;
-              };
+          node = grind (arith, sum_set, taking, node_here, its, set_here, none);
           known = does_now st.views id v (w turn born_after) (Placing n new) here refl;
           label = tt;
           holds = sym (ap held_in works);
@@ -191,15 +175,7 @@ module _ (turn : Turn) where
     by_rest : (P : Work → Work → Type 0) → P (Emptying n) Idle → ((l : Placement) → P (Placing n l) (Searching n))
         → ((f : File) (held : ℕ) (l : Placement) → P (Renewing f held n l) (Counted f held) × P (Relieving f held n l) (Guarded f held))
         → ((m : ℕ) (l : Placement) → P (Nearing m n l) (Announced m)) → P v.work (rested v.work)
-    by_rest P out unplaced held near = ⊎_elim
-        (λ (e : v.work ≡ Emptying n). subst (λ (z : Work). P z (rested z)) (sym e) out)
-        (λ y. ⊎_elim
-        (λ (e : (l : Placement) × (v.work ≡ Placing n l)). subst (λ (z : Work). P z (rested z)) (sym e.1) (unplaced e.0))
-        (λ (e : (l : Placement) × HasBesides v.work n l). ⊎_elim
-        (λ (z : (f : File) × (held : ℕ) × HoldsBesides v.work f held n e.0). ⊎_elim
-        (λ (is : v.work ≡ Renewing z.0 z.1 n e.0). subst (λ (d : Work). P d (rested d)) (sym is) (held z.0 z.1 e.0).0)
-        (λ (is : v.work ≡ Relieving z.0 z.1 n e.0). subst (λ (d : Work). P d (rested d)) (sym is) (held z.0 z.1 e.0).1) z.2)
-        (λ (z : (m : ℕ) × (v.work ≡ Nearing m n e.0)). subst (λ (d : Work). P d (rested d)) (sym z.1) (near z.0 e.0)) e.1) y) its_work_is
+    by_rest P out unplaced held near = grind (arith, its_work_is)
 
     -- the node has no file, and nobody else knows it
     abbrev Its : Type 0
@@ -235,9 +211,6 @@ module _ (turn : Turn) where
     stays_open : (f : File) (held : ℕ) → HoldsAt v.start r.phase f held → HoldsAt v.start (changed_at r.phase n free) f held
     stays_open f held o = (o.0, ap file_in (changed_else r.phase n free held (apart f held o)) ∙ o.1)
 
-    knows_rested : IsInside v.start d
-    knows_rested = grind (arith, its_node, its_work)
-
     busy_so : busy v.work ≡ n + 1
     busy_so = by_rest (λ d e. busy d ≡ n + 1) refl (λ l. refl) (λ f held l. (refl, refl)) (λ m l. refl)
 
@@ -263,13 +236,7 @@ module _ (turn : Turn) where
           mine = inl q.1;
           empty = q.2;
           still_empty = refl;
-          node = let t = sum_set (taken_of n) st.views id v (w turn rest_after) here in let b = q.3 in
-              let e = as_taken n in rw (node_here turn n q.0 0) record {
-                counts = refl;
-                at_home = set_here st.homes n (some None) (let a = r.shape.homes in let b = q.0 in omega arith);
-                untaken = omega arith;
-                unowed = q.4;
-              };
+          node = let t = sum_set (taken_of n) st.views id v (w turn rest_after) here in grind (arith, as_taken, node_here, set_here, some);
           known = tt;
           label = tt;
           holds = by_rest (λ d e. held_in e ≡ held_in d) refl (λ l. refl) (λ f held l. (refl, refl)) (λ m l. refl);
@@ -292,7 +259,8 @@ module _ (turn : Turn) where
       tt,
       rw has resting,
       record {
-        stepped = tells turn rest_after refl carried (rest carried) [] (grows_none x.number r.history) r.life.legal refl knows_rested;
+        stepped = tells turn rest_after refl carried (rest carried) [] (grows_none x.number r.history) r.life.legal refl
+            (grind (arith, its_node, its_work));
         carried = refl;
       },
     )

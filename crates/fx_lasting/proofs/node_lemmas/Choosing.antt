@@ -1,6 +1,5 @@
 -- A pass that has no file: it does nothing, or it has found a free node.
-use Rattle.fx_lasting.proofs.Words.{◌≡◌, ℕ, ap, ⊎_elim, None, Work, Idle, Searching, HasNoFile, HoldAgrees, held_in, taking}
-use Rattle.fx_lasting.proofs.Frames.{busy}
+use Rattle.fx_lasting.proofs.{◌≡◌, ℕ, ap, ⊎_elim, None, Work, Idle, Searching, HasNoFile, HoldAgrees, held_in, taking, busy}
 
 module _ {w : Work} (free_of : HasNoFile w) where
   pub no_file : held_in w ≡ None

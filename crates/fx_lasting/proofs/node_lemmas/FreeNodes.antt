@@ -1,14 +1,14 @@
 -- A stock has more nodes than the other passes can use, so one of them is free whenever its pass
 -- does nothing: no slot names a node of a stock.
-use Rattle.fx_lasting.proofs.Words.{Renewing, Nearing, Relieving, Placement, some-injective, IsAllowed, IsInStock, Bool, ◌≡◌, ℕ, zero, suc, ◌+◌, ◌<◌, ◌≤◌, List}
-use Rattle.fx_lasting.proofs.Words.{[], ◌∷◌, length, sym, refl, ap, ◌∙◌, subst, arith, some, get_elem?, ⊎_elim, ◌⊎◌, inl, inr, dite, ℕ_discrete, eqb, one_if}
-use Rattle.fx_lasting.proofs.Words.{sum_by, sum_by-cons, sum_at, sum_le_at, bit_here, bit_else, OwnerAgrees, HoldAgrees, Names, nodes_of, hold_word_of}
-use Rattle.fx_lasting.proofs.Words.{taken_of, taking, lengths, Phase, free, placed, seated, leaving, retired, emptied, kept, Log, View, Work, Announced}
-use Rattle.fx_lasting.proofs.Words.{Counted, Guarded, Owing, Yielding, Placing, Retiring, Emptying, Keeping, Does, Agrees, Shared, Start, ◌≢◌, get_or, set}
-use Rattle.fx_lasting.proofs.Words.{at_set, sum_set, Contains, contains_head, at_slot, in_stock, StockAgrees, name_of_file, find_pass, not_there}
-use Rattle.fx_lasting.proofs.Counts.{owed_found}
-use Rattle.fx_lasting.proofs.Keeping.{NodeIn, word_at, slot_word}
-use Rattle.fx_lasting.proofs.Frames.{HasBesides, alone_cases}
+use Rattle.fx_lasting.proofs.{Renewing, Nearing, Relieving, Placement, some-injective, IsAllowed, IsInStock, Bool, ◌≡◌, ℕ, zero, suc, ◌+◌, ◌<◌, ◌≤◌}
+use Rattle.fx_lasting.proofs.{List, [], ◌∷◌, length, sym, refl, ap, ◌∙◌, subst, arith, some, get_elem?, ⊎_elim, ◌⊎◌, inl, inr, dite, ℕ_discrete, eqb}
+use Rattle.fx_lasting.proofs.{one_if, sum_by, sum_by-cons, sum_at, sum_le_at, bit_here, bit_else, OwnerAgrees, HoldAgrees, Names, nodes_of}
+use Rattle.fx_lasting.proofs.{hold_word_of, taken_of, lengths, Phase, free, placed, seated, leaving, retired, emptied, kept, Log, View, Work}
+use Rattle.fx_lasting.proofs.{Announced, Counted, Guarded, Owing, Yielding, Placing, Retiring, Emptying, Does, Agrees, Shared, Start, ◌≢◌, get_or}
+use Rattle.fx_lasting.proofs.{set, at_set, sum_set, Contains, contains_head, at_slot, in_stock, StockAgrees, name_of_file, find_pass, not_there}
+use Rattle.fx_lasting.proofs.{owed_found, NodeIn, word_at, slot_word, HasBesides, alone_cases}
+use Rattle.fx_lasting.proofs.Words.{Keeping}
+use Rattle.std.proofs.lemmas.Grind.{common_steps}
 
 -- a sum over the numbers below n
 abbrev pub below : (ℕ → ℕ) → ℕ → ℕ
@@ -30,10 +30,7 @@ below_zero f (suc n) none = let a = below_zero f n (λ m l. none m (omega arith)
 -- of numbers that are all different, at most one is this
 below_one : (f : ℕ → ℕ) (place n : ℕ) → ((i j : ℕ) → i < n → j < n → f i ≡ f j → i ≡ j) → below (λ j. one_if (eqb place (f j))) n ≤ 1
 below_one f place zero apart = omega arith
-below_one f place (suc n) apart = dite (ℕ_discrete place (f n))
-    (λ is. let a = below_zero (λ j. one_if (eqb place (f j))) n
-    (λ m l. bit_else (f m) place (λ same. let e = apart m n (omega arith) (omega arith) (sym same ∙ is) in omega (arith, e, l))) in
-    let b = bit_here (f n) place is in omega arith)
+below_one f place (suc n) apart = dite (ℕ_discrete place (f n)) (grind (arith, below_zero, bit_else, bit_here))
     (λ other. let a = below_one f place n (λ i j l m same. apart i j (omega arith) (omega arith) same) in let b = bit_else (f n) place other in omega arith)
 
 -- sums over numbers and over a list, one way and the other
@@ -43,8 +40,7 @@ sum_none (x ∷ xs) = let a = sum_none xs in let b = sum_by-cons (λ x. 0) x xs 
 
 sum_plus : {X : Type 0} (f g : X → ℕ) (xs : List X) → sum_by (λ x. f x + g x) xs ≡ sum_by f xs + sum_by g xs
 sum_plus f g [] = refl
-sum_plus f g (x ∷ xs) = let a = sum_plus f g xs in let b = sum_by-cons (λ x. f x + g x) x xs in
-    let c = sum_by-cons f x xs in let d = sum_by-cons g x xs in omega arith
+sum_plus f g (x ∷ xs) = grind (arith, sum_plus f g xs, common_steps, sum_by-cons)
 
 below_sum : {X : Type 0} (f : ℕ → X → ℕ) (xs : List X) (n : ℕ) → below (λ j. sum_by (f j) xs) n ≡ sum_by (λ x. below (λ j. f j x) n) xs
 below_sum f xs zero = sym (sum_none xs)
@@ -80,9 +76,7 @@ uses n v = one_if (eqb (named_by v.work) (n + 1))
 
 found_below : (P : ℕ → Type 0) → ((n : ℕ) → P n ⊎ (P n → ⊥)) → (n : ℕ) → ((m : ℕ) × (m < n) × P m) ⊎ ((m : ℕ) → m < n → P m → ⊥)
 found_below P dec zero = inr (λ m l p. omega arith)
-found_below P dec (suc n) = ⊎_elim (λ p. inl (n, omega arith, p))
-    (λ no. ⊎_elim (λ z. inl (z.0, (let a = z.1 in omega arith), z.2))
-    (λ no_such. inr (λ m l p. dite (ℕ_discrete m n) (λ same. no (subst P same p)) (λ other. no_such m (omega (arith, l, other)) p))) (found_below P dec n)) (dec n)
+found_below P dec (suc n) = ⊎_elim (λ p. inl (n, omega arith, p)) (grind (arith, found_below P dec n)) (dec n)
 
 is_free : (ph : Phase) → (ph ≡ free) ⊎ (ph ≡ free → ⊥)
 is_free ph = grind arith
@@ -103,12 +97,6 @@ module _ {k : Start} {st : Shared} (r : Agrees k st) where
   does_use : (n j : ℕ) {d : Work} → Does st.views j d → ((m : ℕ) (l : Placement) → d ≢ Placing m l) → named_by d ≡ n + 1 → 1 ≤ view_use n
   does_use n j o other is = used_by n j o.0 o.1 (⊎_elim (λ its. ap named_by its) (λ z. absurd (other z.0 z.1 z.3)) (alone_cases o.0.work o.2) ∙ is)
 
-  takes_use : (n : ℕ) (d : Work) → taking n d ≤ one_if (eqb (named_by d) (n + 1))
-  takes_use n d = grind (arith, bit_here, bit_else)
-
-  owes_use : (n : ℕ) (word : ℕ) (d : Work) → HoldAgrees word (n + 1) d → named_by d ≡ n + 1
-  owes_use n word d o = grind arith
-
   -- a pass works with a node that isn't free, unless a slot names it
   used : (n : ℕ) → n < nodes_of k → ((s : ℕ) → r.nodes.where_is n ≢ at_slot s) → ((j : ℕ) (l : Placement) → Does st.views j (Placing n l) → 1 ≤ view_use n) → (ph : Phase) → r.phase n ≡ ph → (ph ≡ free → ⊥)
       → NodeIn r n ph → OwnerAgrees st.views n ph → 1 ≤ view_use n
@@ -123,8 +111,8 @@ module _ {k : Start} {st : Shared} (r : Agrees k st) where
       (λ none. let z = owed_found r.debt k.passes n (let a = o.somebody in omega arith) in let y = find_pass r.life z.1 z.2 in
       let h = ((r.holds.views y.0 y.1 y.3).logs y.2 y.4).hold in
       let h' = subst (λ (p : ℕ). HoldAgrees (word_at st.words (hold_word_of k p)) (r.debt p) y.1.work) y.5 h in
-      let a = used_by n y.0 y.1 y.3 (owes_use n _ y.1.work (rw z.3 at h')) in omega arith)
-      (λ some_taken. let a = sum_le_at (taken_of n) (uses n) st.views (λ i u e. takes_use n u.work) in omega arith)
+      let a = used_by n y.0 y.1 y.3 (grind arith) in omega arith)
+      (λ some_taken. let a = sum_le_at (taken_of n) (uses n) st.views (λ i u e. grind (arith, bit_here, bit_else)) in omega arith)
   used n l away placed_use (emptied j) is not_free o own = let a = does_use n j own (λ m l bad. cc bad) refl in omega arith
   used n l away placed_use (kept j lost) is not_free o own = let a = does_use n j own (λ m l bad. cc bad) refl in omega arith
 

@@ -1,16 +1,14 @@
 -- A pass keeps the node of a closed file, takes its place again, or frees it.
-use Rattle.fx_lasting.proofs.Words.{◌≡◌, ℕ, ◌<◌, [], ◌∷◌, set, sym, refl, ap, ◌∙◌, None, none, some, rest, free, kept, Idle, Parks, step, inl, ◌⊎◌, ◌-◌}
-use Rattle.fx_lasting.proofs.Words.{List, arith, Option, keeps, takes, gives, Closed, taking, placed, owner, Placing, Keeping, Resumes, ⊎_elim, sum_set, Agrees}
-use Rattle.fx_lasting.proofs.Words.{subst, set_here, set_else, nodes_of, word_of, taken_of, held_in, emptied, file_in, Emptying, IsInStock, Placement, MayCarry}
-use Rattle.fx_lasting.proofs.Words.{WorkAgrees, changed_here, SettlesNode, ParksKeep, ResumesKeep, SettlesKeep, birth_word, length-set, Unlabelled, as_written}
-use Rattle.fx_lasting.proofs.Histories.{grows_none}
-use Rattle.fx_lasting.proofs.Frames.{busy, does_now}
-use Rattle.fx_lasting.proofs.Keeping.{passed, Turn, turn_of, After, Homes, word_at, Made, by_turn, its_log, its_work, tells, tells_less, w, end}
+use Rattle.fx_lasting.proofs.{◌≡◌, ℕ, ◌<◌, [], ◌∷◌, set, sym, refl, ap, ◌∙◌, None, none, some, rest, free, kept, Idle, Parks, step, inl, ◌⊎◌, ◌-◌}
+use Rattle.fx_lasting.proofs.{List, arith, Option, keeps, takes, gives, Closed, taking, placed, owner, Placing, Resumes, ⊎_elim, sum_set, Agrees}
+use Rattle.fx_lasting.proofs.{subst, set_here, set_else, nodes_of, word_of, taken_of, held_in, emptied, file_in, Emptying, IsInStock, Placement}
+use Rattle.fx_lasting.proofs.{MayCarry, WorkAgrees, changed_here, SettlesNode, ParksKeep, ResumesKeep, SettlesKeep, birth_word, length-set}
+use Rattle.fx_lasting.proofs.{Unlabelled, as_written, grows_none, busy, does_now, passed, Turn, turn_of, After, Homes, word_at, Made, by_turn}
+use Rattle.fx_lasting.proofs.{its_log, its_work, tells, tells_less, w, end, node_words, node_here, node_hold, node_leaves, in_phase}
+use Rattle.fx_lasting.proofs.Words.{Keeping}
 use Rattle.fx_lasting.proofs.node_lemmas.NodeSteps.{own_after, own_node_kept}
-use Rattle.fx_lasting.proofs.Places.{node_words, node_here, node_hold, node_leaves}
 use Rattle.fx_lasting.proofs.Calm.{read_after, read_kept}
 use Rattle.fx_lasting.proofs.Peeking.{goes_still, still}
-use Rattle.fx_lasting.proofs.hold_lemmas.Unheld.{in_phase}
 
 -- a word has lost few takes, or not
 pub carries_or : (word : ℕ) → MayCarry word ⊎ (MayCarry word → ⊥)
@@ -49,14 +47,7 @@ module _ (turn : Turn) (n : ℕ) where
           mine = inl (ap owner ph);
           empty = ap file_in ph;
           still_empty = refl;
-          node = let t = sum_set (taken_of n) st.views id v (w turn park_after) here in let a = ap (taking n) works in let b = node.untaken in
-              rw (node_here turn n l found) record {
-                counts = let a = is.0 in omega arith;
-                few_lost = let a = is.1 in omega arith;
-                at_home = set_here st.homes n (some None) (let a = r.shape.homes in let b = l in omega arith);
-                untaken = omega arith;
-                unowed = node.unowed;
-              };
+          node = grind (arith, sum_set, taking, node_here, set_here, some);
           known = does_now st.views id v (w turn park_after) (Keeping n less) here refl;
           label = tt;
           holds = sym (ap held_in works);
@@ -119,14 +110,7 @@ module _ (turn : Turn) (n : ℕ) where
           mine = inl (ap owner ph);
           empty = ap file_in ph;
           still_empty = refl;
-          node = let t = sum_set (taken_of n) st.views id v (w turn again_after) here in let a = ap (taking n) works in let b = node.untaken in
-              rw (node_here turn n l found) record {
-                counts = node.counts;
-                few_lost = node.few_lost;
-                at_home = set_here st.homes n none (let a = r.shape.homes in let b = l in omega arith);
-                untaken = omega arith;
-                unowed = node.unowed;
-              };
+          node = grind (arith, sum_set, taking, node_here, set_here, none);
           known = does_now st.views id v (w turn again_after) (Placing n again_so) here refl;
           label = tt;
           holds = sym (ap held_in works);
@@ -192,16 +176,7 @@ module _ (turn : Turn) (n : ℕ) where
 
     pub settles : (slots : ℕ) (carried : List (ℕ × Option Closed))
         → Made turn carried (word_of v.start n) (λ _. 0) (λ _. SettlesNode (step slots (word_of v.start n) 0 0 none) (v, carried) 0)
-    settles slots carried = (
-      w turn free_after,
-      keeps,
-      tt,
-      freed,
-      record {
-        goes = record { stepped = tells_less turn free_after refl carried carried refl tt; carried = refl };
-        front = rw one refl;
-      },
-    )
+    settles slots carried = (grind (arith, keeps, freed, tells_less, tells_less turn free_after refl carried carried refl tt))
 
 pub parks_keep : ParksKeep Parks
 parks_keep k slots id i n m x has works stocked carries place = by_turn slots (λ _. Unit {0}) (λ k. word_of k n) (λ word. word)

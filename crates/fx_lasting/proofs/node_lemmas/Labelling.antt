@@ -1,19 +1,16 @@
 -- A pass stores the label of the file that it places, and loads that of the file that it holds.
-use Rattle.fx_lasting.proofs.Words.{◌≡◌, ◌≢◌, ℕ, ◌+◌, ◌<◌, ◌≤◌, List, [], set, sym, refl, ap, ◌∙◌, subst, arith, Option, Some, ⊎_elim, none, keeps, step}
-use Rattle.fx_lasting.proofs.Words.{length-set, get_or-set_other, get_or-set_same, Closed, File, Agrees, WorkAgrees, HoldsAt, Labels, slots_of, nodes_of}
-use Rattle.fx_lasting.proofs.Words.{slot_place, group_place, list_place, question_place, word_of, hold_word_of, HoldsBesides, tag_word_of, number_word_of}
-use Rattle.fx_lasting.proofs.Words.{held_in, taken_of, taking, HoldsOn, Phase, placed, owner, file_in, written_in, changed_here, sum_set, Work, Placing}
-use Rattle.fx_lasting.proofs.Words.{Placement, Written, as_written, Unlabelled, Tag, Label, label_of, number_of_mark, Goes, Log, first_log, Tags, Numbers}
-use Rattle.fx_lasting.proofs.Words.{ReadsTag, ReadsNumber, TagsKeep, RecallsTag, RecallsTagKeep, NumbersKeep, ReadsTagKeep, ReadsNumberKeep, inl}
-use Rattle.fx_lasting.proofs.Histories.{grows_none}
-use Rattle.fx_lasting.proofs.Frames.{busy, does_now, written_of}
+use Rattle.fx_lasting.proofs.{◌≡◌, ◌≢◌, ℕ, ◌+◌, ◌<◌, ◌≤◌, List, [], set, sym, refl, ap, ◌∙◌, subst, arith, Option, Some, ⊎_elim, none, keeps, step}
+use Rattle.fx_lasting.proofs.{length-set, get_or-set_other, get_or-set_same, Closed, File, Agrees, WorkAgrees, HoldsAt, Labels, slots_of, nodes_of}
+use Rattle.fx_lasting.proofs.{slot_place, group_place, list_place, question_place, word_of, hold_word_of, HoldsBesides, tag_word_of, number_word_of}
+use Rattle.fx_lasting.proofs.{held_in, taken_of, taking, HoldsOn, Phase, placed, owner, file_in, written_in, changed_here, sum_set, Work, Placing}
+use Rattle.fx_lasting.proofs.{Placement, Written, as_written, Unlabelled, Tag, Label, label_of, number_of_mark, Goes, Log, first_log, Tags, Numbers}
+use Rattle.fx_lasting.proofs.{ReadsTag, ReadsNumber, TagsKeep, RecallsTag, RecallsTagKeep, NumbersKeep, ReadsTagKeep, ReadsNumberKeep, inl}
+use Rattle.fx_lasting.proofs.{grows_none, busy, does_now, written_of, end_read, passed, Turn, turn_of, After, word_at, slot_word, LabelSame, Made}
+use Rattle.fx_lasting.proofs.{by_turn, its_log, its_work, tells, tells_less, w, end, in_phase}
 use Rattle.fx_lasting.proofs.hold_lemmas.Holds.{on_node}
 use Rattle.fx_lasting.proofs.range_lemmas.GroupSteps.{its_inside}
-use Rattle.fx_lasting.proofs.Keeping.{end_read, passed, Turn, turn_of, After, word_at, slot_word, LabelSame, Made, by_turn, its_log, its_work, tells}
-use Rattle.fx_lasting.proofs.Keeping.{tells_less, w, end}
 use Rattle.fx_lasting.proofs.Calm.{read_before, read_before_kept}
 use Rattle.fx_lasting.proofs.Peeking.{still}
-use Rattle.fx_lasting.proofs.hold_lemmas.Unheld.{in_phase}
 use Rattle.fx_lasting.proofs.node_lemmas.NodeSteps.{own_after, own_node_kept}
 
 -- the file that a pass holds beside the one that it places
@@ -123,9 +120,13 @@ module _ (turn : Turn) where
 
     tag_goes : (carried : List (ℕ × Option Closed)) (m more : ℕ) (u' : Written) → v.work ≡ Placing m (as_written more u')
         → Goes (v, carried) [] (Placing m (as_written more (Tag t))) v.glance (w turn tagged_after, carried)
-    tag_goes carried m more u' works' = let e : n ≡ m = cc (sym works ∙ works') in
-        let f : lost ≡ more = ap (λ (d : Work). (placement_in d).lost) (sym works ∙ works') in
-        rw (← e, ← f) (goes n (as_written lost u) works tag_place t low_tag high_tag (as_written lost (Tag t)) refl carried)
+    tag_goes carried m more u' works' = grind (
+      arith,
+      goes,
+      low_tag,
+      high_tag,
+      goes n (as_written lost u) works tag_place t low_tag high_tag (as_written lost (Tag t)) refl carried,
+    )
 
     tag : (slots : ℕ) (carried : List (ℕ × Option Closed))
         → Made turn carried (tag_word_of v.start n) (λ _. t) (λ _. Tags (step slots (tag_word_of v.start n) t 0 none) (v, carried) t)

@@ -1,16 +1,13 @@
 -- A step on one node, at which no slot changes: on its word and place, or on the hold word of a
 -- pass that names it.
-use Rattle.fx_lasting.proofs.Words.{◌≡◌, ◌≢◌, ℕ, ◌+◌, ◌<◌, ◌≤◌, List, [], set, length, sym, refl, ap, ◌∙◌, subst, arith, Option, Some, Bool, some, get_elem?}
-use Rattle.fx_lasting.proofs.Words.{held_by, changed_at, File, Event, NodeAgrees, OwnerAgrees, WorkAgrees, IsAllowed, Agrees, slots_of, nodes_of, IsHistory}
-use Rattle.fx_lasting.proofs.Words.{state_after_all, held_in, held_of, taken_of, taking, owed, Phase, free, seated, owner, file_in, removed_in, View, Work}
-use Rattle.fx_lasting.proofs.Words.{⊎_elim, ◌⊎◌, inr, word_of, hold_word_of, count_in, name_in, full_name_in, IsInStock, in_stock, sum_by, sum_set, HoldAgrees}
-use Rattle.fx_lasting.proofs.Words.{GuardAgrees, MayBeUncharged, Glance, inl, IsSeenBy, part_of_pass, Labels, written_in, None, if_file}
-use Rattle.fx_lasting.proofs.Histories.{Grows, grows_none, each_changed}
-use Rattle.fx_lasting.proofs.Frames.{busy, owner_stays, slot_same, node_same, Leaves, keeps_other, sees_same, covers_same, guards_same}
-use Rattle.fx_lasting.proofs.Keeping.{Turn, After, as_it_was, Keeps, Homes, word_at, slot_word, step_kept, w, end, its_log, in_range, in_its_stock, node_in}
-use Rattle.fx_lasting.proofs.Keeping.{stocks_untouched, list_untouched, range_left, labels_same}
-use Rattle.fx_lasting.proofs.Places.{LeavesElse}
-use Rattle.fx_lasting.proofs.slot_lemmas.Watching.{watch_same}
+use Rattle.fx_lasting.proofs.{◌≡◌, ◌≢◌, ℕ, ◌+◌, ◌<◌, ◌≤◌, List, [], set, length, sym, refl, ap, ◌∙◌, subst, arith, Option, Some, Bool, some}
+use Rattle.fx_lasting.proofs.{get_elem?, held_by, changed_at, File, Event, NodeAgrees, OwnerAgrees, WorkAgrees, IsAllowed, Agrees, slots_of, nodes_of}
+use Rattle.fx_lasting.proofs.{IsHistory, state_after_all, held_in, held_of, taken_of, taking, owed, Phase, free, seated, owner, file_in, removed_in}
+use Rattle.fx_lasting.proofs.{View, Work, ⊎_elim, ◌⊎◌, inr, word_of, hold_word_of, count_in, name_in, full_name_in, IsInStock, in_stock, sum_by}
+use Rattle.fx_lasting.proofs.{sum_set, HoldAgrees, GuardAgrees, MayBeUncharged, Glance, inl, IsSeenBy, part_of_pass, Labels, written_in, None}
+use Rattle.fx_lasting.proofs.{if_file, Grows, grows_none, each_changed, busy, owner_stays, slot_same, node_same, Leaves, keeps_other, sees_same}
+use Rattle.fx_lasting.proofs.{covers_same, guards_same, Turn, After, as_it_was, Keeps, Homes, word_at, slot_word, step_kept, w, end, its_log}
+use Rattle.fx_lasting.proofs.{in_range, in_its_stock, node_in, stocks_untouched, list_untouched, range_left, labels_same, LeavesElse, watch_same}
 
 module _ (turn : Turn) (q : ℕ) (its : q < nodes_of turn.v.start) (ph : Phase) (h' front : List Event) (words' : List ℕ) (homes' : Homes)
     (debt' : ℕ → ℕ) (d : Work) (g : Glance) where
@@ -71,13 +68,7 @@ module _ (turn : Turn) (q : ℕ) (its : q < nodes_of turn.v.start) (ph : Phase) 
       → HoldAgrees (word_at words' (hold_word_of v.start x.number)) (debt' x.number) d
       → GuardAgrees (slot_word words') (changed_at r.phase q ph) x.number (debt' x.number) d → WorkAgrees v.start (changed_at r.phase q ph) id d
       → Keeps turn after_seen id x.number d g
-  own_keeps_seen same is hold guard work = let o = its_log turn in record {
-    hold = hold;
-    guarded = guard;
-    sees = sees_same v.start (λ s. r.deed s x.number) same g (rw is at o.sees);
-    heats = rw is at o.heats;
-    work = work;
-  }
+  own_keeps_seen same is hold guard work = grind (arith, its_log, sees_same, its_log turn)
 
   -- another pass, whose hold word and debt have not changed
   pub guards_else_seen : ((s : ℕ) → s < slots_of v.start → slot_word words' s ≡ slot_word st.words s) → (p : ℕ) (e : Work)
@@ -196,9 +187,6 @@ module _ (turn : Turn) (q : ℕ) (its : q < nodes_of turn.v.start) (ph : Phase) 
 unremoved : (ph : Phase) → file_in ph ≡ None → (m : ℕ) → removed_in m ph ≡ None
 unremoved ph is m = grind arith
 
-uncharged_none : (sw : ℕ → ℕ) (p : ℕ) (ph : Phase) → file_in ph ≡ None → MayBeUncharged sw p ph → ⊥
-uncharged_none sw p ph is may = grind arith
-
 -- A step of a pass on a node that no other pass knows: it works with the node, or takes it from its
 -- stock. The node has no file before and after, and the history stays.
 module _ (turn : Turn) (q : ℕ) (its : q < nodes_of turn.v.start) (ph : Phase) (front : List Event) (words' : List ℕ) (homes' : Homes)
@@ -250,7 +238,7 @@ module _ (turn : Turn) (q : ℕ) (its : q < nodes_of turn.v.start) (ph : Phase) 
     at_slot = λ i f is. let bad : None ≡ Some f = sym s.empty ∙ ap file_in is in absurd (cc bad);
     open_file = λ j u f other there holds is. let bad : None ≡ Some f = sym s.empty ∙ is in absurd (cc bad);
     guards = λ p e other range. guards_else_seen turn q its ph r.history front words' homes' r.debt d v.glance s.leaves_else.slots p e
-        (s.hold_words p range.1) refl (λ may. absurd (uncharged_none (slot_word st.words) p (r.phase q) s.empty may));
+        (s.hold_words p range.1) refl (λ may. absurd (grind arith));
     node = s.node;
     known = s.known;
     label = s.label;

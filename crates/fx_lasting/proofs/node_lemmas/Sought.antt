@@ -1,8 +1,7 @@
 -- The search of a pass's stock.
-use Rattle.fx_lasting.proofs.Words.{◌≡◌, ◌≢◌, ℕ, ◌+◌, ◌<◌, ◌≤◌, ◌⊎◌, inl, inr, sym, refl, ap, ◌∙◌, subst, arith, [], dite, ℕ_discrete, dec_le, eq-eqb, ne_eqb}
-use Rattle.fx_lasting.proofs.Words.{next_of, Start, Sat, List, HasNoFile, Searching, Runs, Seeks, word_of, IsAtWork, step, none, IsInStock, some, get_elem?}
-use Rattle.fx_lasting.proofs.Words.{some-injective, stands_at, length, pass_in}
-use Rattle.fx_lasting.proofs.Running.{does_then, runs_goes, runs_within, still_at_work}
+use Rattle.fx_lasting.proofs.{◌≡◌, ◌≢◌, ℕ, ◌+◌, ◌<◌, ◌≤◌, ◌⊎◌, inl, inr, sym, refl, ap, ◌∙◌, subst, arith, [], dite, ℕ_discrete, dec_le}
+use Rattle.fx_lasting.proofs.{ne_eqb, next_of, Start, Sat, List, HasNoFile, Searching, Runs, Seeks, word_of, IsAtWork, step, none, IsInStock, some}
+use Rattle.fx_lasting.proofs.{get_elem?, some-injective, stands_at, length, pass_in, does_then, runs_goes, runs_within, still_at_work}
 
 -- The search began at the entry `start`, has read `count` entries, and is at this one; another one
 -- isn't among those that it has read
@@ -17,14 +16,8 @@ pub record Sought (stock : List ℕ) (len start count entry : ℕ) (m m' : Sat) 
       × Runs m [] (Searching n) m.0.glance m.0.change count m'
 
 -- the entry after one of a stock
-at_end : (len entry : ℕ) → entry + 1 ≡ len → next_of len entry ≡ 0
-at_end len entry is = rw (eq-eqb (entry + 1) len is) refl
-
 not_yet : (len entry : ℕ) → entry + 1 ≢ len → next_of len entry ≡ entry + 1
 not_yet len entry is = rw (ne_eqb (entry + 1) len is) refl
-
-pub next_high : (len entry : ℕ) → entry < len → next_of len entry < len
-next_high len entry high = grind (arith, not_yet)
 
 -- the entry after one whose node is in use
 module _ {len start count entry e : ℕ} (high : start < len) (entry_high : entry < len) (e_high : e < len) (other : e ≢ entry) (more : count < len) where
@@ -46,11 +39,8 @@ module _ {k : Start} {p len start count entry : ℕ} {stock : List ℕ} {m m' : 
   -- after one more load, of the word of this node
   module _ {node i slots found : ℕ} {m'' : Sat} (at_entry : get_elem? stock entry ≡ some node) (place : i ≡ word_of k node)
       (did : Seeks (step slots i 0 0 none) m' found m'') where
-    same_start : m'.0.start ≡ k
-    same_start = sought_at.pass.0
-
     same_place : i ≡ word_of m'.0.start node
-    same_place = place ∙ ap (λ (z : Start). word_of z node) (sym same_start)
+    same_place = place ∙ ap (λ (z : Start). word_of z node) (sym sought_at.pass.0)
 
     its_stock : IsInStock stock did.node
     its_stock = subst (λ (z : List ℕ). IsInStock z did.node) sought_stock did.stock
@@ -80,12 +70,11 @@ module _ {k : Start} {p len start count entry : ℕ} {stock : List ℕ} {m m' : 
                 (λ l. inr (omega (arith, l, (so_far.before none_yet).0))) (λ g. inl (omega (arith, g))),
           ),
         ))
-        (λ some_read. let f = so_far.free (omega (arith, some_read)) in let same = did.stays f.0 f.4.work not_so in
-        (f.1, f.2 ∙ ap some (sym same), f.3)) in
+        (λ some_read. let f = so_far.free (omega (arith, some_read)) in (f.1, f.2 ∙ ap some (sym (did.stays f.0 f.4.work not_so)), f.3)) in
         let apart : so.0 ≢ entry = λ same. other (some-injective did.node node (sym so.1 ∙ (ap (get_elem? stock) same ∙ at_entry))) in
         let few : so.0 < len = omega (arith, long, (stands_at stock so.0 did.node so.1).0) in
         record {
-          inside = next_high len entry so_far.inside;
+          inside = grind (arith, not_yet);
           before = λ bad. absurd (omega arith);
           free = λ _. (did.node, so.0, so.1, ahead_next begins so_far.inside few apart more so.2, runs_on refl);
         }

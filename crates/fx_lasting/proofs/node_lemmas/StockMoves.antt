@@ -1,11 +1,10 @@
 -- Two nodes change where they are: one of a stock goes to a slot, and the one that the slot's word
 -- named takes its place in the stock.
-use Rattle.fx_lasting.proofs.Words.{◌≡◌, ◌≢◌, ℕ, ◌+◌, ◌-◌, ◌<◌, List, Option, set, length-set, sym, refl, ap, ◌∙◌, subst, arith, some, some-injective}
-use Rattle.fx_lasting.proofs.Words.{get_elem?, dite, ℕ_discrete, set_here, set_else, stands_at, slots_of, nodes_of, name_in, changed_at, changed_here}
-use Rattle.fx_lasting.proofs.Words.{changed_else, Whereabouts, at_slot, in_stock, IsInStock, NamesItsNode, StockAgrees, NamesANode, Bool, Survey, Closed}
-use Rattle.fx_lasting.proofs.Words.{Action, IsHistory, part_of_pass, map, ◌++◌, pass_event, IsInside, Stepped, as_stocked, as_swapped, first_log, Log}
-use Rattle.fx_lasting.proofs.Histories.{Grows}
-use Rattle.fx_lasting.proofs.Keeping.{Turn, After, slot_word, its_stock, in_its_stock, tells_as, w}
+use Rattle.fx_lasting.proofs.{◌≡◌, ◌≢◌, ℕ, ◌+◌, ◌-◌, ◌<◌, List, Option, set, length-set, sym, refl, ap, ◌∙◌, subst, arith, some, some-injective}
+use Rattle.fx_lasting.proofs.{get_elem?, dite, ℕ_discrete, set_here, set_else, stands_at, slots_of, nodes_of, name_in, changed_at, changed_here}
+use Rattle.fx_lasting.proofs.{changed_else, Whereabouts, at_slot, in_stock, IsInStock, NamesItsNode, StockAgrees, NamesANode, Bool, Survey, Closed}
+use Rattle.fx_lasting.proofs.{Action, IsHistory, part_of_pass, map, ◌++◌, pass_event, IsInside, Stepped, as_stocked, as_swapped, first_log, Log}
+use Rattle.fx_lasting.proofs.{Grows, Turn, After, slot_word, its_stock, in_its_stock, tells_as, w}
 
 -- what the word of a slot names is a node of the table
 pub names_a_node : (turn : Turn) {s : ℕ} → s < slots_of turn.v.start → NamesANode turn.v.start (slot_word turn.st.words s)
@@ -56,21 +55,12 @@ module _ (turn : Turn) (s : ℕ) (inside : s < slots_of turn.v.start) (n : ℕ) 
   abbrev pub stock_moved : List ℕ
   stock_moved = set x.stock entry other
 
-  moved_n : where_moved n ≡ at_slot s
-  moved_n = grind (arith, changed_else, at_slot, apart, changed_here)
-
   moved_other : where_moved other ≡ in_stock x.number entry
   moved_other = changed_here (changed_at r.nodes.where_is n (at_slot s)) other (in_stock x.number entry) other refl
 
   -- each other node is where it was
   moved_else : (m : ℕ) → m ≢ n → m ≢ other → where_moved m ≡ r.nodes.where_is m
   moved_else m a b = grind (arith, changed_else, at_slot)
-
-  moved_slot : (i m : ℕ) → i ≢ s → r.nodes.where_is m ≡ at_slot i → where_moved m ≡ at_slot i
-  moved_slot i m away h4 = grind (arith, moved_else, at_slot, its_place, other_here)
-
-  moved_stocks : (m q e : ℕ) → q ≢ x.number → r.nodes.where_is m ≡ in_stock q e → where_moved m ≡ in_stock q e
-  moved_stocks m q e away h5 = grind (arith, moved_else, its_place, at_slot, other_here)
 
   moved_entry : (e m : ℕ) → get_elem? stock_moved e ≡ some m → (m < nodes_of v.start) × (where_moved m ≡ in_stock x.number e)
   moved_entry e m is = dite (ℕ_discrete e entry)
@@ -97,7 +87,7 @@ module _ (turn : Turn) (s : ℕ) (inside : s < slots_of turn.v.start) (n : ℕ) 
 
   -- the slot's new word names the node of the stock
   pub names_moved : (word : ℕ) → name_in word ≡ n + 1 → StaysNamed turn s word where_moved stock_moved
-  names_moved word is = grind (arith, its_place, moved_n, moved_slot, moved_stock, moved_stocks)
+  names_moved word is = grind (arith, its_place, changed_else, at_slot, apart, changed_here, moved_else, other_here, moved_stock)
 
   -- the node is at one entry alone
   one_entry : (e : ℕ) → get_elem? x.stock e ≡ some n → entry ≡ e

@@ -1,8 +1,7 @@
 -- A pass that looks for an empty slot: what its loads leave, one after another.
-use Rattle.fx_lasting.proofs.Words.{ℕ, ◌+◌, ◌≤◌, [], Option, Some, None, false, Sat, Start, pass_in, LooksFor, SeesFile, IsInRange}
+use Rattle.fx_lasting.proofs.{ℕ, ◌+◌, ◌≤◌, [], Option, Some, None, false, Sat, Start, pass_in, LooksFor, SeesFile, IsInRange, runs_within}
 use Rattle.fx_lasting.specs.Ends.{Does}
 use Rattle.fx_lasting.proofs.slot_lemmas.ByNode.{stands_then, was_before}
-use Rattle.fx_lasting.proofs.Running.{runs_within}
 
 -- some loads, and then a search
 pub looks_then : (k : Start) (m m' m'' : Sat) {a : ℕ} (b : ℕ) (found : Option ℕ) → Does m [] m.0.work a m' → LooksFor k b m' found m''

@@ -1,24 +1,18 @@
 -- Steps on the words that count full slots keep the rule.
-use Rattle.fx_lasting.proofs.Words.{◌≡◌, ◌≢◌, ℕ, ◌+◌, ◌<◌, ◌≤◌, List, [], ◌∷◌, set, length, sym, refl, ap, ◌∙◌, subst, arith, Option, IsSome, dite}
-use Rattle.fx_lasting.proofs.Words.{get_or-set_other, get_or-set_same, some, none, ℕ_discrete, get_elem?, keeps, step, sum_by, Closed, File, Full, Event}
-use Rattle.fx_lasting.proofs.Words.{pass_event, range_at_start, Agrees, RangeCounts, WorkAgrees, lengths, owing, question_place, group_place, group_len}
-use Rattle.fx_lasting.proofs.Words.{groups_in, slot_place, word_of, hold_word_of, slots_of, list_place, state_after_all, Change, Outside, Lowered, Inside, Log}
-use Rattle.fx_lasting.proofs.Words.{Start, View, Work, Shared, IsInside, Goes, Stepped, Lowers, Raises, Counts, as_asked, LowersKeep, RaisesKeep, CountsKeep}
-use Rattle.fx_lasting.proofs.Words.{IsGroup, length-set, inl, held_by, Survey, Covered, Phase, Sat, HasVisitedFull, part_of_pass, Watch, WatchAgrees, HasGap}
-use Rattle.fx_lasting.proofs.Words.{seats, spent, inr, ◌⊎◌, first_log, lowered, raised, RANGE_END}
-use Rattle.fx_lasting.proofs.Histories.{grows_one, legal_more, held_mine, same_shape}
-use Rattle.fx_lasting.proofs.Frames.{sees_same, guards_same, covers_same}
-use Rattle.table_range.proofs.GroupSlots.{few_groups, group_back}
+use Rattle.fx_lasting.proofs.{◌≡◌, ◌≢◌, ℕ, ◌+◌, ◌<◌, ◌≤◌, List, [], ◌∷◌, set, length, sym, refl, ap, ◌∙◌, subst, arith, Option, IsSome, dite}
+use Rattle.fx_lasting.proofs.{get_or-set_other, get_or-set_same, some, none, ℕ_discrete, get_elem?, keeps, step, sum_by, Closed, File, Full, Event}
+use Rattle.fx_lasting.proofs.{pass_event, range_at_start, Agrees, RangeCounts, lengths, owing, question_place, group_place, group_len}
+use Rattle.fx_lasting.proofs.{groups_in, slot_place, word_of, hold_word_of, slots_of, list_place, state_after_all, Change, Outside, Lowered, Inside}
+use Rattle.fx_lasting.proofs.{Log, Start, View, Shared, IsInside, Goes, Stepped, Lowers, Raises, as_asked, LowersKeep, RaisesKeep, CountsKeep}
+use Rattle.fx_lasting.proofs.{IsGroup, length-set, inl, held_by, Survey, Covered, Sat, HasVisitedFull, part_of_pass, Watch, WatchAgrees}
+use Rattle.fx_lasting.proofs.{HasGap, seats, spent, inr, ◌⊎◌, first_log, lowered, raised, RANGE_END, grows_one, legal_more, held_mine, same_shape}
+use Rattle.fx_lasting.proofs.{sees_same, guards_same, covers_same, label_same, Turn, turn_of, After, word_at, slot_word, Made, by_turn, its_log}
+use Rattle.fx_lasting.proofs.{its_work, in_range, tells, met_same, tells_asked, LeavesFiles, none_added, asks_alike, few_slots, logged, w, end}
+use Rattle.fx_lasting.proofs.{watch_same, few_groups, group_back}
+use Rattle.fx_lasting.proofs.Words.{Counts}
 use Rattle.table_range.proofs.Owing.{owing_few, others_owe, more_full, group_gap}
 use Rattle.table_range.proofs.Steps.{IsWritten, counts_lowered, counts_raised, counts_read, visited}
-use Rattle.fx_lasting.proofs.Places.{label_same}
-use Rattle.fx_lasting.proofs.Keeping.{Turn, turn_of, After, word_at, slot_word, Made, by_turn, its_log, its_work, in_range, tells, met_same, tells_asked}
-use Rattle.fx_lasting.proofs.Keeping.{LeavesFiles, none_added, asks_alike, few_slots, logged, w, end}
-use Rattle.fx_lasting.proofs.slot_lemmas.Watching.{watch_same}
 use Rattle.fx_lasting.proofs.Calm.{calm_after, calm_kept}
-
-pub is_inside : (k : Start) (phase : ℕ → Phase) (seat : ℕ) (d : Work) → WorkAgrees k phase seat d → IsInside k d
-is_inside k phase seat d o = grind arith
 
 -- A seat without a pass owes nothing
 module _ (k : Start) (s : Shared) (r : Agrees k s) where
@@ -40,7 +34,7 @@ module _ (turn : Turn) where
   range = range_at_start v.start
 
   pub its_inside : IsInside v.start v.work
-  its_inside = is_inside v.start r.phase id v.work (its_work turn)
+  its_inside = grind arith
 
   -- nothing is learned, or that the range is full
   pub record Quiet (h' : List Event) : Type 0 where

@@ -1,13 +1,12 @@
 -- Steps on the question word keep the rule.
-use Rattle.fx_lasting.proofs.Words.{◌≡◌, ◌+◌, ◌^◌, ◌<◌, ◌≤◌, List, sym, refl, ap, ◌∙◌, dite, none, true, step, Full, ◌▷◌, Log, Asks, inl, inr, ◌⊎◌, Bool, ℕ}
-use Rattle.fx_lasting.proofs.Words.{subst, arith, Closed, Event, ⊎_elim, Change, Inside, Turns, Checks, Breaks, Begins, Survey, bit_of, bit_at, Watch, false}
-use Rattle.fx_lasting.proofs.Words.{[], Option, groups_in, Lowered, Decides, BeginsKeep, AsksKeep, NotAsked, Covered, first_log, IsSeenBy, its_range, not_there}
-use Rattle.fx_lasting.proofs.Words.{ℕ_discrete, range_at_start, HasQuestionOf, question_place, ChecksKeep, BreaksKeep, DecidesKeep, WatchAgrees, with_question}
-use Rattle.fx_lasting.proofs.Histories.{part_mine}
+use Rattle.fx_lasting.proofs.{◌≡◌, ◌+◌, ◌^◌, ◌<◌, ◌≤◌, List, sym, refl, ap, ◌∙◌, dite, none, true, step, Full, ◌▷◌, Log, Asks, inl, inr, ◌⊎◌, Bool, ℕ}
+use Rattle.fx_lasting.proofs.{subst, arith, Closed, Event, ⊎_elim, Change, Inside, Checks, Breaks, Begins, Survey, bit_of, bit_at, Watch, false, []}
+use Rattle.fx_lasting.proofs.{Option, groups_in, Lowered, Decides, BeginsKeep, AsksKeep, NotAsked, Covered, first_log, IsSeenBy, its_range, not_there}
+use Rattle.fx_lasting.proofs.{ℕ_discrete, range_at_start, HasQuestionOf, question_place, ChecksKeep, BreaksKeep, DecidesKeep, WatchAgrees}
+use Rattle.fx_lasting.proofs.{with_question, part_mine, watch_asks, Turn, turn_of, word_at, Made, by_turn, in_range, tells, its_log, met_same}
+use Rattle.fx_lasting.proofs.Words.{Turns}
 use Rattle.table_range.proofs.Bits.{bit_now}
 use Rattle.table_range.proofs.Steps.{counts_cleared, counts_read, counts_asked, none_visited, is_set, visited, range_full}
-use Rattle.fx_lasting.proofs.slot_lemmas.Watching.{watch_asks}
-use Rattle.fx_lasting.proofs.Keeping.{Turn, turn_of, word_at, Made, by_turn, in_range, tells, its_log, met_same}
 use Rattle.fx_lasting.proofs.range_lemmas.GroupSteps.{RangeStep, no_event, told_full, written, alike, same_slots, made, stepped_so, goes_so, goes_asked, h₁, w'}
 use Rattle.fx_lasting.proofs.range_lemmas.GroupSteps.{x', words', turn_after, its_inside}
 

@@ -1,19 +1,14 @@
 -- A pass that asks whether the range is full: what its steps leave, one after another.
-use Rattle.fx_lasting.proofs.Words.{◌≡◌, ℕ, ◌+◌, [], ◌▷◌, Full, subst, Bool, true, false, Sat, Work, Glance, Change, Runs, Survey, Covered, as_asked, refl, sym}
-use Rattle.fx_lasting.proofs.Words.{◌∙◌, ap, IsAtWork, Start, LastingTable, LastingPass, IsPassOfTable, groups_in, range_at_start, opening_of, view_of, Option}
-use Rattle.fx_lasting.proofs.Words.{Closed, View, List, Action, arith, HasQuestionOf, pass_in, Seat, adds_nothing, Adds, cond, no_use, IsIdle, DoesNothing}
-use Rattle.fx_lasting.proofs.Words.{AsksSo, DecidesIf, HasAsked}
-use Rattle.fx_lasting.proofs.Passing.{adds_run, goes_on, rests_on}
-use Rattle.fx_lasting.proofs.Running.{runs_then, runs_none, runs_asked, at_asked, still_at_work, number_is}
+use Rattle.fx_lasting.proofs.{◌≡◌, ℕ, ◌+◌, [], ◌▷◌, Full, subst, Bool, true, false, Sat, Work, Glance, Change, Runs, Survey, Covered, as_asked, refl}
+use Rattle.fx_lasting.proofs.{sym, ◌∙◌, ap, IsAtWork, Start, LastingTable, LastingPass, IsPassOfTable, groups_in, range_at_start, opening_of, view_of}
+use Rattle.fx_lasting.proofs.{Option, Closed, View, List, Action, arith, HasQuestionOf, pass_in, Seat, adds_nothing, Adds, cond, no_use, IsIdle}
+use Rattle.fx_lasting.proofs.{DoesNothing, AsksSo, DecidesIf, HasAsked, adds_run, goes_on, rests_on, runs_then, runs_asked, at_asked}
+use Rattle.fx_lasting.proofs.{still_at_work, number_is}
 
 -- the question word doesn't have the pass's bit
 pub is_gone : (found : ℕ) {k : Start} {p : ℕ} {m : Sat} {b : Bool} → IsAtWork k p m → (HasQuestionOf found p → b ≡ true) → b ≡ false
     → HasQuestionOf found (pass_in m).number → ⊥
 is_gone found at says not_so there = let bad : true ≡ false = sym (says (subst (HasQuestionOf found) (number_is at) there)) ∙ not_so in cc bad
-
--- a pass that has asked so, and makes no step
-pub learns_none : {k : Start} {p : ℕ} {m : Sat} {a : Survey} → IsAtWork k p m → (pass_in m).asked ≡ a → AsksSo a 0 m m
-learns_none at is = let r = runs_none at 0 in assumption (r, is)
 
 -- a pass that has asked goes on
 pub learns_then : (m : Sat) {m' m'' : Sat} {a b : Survey} {n n' : ℕ} → AsksSo a n m m' → AsksSo b n' m' m'' → AsksSo b (n + n') m m''

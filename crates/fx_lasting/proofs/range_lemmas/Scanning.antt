@@ -1,14 +1,11 @@
 -- A scan that finds no empty slot: each was full at a moment of it, or another pass was there.
-use Rattle.fx_lasting.proofs.Words.{◌≡◌, ℕ, ◌+◌, ◌*◌, ◌%◌, ◌<◌, ◌≤◌, List, [], sym, refl, ap, ◌∙◌, subst, arith, ⊎_elim, inl, inr, dite, ℕ_discrete, dec_le}
-use Rattle.fx_lasting.proofs.Words.{Action, IsSeenBy, seen_further, Start, pass_in, Sat, Runs, Work, Glance, Change, view_of, LastingPass, MeetsMore}
-use Rattle.fx_lasting.proofs.Words.{changes_in, IsInRange, LastingTable, IsAtWork, Peeks, step, none, group_place, group_size, FailsToFill, FitsSight}
-use Rattle.fx_lasting.proofs.Words.{FellShort, HadGap, range_at_start, group_of, group_start, group_len, groups_in, true, IsSome, Option, File}
+use Rattle.fx_lasting.proofs.{◌≡◌, ℕ, ◌+◌, ◌*◌, ◌%◌, ◌<◌, ◌≤◌, List, [], sym, refl, ap, ◌∙◌, subst, arith, ⊎_elim, inl, inr, dite, ℕ_discrete, dec_le}
+use Rattle.fx_lasting.proofs.{Action, IsSeenBy, seen_further, Start, pass_in, Sat, Runs, Work, Glance, Change, view_of, LastingPass, MeetsMore}
+use Rattle.fx_lasting.proofs.{changes_in, IsInRange, LastingTable, IsAtWork, Peeks, step, none, group_place, group_size, FailsToFill}
+use Rattle.fx_lasting.proofs.{FellShort, HadGap, range_at_start, group_of, group_start, group_len, groups_in, runs_goes}
+use Rattle.fx_lasting.proofs.{LeadsToAll, EachFrom, EachInGroup, EachInRange, WasFull, group_back, group_short, in_group, is_group, of_group}
 use Rattle.table_range.specs.Counts.{CountsAll}
-use Rattle.fx_lasting.specs.Effects.{IsGroupFull}
-use Rattle.fx_lasting.specs.range.Scans.{LeadsToAll, EachFrom, EachInGroup, EachInRange, WasFull}
 use Rattle.fx_lasting.specs.slots.AtEmpty.{GivesUp, SawEmptying}
-use Rattle.table_range.proofs.GroupSlots.{group_back, group_short, in_group, is_group, of_group}
-use Rattle.fx_lasting.proofs.Running.{runs_goes}
 use Rattle.fx_lasting.proofs.slot_lemmas.ByNode.{was_before, was_further}
 use Rattle.fx_lasting.proofs.slot_lemmas.Overtaking.{overtaken_in, overtaken_by}
 
@@ -82,19 +79,11 @@ all_groups k first step groups is leads all each = λ slot its.
     let z = leads first (group_of range slot) (omega (arith, all, is_group range slot its.0 its.1)) in
     each z.0 z.1 slot its (sym z.2)
 
--- a slot that has a file
-has_file : (there : Option File) → IsSome there → FitsSight true there
-has_file there is = grind arith
-
--- a group that the pass saw to be full
-pub full_group : (k : Start) (group : ℕ) (m m' : Sat) → Follows m m' → IsGroupFull k group (pass_in m').front → EachInGroup k group (WasFull k m m')
-full_group k group m m' since full = grind (arith, has_file)
-
 -- a pass that loaded the word of a group, which counts all its slots
 pub peeked_full : (t : LastingTable) {p slots i found : ℕ} (group : ℕ) {m m' : Sat} → IsAtWork t.table.shared.key p m → i ≡ group_place group
     → CountsAll t.range_len group found → Peeks (step slots i 0 0 none) m found m'
     → EachInGroup t.table.shared.key group (WasFull t.table.shared.key m m')
-peeked_full t group h3 place all peeks = grind (arith, group_back, full_group, follows, runs_goes)
+peeked_full t group h3 place all peeks = grind (arith, group_back, follows, runs_goes)
 
 -- the first slot of a group, and the end of its slots
 module _ (t : LastingTable) (group : ℕ) {size len : ℕ} (each : size ≡ group_size t.range_len) (long : len ≡ group_len t.range_len group) where

@@ -1,11 +1,10 @@
 -- A pass that looks for an empty slot: what its steps leave, one after another.
-use Rattle.fx_lasting.proofs.Words.{◌≡◌, ℕ, ◌+◌, ◌*◌, ◌<◌, ◌≤◌, [], ◌∷◌, sym, ap, ◌∙◌, subst, arith, Some, none, step, rest, Closed, ◌▷◌, numbered, Allocate}
-use Rattle.fx_lasting.proofs.Words.{Sat, Work, Glance, Change, Placing, Idle, Outside, Inside, Runs, Goes, Exchanges, slot_of, Stepped, LastingTable, IsInRange}
-use Rattle.fx_lasting.proofs.Words.{List, Action, Start, group_of, range_at_start, node_of_number, ◌▷▷◌, ◌-◌, IsAtWork, NamesANode, as_swapped, pass_in}
-use Rattle.fx_lasting.proofs.Words.{name_in, nodes_of, get_elem?, some, label_of, as_written, Option, None, IfSome, IsPlacing, HasAllocated, StillPlaces}
-use Rattle.fx_lasting.proofs.Words.{group_steps, most_carried}
-use Rattle.table_range.proofs.GroupSlots.{by_size}
-use Rattle.fx_lasting.proofs.Running.{runs_one, runs_goes, runs_within, turns_then, does_then, swapped_then, at_swapped, still_at_work}
+use Rattle.fx_lasting.proofs.{◌≡◌, ℕ, ◌+◌, ◌*◌, ◌<◌, ◌≤◌, [], ◌∷◌, sym, ap, ◌∙◌, subst, arith, Some, none, step, rest, Closed, ◌▷◌, numbered}
+use Rattle.fx_lasting.proofs.{Allocate, Sat, Work, Glance, Change, Placing, Idle, Outside, Inside, Runs, Goes, Exchanges, slot_of, Stepped}
+use Rattle.fx_lasting.proofs.{LastingTable, IsInRange, List, Action, Start, group_of, range_at_start, node_of_number, ◌▷▷◌, ◌-◌, IsAtWork, NamesANode}
+use Rattle.fx_lasting.proofs.{as_swapped, pass_in, name_in, nodes_of, get_elem?, some, label_of, as_written, Option, None, IfSome, IsPlacing}
+use Rattle.fx_lasting.proofs.{HasAllocated, StillPlaces, group_steps, most_carried, runs_one, runs_goes, runs_within, turns_then, does_then}
+use Rattle.fx_lasting.proofs.{swapped_then, at_swapped, still_at_work, by_size}
 
 -- a slot of the range is one of the table
 pub in_size : (t : LastingTable) (slot : ℕ) → IsInRange t.table.shared.key slot → slot < t.size
@@ -39,16 +38,13 @@ module _ {m m₁ m₂ : Sat} {n lost i slots found old new : ℕ} {file : Closed
 
   -- the file is at the slot
   module _ (won : found ≡ old) {slot : ℕ} (here : slot_of i ≡ slot) where
-    same_stock : (pass_in m₁).stock ≡ (pass_in m).stock
-    same_stock = goes.stepped.stock
-
     abbrev Wins : ℕ → Type 0
     Wins e = (number : ℕ) × (node_of_number m₁.0.start number ≡ n) × NamesANode m₁.0.start found
         × Stepped (as_swapped e (name_in found - 1) m₁) ([] ▷ Allocate (slot_of i) (numbered number file)) Idle m₁.0.glance
         (Inside (group_of (range_at_start m₁.0.start) (slot_of i))) m₂ × (m₂.1 ≡ rest m₁.1)
 
     wins : (e : ℕ) → get_elem? (pass_in m).stock e ≡ some n → Wins e
-    wins e at = tries.wins n lost e file (peeked p goes).work still_there (ap (λ (l : List ℕ). get_elem? l e) same_stock ∙ at) won
+    wins e at = tries.wins n lost e file (peeked p goes).work still_there (ap (λ (l : List ℕ). get_elem? l e) goes.stepped.stock ∙ at) won
 
     pub won_run : (e : ℕ) → get_elem? (pass_in m).stock e ≡ some n → (number : ℕ) × (node_of_number m.0.start number ≡ n)
         × Runs (as_swapped e (name_in found - 1) m) ([] ▷ Allocate slot (numbered number file)) Idle m.0.glance (Inside (group_of (range_at_start m.0.start) slot)) 2 m₂

@@ -1,10 +1,9 @@
 -- The steps from group to group lead to all groups: each has an inverse, modulo their number.
-use Rattle.fx_lasting.proofs.Words.{◌≡◌, ℕ, zero, suc, ◌+◌, ◌-◌, ◌*◌, ◌%◌, ◌<◌, ◌≤◌, List, [], ◌∷◌, get_or, Bool, true, false, cond, refl, sym, ap, ◌∙◌, subst}
-use Rattle.fx_lasting.proofs.Words.{arith, dite, ℕ_discrete, eqb, mod-eq_of_lt, le-mul_of_pos_right, suc-mul}
+use Rattle.fx_lasting.proofs.{◌≡◌, ℕ, zero, suc, ◌+◌, ◌-◌, ◌*◌, ◌%◌, ◌<◌, ◌≤◌, List, [], ◌∷◌, get_or, Bool, true, false, cond, refl, sym, ap, ◌∙◌}
+use Rattle.fx_lasting.proofs.{subst, arith, dite, ℕ_discrete, eqb, mod-eq_of_lt, le-mul_of_pos_right, suc-mul, LeadsToAll}
 use Rattle.std.proofs.Math.Nat.{mod-lt, mul_comm, mul_assoc, add-mod-mod, mod-add-mod, add-mul-mod_self_left}
 use Rattle.std.proofs.lemmas.Nat.{mul-mod_first, mul-mod_second}
 use Rattle.std.proofs.lemmas.Bool.{eqb-true}
-use Rattle.fx_lasting.specs.range.Scans.{LeadsToAll}
 
 -- the inverse of a step, if one of the numbers below `few` is one
 abbrev inverse_below : (step groups few : ℕ) → ℕ
@@ -34,10 +33,6 @@ of_each f (suc few) all n l = let z = both (f few) (each_below f few) all in
 abbrev the_steps : List ℕ
 the_steps = 67 ∷ 71 ∷ 73 ∷ 79 ∷ 83 ∷ 89 ∷ 97 ∷ 101 ∷ []
 
--- each of them has an inverse, whatever the number of groups
-have_inverses : each_below (λ i. each_below (λ n. has_inverse (get_or the_steps i 0) (n + 1)) 64) 8 ≡ true
-have_inverses = refl
-
 -- a step with an inverse leads to each group
 module _ (step groups : ℕ) (some : 0 < groups) (has : has_inverse step groups ≡ true) where
   abbrev v : ℕ
@@ -65,7 +60,8 @@ module _ (step groups : ℕ) (some : 0 < groups) (has : has_inverse step groups 
 pub all_lead : (i groups : ℕ) → i < 8 → 0 < groups → groups ≤ 64 → LeadsToAll groups (get_or the_steps i 0 % groups)
 all_lead i groups its some few = leads (get_or the_steps i 0) groups some
     (subst (λ (n : ℕ). has_inverse (get_or the_steps i 0) n ≡ true) (omega (arith, some))
-    (of_each (λ n. has_inverse (get_or the_steps i 0) (n + 1)) 64 (of_each (λ i. each_below (λ n. has_inverse (get_or the_steps i 0) (n + 1)) 64) 8 have_inverses i its)
+    (of_each (λ n. has_inverse (get_or the_steps i 0) (n + 1)) 64 (of_each (λ i. each_below (λ n. has_inverse (get_or the_steps i 0) (n + 1)) 64) 8
+    refl i its)
     (groups - 1) (omega (arith, some, few))))
 
 -- one step more

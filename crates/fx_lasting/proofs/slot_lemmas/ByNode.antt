@@ -1,18 +1,14 @@
 -- The exchanges while a slot names a node: what their steps leave, one after another.
-use Rattle.fx_lasting.proofs.Words.{◌-◌, ◌<◌, List, as_swapped, NamesANode, name_in, name_of_file, nodes_of, IsAtWork, IsStockOf, as_stocked, set, ◌≡◌, ◌≢◌, ℕ}
-use Rattle.fx_lasting.proofs.Words.{◌+◌, ◌≤◌, [], sym, refl, ap, ◌∙◌, subst, arith, Option, Some, None, Bool, true, false, File, Event, IsSeenBy, Action, ◌▷▷◌}
-use Rattle.fx_lasting.proofs.Words.{full_name_in, entry_in, count_in, Names, Start, Sat, At, Work, Glance, Change, Outside, Runs, Stepped, Sees, retired_at}
-use Rattle.fx_lasting.proofs.Words.{slot_of, pass_in, state_after_all, node_of_number, account, uncounted, is_in, group_of, TableId, LastingPass, IsPassOf}
-use Rattle.fx_lasting.proofs.Words.{opening_of, view_of, pass_of, Result, Ok, Err, seen_further, Adds, no_use, IsIdle, IsFileRemoval, Doing, DoesNothing}
-use Rattle.fx_lasting.proofs.Words.{Retired, FitsMiss, WasSo, WasIn, SaysIf, SawIf, FailedIf, HasTriedIf, Miss, meetings, changes_at, changes_in}
+use Rattle.fx_lasting.proofs.{◌-◌, ◌<◌, List, as_swapped, NamesANode, name_in, name_of_file, nodes_of, IsAtWork, IsStockOf, as_stocked, set, ◌≡◌, ◌≢◌}
+use Rattle.fx_lasting.proofs.{ℕ, ◌+◌, ◌≤◌, [], sym, ◌∙◌, subst, arith, Option, Some, Bool, false, File, Event, IsSeenBy, Action, ◌▷▷◌, full_name_in}
+use Rattle.fx_lasting.proofs.{entry_in, count_in, Names, Start, Sat, At, Work, Glance, Change, Outside, Runs, Stepped, Sees, retired_at, slot_of}
+use Rattle.fx_lasting.proofs.{pass_in, state_after_all, node_of_number, account, uncounted, TableId, LastingPass, IsPassOf, opening_of, view_of}
+use Rattle.fx_lasting.proofs.{pass_of, Result, Err, seen_further, Adds, no_use, IsIdle, IsFileRemoval, Doing, DoesNothing, Retired, FitsMiss, WasSo}
+use Rattle.fx_lasting.proofs.{WasIn, SaysIf, SawIf, FailedIf, HasTriedIf, Miss, meetings, changes_at, changes_in, swapped_then, at_swapped, number_is}
+use Rattle.fx_lasting.proofs.{stock_is, still_at_work, runs_one, runs_then, runs_goes, runs_within, does_then, adds_so}
 use Rattle.fx_lasting.proofs.slot_lemmas.Overtaking.{overtaken_by}
-use Rattle.fx_lasting.proofs.Running.{swapped_then, at_swapped, number_is, stock_is, still_at_work, runs_one, runs_then, runs_goes, runs_within, does_then}
 use Rattle.fx_lasting.specs.Ends.{Does}
 use Rattle.fx_lasting.specs.declared.answers.Miss.TheVariants.{Empty, Stale, Again}
-use Rattle.fx_lasting.proofs.Passing.{adds_so}
-
-same_node : (a b : ℕ) → a + 1 ≡ b + 1 → a ≡ b
-same_node a b e = omega (arith, e)
 
 not_named : (a b : ℕ) → a ≡ b + 1 → a ≡ 0 → ⊥
 not_named a b e zero = omega (arith, e, zero)
@@ -20,15 +16,10 @@ not_named a b e zero = omega (arith, e, zero)
 -- the file at a slot, by the name in the slot's word
 module _ (k : Start) (node word : ℕ) where
   fits_on : (there : Option File) → Names (node_of_number k) word there → full_name_in word ≡ node + 1 → FitsMiss k node Again there
-  fits_on None names is = absurd (not_named _ _ is names)
-  fits_on (Some f) names is = (f, refl, same_node _ _ (sym names.0 ∙ is))
+  fits_on there names is = grind (arith, not_named)
 
   fits_not : (there : Option File) → Names (node_of_number k) word there → (miss : Miss) → SaysIf word node (Err miss) → FitsMiss k node miss there
-  fits_not None names Empty says = refl
-  fits_not (Some f) names Empty says = absurd (not_named _ _ names.0 says)
-  fits_not None names Stale says = absurd (says.0 names)
-  fits_not (Some f) names Stale says = (f, refl, λ on. says.1 (names.0 ∙ ap (λ (n : ℕ). n + 1) on))
-  fits_not there names Again says = absurd says
+  fits_not there names miss says = grind (arith, not_named)
 
 -- what was so before more was seen, or after more was seen
 pub was_further : {k : Start} {slot : ℕ} {is : Option File → Type 0} {a b : List Event} (c : List Event) → WasSo k slot is a b → IsSeenBy b c
@@ -38,46 +29,31 @@ was_further {b = b} c was more =
 
 pub was_before : {k : Start} {slot : ℕ} {is : Option File → Type 0} (a : List Event) {b c : List Event} → IsSeenBy a b → WasSo k slot is b c
     → WasSo k slot is a c
-was_before a {b} more was =
-    record { history = was.history; later = seen_further a b was.history more was.later; seen = was.seen; there = was.there }
+was_before a {b} more was = record { history = was.history; later = seen_further a b was.history more was.later; seen = was.seen; there = was.there }
 
 -- what a word says of a call isn't that it tries no more
 not_again : (word node : ℕ) (miss : Miss) → SaysIf word node (Err miss) → miss ≢ Again
-not_again word node Again says is = absurd says
-not_again word node _ says is = cc is
+not_again word node miss says is = grind arith
 
 -- A pass that has seen what is at a slot
 module _ {k : Start} {slot : ℕ} (node : ℕ) {st : At} {m m' : Sat} {found : ℕ} (start : m.0.start ≡ k) (here : slot_of st.word ≡ slot)
     (saw : Sees st m found m') where
   names_there : Names (node_of_number k) found ((state_after_all k (pass_in m').front).at slot)
-  names_there = subst (λ (z : Start × ℕ). Names (node_of_number z.0) found ((state_after_all z.0 (pass_in m').front).at z.1))
-      (λ i. (start i, here i)) saw.names
+  names_there = grind arith
 
   pub was_on : full_name_in found ≡ node + 1 → WasIn k slot node Again m m'
-  was_on is = record {
-    history = (pass_in m').front;
-    later = saw.goes.stepped.seen;
-    seen = ([], refl);
-    there = fits_on k node found ((state_after_all k (pass_in m').front).at slot) names_there is;
-  }
+  was_on is = grind (arith, fits_on, names_there)
 
   pub was_not : (miss : Miss) → SaysIf found node (Err miss) → WasIn k slot node miss m m'
-  was_not miss says = record {
-    history = (pass_in m').front;
-    later = saw.goes.stepped.seen;
-    seen = ([], refl);
-    there = fits_not k node found ((state_after_all k (pass_in m').front).at slot) names_there miss says;
-  }
+  was_not miss says = grind (arith, fits_not, names_there)
 
   pub saw_if : (r : Result ℕ Miss) → SaysIf found node r → SawIf k slot node m r m'
-  saw_if (Ok word) says = (ap full_name_in says.0 ∙ says.1, was_on says.1, runs_goes saw.goes)
-  saw_if (Err miss) says = (was_not miss says, runs_goes saw.goes, not_again found node miss says)
+  saw_if r says = grind (arith, was_on, runs_goes, was_not, not_again)
 
 -- a pass goes on with the same work
 pub stands_then : {m m' m'' : Sat} {xs ys : List Action} {w : Work} {g : Glance} {c : Change} {n n' : ℕ} → Runs m xs w g c n m'
     → Runs m' ys m'.0.work m'.0.glance m'.0.change n' m'' → Runs m (xs ▷▷ ys) w g c (n + n') m''
-stands_then {m' = m'} {m'' = m''} {ys = ys} {n' = n'} a b =
-    does_then a (subst (λ (z : Work). Runs m' ys z m'.0.glance m'.0.change n' m'') a.work b)
+stands_then {m' = m'} {m'' = m''} {ys = ys} {n' = n'} a b = does_then a (subst (λ (z : Work). Runs m' ys z m'.0.glance m'.0.change n' m'') a.work b)
 
 -- it acts, and ends its change
 pub acts_then : {m m' m'' : Sat} {xs ys : List Action} {w w' : Work} {g : Glance} {c c' : Change} {n n' : ℕ} → Runs m xs w g c n m'
@@ -92,22 +68,18 @@ swapped_acts {m' = m'} {m'' = m''} {ys = ys} {w' = w'} {c' = c'} {n' = n'} entry
 
 -- a slot that had a file leaves the groups' words as they were
 off_none : (b : Bool) (g : ℕ) → uncounted b false g ≡ Outside
-off_none true g = refl
-off_none false g = refl
+off_none b g = grind arith
 
 pub at_once : {m m' : Sat} (range : ℕ × ℕ) (slot : ℕ) (f : File) {xs : List Action} {w : Work} {g : Glance}
     → Stepped m xs w g (account range slot (Some f)) m' → Runs m xs w g Outside 1 m'
-at_once {m} {m'} range slot f {xs} {w} {g} s =
-    subst (λ (z : Change). Runs m xs w g z 1 m') (off_none (is_in range slot) (group_of range slot)) (runs_one s)
+at_once range slot f s = grind (arith, off_none, runs_one)
 
 failed_so : (k : Start) (slot node word : ℕ) (m m' : Sat) (miss : Miss) → SaysIf word node (Err miss) → WasIn k slot node miss m m'
     → FailedIf k slot node miss m m'
-failed_so k slot node word m m' Again says was = absurd says
-failed_so k slot node word m m' _ says was = was
+failed_so k slot node word m m' miss says was = grind arith
 
 pub tried_none : (k : Start) (slot : ℕ) (miss : Miss) (p p' : LastingPass) → miss ≢ Again → HasTriedIf k slot miss p p'
-tried_none k slot Again p p' not = absurd (not refl)
-tried_none k slot _ p p' not = tt
+tried_none k slot miss p p' not = grind arith
 
 pub tried_so : (k : Start) (slot node : ℕ) (p p' : LastingPass) (m₁ m₂ : Sat) → (pass_in m₁).number ≡ (view_of p).number → m₁.0.start ≡ k
     → IsSeenBy (view_of p).front (pass_in m₁).front → meetings p ≤ (pass_in m₁).watch.met → changes_at slot p ≤ changes_in slot (pass_in m₁)
@@ -126,8 +98,7 @@ begun_at at still = (still_at_work at still).pass.0
 
 -- the node that a word names is one of the table
 pub names_inside : {k : Start} (word node : ℕ) (b : Sat) → b.0.start ≡ k → full_name_in word ≡ node + 1 → NamesANode b.0.start word → node < nodes_of k
-names_inside {k} word node b start is named =
-    subst (λ (y : ℕ). y < nodes_of k) (its_own word node is) (subst (λ (y : Start). name_in word - 1 < nodes_of y) start named.1)
+names_inside word node b start is named = grind (arith, its_own)
 
 -- the stock of the pass, with the node at an entry
 pub stock_moved : {k : Start} {p : ℕ} {m : Sat} {l : List ℕ} (at : IsAtWork k p m) (entry node : ℕ) → node < nodes_of k → set (pass_in m).stock entry node ≡ l
@@ -138,8 +109,7 @@ stock_moved {k} {p} {l = l} at entry node inside same = let after = at_swapped a
 -- a pass with the same stock
 pub with_stock : {m m' : Sat} {l : List ℕ} {xs : List Action} {w : Work} {g : Glance} {c : Change} {n : ℕ} → l ≡ (pass_in m).stock → Runs m xs w g c n m'
     → Runs (as_stocked l m) xs w g c n m'
-with_stock {m} {m'} {l} {xs} {w} {g} {c} {n} its r = let same : Runs (as_stocked (pass_in m).stock m) xs w g c n m' = assumption r in
-    subst (λ (z : List ℕ). Runs (as_stocked z m) xs w g c n m') (sym its) same
+with_stock its r = grind arith
 
 module _ {st : At} {m m₁ m₂ : Sat} {found n : ℕ} (still : Does m [] m.0.work n m₁) (few : n + 1 ≤ 4) (saw : Sees st m₁ found m₂) where
   pub lost_run : Does m [] m.0.work 4 m₂
@@ -164,8 +134,7 @@ missed_so k slot node m m₁ m₂ m₃ m₄ Stale first failed before all after 
 module _ {node : ℕ} (found : ℕ) (x : Retired) (at : x.node ≡ node) (entry : x.entry ≡ entry_in found) (takes : x.takes ≡ count_in found)
     (is : full_name_in found ≡ node + 1) (f : File) where
   pub value_so : entry_in found ≡ f.identity.entry → retired_at f (full_name_in found - 1) (count_in found) ≡ x
-  value_so same = let n : full_name_in found - 1 ≡ x.node = omega arith in
-      λ i. record { node = n i; entry = (sym same ∙ sym entry) i; takes = sym takes i }
+  value_so same = grind arith
 
   pub removal_so : (k : Start) → entry_in found ≡ f.identity.entry → IsFileRemoval (opening_of k) f x
   removal_so k same = record { entry = entry ∙ same; same = λ e. absurd (cc e) }

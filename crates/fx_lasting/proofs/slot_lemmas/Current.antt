@@ -1,21 +1,13 @@
 -- The check whether a slot has the file that a pass holds: its answer, and later changes there.
-use Rattle.fx_lasting.proofs.Words.{◌≡◌, ◌⊎◌, ℕ, ◌+◌, ◌++◌, List, [], ◌∷◌, sym, refl, ap, ◌∙◌, subst, inl, inr, ⊎_elim, arith, Option, Some, None, Result}
-use Rattle.fx_lasting.proofs.Words.{File, Event, Action, changed_here, changed_else, full_name_in, SaysIf, Miss, Opening, ◌▷◌, ◌▷▷◌, dite}
-use Rattle.fx_lasting.proofs.Words.{ℕ_discrete, contains_head}
-use Rattle.fx_lasting.proofs.Words.{append_assoc, IsTrue, ◌↔◌, contains_tail}
-use Rattle.fx_lasting.proofs.Words.{At, Hold, Holding, IsPassOf, LastingPass, Sat, Sees, Start, TableId, opening_of, pass_in, pass_of, slot_of, state_after_all, view_of}
-use Rattle.fx_lasting.proofs.Passing.{holds_alone}
-use Rattle.std.specs.Prelude.{is_ok}
+use Rattle.fx_lasting.proofs.{◌≡◌, ◌⊎◌, ℕ, ◌+◌, ◌++◌, List, [], ◌∷◌, sym, refl, ap, ◌∙◌, subst, inl, inr, ⊎_elim, arith, Option, Some, None, Result}
+use Rattle.fx_lasting.proofs.{File, Event, Action, changed_here, changed_else, full_name_in, SaysIf, Miss, Opening, ◌▷◌, ◌▷▷◌, dite, ℕ_discrete}
+use Rattle.fx_lasting.proofs.{contains_head, append_assoc, IsTrue, ◌↔◌, contains_tail, At, Hold, Holding, IsPassOf, LastingPass, Sat, Sees, Start}
+use Rattle.fx_lasting.proofs.{TableId, opening_of, pass_in, pass_of, slot_of, state_after_all, view_of, holds_alone, is_ok, state_at}
 use Rattle.fx_plain.specs.State.{State}
 use Rattle.fx_plain.specs.Step.{after}
 use Rattle.fx_plain.specs.declared.event.Action.TheVariants.{Look, Put, Clear, Take, Allocate}
 use Rattle.fx_table.specs.Finding.{LeavesAt}
-use Rattle.fx_table.specs.Opening.{state_at}
 use Rattle.fx_lasting.specs.slots.Current.{HoldsNode, LaterLeft, CurrentFileFollowsTheChange, OldFileWasReplaced}
-
--- a word names the node, or says why not
-pub says_so : (word node : ℕ) (r : Result ℕ Miss) → SaysIf word node r → IsTrue (is_ok r) ↔ (full_name_in word ≡ node + 1)
-says_so word node r says = grind arith
 
 -- a pass holds one file at a time
 held_once : {f g : File} {x y : Hold} → Holding f x ≡ Holding g y → x ≡ y
@@ -29,12 +21,9 @@ pub current_so : {id : TableId} {k : Start} {p : LastingPass} → IsPassOf id k 
 current_so {k = k} {p = p} fits {node} {slot} holds {st} {found} {m'} here saw r says f hold doing =
     let one : hold.node ≡ node = ap (λ (h : Hold). h.node) (held_once (sym doing ∙ holds.2)) ∙ holds.3 in
     let tells = saw.current f hold.node (holds_alone fits doing) in
-    let name = says_so found node r says in
+    let name : IsTrue (is_ok r) ↔ (full_name_in found ≡ node + 1) = grind arith in
     let at : (state_after_all p.seat.me.0.start (pass_in m').front).at (slot_of st.word) ≡ (state_after_all k (pass_in m').front).at slot =
-    λ i. (state_after_all (fits.seated.at.pass.0 i) (pass_in m').front).at (here i) in (
-      λ is. sym at ∙ tells.0 (name.0 is ∙ ap (λ (n : ℕ). n + 1) (sym one)),
-      λ is. name.1 (tells.1 (at ∙ is) ∙ ap (λ (n : ℕ). n + 1) one),
-    )
+    λ i. (state_after_all (fits.seated.at.pass.0 i) (pass_in m').front).at (here i) in grind (arith, one, tells, name, at)
 
 -- what a change leaves is at the slot
 left_at : (slot : ℕ) (left : Option File) (a : Action) (st : State) → LeavesAt slot left a → (after st a).at slot ≡ left
@@ -73,8 +62,7 @@ module _ (o : Opening) (slot : ℕ) (h : List Event) where
   goes_on front since more w is then = then ∙ (ap (λ (z : List Event). z ▷▷ more) is ∙ sym (append_assoc more since h))
 
   pub is_left : (more w : List Event) (f : File) → w ≡ h ▷▷ more → (state_at o w).at slot ≡ Some f → (at_end [] ≡ Some f) ⊎ LaterLeft more slot (Some f)
-  is_left more w f is there = let at : at_end more ≡ Some f = subst (λ (z : List Event). (state_at o z).at slot ≡ Some f) is there in
-      ⊎_elim (λ same. inl (sym same ∙ at)) (λ later. inr (subst (LaterLeft more slot) at later)) (last_change more)
+  is_left more w f is there = grind (arith, last_change)
 
   pub is_gone : (more w : List Event) (f : File) → w ≡ h ▷▷ more → ((state_at o w).at slot ≡ Some f → ⊥) → at_end [] ≡ Some f → (left : Option File) × LaterLeft more slot left
   is_gone more w f is gone was = ⊎_elim (λ same. absurd (gone (ap (λ (z : List Event). (state_at o z).at slot) is ∙ (same ∙ was)))) (λ later. (at_end more, later))

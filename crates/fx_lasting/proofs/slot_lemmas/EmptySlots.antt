@@ -1,7 +1,6 @@
 -- The calls of a caller that looks for an empty slot by itself: what their steps leave.
-use Rattle.fx_lasting.proofs.Words.{◌≡◌, ℕ, [], refl, arith, Option, true, File, Start, Sat, At, Sees, Names, slot_of, pass_in, state_after_all, node_of_number}
-use Rattle.fx_lasting.proofs.Words.{file_node_in, is_some, FitsSight, SeesFile, ◌≢◌, full_name_in, WasSo}
-use Rattle.fx_lasting.proofs.Running.{no_name, its_name, runs_goes}
+use Rattle.fx_lasting.proofs.{◌≡◌, ℕ, [], refl, arith, Option, true, File, Start, Sat, At, Sees, Names, slot_of, pass_in, state_after_all}
+use Rattle.fx_lasting.proofs.{node_of_number, file_node_in, is_some, FitsSight, SeesFile, ◌≢◌, full_name_in, WasSo, no_name, its_name, runs_goes}
 
 -- a slot's word names a node if the slot has a file
 sight : (k : Start) (word : ℕ) (there : Option File) → Names (node_of_number k) word there → (node : Option ℕ) → node ≡ file_node_in word
@@ -25,11 +24,7 @@ module _ {k : Start} {slot : ℕ} {st : At} {m m' : Sat} {found : ℕ} (start : 
     runs_goes saw.goes,
   )
 
--- a slot whose word names a node of a file has a file
-full_sight : (k : Start) (word : ℕ) (there : Option File) → Names (node_of_number k) word there → full_name_in word ≢ 0 → FitsSight true there
-full_sight k word there names some_named = grind arith
-
 module _ {k : Start} {slot : ℕ} {st : At} {m m' : Sat} {found : ℕ} (start : m.0.start ≡ k) (here : slot_of st.word ≡ slot)
     (saw : Sees st m found m') where
   pub full_so : full_name_in found ≢ 0 → WasSo k slot (FitsSight true) (pass_in m).front (pass_in m').front
-  full_so some_named = grind (arith, full_sight, names_there)
+  full_so some_named = grind (arith, names_there)

@@ -1,16 +1,12 @@
 -- A slot loses its file, whether the pass holds the file or nothing.
-use Rattle.fx_lasting.proofs.Words.{Round, ◌≡◌, ◌≢◌, ℕ, ◌<◌, List, sym, refl, ap, ◌∙◌, arith, Option, None, get_elem?, some, Closed, File, Event, Action, State}
-use Rattle.fx_lasting.proofs.Words.{changed_else, pass_event, part_of_pass, map, ◌++◌, Agrees, state_after_all, slots_of, count_in, heat_in, full_name_in}
-use Rattle.fx_lasting.proofs.Words.{name_in, taken_of, sum_set, Stepped, inl, IsOffCount, account, range_at_start, removal_work, Whereabouts, IsInStock}
-use Rattle.fx_lasting.proofs.Words.{as_swapped, first_log, without_file, name_left, no_file_left, no_takes_left, empty_word_of, empty_name_made}
-use Rattle.fx_lasting.proofs.Words.{empty_file_made, empty_takes_made, ◌-◌, IsInside}
+use Rattle.fx_lasting.proofs.{Round, ◌≡◌, ◌≢◌, ℕ, ◌<◌, List, sym, refl, ap, ◌∙◌, arith, Option, None, get_elem?, some, Closed, File, Event, Action}
+use Rattle.fx_lasting.proofs.{State, changed_else, pass_event, part_of_pass, map, ◌++◌, Agrees, state_after_all, slots_of, count_in, heat_in}
+use Rattle.fx_lasting.proofs.{full_name_in, name_in, taken_of, sum_set, Stepped, inl, IsOffCount, account, range_at_start, removal_work, Whereabouts}
+use Rattle.fx_lasting.proofs.{IsInStock, as_swapped, first_log, without_file, name_left, no_file_left, no_takes_left, empty_word_of, empty_name_made}
+use Rattle.fx_lasting.proofs.{empty_file_made, empty_takes_made, ◌-◌, IsInside, owner_stays, node_same, Turn, After, tells, w, end, asks_alike}
+use Rattle.fx_lasting.proofs.{few_slots, slot_else, slot_alike, in_phase, counts_emptied}
 use Rattle.fx_lasting.proofs.slot_lemmas.Swaps.{Ends, IsAlike, found, d_inside, d_untaken, swap_after, Swap, swap_kept}
 use Rattle.fx_lasting.proofs.node_lemmas.StockMoves.{StaysNamed, names_same, where_moved, stock_moved, names_moved, tells_swapped}
-use Rattle.fx_lasting.proofs.Frames.{owner_stays, node_same}
-use Rattle.fx_lasting.proofs.Keeping.{Turn, After, tells, w, end, asks_alike, few_slots}
-use Rattle.table_range.proofs.Counting.{counts_emptied}
-use Rattle.fx_lasting.proofs.Places.{slot_else, slot_alike}
-use Rattle.fx_lasting.proofs.hold_lemmas.Unheld.{in_phase}
 
 -- The slot becomes empty. What was there is removed, with the takes of the word `counted`: the one
 -- that was there, or that one without the take of the pass itself. The pass is to make the round.

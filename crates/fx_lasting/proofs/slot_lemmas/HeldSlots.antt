@@ -1,17 +1,14 @@
 -- The slot of a file that a pass holds: the hold may end with the step that removes the file. If
 -- the pass holds it by a take, the removal counts the takes without it; else the slot is hot, and
 -- the pass's hold word names the node still.
-use Rattle.fx_lasting.proofs.Words.{◌≡◌, ◌≢◌, ℕ, ◌+◌, ◌-◌, ◌<◌, List, ◌∷◌, sym, refl, ap, ◌∙◌, arith, subst, Option, Some, None, Bool, true, false, File, Event}
-use Rattle.fx_lasting.proofs.Words.{Release, State, pass_event, HoldsAt, IsHistory, node_of_number, state_after_all, slots_of, count_in, heat_in, hold_word_of}
-use Rattle.fx_lasting.proofs.Words.{full_name_in, entry_in, Names, seated, file_in, taken_of, taking, held_of, if_file, held_in, sum_at, bit_here, one_less_at}
-use Rattle.fx_lasting.proofs.Words.{Round, StillNames, NamesNode, MayBeUncharged, HasItsHold, ⊎_elim, guarded_round, first_visit, new_round, removal_work}
-use Rattle.fx_lasting.proofs.Words.{leaving_work, is_guarding, one_less, [], ◌▷◌, ◌++◌, map, part_of_pass, held_after, Action, changed_at, with_removed, ActsAt}
-use Rattle.fx_lasting.proofs.Counts.{owed_at}
-use Rattle.fx_lasting.proofs.Histories.{legal_more, grows_one, grows_more, held_mine, part_mine}
-use Rattle.fx_lasting.proofs.Frames.{busy}
-use Rattle.fx_lasting.proofs.Keeping.{Turn, its_log, in_range, word_at, slot_word}
+use Rattle.fx_lasting.proofs.{◌≡◌, ◌≢◌, ℕ, ◌+◌, ◌-◌, ◌<◌, List, ◌∷◌, sym, refl, ap, ◌∙◌, arith, subst, Option, Some, None, Bool, true, false, File}
+use Rattle.fx_lasting.proofs.{Event, Release, State, pass_event, HoldsAt, IsHistory, node_of_number, state_after_all, slots_of, count_in, heat_in}
+use Rattle.fx_lasting.proofs.{hold_word_of, full_name_in, entry_in, Names, seated, taking, held_of, if_file, held_in, sum_at}
+use Rattle.fx_lasting.proofs.{bit_here, one_less_at, Round, StillNames, NamesNode, MayBeUncharged, HasItsHold, ⊎_elim, guarded_round, first_visit}
+use Rattle.fx_lasting.proofs.{new_round, removal_work, leaving_work, is_guarding, one_less, [], ◌▷◌, ◌++◌, map, part_of_pass, held_after, Action}
+use Rattle.fx_lasting.proofs.{changed_at, with_removed, ActsAt, owed_at, legal_more, grows_one, grows_more, held_mine, part_mine, busy, Turn, its_log}
+use Rattle.fx_lasting.proofs.{in_range, word_at, slot_word, in_phase, on_node}
 use Rattle.fx_lasting.proofs.slot_lemmas.Swaps.{found, old_at, old_named, names_old, IsAlike, Begins, begins_first, Ends}
-use Rattle.fx_lasting.proofs.hold_lemmas.Unheld.{in_phase, on_node}
 
 module _ (turn : Turn) (s : ℕ) (inside : s < slots_of turn.v.start) (f : File) (n : ℕ) (its : HoldsAt turn.v.start turn.r.phase f n)
     (holds_it : held_in turn.v.work ≡ Some f) (names_it : full_name_in (found turn s inside) ≡ n + 1) where
@@ -25,12 +22,7 @@ module _ (turn : Turn) (s : ℕ) (inside : s < slots_of turn.v.start) (f : File)
 
   -- the file at the slot is the one that the pass holds
   pub there : before.at s ≡ Some f
-  there = go (before.at s) refl
-    where
-      go : (o : Option File) → before.at s ≡ o → o ≡ Some f
-      go None is = let e = names_old turn s inside None is in absurd (omega arith)
-      go (Some g) is = let at = old_at turn s inside (Some g) is refl in let e = old_named turn s inside (Some g) is refl in
-          let same : n ≡ r.node_of g.number = omega arith in sym (ap file_in (ap r.phase same ∙ at.1)) ∙ its.1
+  there = grind (arith, names_old, old_at, old_named)
 
   pub on_n : r.node_of f.number ≡ n
   on_n = on_node turn its.0 its.1
@@ -43,8 +35,7 @@ module _ (turn : Turn) (s : ℕ) (inside : s < slots_of turn.v.start) (f : File)
   h₀ = pass_event x (Release f) ∷ r.history
 
   held_now : 0 < before.holds f.number
-  held_now = let a = ap (if_file f.number) holds_it in let b = bit_here f.number f.number refl in
-      omega (arith, r.holds.files f.number, sum_at (held_of f.number) st.views id v here, a, b)
+  held_now = grind (arith, bit_here, sum_at)
 
   pub legal₀ : IsHistory v.start h₀
   legal₀ = legal_more v.start r.life.legal held_now ((its_log turn).held ∙ holds_it)
@@ -74,8 +65,7 @@ module _ (turn : Turn) (s : ℕ) (inside : s < slots_of turn.v.start) (f : File)
   -- by a take
   module _ (takes_it : taking n v.work ≡ 1) where
     some_takes : 0 < count_in word
-    some_takes = let o = in_phase turn its.0 sits in let a = o.counts in let b = o.few in let c = sum_at (taken_of n) st.views id v here in
-        let e = takes_it in omega arith
+    some_takes = grind (arith, in_phase, sits, sum_at)
 
     less : (full_name_in (word - 1) ≡ full_name_in word) × (heat_in (word - 1) ≡ heat_in word) × (count_in (word - 1) + 1 ≡ count_in word)
         × (entry_in (word - 1) ≡ entry_in word)
@@ -152,12 +142,10 @@ module _ (turn : Turn) (s : ℕ) (inside : s < slots_of turn.v.start) (f : File)
       held = held_mine (pass_event x a) h₀ refl
           ∙ (ap (λ (o : Option File). held_after o a) (held_mine (pass_event x (Release f)) r.history refl) ∙ holds_none);
       let_go = let_go;
-      taken = λ g is. let e : f ≡ g = cc is in subst (λ (z : File). count_in counted + taking (r.node_of z.number) v.work ≡ count_in word) e
-          (subst (λ (i : ℕ). count_in counted + taking i v.work ≡ count_in word) (sym on_n) so.taken);
+      taken = grind (arith, taking, on_n);
       untaken = λ m apart. so.untaken m (λ same. apart f refl (same ∙ sym on_n));
       works = works;
       begins = so.begins;
       hold_none = λ is. absurd (cc is);
-      hold = λ g is. let e : f ≡ g = cc is in subst (λ (z : File). StillNames round.guarded (word_at st.words (hold_word_of v.start x.number)) (r.debt x.number) (r.node_of z.number)) e
-          (subst (StillNames round.guarded (word_at st.words (hold_word_of v.start x.number)) (r.debt x.number)) (sym on_n) so.hold);
+      hold = λ g is. let e : f ≡ g = cc is in grind (arith, e, e, on_n);
     }

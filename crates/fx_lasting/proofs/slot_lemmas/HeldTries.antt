@@ -1,24 +1,18 @@
 -- A removal by a pass that holds the file: what its steps leave.
-use Rattle.fx_lasting.proofs.Words.{◌≡◌, ℕ, ◌<◌, List, [], sym, ap, ◌∙◌, subst, arith, Option, Some, None, set, get_elem?, some, inr, false, File, Release}
-use Rattle.fx_lasting.proofs.Words.{Take, Close, ◌▷◌, Start, Sat, Work, Glance, Outside, Counted, Runs, Names, IsStockOf, as_stocked, as_swapped, pass_in}
-use Rattle.fx_lasting.proofs.Words.{node_of_number, range_at_start, IsAtWork, Ok, Closed, Adds, adds_then, no_use, DoesNothing, ReleasesFile, Released}
-use Rattle.fx_lasting.proofs.Words.{LookedUp, Opening, PassView, Holding, Hold, TableId, LastingPass, IsPassOf, IsBetweenCalls, opening_of, view_of, pass_of}
-use Rattle.fx_lasting.proofs.Words.{Change, Doing, HasActed, HasTriedIf, Miss, KeyFault, TriesKey, fault_for, MeetsMore, LookedByKey, HeldByKey, WasSo}
-use Rattle.fx_lasting.proofs.Words.{FitsMiss, IsSeenBy, ⊎_elim, inl, IsOffCount, slots_of, refl, Err, Result, empty_word_of, slot_of, Bool, Guarded, HasItsHold}
-use Rattle.fx_lasting.proofs.Words.{HoldsAlone, is_guarding, leaving_work}
+use Rattle.fx_lasting.proofs.{◌≡◌, ℕ, ◌<◌, List, [], sym, ap, ◌∙◌, subst, arith, Option, Some, None, set, get_elem?, some, false, File, Release}
+use Rattle.fx_lasting.proofs.{Take, Close, ◌▷◌, Start, Sat, Work, Glance, Outside, Runs, Names, IsStockOf, as_stocked, as_swapped, pass_in}
+use Rattle.fx_lasting.proofs.{node_of_number, range_at_start, IsAtWork, Ok, Closed, Adds, adds_then, no_use, DoesNothing, ReleasesFile, Released}
+use Rattle.fx_lasting.proofs.{LookedUp, Opening, PassView, Holding, Hold, TableId, LastingPass, IsPassOf, IsBetweenCalls, opening_of, view_of}
+use Rattle.fx_lasting.proofs.{pass_of, Change, Doing, HasTriedIf, Miss, KeyFault, TriesKey, fault_for, MeetsMore, LookedByKey, HeldByKey}
+use Rattle.fx_lasting.proofs.{WasSo, FitsMiss, IsSeenBy, IsOffCount, slots_of, refl, Err, Result, empty_word_of, slot_of, Bool}
+use Rattle.fx_lasting.proofs.{HasItsHold, HoldsAlone, is_guarding, leaving_work, adds_so, runs_within, swapped_then, number_is, own_stock, stock_is}
+use Rattle.fx_lasting.proofs.{still_at_work, acted_further, TriedOutHeld, LeftAlone, Kind, SwapsHeld, TakesHeld, Key}
 use Rattle.fx_lasting.proofs.slot_lemmas.ByNode.{acts_then, at_once, begun_at, its_own, names_inside, with_stock, stock_moved, was_further}
-use Rattle.fx_lasting.proofs.Passing.{adds_so}
-use Rattle.fx_lasting.proofs.Running.{runs_within, swapped_then, number_is, own_stock, stock_is, still_at_work}
-use Rattle.fx_lasting.proofs.slot_lemmas.Watching.{acted_further}
-use Rattle.fx_lasting.specs.slots.RemoveByKey.{TriedOutHeld, LeftAlone}
 use Rattle.fx_lasting.specs.Ends.{Does}
-use Rattle.fx_lasting.specs.Laws.{Kind}
 use Rattle.fx_lasting.specs.nodes.Stocks.{IsInStock}
 use Rattle.fx_lasting.specs.slots.ByNode.{MayExchange, TriedExchange, WonExchange}
 use Rattle.fx_lasting.proofs.slot_lemmas.SwapsHeld.{swaps_held_keep, takes_held_keep}
-use Rattle.fx_lasting.specs.slots.SwapSteps.{SwapsHeld, TakesHeld}
 use Rattle.fx_lasting.specs.declared.answers.Miss.TheVariants as reason
-use Rattle.fx_lasting.specs.declared.key.Key.{Key}
 
 -- The exchanges that a pass tried, to empty the slot of the file that it holds
 module _ {k : Start} {p : ℕ} {m : Sat} (at : IsAtWork k p m) (stock : List ℕ) (its : stock ≡ (pass_in m).stock) (slot node : ℕ) (f : File)
@@ -33,15 +27,7 @@ module _ {k : Start} {p : ℕ} {m : Sat} (at : IsAtWork k p m) (stock : List ℕ
 
     out_so : (l : List ℕ) → IsStockOf k (pass_in m).number l → Acts (as_stocked l m) 4 k slot m.0.glance (is_guarding m.0.work)
         → TriedOutHeld k slot node l m (Ok word) m'
-    out_so l has run = (
-      f,
-      works,
-      w.named,
-      subst (λ (z : Start). Names (node_of_number z) word (Some f)) (begun_at at w.still) names,
-      subst (λ (z : Work). HasItsHold (is_guarding z) word) w.still.work own_hold,
-      has,
-      run,
-    )
+    out_so l has run = grind (arith, begun_at)
 
   -- it left the name
   pub left_held : (r : Result ℕ Miss) (m' : Sat) → TriedExchange TakesHeld k slot node None m r m' → TriedOutHeld k slot node stock m r m' × (m'.1 ≡ m.1)
@@ -91,11 +77,7 @@ adds_held {k = k} {p = p} fits holds {m'} r =
 pub held_flags : (passes : ℕ) (p : LastingPass) {f : File} {n : ℕ} {w : Work} → HoldsAlone w f n
     → IsBetweenCalls passes p.idle p.guarded p.keeps p.next_visit p.stock.items p.next_entry w
     → (p.idle ≡ false) × (p.keeps ≡ false) × (is_guarding w ≡ p.guarded)
-held_flags passes p {f} {n} {w} works knows = ⊎_elim
-    (λ (is : w ≡ Counted f n). let z = subst (IsBetweenCalls passes p.idle p.guarded p.keeps p.next_visit p.stock.items p.next_entry) is knows in
-    (z.0, z.1, ap is_guarding is ∙ sym z.2))
-    (λ (is : w ≡ Guarded f n). let z = subst (IsBetweenCalls passes p.idle p.guarded p.keeps p.next_visit p.stock.items p.next_entry) is knows in
-    (z.0, z.1, ap is_guarding is ∙ sym z.2)) works
+held_flags passes p works knows = grind arith
 
 -- a pass that released the file that it held after some steps
 pub released_then : (o : Opening) (v b w : PassView) (f g : File) (hold : Hold) (file : Option Closed) → g ≡ f → Adds o v [] (Holding g hold) no_use b
@@ -108,12 +90,10 @@ released_then o v b w f g hold file same before r = subst (λ (z : File). Releas
 
 -- the number of a pass that looked a slot up
 looked_number : (o : Opening) (v w : PassView) (slot : ℕ) (hold : Hold) (freed : Option Closed) → LookedUp o v slot (Ok hold) freed w → w.number ≡ v.number
-looked_number o v w slot hold None (f, is, adds) = adds.number
-looked_number o v w slot hold (Some file) (c, out, (f, is, adds)) = adds.number
+looked_number o v w slot hold freed h7 = grind arith
 
 released_seen : (o : Opening) (v w : PassView) (f : File) (file : Option Closed) → ReleasesFile o v f file w → IsSeenBy v.front w.front
-released_seen o v w f None r = r.seen
-released_seen o v w f (Some file) r = r.1.seen
+released_seen o v w f file r = grind arith
 
 -- The pass found the file of the key, held it during a try that left the slot as it was, and
 -- released it
@@ -149,10 +129,7 @@ module _ (k : Start) (p b c p' : LastingPass) (key : Key) (hold : Hold) (freed o
     its_key = looked.1;
     held = looked.2;
     changed = let a = few.1 key.slot in let b = more.1 key.slot in omega (arith, it.0);
-    overtaken = ⊎_elim
-        (λ did. inl (acted_further (subst (λ (q : ℕ). HasActed key.slot q (view_of b).front (view_of c).front)
-        (looked_number (opening_of k) (view_of p) (view_of b) key.slot hold freed looked.2.looked) did) later))
-        (λ met. inr (omega (arith, met.0, few.0, more.0), met.1)) it.1;
+    overtaken = grind (arith, b, acted_further, looked_number, later);
   }
   why _ it = tt
 

@@ -1,19 +1,14 @@
 -- A slot gets the file that a pass places, whether the pass holds the slot's file or nothing.
-use Rattle.fx_lasting.proofs.Words.{Round, IsIn, part_of_pass, map, ◌++◌, ◌≡◌, ◌≢◌, ℕ, ◌+◌, ◌^◌, ◌<◌, List, set, sym, refl, ap, ◌∙◌, subst, arith, Option, Some}
-use Rattle.fx_lasting.proofs.Words.{some, get_elem?, false, inl, inr, ◌⊎◌, Closed, File, numbered, Event, Action, State, changed_at, changed_here, changed_else}
-use Rattle.fx_lasting.proofs.Words.{pass_event, Agrees, NodeAgrees, OwnerAgrees, state_after_all, slots_of, nodes_of, word_of, count_in, file_word_of, taken_of}
-use Rattle.fx_lasting.proofs.Words.{owed, sum_by, sum_set, Phase, placed, seated, removed_in, Change, Stepped, account, range_at_start, Outside, set_here}
-use Rattle.fx_lasting.proofs.Words.{set_else, length-set, removal_work, ◌-◌, ◌≤◌, Whereabouts, IsInStock, as_swapped, first_log, name_in, Labels, Placement}
-use Rattle.fx_lasting.proofs.Words.{written_in, label_of, as_written, most_carried, takes_are_few, name_carried, full_name_carried, entry_carried}
-use Rattle.fx_lasting.proofs.Words.{takes_carried, heat_carried}
+use Rattle.fx_lasting.proofs.{Round, IsIn, part_of_pass, map, ◌++◌, ◌≡◌, ◌≢◌, ℕ, ◌+◌, ◌^◌, ◌<◌, List, set, sym, refl, ap, ◌∙◌, subst, arith, Option}
+use Rattle.fx_lasting.proofs.{Some, some, get_elem?, false, inl, inr, ◌⊎◌, Closed, File, numbered, Event, Action, State, changed_at, changed_here}
+use Rattle.fx_lasting.proofs.{changed_else, pass_event, Agrees, NodeAgrees, OwnerAgrees, state_after_all, slots_of, nodes_of, word_of, count_in}
+use Rattle.fx_lasting.proofs.{file_word_of, taken_of, owed, sum_by, sum_set, Phase, placed, seated, removed_in, Change, Stepped, account}
+use Rattle.fx_lasting.proofs.{range_at_start, Outside, set_here, set_else, length-set, removal_work, ◌-◌, ◌≤◌, Whereabouts, IsInStock, as_swapped}
+use Rattle.fx_lasting.proofs.{first_log, name_in, Placement, label_of, as_written, most_carried, takes_are_few, name_carried, full_name_carried}
+use Rattle.fx_lasting.proofs.{entry_carried, takes_carried, heat_carried, each_changed, owner_stays, node_same, Turn, After, word_at, slot_word, w}
+use Rattle.fx_lasting.proofs.{end, Homes, asks_alike, few_slots, slot_words, slot_here, slot_else, slot_alike, in_phase, counts_filled}
 use Rattle.fx_lasting.proofs.slot_lemmas.Swaps.{Ends, IsAlike, found, NotOf, not_old, d_inside, d_untaken, swap_after, Swap, swap_kept}
-use Rattle.fx_lasting.proofs.Histories.{each_changed}
 use Rattle.fx_lasting.proofs.node_lemmas.StockMoves.{where_moved, stock_moved, names_moved, tells_swapped}
-use Rattle.fx_lasting.proofs.Frames.{owner_stays, node_same}
-use Rattle.fx_lasting.proofs.Keeping.{Turn, After, word_at, slot_word, w, end, Homes, asks_alike, few_slots}
-use Rattle.table_range.proofs.Counting.{counts_filled}
-use Rattle.fx_lasting.proofs.Places.{slot_words, slot_here, slot_else, slot_alike}
-use Rattle.fx_lasting.proofs.hold_lemmas.Unheld.{in_phase}
 
 -- The slot gets the file that a pass places, under a number that none had before. What was there is
 -- removed, with the takes of the word `counted`: the one that was there, or that one without the
@@ -58,9 +53,6 @@ module _ (turn : Turn) (s : ℕ) (inside : s < slots_of turn.v.start) (old : Opt
       (λ at. sym (ap (λ (q : ℕ). removed_in m (r.phase q)) at ∙ ap (removed_in m) its.1)) (λ _. refl)
 
   module _ (does : Ends turn s inside old counted round (n + 1) h₂ (Some new_file) (changed_at before.fresh number false)) where
-    there_now : (state_after_all v.start h₂).at s ≡ Some new_file
-    there_now = ap (λ (z : State). z.at s) does.leads ∙ changed_here before.at s (Some new_file) s refl
-
     total_now : (m : ℕ) → NotOf r.node_of m old → sum_by (taken_of m) (set st.views id (w turn put_after)) ≡ sum_by (taken_of m) st.views
     total_now m apart = let t = sum_set (taken_of m) st.views id v (w turn put_after) here in let b = does.untaken m apart in let c = d_untaken turn s inside old was counted alike round m in omega arith
 
@@ -79,7 +71,7 @@ module _ (turn : Turn) (s : ℕ) (inside : s < slots_of turn.v.start) (old : Opt
         (owed r.debt v.start.passes m) (get_elem? homes₁ m)
 
     node_here₁ : Node₁ n (seated s new_file)
-    node_here₁ = grind (arith, in_phase, total_now, its_apart, slot_here, its_count, set_here, some, there_now)
+    node_here₁ = grind (arith, in_phase, total_now, its_apart, slot_here, its_count, set_here, some, changed_here)
 
     node_else₁ : {m : ℕ} → m < nodes_of v.start → m ≢ n → NotOf r.node_of m old → Node₁ m (r.phase m)
     node_else₁ {m} l other apart = node_same (slots_of v.start) r.node_of m (omega arith) refl (total_now m apart) refl
@@ -102,13 +94,10 @@ module _ (turn : Turn) (s : ℕ) (inside : s < slots_of turn.v.start) (old : Opt
       few_takes = let a = its_count in let b = takes_are_few v.start.passes lost few_lost in omega arith;
       no_heat = heat_carried n file.entry lost few_lost;
       seat = rw on_n (its.0, changed_here r.phase n (seated s new_file) n refl);
-      seat_apart = λ f is. let e : number ≡ f.number = (let z : new_file ≡ f = cc is in ap (λ (y : File). y.number) z) in
-          subst (λ (i : ℕ). NotOf r.node_of (r.node_of i) old) e (rw on_n its_apart);
+      seat_apart = grind (arith, its_apart);
       kept = λ m. each_changed (λ m ph. (ph ≡ r.phase m) ⊎ ((l : Placement) × (r.phase m ≡ placed id l))) r.phase
           (λ same. inr (as_written lost (label_of file), ap r.phase same ∙ its.1)) (λ other. inl refl);
-      labels = λ m l apart. each_changed (λ m ph. Labels v.start st.words m (written_in ph)) r.phase
-          (λ same. subst (λ (i : ℕ). Labels v.start st.words i (label_of file)) (sym same)
-          (subst (λ (ph : Phase). Labels v.start st.words n (written_in ph)) its.1 (r.nodes.labels n its.0))) (λ other. r.nodes.labels m l);
+      labels = grind (arith, each_changed);
       nodes = λ m l apart. each_changed Node₁ r.phase (λ same. subst (λ (i : ℕ). Node₁ i (seated s new_file)) (sym same) node_here₁)
           (λ other. node_else₁ l other apart);
       old_home = λ f is. set_else st.homes n (r.node_of f.number) (some (Some file)) (λ same. its_apart f is (sym same));

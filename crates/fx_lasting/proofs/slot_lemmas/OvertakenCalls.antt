@@ -1,19 +1,15 @@
 -- Calls that were overtaken: each has a change of another pass for itself.
-use Rattle.std.proofs.Common.{◌≡◌, ℕ, zero, suc, ◌+◌, ◌<◌, ◌≤◌, List, [], ◌∷◌, refl, ap, ◌∙◌, subst, arith, cond, true, ⊎_elim, inl, inr, Option}
-use Rattle.std.specs.Prelude.{◌≢◌, ◌==◌, ◌&&◌, not, sum_by, Ok}
+use Rattle.fx_lasting.proofs.Words.{◌≡◌, ℕ, zero, suc, ◌+◌, ◌<◌, ◌≤◌, List, [], ◌∷◌, refl, ap, ◌∙◌, subst, arith, cond, true, ⊎_elim, inl, inr}
+use Rattle.fx_lasting.proofs.Words.{Option, ◌==◌, ◌&&◌, not, sum_by, IsInRange, LeftAlone, Key}
+use Rattle.std.specs.Prelude.{◌≢◌}
 use Rattle.std.proofs.lemmas.Bool.{eq-eqb}
 use Rattle.std.proofs.lemmas.List.Sums.{sum_by-append, sum_by-cons}
 use Rattle.fx_base.specs.Identity.{Identity}
 use Rattle.fx_plain.specs.History.{IsSeenBy, ◌▷◌, part_of_pass}
 use Rattle.fx_plain.specs.declared.event.Action.{Action}
 use Rattle.fx_plain.specs.declared.event.Event.{Event}
-use Rattle.fx_plain.specs.declared.event.File.{File}
 use Rattle.fx_table.proofs.Calls.{seen_further}
-use Rattle.fx_table.specs.Calls.{Adds, LookedUp, ReleasesFile, no_use}
-use Rattle.fx_table.specs.Opening.{Opening}
-use Rattle.fx_table.specs.Pass.{PassView}
-use Rattle.fx_table.specs.declared.values.Hold.{Hold}
-use Rattle.fx_lasting.specs.Laws.{IsInRange}
+use Rattle.fx_table.specs.Calls.{Adds, no_use}
 use Rattle.fx_lasting.specs.Passes.{range_at_start}
 use Rattle.fx_lasting.specs.Tables.{opening_of, view_of, changes_at, meetings, MeetsMore}
 use Rattle.fx_lasting.specs.slots.AtEmpty.{SawEmptying}
@@ -21,9 +17,7 @@ use Rattle.fx_lasting.proofs.slot_lemmas.Overtaking.{emptied_by}
 use Rattle.fx_table.specs.declared.values.Doing.TheVariants.{Idle as DoesNothing}
 use mathlib.Core.Logic.{dite}
 use native.Mathlib.Decide.{ℕ_discrete}
-use Rattle.fx_lasting.specs.slots.RemoveByKey.{LeftAlone}
 use Rattle.fx_lasting.specs.slots.Watches.{ReplacesAt, HasReplaced}
-use Rattle.fx_lasting.specs.declared.key.Key.{Key}
 use Rattle.fx_lasting.specs.declared.key_answers.KeyFault.TheVariants.{Again}
 use Rattle.fx_lasting.specs.declared.pass.LastingPass.{LastingPass}
 use Rattle.fx_lasting.specs.declared.view.Start.{Start}
@@ -46,10 +40,8 @@ module _ (slot number : ℕ) where
   -- and one more once another pass filled the slot or emptied it
   replaced_has_more : (h more : List Event) → HasReplaced slot number h more → replaced_at slot number h + 1 ≤ replaced_at slot number more
   replaced_has_more h more did =
-      let first = seen_has_more h did.history did.later in
       let one = sum_by-cons counts did.event did.history ∙ ap (λ (n : ℕ). n + replaced_at slot number did.history) (counts_another did.event did.another did.there) in
-      let last = seen_has_more (did.history ▷ did.event) more did.seen in
-      omega (arith, first, one, last)
+      omega (arith, seen_has_more h did.history did.later, one, seen_has_more (did.history ▷ did.event) more did.seen)
 
   -- a call that was overtaken knows of one change more
   knows_more : (try : Try) → IsOvertakenTry slot number try → changes_known slot number try.before + 1 ≤ changes_known slot number try.after
@@ -61,30 +53,20 @@ module _ (slot number : ℕ) where
 pub each_has_its_change : EachHasItsChange
 each_has_its_change slot number first [] last goes = let more = seen_has_more slot number (view_of first).front (view_of last).front goes.0 in omega (arith, more, goes.1)
 each_has_its_change slot number first (try ∷ tries) last all =
-    let before = seen_has_more slot number (view_of first).front (view_of try.before).front all.0.0 in
     let then = each_has_its_change slot number try.after tries last all.2 in
-    let one = knows_more slot number try all.1 in
-    omega (arith, before, all.0.1, then, one)
+    omega (arith, seen_has_more slot number (view_of first).front (view_of try.before).front all.0.0, all.0.1, then, knows_more slot number try all.1)
 
 pub lost_is_overtaken : LostCallsAreOvertaken
 lost_is_overtaken k p p' slot file back put = grind arith
-
-looked_seen : (o : Opening) (v w : PassView) (slot : ℕ) (hold : Hold) (freed : Option Identity) → LookedUp o v slot (Ok hold) freed w → IsSeenBy v.front w.front
-looked_seen o v w slot hold freed looked = grind arith
-
-released_seen : (o : Opening) (v w : PassView) (f : File) (file : Option Identity) → ReleasesFile o v f file w → IsSeenBy v.front w.front
-released_seen o v w f file r = grind arith
 
 -- a call by key that left the file of the key at its slot
 left_is_overtaken : (k : Start) (p p' : LastingPass) (key : Key) (freed released : Option Identity) → LeftAlone k p key Again freed released p'
     → IsOvertakenTry key.slot (view_of p).number (record { before = p; after = p' })
 left_is_overtaken k p p' key freed released left =
-    let h = left.holder in
     let changed = left.tries.changed in record {
       its_number = refl;
       goes_on = (
-        seen_further (view_of p).front h.between.front (view_of p').front (looked_seen _ (view_of p) h.between key.slot left.hold freed h.held.looked)
-            (released_seen _ h.between (view_of p') h.file released h.releases),
+        seen_further (view_of p).front left.holder.between.front (view_of p').front (grind arith) (grind arith),
         omega (arith, changed),
       );
       overtaken = inr changed;
@@ -123,10 +105,8 @@ module _ (k : Start) (number : ℕ) where
 pub each_search_has_its_change : EachSearchHasItsChange
 each_search_has_its_change k number first [] last goes = let more = range_more k number first last goes in omega (arith, more)
 each_search_has_its_change k number first (try ∷ tries) last all =
-    let before = range_more k number first try.before all.0 in
-    let then = each_search_has_its_change k number try.after tries last all.2 in
     let one = search_knows_more k number try all.1 in
-    omega (arith, before, then, one)
+    omega (arith, range_more k number first try.before all.0, each_search_has_its_change k number try.after tries last all.2, one)
 
 -- a pass that did nothing, and saw a slot emptied or met another pass
 emptying_overtakes : (k : Start) (p p' : LastingPass) → Adds (opening_of k) (view_of p) [] DoesNothing no_use (view_of p') → MeetsMore p p' → SawEmptying k p p'

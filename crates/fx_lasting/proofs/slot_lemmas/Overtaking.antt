@@ -1,15 +1,10 @@
 -- The reason of a call that failed: another pass was at the slot.
-use Rattle.fx_lasting.proofs.Words.{◌≡◌, ◌≢◌, ℕ, ◌+◌, ◌<◌, ◌≤◌, ◌⊎◌, List, [], ◌∷◌, ◌++◌, length, sym, refl, ap, ◌∙◌, subst, arith, Some, None, ⊎_elim, inl}
-use Rattle.fx_lasting.proofs.Words.{inr, dite, ℕ_discrete, eq-eqb, ne_eqb, Event, Action, IsSeenBy, seen_further, part_of_pass, State, state_after_all}
-use Rattle.fx_lasting.proofs.Words.{changed_else, Start, ReplacesAt, HasActed, HasReplaced, ◌▷◌, pass_in, Sat, Sees, At, slot_of, IsWatching, WasOvertakenIn}
-use Rattle.fx_lasting.proofs.Words.{Runs, view_of, LastingPass, WasOvertaken, WasLost, changes_in, changes_at, meetings, FailsToFill, Work, Glance, Change}
-use Rattle.fx_lasting.proofs.Words.{WasSo, FitsSight, true, false, FallsShort, FellShort, after}
+use Rattle.fx_lasting.proofs.{◌≡◌, ◌≢◌, ℕ, ◌+◌, ◌<◌, ◌≤◌, List, [], ◌∷◌, ◌++◌, length, sym, refl, ap, ◌∙◌, subst, arith, ⊎_elim, inl}
+use Rattle.fx_lasting.proofs.{inr, dite, ℕ_discrete, eq-eqb, ne_eqb, Event, Action, IsSeenBy, seen_further, part_of_pass, state_after_all}
+use Rattle.fx_lasting.proofs.{changed_else, Start, ReplacesAt, HasActed, HasReplaced, ◌▷◌, pass_in, Sat, Sees, At, slot_of, IsWatching}
+use Rattle.fx_lasting.proofs.{WasOvertakenIn, Runs, view_of, LastingPass, WasOvertaken, WasLost, changes_in, changes_at, meetings, FailsToFill, Work}
+use Rattle.fx_lasting.proofs.{Glance, Change, WasSo, FitsSight, true, false, FallsShort, FellShort, acted_before, acted_further}
 use Rattle.fx_lasting.specs.Ends.{Does}
-use Rattle.fx_lasting.proofs.slot_lemmas.Watching.{acted_before, acted_further}
-
--- an action that doesn't fill or empty the slot leaves it as it was
-acts_or_same : (st : State) (slot : ℕ) (a : Action) → ((after st a).at slot ≡ st.at slot) ⊎ ReplacesAt slot a
-acts_or_same st slot a = grind (arith, changed_else)
 
 -- an event that fills or empties the slot within the history `since` after `h`
 abbrev Acted : ℕ → List Event → List Event → Type 0
@@ -21,7 +16,7 @@ changed_by k slot h (e ∷ since) other = ⊎_elim
     (λ same. let z = changed_by k slot h since (λ is. other (same ∙ is)) in
     (z.0, z.1, z.2, seen_further (z.0 ▷ z.1) (since ++ h) (e ∷ (since ++ h)) z.3 (e ∷ [], refl), z.4))
     (λ acts. (since ++ h, e, (since, refl), ([], refl), acts))
-    (acts_or_same (state_after_all k (since ++ h)) slot e.action)
+    (grind (arith, changed_else))
 
 -- the events of a pass are as many as before, or more
 part_here : (q : ℕ) (e : Event) (h : List Event) → e.pass ≡ q → length (part_of_pass q (e ∷ h)) ≡ length (part_of_pass q h) + 1
@@ -47,8 +42,7 @@ pub filled_by : (k : Start) (slot q : ℕ) {v a b c w : List Event} → part_of_
     → WasSo k slot (FitsSight true) b c → IsSeenBy c w → HasReplaced slot q v w
 filled_by k slot q {v} {a} {b} {c} {w} same was more is last =
     let between = seen_further was.history b is.history (seen_further was.history a b was.seen more) is.later in
-    let z : Acted slot was.history is.history = subst (λ (l : List Event). Acted slot was.history l) (sym between.1) (changed_by k slot was.history between.0
-    (λ stays. let bad : None ≡ Some is.there.0 = sym was.there ∙ (sym stays ∙ (ap (λ (l : List Event). (state_after_all k l).at slot) (sym between.1) ∙ is.there.1)) in absurd (cc bad))) in
+    let z : Acted slot was.history is.history = grind (arith, between, changed_by) in
     let seen = seen_further (z.0 ▷ z.1) is.history w z.3 (seen_further is.history c w is.seen last) in
     let later = seen_further v was.history z.0 was.later z.2 in record {
       history = z.0;
@@ -64,8 +58,7 @@ pub emptied_by : (k : Start) (slot q : ℕ) {v a w : List Event} → part_of_pas
     → WasSo k slot (FitsSight false) a w → HasReplaced slot q v w
 emptied_by k slot q {v} {a} {w} same was is =
     let between = seen_further was.history a is.history was.seen is.later in
-    let z : Acted slot was.history is.history = subst (λ (l : List Event). Acted slot was.history l) (sym between.1) (changed_by k slot was.history between.0
-    (λ stays. let bad : Some was.there.0 ≡ None = sym was.there.1 ∙ (sym stays ∙ (ap (λ (l : List Event). (state_after_all k l).at slot) (sym between.1) ∙ is.there)) in absurd (cc bad))) in
+    let z : Acted slot was.history is.history = grind (arith, between, changed_by) in
     let seen = seen_further (z.0 ▷ z.1) is.history w z.3 is.seen in
     let later = seen_further v was.history z.0 was.later z.2 in record {
       history = z.0;
@@ -81,9 +74,6 @@ emptied_by k slot q {v} {a} {w} same was is =
 pub record Tried (slot expected n : ℕ) (m m' : Sat) : Type 0 where
   pub watches : 0 < n → IsWatching slot expected m'
   pub overtaken : 1 < n → WasOvertakenIn slot m m'
-
-pub tried_nothing : (slot expected : ℕ) (m : Sat) → Tried slot expected 0 m m
-tried_nothing slot expected m = record { watches = λ l. absurd (omega arith); overtaken = λ l. absurd (omega arith) }
 
 -- what happened between two steps of some
 pub overtaken_in : (slot : ℕ) (m m₁ m₂ m₃ : Sat) → (pass_in m₁).number ≡ (pass_in m).number → m₁.0.start ≡ m.0.start → IsSeenBy (pass_in m).front (pass_in m₁).front

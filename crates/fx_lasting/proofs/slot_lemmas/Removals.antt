@@ -1,11 +1,10 @@
 -- A pass that emptied a slot: what the step leaves, and the pass with the stock that it has then.
-use Rattle.fx_lasting.proofs.Words.{◌≡◌, ◌≤◌, ◌<◌, ℕ, ◌+◌, ◌-◌, List, [], set, refl, sym, ap, ◌∙◌, subst, Bool, get_elem?, some, Action, ◌▷◌, ◌▷▷◌, Sat, Start}
-use Rattle.fx_lasting.proofs.Words.{Work, Glance, Change, Runs, IsAtWork, IsStockOf, TableId, At, as_stocked, pass_in, name_in, nodes_of, empty_word_of}
-use Rattle.fx_lasting.proofs.Words.{retiring_work, account, range_at_start, slot_of, slot_place, Nothing, Outside, LastingPass, IsSeatOf, IsPassOf, Knows}
-use Rattle.fx_lasting.proofs.Words.{opening_of, view_of, pass_of, doing_in, Use, Adds, Removes, SwapsOut, HasEmptied, Take}
-use Rattle.fx_lasting.proofs.Places.{slot_back}
-use Rattle.fx_lasting.proofs.Running.{runs_one, runs_then, runs_stocked, turns_then, number_is, own_stock, stock_is, still_at_work, at_swapped, at_work_as}
-use Rattle.fx_lasting.proofs.Passing.{adds_run, goes_on, rests_on, same_flags}
+use Rattle.fx_lasting.proofs.{◌≡◌, ◌≤◌, ◌<◌, ℕ, ◌+◌, ◌-◌, List, [], set, refl, sym, ap, ◌∙◌, subst, Bool, get_elem?, some, Action, ◌▷◌, ◌▷▷◌, Sat}
+use Rattle.fx_lasting.proofs.{Start, Work, Glance, Change, Runs, IsAtWork, IsStockOf, TableId, At, as_stocked, pass_in, name_in, nodes_of}
+use Rattle.fx_lasting.proofs.{empty_word_of, retiring_work, account, range_at_start, slot_of, slot_place, Nothing, Outside, LastingPass, IsSeatOf}
+use Rattle.fx_lasting.proofs.{IsPassOf, Knows, opening_of, view_of, pass_of, doing_in, Use, Adds, Removes, SwapsOut, HasEmptied, Take, slot_back}
+use Rattle.fx_lasting.proofs.{runs_one, runs_then, runs_stocked, turns_then, number_is, own_stock, stock_is, still_at_work, at_swapped, at_work_as}
+use Rattle.fx_lasting.proofs.{adds_run, goes_on, rests_on, same_flags}
 
 -- the seat of a pass with this stock
 pub at_stocked : {k : Start} {p : ℕ} {m : Sat} → IsAtWork k p m → (s : List ℕ) → IsStockOf k p s → IsAtWork k p (as_stocked s m)

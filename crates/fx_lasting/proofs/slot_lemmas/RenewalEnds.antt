@@ -1,21 +1,17 @@
 -- The ends of a replacement by key by one pass: what the pass adds to its view.
-use Rattle.fx_lasting.proofs.Words.{◌≡◌, ◌≢◌, ℕ, ◌+◌, ◌<◌, List, [], sym, refl, ap, ◌∙◌, subst, arith, Option, Some, None, Ok, Err, get_elem?, some, inl, inr}
-use Rattle.fx_lasting.proofs.Words.{⊎_elim, Idle, HasActed, File, Look, Release, Put, Action, numbered, ◌▷◌, Start, Sat, Glance, Nothing, Outside, Runs}
-use Rattle.fx_lasting.proofs.Words.{Placing, Placement, Closed, Names, as_swapped, entry_in, count_in, pass_in, node_of_number, retiring_work, held_in}
-use Rattle.fx_lasting.proofs.Words.{doing_in, hold_at, slots_of, TableId, LastingPass, IsSeatOf, opening_of, view_of, pass_of, PassView, Hold, Adds, no_use}
-use Rattle.fx_lasting.proofs.Words.{one_look, one_number, ReleasesFile, LetsFileGo, Retired, LookedByKey, HeldByKey, TriesKey, fault_for, KeyFault, Miss}
-use Rattle.fx_lasting.proofs.Words.{MeetsMore, adds_then, DoesNothing, Change, Close, Doing, Holding, LetsChargeGo, Work}
+use Rattle.fx_lasting.proofs.{◌≡◌, ◌≢◌, ℕ, ◌+◌, ◌<◌, List, [], sym, refl, ap, ◌∙◌, subst, arith, Option, Some, None, Ok, Err, get_elem?, some}
+use Rattle.fx_lasting.proofs.{⊎_elim, Idle, File, Look, Release, Put, Action, numbered, ◌▷◌, Start, Sat, Glance, Nothing, Outside}
+use Rattle.fx_lasting.proofs.{Runs, Placing, Placement, Closed, Names, as_swapped, entry_in, count_in, pass_in, node_of_number, retiring_work}
+use Rattle.fx_lasting.proofs.{held_in, doing_in, hold_at, slots_of, TableId, LastingPass, IsSeatOf, opening_of, view_of, pass_of, PassView, Hold}
+use Rattle.fx_lasting.proofs.{Adds, no_use, one_look, one_number, ReleasesFile, LetsFileGo, Retired, LookedByKey, HeldByKey, TriesKey, fault_for}
+use Rattle.fx_lasting.proofs.{KeyFault, Miss, MeetsMore, adds_then, DoesNothing, Change, Close, Doing, Holding, LetsChargeGo, Work, acted_further}
+use Rattle.fx_lasting.proofs.{does_then, looks_then, file_then, swapped_then, adds_so, adds_run, frees_then, lets_run, LeftAlone, FreesFirst, TakesOn}
+use Rattle.fx_lasting.proofs.{TriedRenewal, RenewsAlone, PutsAlone, Key}
 use Rattle.fx_table.specs.declared.values.Doing.TheVariants.{Retiring as Retires}
 use Rattle.fx_lasting.proofs.slot_lemmas.ByNode.{was_further, removal_so, value_so}
-use Rattle.fx_lasting.proofs.slot_lemmas.Watching.{acted_further}
-use Rattle.fx_lasting.proofs.Running.{does_then, looks_then, file_then, swapped_then}
-use Rattle.fx_lasting.proofs.Passing.{adds_so, adds_run, frees_number, frees_then, lets_run}
 use Rattle.fx_lasting.proofs.node_lemmas.Labelling.{held_besides}
-use Rattle.fx_lasting.specs.slots.RemoveByKey.{LeftAlone}
 use Rattle.fx_lasting.specs.slots.ByKey.{HoldsAtKey, IsKeyOf}
-use Rattle.fx_lasting.specs.slots.ReplaceByKey.{FreesFirst, TakesOn, TriedRenewal, RenewsAlone, PutsAlone}
 use Rattle.fx_lasting.specs.declared.answers.Miss.TheVariants as reason
-use Rattle.fx_lasting.specs.declared.key.Key.{Key}
 use Rattle.fx_lasting.specs.declared.key_answers.KeyFault.TheVariants as fault
 use Rattle.fx_lasting.specs.declared.key_answers.PutOverKey.{PutOverKey}
 
@@ -52,14 +48,7 @@ module _ {id : TableId} {k : Start} {p : LastingPass} (seated : IsSeatOf id k p)
   -- it released the file at once, which isn't that of the key
   pub was_other : (IsKeyOf key f → ⊥) → (m₃ : Sat) (r : Option Closed) → LetsFileGo m₂ f 4 r m₃
       → LookedByKey k (view_of p) key (Err fault.Stale) None r (pass_of m₃.0)
-  was_other other m₃ r lets = record {
-    file = f;
-    hold = hold_at f node;
-    between = pass_of m₂.0;
-    other = other;
-    held = at_key;
-    releases = releases_so m₂ start m₃ f 4 r lets;
-  }
+  was_other other m₃ r lets = grind (arith, pass_of, at_key, releases_so)
 
   module _ (its_key : IsKeyOf key f) where
     -- the tries failed, and it released the file
@@ -85,9 +74,7 @@ module _ {id : TableId} {k : Start} {p : LastingPass} (seated : IsSeatOf id k p)
         its_key = its_key;
         held = at_key;
         changed = let a = holds_run.changes key.slot in let b = ends.1.changes key.slot in omega (arith, again.1.0);
-        overtaken = ⊎_elim
-            (λ did. inl (acted_further (subst (λ (q : ℕ). HasActed key.slot q (pass_in m₂).front (pass_in m₃).front) holds_run.number did) ends.1.seen))
-            (λ met. inr (omega (arith, met.0, holds_run.met, ends.1.met), subst (λ (z : Start). 1 < z.passes) start met.1)) again.1.1;
+        overtaken = grind (arith, again, acted_further, holds_run, ends);
       }
       tries _ is = tt
 
@@ -153,8 +140,7 @@ module _ (k : Start) (u p p' : LastingPass) (key : Key) (freed : Option Closed) 
     its_key = o.its_key;
     held = held_before o.file o.hold o.between o.held;
     changed = let a = few.1 key.slot in omega (arith, o.changed);
-    overtaken = ⊎_elim (λ did. inl (subst (λ (q : ℕ). HasActed key.slot q o.between.front (view_of p').front)
-        (frees_number (opening_of k) (view_of u) (view_of p) freed before) did)) (λ met. inr (omega (arith, met.0, few.0), met.1)) o.overtaken;
+    overtaken = grind arith;
   }
   tries_before _ o = tt
 

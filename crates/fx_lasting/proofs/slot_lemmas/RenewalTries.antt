@@ -1,12 +1,11 @@
 -- A replacement by a pass that holds the file: what its steps leave.
-use Rattle.fx_lasting.proofs.Words.{◌≡◌, ◌≢◌, ◌+◌, ◌-◌, ◌<◌, ◌≤◌, [], sym, ap, ◌∙◌, Ok, Err, some, rest, File, Put, ◌▷◌, Sat, Runs, Miss, Bool, Work, ℕ, List}
-use Rattle.fx_lasting.proofs.Words.{refl, subst, arith, Some, Start, Glance, Stepped, Names, name_in, pass_in, account, Closed, held_in, WasIn, Result}
-use Rattle.fx_lasting.proofs.Words.{get_elem?, NamesANode, full_name_in, node_of_number, retiring_work, range_at_start, HoldsBesides, is_guarding, leaving_work}
-use Rattle.fx_lasting.proofs.Words.{Release, numbered, Outside, IsInStock, as_swapped, nodes_of, FailedIf, IsAtWork, as_written, label_of, HasItsHold, entry_in}
+use Rattle.fx_lasting.proofs.{◌≡◌, ◌≢◌, ◌+◌, ◌-◌, ◌<◌, ◌≤◌, [], sym, ap, ◌∙◌, Ok, Err, some, rest, File, Put, ◌▷◌, Sat, Runs, Miss, Bool, Work, ℕ}
+use Rattle.fx_lasting.proofs.{List, refl, subst, arith, Some, Start, Glance, Stepped, Names, name_in, pass_in, account, Closed, held_in, WasIn}
+use Rattle.fx_lasting.proofs.{Result, get_elem?, NamesANode, full_name_in, node_of_number, retiring_work, range_at_start, HoldsBesides, is_guarding}
+use Rattle.fx_lasting.proofs.{leaving_work, Release, numbered, Outside, IsInStock, as_swapped, nodes_of, FailedIf, IsAtWork, as_written, label_of}
+use Rattle.fx_lasting.proofs.{HasItsHold, entry_in, does_then, runs_within, swapped_then, IsBeside, TriedReplaceHeld, TriedRenewal}
 use Rattle.fx_lasting.proofs.slot_lemmas.ByNode.{at_once, begun_at, its_own, swapped_acts, stands_then, missed_so, was_before}
 use Rattle.fx_lasting.proofs.slot_lemmas.Overtaking.{overtaken_in}
-use Rattle.fx_lasting.proofs.Running.{does_then, runs_within, swapped_then}
-use Rattle.fx_lasting.specs.slots.ReplaceByKey.{IsBeside, TriedReplaceHeld, TriedRenewal}
 use Rattle.fx_lasting.specs.slots.ByNode.{TriedExchange}
 use Rattle.fx_lasting.specs.slots.PutSteps.{ReplacesHeld}
 use Rattle.fx_lasting.proofs.node_lemmas.Labelling.{held_besides}

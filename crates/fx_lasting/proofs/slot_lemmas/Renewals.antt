@@ -1,16 +1,13 @@
 -- A replacement by a pass that holds the slot's file keeps the rule: the hold ends with the step,
 -- and the removal counts the takes without the pass's own.
-use Rattle.fx_lasting.proofs.Words.{◌≡◌, state_after_all, full_name_in, file_word_of, ReplacesHeld, ReplacesHeldKeep, guarded_round, range_at_start, ℕ, ◌+◌}
-use Rattle.fx_lasting.proofs.Words.{◌-◌, ◌^◌, ◌<◌, ◌∷◌, sym, ap, ◌∙◌, ◌≤◌, rest, File, Put, ◌▷◌, IsIn, step, Bool, true, Work, List, refl, subst, arith, Some}
-use Rattle.fx_lasting.proofs.Words.{none, some, gives, Closed, Event, State, placed, taking, false, Round, ⊎_elim, [], Option, Action, Release, HoldsAt}
-use Rattle.fx_lasting.proofs.Words.{held_in, bit_here, bit_else, Outside, Renewing, Stepped, account, name_in, changed_at, numbered, WorkAgrees, slot_place}
-use Rattle.fx_lasting.proofs.Words.{HoldsBesides, GuardAgrees, hold_word_of, first_visit, is_guarding, slots_of, label_of, as_written, IsInStock, HoldAgrees}
-use Rattle.fx_lasting.proofs.Words.{IsAllowed, Placement, Relieving, new_round, as_swapped}
+use Rattle.fx_lasting.proofs.{◌≡◌, state_after_all, full_name_in, file_word_of, ReplacesHeld, ReplacesHeldKeep, guarded_round, range_at_start, ℕ, ◌+◌}
+use Rattle.fx_lasting.proofs.{◌-◌, ◌^◌, ◌<◌, ◌∷◌, sym, ap, ◌∙◌, ◌≤◌, rest, File, Put, ◌▷◌, IsIn, step, Bool, true, Work, List, refl, subst, arith}
+use Rattle.fx_lasting.proofs.{Some, none, some, gives, Closed, Event, State, placed, taking, false, Round, ⊎_elim, [], Option, Action, Release}
+use Rattle.fx_lasting.proofs.{HoldsAt, held_in, bit_here, bit_else, Outside, Renewing, Stepped, account, name_in, changed_at, numbered, WorkAgrees}
+use Rattle.fx_lasting.proofs.{slot_place, HoldsBesides, GuardAgrees, hold_word_of, first_visit, is_guarding, slots_of, label_of, as_written}
+use Rattle.fx_lasting.proofs.{IsInStock, HoldAgrees, IsAllowed, Placement, Relieving, new_round, as_swapped, legal_more, same_shape, busy, Turn}
+use Rattle.fx_lasting.proofs.{turn_of, After, Made, its_log, its_work, word_at, slot_word, w, slot_back}
 use Rattle.fx_lasting.proofs.node_lemmas.StockMoves.{names_a_node}
-use Rattle.fx_lasting.proofs.Histories.{legal_more, same_shape}
-use Rattle.fx_lasting.proofs.Frames.{busy}
-use Rattle.fx_lasting.proofs.Keeping.{Turn, turn_of, After, Made, its_log, its_work, word_at, slot_word, w}
-use Rattle.fx_lasting.proofs.Places.{slot_back}
 use Rattle.fx_lasting.proofs.node_lemmas.Labelling.{held_besides}
 use Rattle.fx_lasting.proofs.slot_lemmas.Sights.{by_exchange}
 use Rattle.fx_lasting.proofs.slot_lemmas.Swaps.{found, Ends}

@@ -1,8 +1,6 @@
 -- A load of a slot's word from which the pass learns what is there keeps the rule.
-use Rattle.fx_lasting.proofs.Words.{◌≡◌, ℕ, ◌<◌, List, Option, none, Closed, slots_of, slot_place, Sees, SeesKeep, step, LastingTable, IsAtWork, Seat, View}
-use Rattle.fx_lasting.proofs.Words.{Allows, Agrees}
-use Rattle.fx_lasting.proofs.Calling.{slot_inside, slot_low}
-use Rattle.fx_lasting.proofs.Keeping.{Turn, turn_of, Made, by_turn}
+use Rattle.fx_lasting.proofs.{◌≡◌, ℕ, ◌<◌, List, Option, none, Closed, slots_of, slot_place, Sees, SeesKeep, step, LastingTable, IsAtWork, Seat, View}
+use Rattle.fx_lasting.proofs.{Allows, Agrees, slot_inside, slot_low, Turn, turn_of, Made, by_turn}
 use Rattle.fx_lasting.proofs.slot_lemmas.Sights.{seen_instead}
 
 module _ (turn : Turn) (s : ℕ) (inside : s < slots_of turn.v.start) (carried : List (ℕ × Option Closed)) where

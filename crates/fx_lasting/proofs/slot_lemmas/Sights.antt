@@ -1,21 +1,16 @@
 -- A load of a slot's word: the pass sees what is at the slot, and watches the slot.
-use Rattle.fx_lasting.proofs.Words.{◌≡◌, ◌≢◌, ℕ, ◌+◌, ◌<◌, ◌≤◌, ◌⊎◌, [], sym, refl, ap, ◌∙◌, none, step, inl, inr, dite, File, Sees, Log, Sat, some, eqb}
-use Rattle.fx_lasting.proofs.Words.{List, subst, arith, Option, ⊎_elim, Closed, Names, Agrees, Watch, HasActed, keeps, Start, Shared, HasPass, Allows, either}
-use Rattle.fx_lasting.proofs.Words.{ℕ_discrete, slots_of, slot_place, state_after_all, node_of_number, IsOvertaken, changes_in, first_log, get_elem?, exchanged}
-use Rattle.fx_lasting.proofs.Words.{HoldsAlone, doing_in, full_name_in, hold_at, None, Some, ◌↔◌}
-use Rattle.fx_lasting.specs.Laws.{Kind}
+use Rattle.fx_lasting.proofs.{◌≡◌, ◌≢◌, ℕ, ◌+◌, ◌<◌, ◌≤◌, ◌⊎◌, [], sym, refl, ap, ◌∙◌, none, step, inl, inr, dite, File, Sees, Log, Sat, some, eqb}
+use Rattle.fx_lasting.proofs.{List, subst, arith, Option, ⊎_elim, Closed, Names, Agrees, Watch, HasActed, keeps, Start, Shared, HasPass, Allows}
+use Rattle.fx_lasting.proofs.{either, ℕ_discrete, slots_of, slot_place, state_after_all, node_of_number, IsOvertaken, changes_in, first_log}
+use Rattle.fx_lasting.proofs.{get_elem?, exchanged, HoldsAlone, doing_in, full_name_in, hold_at, None, Some, ◌↔◌, grows_none, end_read, Turn, turn_of}
+use Rattle.fx_lasting.proofs.{Made, by_turn, word_at, slot_word, w, After, its_log, tells, found_same, slot_back, Kind, cond, ◌∷◌, Bool, ◌==◌}
 use Rattle.fx_lasting.specs.holds.Holds.{HoldsNameFiles, IsHeldBy}
 use Rattle.fx_lasting.proofs.hold_lemmas.Holds.{nodes_are_of_one_file}
-use Rattle.fx_lasting.proofs.Histories.{grows_none}
-use Rattle.fx_lasting.proofs.Keeping.{end_read, Turn, turn_of, Made, by_turn, word_at, slot_word, w, After, its_log, tells, found_same}
 use Rattle.fx_lasting.proofs.Calm.{read_finding, read_finding_kept}
 use Rattle.std.proofs.lemmas.Bool.{eq-eqb}
 use Rattle.std.proofs.lemmas.List.Sums.{sum_by-cons}
-use Rattle.std.proofs.Common.{cond, ◌∷◌, Bool}
-use Rattle.std.specs.Prelude.{◌==◌}
 use Rattle.fx_lasting.proofs.range_lemmas.GroupSteps.{its_inside}
 use Rattle.fx_lasting.proofs.Peeking.{still}
-use Rattle.fx_lasting.proofs.Places.{slot_back}
 use Rattle.fx_lasting.proofs.node_lemmas.StockMoves.{names_a_node}
 
 module _ (turn : Turn) (s : ℕ) where
@@ -92,12 +87,8 @@ module _ (turn : Turn) (s : ℕ) where
       abbrev pub there : Option File
       there = (state_after_all v.start r.history).at s
 
-      -- a name of a node is one of a file whose number says the node
-      by_number : (o : Option File) → Names r.node_of found o → Names (node_of_number v.start) found o
-      by_number o names = grind arith
-
       pub named : Names (node_of_number v.start) found there
-      named = by_number there (r.slots s inside).names
+      named = grind arith
 
       -- the word names the node of a file that the pass holds, or another file is at the slot
       module _ (f : File) (n : ℕ) (holds : HoldsAlone v.work f n) where

@@ -1,20 +1,17 @@
 -- An installation, a take and an exchange keep the rule.
-use Rattle.fx_lasting.proofs.Words.{IsIn, List, refl, subst, arith, Some, None, none, some, keeps, gives, rest, false, File, Event, Take, State, placed, ActsAt}
-use Rattle.fx_lasting.proofs.Words.{Round, first_visit, changed_at, pass_event, WorkAgrees, full_name_in, file_word_of, TakesOutKeep, InstallsKeep, mod-mul-add}
-use Rattle.fx_lasting.proofs.Words.{new_round, get_elem?, IsHistory, slot_place, Exchanges, IsOffCount, IsInRange, uncounted, HasNoFile, as_swapped, as_written}
-use Rattle.fx_lasting.proofs.Words.{◌≡◌, ℕ, ◌+◌, ◌^◌, ◌<◌, ◌∷◌, set, sym, ap, ◌∙◌, Put, ◌▷◌, Idle, Bool, true, step, ◌*◌, ◌-◌, ◌≤◌, [], Option, Closed, Action}
-use Rattle.fx_lasting.proofs.Words.{Agrees, taking, held_in, if_file, Placing, Removes, Stepped, account, Outside, name_in, bit_and, numbered, Allocate}
-use Rattle.fx_lasting.proofs.Words.{slots_of, nodes_of, Installs, group_of, IsInStock, first_log, name_mask, Placement, label_of, put_back, with_removed}
-use Rattle.fx_lasting.proofs.Words.{held_by, state_after_all, ExchangesKeep, range_at_start, retiring_work, mask_leaves_name, le-mul_of_pos_right}
+use Rattle.fx_lasting.proofs.{IsIn, List, refl, subst, arith, Some, None, none, some, keeps, gives, rest, false, File, Event, Take, State, placed}
+use Rattle.fx_lasting.proofs.{ActsAt, Round, first_visit, changed_at, pass_event, WorkAgrees, full_name_in, file_word_of, TakesOutKeep, InstallsKeep}
+use Rattle.fx_lasting.proofs.{mod-mul-add, new_round, get_elem?, IsHistory, slot_place, Exchanges, IsOffCount, IsInRange, uncounted, HasNoFile}
+use Rattle.fx_lasting.proofs.{as_swapped, as_written, ◌≡◌, ℕ, ◌+◌, ◌^◌, ◌<◌, ◌∷◌, set, sym, ap, ◌∙◌, Put, ◌▷◌, Idle, Bool, true, step, ◌*◌, ◌-◌, ◌≤◌}
+use Rattle.fx_lasting.proofs.{[], Option, Closed, Action, Agrees, taking, held_in, if_file, Placing, Removes, Stepped, account, Outside, name_in}
+use Rattle.fx_lasting.proofs.{bit_and, numbered, Allocate, slots_of, nodes_of, Installs, group_of, IsInStock, first_log, name_mask, Placement}
+use Rattle.fx_lasting.proofs.{label_of, put_back, with_removed, held_by, state_after_all, ExchangesKeep, range_at_start, retiring_work}
+use Rattle.fx_lasting.proofs.{mask_leaves_name, le-mul_of_pos_right, grows_one, legal_more, part_mine, held_mine, same_shape, busy, Turn, turn_of}
+use Rattle.fx_lasting.proofs.{After, slot_word, Made, by_turn, its_log, its_work, w, end, slot_back, in_range_so}
 use Rattle.fx_lasting.proofs.slot_lemmas.Emptying.{left, left_agrees, left_tells}
 use Rattle.fx_lasting.proofs.slot_lemmas.Installing.{put_after, put_agrees, put_tells}
 use Rattle.fx_lasting.proofs.node_lemmas.StockMoves.{names_a_node}
-use Rattle.fx_lasting.proofs.Histories.{grows_one, legal_more, part_mine, held_mine, same_shape}
-use Rattle.fx_lasting.proofs.Frames.{busy}
-use Rattle.fx_lasting.proofs.Keeping.{Turn, turn_of, After, slot_word, Made, by_turn, its_log, its_work, w, end}
-use Rattle.table_range.proofs.GroupSlots.{in_range_so}
 use Rattle.fx_lasting.proofs.slot_lemmas.Sights.{by_exchange}
-use Rattle.fx_lasting.proofs.Places.{slot_back}
 use Rattle.fx_lasting.proofs.hold_lemmas.Looking.{unnamed}
 use Rattle.fx_lasting.proofs.slot_lemmas.Swaps.{begins_first, found, found_so, Ends}
 use Rattle.fx_lasting.proofs.node_lemmas.Choosing.{no_file, no_take, not_busy, holds_none}
@@ -60,9 +57,6 @@ module _ (turn : Turn) (s : ℕ) (inside : s < slots_of turn.v.start)
   abbrev pub removal : After turn
   removal = left turn s inside old refl (found turn s inside) (refl, refl) its_round (pass_event x (Take s old) ∷ r.history) ends off
 
-  pub removal_agrees : Agrees v.start (end turn removal)
-  removal_agrees = left_agrees turn s inside old refl (found turn s inside) (refl, refl) its_round (pass_event x (Take s old) ∷ r.history) ends off
-
   pub removal_tells : (carried : List (ℕ × Option Closed))
       → Stepped (v, carried) ([] ▷ Take s old) (retiring_work v.start (found turn s inside) old) v.glance (account (range_at_start v.start) s old)
       (w turn removal, carried)
@@ -76,7 +70,8 @@ module _ (turn : Turn) (s : ℕ) (inside : s < slots_of turn.v.start)
     w turn removal,
     keeps,
     tt,
-    rw (mask_leaves_name (found turn s inside) fits) removal_agrees,
+    rw (mask_leaves_name (found turn s inside) fits)
+        (left_agrees turn s inside old refl (found turn s inside) (refl, refl) its_round (pass_event x (Take s old) ∷ r.history) ends off),
     record {
       file = old;
       names = found_so turn s inside old refl;

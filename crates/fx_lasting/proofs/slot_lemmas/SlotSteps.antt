@@ -1,14 +1,13 @@
 -- A step on the word of a slot, whose file stays there.
-use Rattle.fx_lasting.proofs.Words.{alone_in, inl, true, Deed, untouched, has_acted, has_heated, heat_in, ◌≡◌, ◌≢◌, ℕ, ◌+◌, ◌<◌, ◌≤◌, List, [], set, sym, refl}
-use Rattle.fx_lasting.proofs.Words.{ap, ◌∙◌, arith, Option, held_by, File, Event, NodeAgrees, IsAllowed, SlotAgrees, Agrees, slots_of, nodes_of}
-use Rattle.fx_lasting.proofs.Words.{state_after_all, held_in, held_of, taken_of, taking, Phase, free, placed, seated, leaving, retired, emptied, kept, Work}
-use Rattle.fx_lasting.proofs.Words.{Glance, ⊎_elim, ◌⊎◌, inr, dite, ℕ_discrete, slot_place, word_of, count_in, name_in, full_name_in, entry_in, IsHot}
-use Rattle.fx_lasting.proofs.Words.{cold_takes, tally, birth_word, owed, sum_set, sum_by, get_elem?, length-set, MayBeUncharged, MOST_SLOTS, without_slot}
-use Rattle.fx_lasting.proofs.Frames.{busy, nodes_untouched, slot_same, node_same, Leaves, keeps_other, guards_same, covers_hot}
-use Rattle.fx_lasting.proofs.Keeping.{Turn, After, as_it_was, Keeps, word_at, slot_word, sees_all, stocks_untouched, step_kept, w, end, its_log, node_in}
-use Rattle.fx_lasting.proofs.Keeping.{range_left, LeavesFiles}
-use Rattle.fx_lasting.proofs.Places.{slot_words, slot_here, slot_node, slot_else, slot_by, slot_hold, slot_alike, slot_list, slot_label}
-use Rattle.fx_lasting.proofs.slot_lemmas.Watching.{MovesOn, ActsThere, watch_none}
+use Rattle.fx_lasting.proofs.{alone_in, inl, true, Deed, untouched, has_acted, has_heated, heat_in, ◌≡◌, ◌≢◌, ℕ, ◌+◌, ◌<◌, ◌≤◌, List, [], set, sym}
+use Rattle.fx_lasting.proofs.{refl, ap, ◌∙◌, arith, Option, held_by, File, Event, NodeAgrees, IsAllowed, SlotAgrees, Agrees, slots_of, nodes_of}
+use Rattle.fx_lasting.proofs.{state_after_all, held_in, held_of, taken_of, taking, Phase, free, placed, seated, leaving, retired, emptied, kept, Work}
+use Rattle.fx_lasting.proofs.{Glance, ⊎_elim, ◌⊎◌, inr, dite, ℕ_discrete, slot_place, word_of, count_in, name_in, full_name_in, entry_in, IsHot}
+use Rattle.fx_lasting.proofs.{cold_takes, tally, birth_word, owed, sum_set, sum_by, get_elem?, length-set, MayBeUncharged, MOST_SLOTS, without_slot}
+use Rattle.fx_lasting.proofs.{busy, nodes_untouched, slot_same, node_same, Leaves, keeps_other, guards_same, covers_hot, Turn, After, as_it_was}
+use Rattle.fx_lasting.proofs.{Keeps, word_at, slot_word, sees_all, stocks_untouched, step_kept, w, end, its_log, node_in, range_left, LeavesFiles}
+use Rattle.fx_lasting.proofs.{slot_words, slot_here, slot_node, slot_else, slot_by, slot_hold, slot_alike, slot_list, slot_label, MovesOn, ActsThere}
+use Rattle.fx_lasting.proofs.{watch_none}
 
 -- a slot's new word names the file that the old one named, and a hot slot stays hot
 pub record NamesSame (new old : ℕ) : Type 0 where

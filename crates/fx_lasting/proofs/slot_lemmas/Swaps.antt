@@ -1,22 +1,18 @@
 -- A swap of a slot's word: a file leaves the slot, if there was one, and the slot gets another or
 -- none.
-use Rattle.fx_lasting.proofs.Words.{Round, refl, subst, arith, Some, None, Bool, false, Event, State, Names, Nodes, IsHot, Phase, owner, Found, Change, Labels}
-use Rattle.fx_lasting.proofs.Words.{StillNames, Whereabouts, List, OwnerAgrees, GuardAgrees, RangeCounts, hold_word_of, full_name_in, first_visit, without_slot}
-use Rattle.fx_lasting.proofs.Words.{removal_work, true, NamesItsNode, with_removed, changed_here, changed_else, MayBeUncharged, state_after_all, range_at_start}
-use Rattle.fx_lasting.proofs.Words.{alone_in, IsToVisit, new_round, get_elem?, IsAllowed, IsHistory, untouched, length-set, Placement, written_in, MOST_SLOTS}
-use Rattle.fx_lasting.proofs.Words.{inl, ℕ_discrete, changed_at, NodeAgrees, WorkAgrees, SlotAgrees, HoldAgrees, slot_place, cold_takes, has_heated, removed_in}
-use Rattle.fx_lasting.proofs.Words.{IsInside, held_by, IsSeated, slots_of, nodes_of, word_of, count_in, heat_in, taken_of, held_in, held_of, Retiring, label_of}
-use Rattle.fx_lasting.proofs.Words.{◌≡◌, ◌≢◌, ℕ, suc, ◌+◌, ◌-◌, ◌^◌, ◌<◌, ◌≤◌, [], set, sym, ap, ◌∙◌, inr, ◌⊎◌, dite, File, Deed, owed, free, Work, Idle}
-use Rattle.fx_lasting.proofs.Words.{length, Option, ⊎_elim, dec_le, eq-eqb, ne_eqb, Agrees, taking, if_file, sum_by, sum_set, placed, seated, leaving, file_in}
-use Rattle.fx_lasting.proofs.Counts.{tally_same, tally_none}
-use Rattle.fx_lasting.proofs.Histories.{Grows, each_changed}
-use Rattle.fx_lasting.proofs.Frames.{busy, does_now, slot_same, file_same, Leaves, keeps_other, guards_same, SlotGoesOn, sees_on, heats_on}
-use Rattle.fx_lasting.proofs.Keeping.{Turn, After, as_it_was, Homes, word_at, slot_word, sees_all, list_untouched, step_kept, w, end, its_log, in_range}
-use Rattle.fx_lasting.proofs.Keeping.{labels_same}
-use Rattle.fx_lasting.proofs.Places.{slot_words, slot_here, slot_node, slot_else, slot_by, slot_hold, slot_list, slot_label, slot_alike}
+use Rattle.fx_lasting.proofs.{Round, refl, subst, arith, Some, None, Bool, false, Event, State, Names, Nodes, IsHot, Phase, owner, Found, Change}
+use Rattle.fx_lasting.proofs.{Labels, StillNames, Whereabouts, List, OwnerAgrees, GuardAgrees, RangeCounts, hold_word_of, full_name_in, first_visit}
+use Rattle.fx_lasting.proofs.{without_slot, removal_work, true, NamesItsNode, with_removed, changed_here, changed_else, MayBeUncharged}
+use Rattle.fx_lasting.proofs.{state_after_all, range_at_start, alone_in, IsToVisit, new_round, get_elem?, IsAllowed, IsHistory, untouched, length-set}
+use Rattle.fx_lasting.proofs.{Placement, written_in, MOST_SLOTS, inl, ℕ_discrete, changed_at, NodeAgrees, WorkAgrees, SlotAgrees, HoldAgrees}
+use Rattle.fx_lasting.proofs.{slot_place, cold_takes, has_heated, removed_in, IsInside, held_by, IsSeated, slots_of, nodes_of, word_of, count_in}
+use Rattle.fx_lasting.proofs.{heat_in, taken_of, held_in, held_of, Retiring, label_of, ◌≡◌, ◌≢◌, ℕ, suc, ◌+◌, ◌-◌, ◌^◌, ◌<◌, ◌≤◌, [], set, sym, ap}
+use Rattle.fx_lasting.proofs.{◌∙◌, inr, ◌⊎◌, dite, File, Deed, owed, free, Work, Idle, length, Option, ⊎_elim, dec_le, eq-eqb, ne_eqb, Agrees, taking}
+use Rattle.fx_lasting.proofs.{if_file, sum_by, sum_set, placed, seated, leaving, file_in, tally_same, tally_none, Grows, each_changed, busy, does_now}
+use Rattle.fx_lasting.proofs.{slot_same, file_same, Leaves, keeps_other, guards_same, SlotGoesOn, sees_on, heats_on, Turn, After, as_it_was, Homes}
+use Rattle.fx_lasting.proofs.{word_at, slot_word, sees_all, list_untouched, step_kept, w, end, its_log, in_range, labels_same, slot_words, slot_here}
+use Rattle.fx_lasting.proofs.{slot_node, slot_else, slot_by, slot_hold, slot_list, slot_label, slot_alike, ActsThere, MovesOn, watch_none, in_phase}
 use Rattle.fx_lasting.proofs.node_lemmas.StockMoves.{StaysNamed}
-use Rattle.fx_lasting.proofs.slot_lemmas.Watching.{ActsThere, MovesOn, watch_none}
-use Rattle.fx_lasting.proofs.hold_lemmas.Unheld.{in_phase}
 
 -- the node isn't that of the file
 abbrev pub NotOf : Nodes → ℕ → Option File → Type 0
@@ -77,12 +73,9 @@ module _ (turn : Turn) (s : ℕ) (inside : s < slots_of turn.v.start) where
     pub names_old : Names r.node_of found old
     names_old = subst (Names r.node_of found) was (r.slots s inside).names
 
-    seat_old : IsSeated v.start r.node_of r.phase s old
-    seat_old = subst (IsSeated v.start r.node_of r.phase s) was (r.slots s inside).seat
-
     -- the file that was there
     pub old_at : {f : File} → old ≡ Some f → (r.node_of f.number < nodes_of v.start) × (r.phase (r.node_of f.number) ≡ seated s f)
-    old_at is = subst (IsSeated v.start r.node_of r.phase s) is seat_old
+    old_at is = subst (IsSeated v.start r.node_of r.phase s) is (subst (IsSeated v.start r.node_of r.phase s) was (r.slots s inside).seat)
 
     pub old_named : {f : File} → old ≡ Some f → full_name_in found - 1 ≡ r.node_of f.number
     old_named {f} is = let n = subst (Names r.node_of found) is names_old in let a = n.0 in omega arith
@@ -195,9 +188,6 @@ module _ (turn : Turn) (s : ℕ) (inside : s < slots_of turn.v.start) where
         same_phase : {n : ℕ} {ph : Phase} → r.phase n ≡ ph → NotOf r.node_of n old → ((l : Placement) → ph ≢ placed id l) → phase' n ≡ ph
         same_phase {n} is apart other = else_phase apart ∙ ⊎_elim (λ same. same ∙ is) (λ mine. absurd (other mine.0 (sym is ∙ mine.1))) (p.kept n)
 
-        at_else : (i : ℕ) → i ≢ s → after.at i ≡ state.at i
-        at_else i other = ap (λ (z : State). z.at i) p.ends.leads ∙ changed_else state.at s new i other
-
         at_here : after.at s ≡ new
         at_here = ap (λ (z : State). z.at s) p.ends.leads ∙ changed_here state.at s new s refl
 
@@ -288,7 +278,8 @@ module _ (turn : Turn) (s : ℕ) (inside : s < slots_of turn.v.start) where
 
         slot_other : (i : ℕ) → i < slots_of v.start → i ≢ s
             → SlotAgrees v.start r.node_of phase' (deed' i) i (after.at i) (slot_word (slot_words turn s inside new_word) i)
-        slot_other i l other = slot_same (slot_else turn s inside new_word i other) (at_else i other)
+        slot_other i l other = slot_same (slot_else turn s inside new_word i other)
+            (ap (λ (z : State). z.at i) p.ends.leads ∙ changed_else state.at s new i other)
             (λ q low high. ap (λ (f : ℕ → Deed). f q) (changed_else r.deed s (λ p. untouched) i other))
             (λ f there seat. let its = subst (IsSeated v.start r.node_of r.phase i) there (r.slots i l).seat in
             same_phase its.1 (not_old old was its.1 (λ g bad. other (cc bad))) (λ l bad. cc bad) ∙ sym its.1)

@@ -1,16 +1,13 @@
 -- A removal by a pass that holds the slot's file keeps the rule: the hold ends with the step, and
 -- the removal counts the takes without the pass's own.
-use Rattle.fx_lasting.proofs.Words.{◌≡◌, HoldsAt, slots_of, name_in, held_in, bit_here, bit_else, Counted, Stepped, TakesHeld, IsAllowed, new_round, ℕ, ◌+◌}
-use Rattle.fx_lasting.proofs.Words.{◌-◌, ◌<◌, sym, ap, ◌∙◌, Some, None, none, some, File, Take, ◌▷◌, step, Bool, true, Work, List, WorkAgrees, full_name_in}
-use Rattle.fx_lasting.proofs.Words.{without_file, GuardAgrees, hold_word_of, first_visit, leaving_work, is_guarding, [], node_of_number, state_after_all}
-use Rattle.fx_lasting.proofs.Words.{range_at_start, empty_word_of, SwapsHeldKeep, TakesHeldKeep, guarded_round, refl, subst, arith, Option, keeps, Closed}
-use Rattle.fx_lasting.proofs.Words.{Event, Action, Names, taking, account, false, Round, Guarded, ⊎_elim, get_elem?, Release, slot_place, IsOffCount, IsInStock}
-use Rattle.fx_lasting.proofs.Words.{as_swapped, first_log, SwapsHeld, HoldsAlone, HoldAgrees}
+use Rattle.fx_lasting.proofs.{◌≡◌, HoldsAt, slots_of, name_in, held_in, bit_here, bit_else, Counted, Stepped, TakesHeld, IsAllowed, new_round, ℕ, ◌+◌}
+use Rattle.fx_lasting.proofs.{◌-◌, ◌<◌, sym, ap, ◌∙◌, Some, None, none, some, File, Take, ◌▷◌, step, Bool, true, Work, List, WorkAgrees, full_name_in}
+use Rattle.fx_lasting.proofs.{without_file, GuardAgrees, hold_word_of, first_visit, leaving_work, is_guarding, [], node_of_number, state_after_all}
+use Rattle.fx_lasting.proofs.{range_at_start, empty_word_of, SwapsHeldKeep, TakesHeldKeep, guarded_round, refl, subst, arith, Option, keeps, Closed}
+use Rattle.fx_lasting.proofs.{Event, Action, Names, taking, account, false, Round, Guarded, ⊎_elim, get_elem?, Release, slot_place, IsOffCount}
+use Rattle.fx_lasting.proofs.{IsInStock, as_swapped, first_log, SwapsHeld, HoldsAlone, HoldAgrees, legal_more, same_shape, busy, Turn, turn_of, After}
+use Rattle.fx_lasting.proofs.{Made, its_log, its_work, word_at, slot_word, w, slot_back}
 use Rattle.fx_lasting.proofs.node_lemmas.StockMoves.{names_a_node}
-use Rattle.fx_lasting.proofs.Histories.{legal_more, same_shape}
-use Rattle.fx_lasting.proofs.Frames.{busy}
-use Rattle.fx_lasting.proofs.Keeping.{Turn, turn_of, After, Made, its_log, its_work, word_at, slot_word, w}
-use Rattle.fx_lasting.proofs.Places.{slot_back}
 use Rattle.fx_lasting.proofs.slot_lemmas.Sights.{by_exchange}
 use Rattle.fx_lasting.proofs.slot_lemmas.Swaps.{found, Ends}
 use Rattle.fx_lasting.proofs.slot_lemmas.Emptying.{left, left_agrees, left_tells, moved, moved_agrees, moved_tells}

@@ -1,12 +1,10 @@
 -- A removal by an exchange of names keeps the rule: the slot's word names a node of the pass's
 -- stock, and the node that it named takes that node's place.
-use Rattle.fx_lasting.proofs.Words.{◌≡◌, ℕ, ◌-◌, ◌<◌, List, [], ◌∷◌, sym, refl, ap, ◌∙◌, arith, Option, none, some, keeps, get_elem?, Closed, File, Take, ◌▷◌}
-use Rattle.fx_lasting.proofs.Words.{pass_event, Agrees, slots_of, slot_place, Stepped, IsOffCount, account, range_at_start, step, retiring_work, HasNoFile}
-use Rattle.fx_lasting.proofs.Words.{IsInStock, as_swapped, first_log, name_in, empty_word_of, SwapsOut, SwapsOutKeep}
+use Rattle.fx_lasting.proofs.{◌≡◌, ℕ, ◌-◌, ◌<◌, List, [], ◌∷◌, sym, refl, ap, ◌∙◌, arith, Option, none, some, keeps, get_elem?, Closed, File, Take}
+use Rattle.fx_lasting.proofs.{◌▷◌, pass_event, Agrees, slots_of, slot_place, Stepped, IsOffCount, account, range_at_start, step, retiring_work}
+use Rattle.fx_lasting.proofs.{HasNoFile, IsInStock, as_swapped, first_log, name_in, empty_word_of, SwapsOut, SwapsOutKeep, part_mine, Turn, turn_of}
+use Rattle.fx_lasting.proofs.{After, Made, by_turn, w, end, slot_back}
 use Rattle.fx_lasting.proofs.node_lemmas.StockMoves.{names_a_node}
-use Rattle.fx_lasting.proofs.Histories.{part_mine}
-use Rattle.fx_lasting.proofs.Keeping.{Turn, turn_of, After, Made, by_turn, w, end}
-use Rattle.fx_lasting.proofs.Places.{slot_back}
 use Rattle.fx_lasting.proofs.slot_lemmas.Swaps.{found, found_so}
 use Rattle.fx_lasting.proofs.slot_lemmas.Emptying.{moved, moved_agrees, moved_tells}
 use Rattle.fx_lasting.proofs.slot_lemmas.SlotLaws.{old, its_round, ends}

@@ -10,7 +10,7 @@ ghost use Rattle.fx_lasting.specs.declared.view.Glance.TheVariants.{None as Noth
 
 use crate::fields::{HEAT, announced, cold_takes, count_of, is_hot_at};
 use crate::kinds::{Announcing, Confirming, HeatingUp};
-use crate::life::layout::{hold_place, slot_place};
+use crate::life::layout::slot_place;
 use crate::table::LastingTable;
 use crate::view::View;
 use atomic_table::Seat;
@@ -40,7 +40,7 @@ impl LastingTable {
         ensures places { seat.new.me.1 ≡ seat.old.me.1 }
     {
         let shared = &self.table.shared;
-        let hold = hold_place(self.size, number);
+        let hold = self.hold_place(number);
         shared.store::<Announcing>(seat, hold, announced(node));
         let word = shared.load::<Confirming>(seat, slot_place(slot));
         if is_hot_at(word, node) {

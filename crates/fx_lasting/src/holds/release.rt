@@ -8,7 +8,6 @@ ghost use Rattle.fx_lasting.specs.declared.view.Work.TheVariants.{Announced, Gua
 
 use crate::fields::announced;
 use crate::kinds::{Letting, SteppingDown, Withdrawing};
-use crate::life::layout::hold_place;
 use crate::table::LastingTable;
 use crate::view::View;
 use atomic_table::Seat;
@@ -44,7 +43,7 @@ impl LastingTable {
 
     // Withdraws the pass's announcement of the node, in at most three steps. Returns the file if it
     // was retired and no other pass uses it.
-    #[inline(never)]
+    #[inline(always)]
     pub(crate) fn withdraw(
         &self,
         seat: &mut Seat<Option<OpenFile>, View>,
@@ -59,7 +58,7 @@ impl LastingTable {
         ensures withdraws { LetsChargeGo seat.old.me 3 result seat.new.me }
         ensures places { seat.new.me.1 ≡ [] }
     {
-        let place = hold_place(self.size, number);
+        let place = self.hold_place(number);
         let found = self.table.shared.swap::<Withdrawing>(seat, place, 0);
         if found == announced(node) {
             return None;
@@ -85,7 +84,7 @@ impl LastingTable {
             → LetsFileGo seat.old.me f 3 result seat.new.me }
         ensures places { seat.new.me.1 ≡ [] }
     {
-        let place = hold_place(self.size, number);
+        let place = self.hold_place(number);
         let found = self.table.shared.swap::<SteppingDown>(seat, place, 0);
         if found == announced(node) {
             return None;

@@ -10,7 +10,7 @@ ghost use Rattle.fx_lasting.specs.declared.view.Work.TheVariants.{Retiring};
 
 use crate::fields::{announced, charged};
 use crate::kinds::{Charging, Skimming, Visiting};
-use crate::life::layout::{hold_place, list_place};
+use crate::life::layout::list_place;
 use crate::table::LastingTable;
 use crate::view::View;
 use atomic_table::Seat;
@@ -50,7 +50,7 @@ impl LastingTable {
 
     // Visits the listed ones of the 64 passes from `first` on, in at most two steps for each, and
     // one. Returns the number of charges that it made.
-    #[inline(never)]
+    #[inline(always)]
     fn charge_listed(
         &self,
         seat: &mut Seat<Option<OpenFile>, View>,
@@ -117,7 +117,7 @@ impl LastingTable {
             return 0;
         }
         let shared = &self.table.shared;
-        let place = hold_place(self.size, pass);
+        let place = self.hold_place(pass);
         let named = announced(node);
         let word = shared.load::<Visiting>(seat, place);
         if word != named {

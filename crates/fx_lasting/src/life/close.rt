@@ -94,6 +94,7 @@ impl LastingTable {
             size,
             range_start: _,
             range_len: _,
+            before_holds: _,
             first_node: _,
             group_bits: _,
         } = self;
@@ -120,6 +121,7 @@ impl LastingTable {
             size: _,
             range_start: _,
             range_len: _,
+            before_holds: _,
             first_node: _,
             group_bits: _,
         } = self;

@@ -8,7 +8,7 @@
 //! large block 16 bytes after the beginning of a page, so that a line is a cache line there. It
 //! aligns a small block to 16 bytes alone, and then the words of a node may be in two cache lines.
 ghost use Rattle.std.specs.Prelude.{◌≡◌, ◌<◌, ◌≤◌, ◌^◌};
-ghost use Rattle.fx_lasting.specs.life.Layout.{list_place, slot_place, hold_place, node_place};
+ghost use Rattle.fx_lasting.specs.life.Layout.{list_place, slot_place, node_place};
 ghost use Rattle.fx_lasting.specs.life.Layout.{tag_place, number_place, words_for, slot_words};
 ghost use Rattle.fx_lasting.specs.life.Layout.{slot_lines, node_words, stock_start, nodes_for};
 
@@ -84,15 +84,6 @@ pub(crate) fn slot_place(slot: u32) -> usize
     ensures { result ≡ slot_place slot }
 {
     (RANGE_END + slot_words(slot)) as usize
-}
-
-// Returns the place of a pass's hold word.
-pub(crate) fn hold_place(size: u32, pass: u32) -> usize
-    requires size { size ≤ MOST_SLOTS }
-    requires pass { pass ≤ MOST_PASSES }
-    ensures { result ≡ hold_place size pass }
-{
-    (RANGE_END - 8 + 8 * slot_lines(size) + 8 * pass) as usize
 }
 
 // Returns the place of the first node's word.

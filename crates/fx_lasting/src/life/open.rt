@@ -106,6 +106,7 @@ impl LastingTable {
             size,
             range_start,
             range_len,
+            before_holds: first_node(size, 0) - 8,
             first_node: first_node(size, passes),
             group_bits: group_bits(range_len),
         };

@@ -74,7 +74,7 @@ impl LastingTable {
     }
 
     // Takes the file out of the place of its node, and returns the place, in one step.
-    #[inline(never)]
+    #[inline(always)]
     pub(crate) fn take_out(&self, seat: &mut Seat<Option<OpenFile>, View>, node: u32) -> OpenFile
         requires table { seat.old.table_id ≡ self.now.table.shared.table_id }
         requires at { (number : ℕ) × IsAtWork self.now.table.shared.key number seat.old.me }

@@ -76,10 +76,11 @@ impl LastingTable {
         if !self.sees_file(seat, first) {
             return Some(first);
         }
-        self.look_in_groups(seat, number, first)
+        let start = self.scan_start(first, from);
+        self.look_in_groups(seat, number, start)
     }
 
-    // Looks for one in the groups, from the slot `first` on, which was looked at.
+    // Looks for one in the groups, from the slot `first` on.
     fn look_in_groups(
         &self,
         seat: &mut Seat<Option<OpenFile>, View>,

@@ -36,10 +36,10 @@ impl LastingTable {
     /// (io_uring_prep_openat(3), "IORING_FILE_INDEX_ALLOC"). It never waits: it makes at most three
     /// atomic steps for each slot of a group, two for each group, and eleven more than the table
     /// has passes. It tries the slot that the pass emptied last, or else the one after the slot
-    /// that it filled last, and then goes once over the groups that aren't full. It returns the
-    /// slot; or the file, if every slot of the range had a file at one moment (ENFILE), or if
-    /// neither was found. Then nothing has changed, and another pass emptied a slot of the range
-    /// during the call, changed an empty one, or was in the middle of a call.
+    /// that it filled last, and then goes once over the groups that aren't full, from the slot
+    /// before that. It returns the slot; or the file, if every slot of the range had a file at one
+    /// moment (ENFILE), or if neither was found. Then nothing has changed, and another pass emptied
+    /// a slot of the range during the call, changed an empty one, or was in the middle of a call.
     #[inline(always)]
     pub fn try_put_any(&self, pass: &mut LastingPass, file: OpenFile) -> TriedPut
         requires fits { IsPassOfTable self.now pass.old }
@@ -164,10 +164,11 @@ impl LastingTable {
         if let Some(named) = self.try_slot(seat, node, lost, file, first) {
             return Some((first, named));
         }
-        self.scan_groups(seat, number, node, lost, file, first)
+        let start = self.scan_start(first, from);
+        self.scan_groups(seat, number, node, lost, file, start)
     }
 
-    // Tries the slots of the range group by group, from the slot `first` on, which was tried.
+    // Tries the slots of the range group by group, from the slot `first` on.
     #[inline(always)]
     fn scan_groups(
         &self,
@@ -293,6 +294,20 @@ impl LastingTable {
             let groups = groups_in(self.range_len);
             let group = (groups - number % groups) % groups;
             self.range_start + group * group_size(self.range_len)
+        }
+    }
+
+    // Returns the slot from which a scan goes over the groups: the one before `first`, which the
+    // pass filled last and another may have emptied. If the pass begins at a group of its own, and
+    // not at `from`, it goes on there: the slot before is in another's group.
+    pub(crate) fn scan_start(&self, first: u32, from: u32) -> u32
+        requires { IsInRange self.now.table.shared.key first }
+        ensures { IsInRange self.now.table.shared.key result }
+    {
+        if first == from && self.range_start < first {
+            first - 1
+        } else {
+            first
         }
     }
 

@@ -23,7 +23,6 @@ use crate::fields::empty_word;
 use crate::key::Key;
 use crate::key_answers::{KeyLook, KeyTaken};
 use crate::kinds::{EndingHold, SwappingHeld, TakingHeld};
-use crate::life::layout::hold_place;
 use crate::pass::LastingPass;
 use crate::slots::by_key::fault_of;
 use crate::slots::by_node::removed_by;
@@ -182,7 +181,7 @@ impl LastingTable {
             seat.new.me }
     {
         if guarded {
-            let place = hold_place(self.size, number);
+            let place = self.hold_place(number);
             self.table.shared.store::<EndingHold>(seat, place, 0);
             return word;
         }

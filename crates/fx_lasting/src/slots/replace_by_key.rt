@@ -320,7 +320,7 @@ impl LastingTable {
     // Takes the file that the pass places out of its own node's place, and releases the file of the
     // other node, in at most four steps. Returns both files; the released one if it was retired and
     // no other pass uses it.
-    #[inline(never)]
+    #[inline(always)]
     fn unplace(
         &self,
         seat: &mut Seat<Option<OpenFile>, View>,

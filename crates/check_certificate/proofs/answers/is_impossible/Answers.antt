@@ -1,9 +1,6 @@
-use Rattle.check_certificate.proofs.Words.{◌∙◌, ap, sym}
+use Rattle.check_certificate.proofs.Words.{◌∙◌, ap, sym, completed_of, asked_of, not}
 use Rattle.check_certificate.proofs.Impossible.{impossible}
 use Rattle.check_certificate.specs.Answers.{is_impossible}
-use Rattle.fx_chain.specs.Completed.{completed_of}
-use Rattle.fx_chain.specs.Operation.{asked_of}
-use Rattle.std.specs.Prelude.{not}
 use Rattle.check_certificate.proofs.answers.is_impossible.Goals as goal
 
 pub returns-clause-sound : goal.returns-clause-sound

@@ -1,9 +1,5 @@
-use Rattle.check_certificate.proofs.Words.{◌∙◌, arith, refl, rules, FileClosed}
+use Rattle.check_certificate.proofs.Words.{◌∙◌, arith, refl, rules, FileClosed, closes_file, happening_of, file_Decides, common_steps}
 use Rattle.check_certificate.proofs.Forcing.{logged_any}
-use Rattle.check_certificate.specs.Said.{closes_file}
-use Rattle.fx_flight.specs.Events.{happening_of}
-use Rattle.fx_order.proofs.Apart.{file_Decides}
-use Rattle.std.proofs.lemmas.Grind.{common_steps}
 use Rattle.check_certificate.proofs.events.was_closed.Goals as goal
 
 pub returns-clause-exact : goal.returns-clause-exact

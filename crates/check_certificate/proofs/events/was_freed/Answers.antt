@@ -1,9 +1,5 @@
-use Rattle.check_certificate.proofs.Words.{◌∙◌, arith, refl, rules, Freed}
+use Rattle.check_certificate.proofs.Words.{◌∙◌, arith, refl, rules, Freed, frees_look, happening_of, Decides-eqb, common_steps}
 use Rattle.check_certificate.proofs.Forcing.{logged_any}
-use Rattle.check_certificate.specs.Said.{frees_look}
-use Rattle.fx_flight.specs.Events.{happening_of}
-use Rattle.fx_order.proofs.Words.{Decides-eqb}
-use Rattle.std.proofs.lemmas.Grind.{common_steps}
 use Rattle.check_certificate.proofs.events.was_freed.Goals as goal
 
 pub returns-clause-exact : goal.returns-clause-exact

@@ -1,7 +1,5 @@
-use Rattle.check_certificate.proofs.Words.{◌≡◌, false, take}
+use Rattle.check_certificate.proofs.Words.{◌≡◌, false, take, shows_absent, list_any}
 use Rattle.check_certificate.proofs.holding.is_known_absent.Given as goal
-use Rattle.check_certificate.specs.Holds.{shows_absent}
-use Rattle.std.specs.List.{list_any}
 
 abbrev pub invariant-loop-order : goal.invariant-loop-order
 invariant-loop-order l = list_any (λ order. shows_absent order l.h l.file) (take l.order-index l.known) ≡ false

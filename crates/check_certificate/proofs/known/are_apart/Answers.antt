@@ -1,5 +1,4 @@
-use Rattle.check_certificate.specs.Forced.{IsForced}
-use Rattle.std.proofs.lemmas.List.Elements.{All-get_or}
+use Rattle.check_certificate.proofs.Words.{IsForced, All-get_or}
 use Rattle.check_certificate.proofs.known.are_apart.Goals as goal
 
 pub returns-then-is_apart-clause-sound : goal.returns-then-is_apart-clause-sound

@@ -1,7 +1,5 @@
-use Rattle.check_certificate.proofs.Words.{◌≡◌, false, take}
+use Rattle.check_certificate.proofs.Words.{◌≡◌, false, take, says, list_any}
 use Rattle.check_certificate.proofs.known.is_known.Given as goal
-use Rattle.check_certificate.specs.Leaves.{says}
-use Rattle.std.specs.List.{list_any}
 
 abbrev pub invariant-loop-order : goal.invariant-loop-order
 invariant-loop-order l = list_any (λ order. says order l.from l.to) (take l.order-index l.known) ≡ false

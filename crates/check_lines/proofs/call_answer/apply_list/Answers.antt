@@ -1,6 +1,6 @@
-use Rattle.check_lines.proofs.Words.{append-nil, drop-length, Vec, ◌≡◌, ◌+◌, ℕ, List, [], ◌∷◌, ◌++◌, pos, to_z, of_z, w32, slice_index_or, drop, ap}
-use Rattle.check_lines.proofs.Words.{subst, sym, ◌∙◌, rules, arith, length, upto_none, upto_all, option_to_list, Registered, Closed, Table, with_file}
-use Rattle.check_lines.proofs.Words.{table_of_slots, file_after, removed_from, tags_for, AreInRange}
+use Rattle.check_lines.proofs.Words.{append-nil, drop-length, ◌≡◌, ◌+◌, ℕ, [], ◌∷◌, pos, to_z, of_z, w32, slice_index_or, ap}
+use Rattle.check_lines.proofs.Words.{subst, sym, ◌∙◌, rules, arith, length, upto_none, upto_all, option_to_list, Registered, Table, with_file}
+use Rattle.check_lines.proofs.Words.{table_of_slots, file_after, tags_for, AreInRange}
 use Rattle.std.proofs.Math.Nat.{add-zero}
 use Rattle.check_lines.proofs.Entries.{in_range_after, one_more, more_removed}
 use Rattle.check_lines.proofs.call_answer.apply_list.Goals.{in-Some+in_ok-push, in_default}
@@ -24,7 +24,6 @@ loop-i-preserved c =
     let after : new ≡ with_file cur (c.args.off + c.loop-i.i) (file_after (Registered c.args.k c.loop-i.i) c.tag_at.result z (cur.at (c.args.off + c.loop-i.i))) =
     c.apply_number.ensures.table in
     let gone = more_removed c.args.k c.args.off c.loop-i.i c.args.list.now tags z first cur new c.loop-i-test.true read c.loop-i.invariant.table in
-    let rest = removed_from first.at (c.args.off + (c.loop-i.i + 1)) (drop (c.loop-i.i + 1) c.args.list.now) in
     record {
       table = one_more c.args.k c.args.off c.loop-i.i c.args.list.now tags z first cur new c.loop-i-test.true read c.loop-i.invariant.table
           (rw (c.tag_at.ensures c.args.list.now) at after);
@@ -32,20 +31,16 @@ loop-i-preserved c =
           (in_range_after cur (c.args.off + c.loop-i.i) c.args.k c.loop-i.i c.tag_at.result z (c.loop-i.invariant.in_range fits) (omega arith) (omega arith)
           (omega arith));
       removed = elim c.match-apply_number.branch [
-        | in-Some+in_ok-push w ↦
-            ap (λ (v : Vec Closed). v.items ++ rest) w.removed-is ∙ ap (λ (l : List Closed). l ++ rest) w.in_ok-push.ensures.items
-            ∙ gone (w.in-Some.file ∷ []) c.loop-i.removed.items (ap option_to_list (sym w.in-Some.is) ∙ c.apply_number.ensures.removed)
-            c.loop-i.invariant.removed
-        | in_default w ↦
-            ap (λ (v : Vec Closed). v.items ++ rest) w.removed-is ∙ ap (λ (l : List Closed). l ++ rest) (sym (append-nil c.loop-i.removed.items))
-            ∙ gone [] c.loop-i.removed.items (ap option_to_list (sym w.in_default.is) ∙ c.apply_number.ensures.removed) c.loop-i.invariant.removed
+        | in-Some+in_ok-push w ↦ rw (w.removed-is, w.in_ok-push.ensures.items) (gone (w.in-Some.file ∷ []) c.loop-i.removed.items
+            (ap option_to_list (sym w.in-Some.is) ∙ c.apply_number.ensures.removed) c.loop-i.invariant.removed)
+        | in_default w ↦ rw w.removed-is (rw append-nil at (gone [] c.loop-i.removed.items
+            (ap option_to_list (sym w.in_default.is) ∙ c.apply_number.ensures.removed) c.loop-i.invariant.removed))
       ];
     }
 
 pub returns : goal.returns
 returns c =
-    let past = c.loop-i-test.false in let below = c.loop-i.auto.i-end in
-    let all : c.loop-i.i ≡ length c.args.list.now = omega arith in
+    let all : c.loop-i.i ≡ length c.args.list.now = omega (arith, c.loop-i-test.false, c.loop-i.auto.i-end) in
     let first = table_of_slots c.args.slots.now in let tags = tags_for c.args.list.now c.args.tags in
     record {
       table = rw (all, upto_all c.args.k first.at c.args.off c.args.list.now tags) at c.loop-i.invariant.table;

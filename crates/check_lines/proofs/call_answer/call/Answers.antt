@@ -43,9 +43,8 @@ returns-clause-line c =
     let call : IsNoSubmission command = search rules in
     let none = sym c.head_of-refusal.ensures.refusal ∙ c.in_default-refusal.is in
     let few = few_told before command c.requires.few none in
-    let res = c.head_of-refusal.ensures.res in
     let value : to_z w64 c.head_of-refusal.result.2 ≡ pos c.head_of-refusal.result.2 = omega (arith, ints) in
     accepted_line before command c.deref-2.result.now c.in_ok-closes.closes c.as_str.result.now (string_bytes c.in_ok-line-3.line) call none
     (c.deref-2.ensures.value ∙ c.in_ok-slots.ensures.closed) c.in_ok-closes.ensures
     (c.as_str.ensures.value ∙ c.in_ok-first.ensures ∙ ap (λ (z : ℤ). result_line c.head_of-refusal.result.0.now z) value
-    ∙ (λ i. result_line (c.head_of-refusal.ensures.word i) (pos (res i)))) c.in_ok-line-3.ensures
+    ∙ (λ i. result_line (c.head_of-refusal.ensures.word i) (pos (c.head_of-refusal.ensures.res i)))) c.in_ok-line-3.ensures

@@ -1,12 +1,7 @@
-use Rattle.check_lines.proofs.Words.{Completion, ◌≡◌, ◌∙◌, ◌++◌, ℕ, List, HasLength, ◌<◌, ◌≤◌, [], ◌∷◌, length, sym, ap, arith, length-append, map-append}
+use Rattle.check_lines.proofs.Words.{◌≡◌, ◌∙◌, ◌++◌, ℕ, List, ◌≤◌, [], ◌∷◌, length, sym, ap, arith, length-append, map-append}
 use Rattle.check_lines.proofs.Words.{all_completed, completion_line, flat_map, length-map, completed_of}
 use Rattle.check_lines.proofs.ReportTexts.{next_line, no_next}
 use Rattle.check_lines.proofs.report_lines.read_completions.Goals as goal
-
--- the text may not end before `count` completions
-not_yet : (items : List Completion) {n count : ℕ} → length items ≡ n → n < count → {rest behind : List ℕ}
-    → HasLength count (all_completed items) behind → rest ≡ behind → ⊥
-not_yet items counted left all same = let known = length-map items completed_of in absurd (omega arith)
 
 pub returns-in_default : goal.returns-in_default
 returns-in_default c =
@@ -17,6 +12,7 @@ returns-in_default c =
     let is = c.in_ok-completion.ensures.parsed y others fits same in
     c.in_default.ensures.none others (same ∙ ap (λ (t : List ℕ). t ++ others) (ap completion_line is ∙ sym line)))
 
+-- the text may not end before `count` completions
 pub loop-preserved : goal.loop-preserved
 loop-preserved c =
     let line = c.as_bytes.ensures.value ∙ c.in_ok-push_completion.ensures
@@ -28,7 +24,7 @@ loop-preserved c =
       first = rw (c.in_ok-push.ensures.items, map-append completed_of c.loop.completions.items (c.in_ok-completion.completion ∷ []))
           (next_line c.loop.invariant.first c.in_ok-completion.ensures.fits
           (c.in-Some.ensures.rest ∙ ap (λ (t : List ℕ). t ++ c.in-Some.others.now) line)
-          (λ behind. not_yet c.loop.completions.items c.loop.invariant.counted c.loop-test.true) c.in_ok-completion.ensures.parsed);
+          (λ behind all same. omega (arith, length-map c.loop.completions.items completed_of, c.loop-test.true)) c.in_ok-completion.ensures.parsed);
     }
 
 pub returns : goal.returns

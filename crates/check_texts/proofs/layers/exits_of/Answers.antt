@@ -1,7 +1,4 @@
-use Rattle.check_texts.proofs.Words.{instruction_of, stage_of, All-push, AreExits, IsBare}
-use Rattle.check_texts.proofs.Growth.{at_value}
-use Rattle.check_texts.proofs.Walks.{next_ring}
-use Rattle.check_texts.proofs.Ways.{exits_are, only_new}
+use Rattle.check_texts.proofs.{instruction_of, stage_of, All-push, AreExits, IsBare, at_value, next_ring, exits_are, only_new}
 use Rattle.check_texts.proofs.layers.exits_of.Goals.{After-from-item}
 use Rattle.check_texts.proofs.layers.exits_of.Goals as goal
 

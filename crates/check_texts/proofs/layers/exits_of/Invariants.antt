@@ -1,4 +1,4 @@
-use Rattle.check_texts.proofs.Words.{instruction_of, stages_of, All, AreExits, AreBare}
+use Rattle.check_texts.proofs.{instruction_of, stages_of, All, AreExits, AreBare}
 use Rattle.check_texts.proofs.layers.exits_of.Given as goal
 
 abbrev pub invariant-loop-from : goal.invariant-loop-from

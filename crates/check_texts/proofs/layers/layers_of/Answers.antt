@@ -1,6 +1,4 @@
-use Rattle.check_texts.proofs.Words.{refl, take_all, All-nil, All-push, IsLayer}
-use Rattle.check_texts.proofs.Walks.{taken_one}
-use Rattle.check_texts.proofs.Ways.{bare_start, commands_more}
+use Rattle.check_texts.proofs.{refl, take_all, All-nil, All-push, IsLayer, taken_one, bare_start, commands_more}
 use Rattle.check_texts.proofs.layers.layers_of.Goals as goal
 
 pub loop-command-init : goal.loop-command-init

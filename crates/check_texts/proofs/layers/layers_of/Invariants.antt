@@ -1,4 +1,4 @@
-use Rattle.check_texts.proofs.Words.{instructions_of, stages_of, take, ◌≡◌, All, IsLayer, commands_in, AreBare}
+use Rattle.check_texts.proofs.{instructions_of, stages_of, take, ◌≡◌, All, IsLayer, commands_in, AreBare}
 use Rattle.check_texts.proofs.layers.layers_of.Given as goal
 
 abbrev pub invariant-loop-command : goal.invariant-loop-command

@@ -1,5 +1,4 @@
-use Rattle.check_texts.proofs.Words.{IsRing, ring_with_slots, stage_of, subst, sym, [], ⊎_elim, ◌≡◌}
-use Rattle.check_texts.proofs.Growth.{at_value, pushed}
+use Rattle.check_texts.proofs.{IsRing, ring_with_slots, stage_of, subst, sym, [], ⊎_elim, ◌≡◌, at_value, pushed}
 use Rattle.check_texts.proofs.layers.numbers_of.Goals as goal
 
 pub loop-exit-preserved : goal.loop-exit-preserved

@@ -1,4 +1,4 @@
-use Rattle.check_texts.proofs.Words.{FileEntry, List, stages_of, AreRings, AreBare}
+use Rattle.check_texts.proofs.{FileEntry, List, stages_of, AreRings, AreBare}
 use Rattle.check_texts.proofs.layers.numbers_of.Given as goal
 
 abbrev pub invariant-loop-exit : goal.invariant-loop-exit

@@ -1,5 +1,4 @@
-use Rattle.check_texts.proofs.Words.{stage_of, sym, ◌∙◌, bytes_decides}
-use Rattle.check_texts.proofs.Growth.{at_value}
+use Rattle.check_texts.proofs.{stage_of, sym, ◌∙◌, bytes_decides, at_value}
 use Rattle.check_texts.proofs.next.has_ring.Goals as goal
 
 pub returns-then-are_same : goal.returns-then-are_same

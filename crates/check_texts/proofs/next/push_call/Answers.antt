@@ -1,7 +1,5 @@
-use Rattle.check_texts.proofs.Words.{shown, instruction_of, ring_with_slots, IsLineOf, Stage, after_call, kept_text, stage_of, stages_of}
-use Rattle.check_texts.proofs.Words.{string_bytes, ◌++◌, ◌≡◌}
-use Rattle.check_texts.proofs.Calls.{call_may_lead, call_only}
-use Rattle.check_texts.proofs.Growth.{grows_on, stays}
+use Rattle.check_texts.proofs.{shown, instruction_of, ring_with_slots, IsLineOf, Stage, after_call, kept_text, stage_of, stages_of, string_bytes}
+use Rattle.check_texts.proofs.{◌++◌, ◌≡◌, call_may_lead, call_only, grows_on, stays}
 use Rattle.check_texts.proofs.next.push_call.Goals as goal
 
 pub returns : goal.returns

@@ -1,5 +1,4 @@
-use Rattle.check_texts.proofs.Words.{stage_of, refl, sym}
-use Rattle.check_texts.proofs.Growth.{pushed}
+use Rattle.check_texts.proofs.{stage_of, refl, sym, pushed}
 use Rattle.check_texts.proofs.next.push_new.Goals as goal
 
 pub returns-then-has_ring-clause-there : goal.returns-then-has_ring-clause-there

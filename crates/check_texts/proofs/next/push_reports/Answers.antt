@@ -1,6 +1,5 @@
-use Rattle.check_texts.proofs.Words.{IsPossible, all_asked, stage_of, stage_reported, stages_of, take_all}
-use Rattle.check_texts.proofs.Growth.{grows_on, there_more}
-use Rattle.check_texts.proofs.Submitted.{counted_one, few_left, possible_may_lead, reports_are_all}
+use Rattle.check_texts.proofs.{IsPossible, all_asked, stage_of, stage_reported, stages_of, take_all, grows_on, there_more, counted_one, few_left}
+use Rattle.check_texts.proofs.{possible_may_lead, reports_are_all}
 use Rattle.check_texts.proofs.next.push_reports.Goals.{After-possible-item}
 use Rattle.check_texts.proofs.next.push_reports.Goals as goal
 

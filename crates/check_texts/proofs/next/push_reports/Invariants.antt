@@ -1,4 +1,4 @@
-use Rattle.check_texts.proofs.Words.{all_asked, SubmitsAll, Grows, MayLeadTo, Stage, stage_of, stage_reported, stages_of, map, take, Contains}
+use Rattle.check_texts.proofs.{all_asked, SubmitsAll, Grows, MayLeadTo, Stage, stage_of, stage_reported, stages_of, map, take, Contains}
 use Rattle.check_texts.proofs.next.push_reports.Given as goal
 
 abbrev pub invariant-loop-possible : goal.invariant-loop-possible

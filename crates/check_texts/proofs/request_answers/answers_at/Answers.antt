@@ -1,6 +1,4 @@
-use Rattle.check_texts.proofs.Words.{RingState, stage_of, ap, take_all}
-use Rattle.check_texts.proofs.Growth.{at_value, from_more, holds_more}
-use Rattle.check_texts.proofs.Submitted.{no_report}
+use Rattle.check_texts.proofs.{RingState, stage_of, ap, take_all, at_value, from_more, holds_more, no_report}
 use Rattle.check_texts.proofs.request_answers.answers_at.Goals as goal
 
 pub push_answers-requires-clause-ring : goal.push_answers-requires-clause-ring

@@ -1,4 +1,4 @@
-use Rattle.check_texts.proofs.Words.{all_asked, instructions_of, HasEachSaidFrom, said_in, stages_of, AreSaidFrom, take, IsTrue}
+use Rattle.check_texts.proofs.{all_asked, instructions_of, HasEachSaidFrom, said_in, stages_of, AreSaidFrom, take, IsTrue}
 use Rattle.check_texts.proofs.request_answers.answers_at.Given as goal
 
 abbrev pub invariant-loop-from : goal.invariant-loop-from

@@ -1,7 +1,4 @@
-use Rattle.check_texts.proofs.Words.{all_asked, instruction_of, arith, refl, sym, ◌+◌, ◌∙◌, take_rest}
-use Rattle.check_texts.proofs.Calls.{call_uncounted}
-use Rattle.check_texts.proofs.Submitted.{counted_one}
-use Rattle.check_texts.proofs.Walks.{around, count_one}
+use Rattle.check_texts.proofs.{all_asked, instruction_of, arith, refl, sym, ◌+◌, ◌∙◌, take_rest, call_uncounted, counted_one, around, count_one}
 use Rattle.check_texts.proofs.request_answers.asking_at.Goals as goal
 
 pub loop-i-preserved-in_default : goal.loop-i-preserved-in_default

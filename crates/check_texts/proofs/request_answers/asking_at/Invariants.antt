@@ -1,4 +1,4 @@
-use Rattle.check_texts.proofs.Words.{instructions_of, count_after_all, take, ◌<◌, ◌≡◌}
+use Rattle.check_texts.proofs.{instructions_of, count_after_all, take, ◌<◌, ◌≡◌}
 use Rattle.check_texts.proofs.request_answers.asking_at.Given as goal
 
 abbrev pub invariant-loop-i : goal.invariant-loop-i

@@ -1,7 +1,5 @@
-use Rattle.check_texts.proofs.Words.{from_here, instruction_of, instructions_of, MayLeadTo, stage_of, drop, ◌+◌}
+use Rattle.check_texts.proofs.{from_here, instruction_of, instructions_of, MayLeadTo, stage_of, drop, ◌+◌, popped, next_ring}
 use Rattle.std.proofs.Math.ListN.{drop_of_length-le}
-use Rattle.check_texts.proofs.Growth.{popped}
-use Rattle.check_texts.proofs.Walks.{next_ring}
 use Rattle.check_texts.proofs.Plays.{may_end, may_end_behind}
 use Rattle.check_texts.proofs.request_answers.goes_on.Goals as goal
 

@@ -1,4 +1,4 @@
-use Rattle.check_texts.proofs.Words.{instructions_of, ring_with_slots, IsRing, MayEnd, drop}
+use Rattle.check_texts.proofs.{instructions_of, ring_with_slots, IsRing, MayEnd, drop}
 use Rattle.check_texts.proofs.request_answers.goes_on.Given as goal
 
 -- an end of the ring that is reached is one of the first ring

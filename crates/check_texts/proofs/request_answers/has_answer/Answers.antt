@@ -1,4 +1,4 @@
-use Rattle.check_texts.proofs.Words.{completed_of, Said, sym, ◌∙◌}
+use Rattle.check_texts.proofs.{completed_of, Said, sym, ◌∙◌}
 use Rattle.check_outcomes.proofs.Lists.{inside_at}
 use Rattle.check_outcomes.proofs.Viewing.{completion_same}
 use Rattle.check_texts.proofs.request_answers.has_answer.Goals as goal

@@ -1,5 +1,4 @@
-use Rattle.check_texts.proofs.Words.{completed_of, instructions_of, said_in, stages_of, IsAskedIn, MayAnswerIn, Said, false, sym, ◌∙◌}
-use Rattle.check_texts.proofs.Growth.{all_of_values}
+use Rattle.check_texts.proofs.{completed_of, instructions_of, said_in, stages_of, IsAskedIn, MayAnswerIn, Said, false, sym, ◌∙◌, all_of_values}
 use Rattle.check_texts.proofs.Plays.{answer_is_said, none_answered, said_is_answered}
 use Rattle.check_texts.proofs.request_answers.may.Goals as goal
 

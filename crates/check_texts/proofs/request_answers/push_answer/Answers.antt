@@ -1,5 +1,4 @@
-use Rattle.check_texts.proofs.Words.{completed_of, Said}
-use Rattle.check_texts.proofs.Growth.{has_pushed, pushed}
+use Rattle.check_texts.proofs.{completed_of, Said, has_pushed, pushed}
 use Rattle.check_texts.proofs.request_answers.push_answer.Goals as goal
 
 pub goes_on-requires : goal.goes_on-requires

@@ -1,7 +1,5 @@
-use Rattle.check_texts.proofs.Words.{IsAnswer, PossibleAnswer, completed_of, all_asked, stage_of, take_all}
-use Rattle.check_texts.proofs.Growth.{grows_on, there_more}
-use Rattle.check_texts.proofs.Walks.{answer_ring}
-use Rattle.check_texts.proofs.Submitted.{answer_may_say, few_left}
+use Rattle.check_texts.proofs.{IsAnswer, PossibleAnswer, completed_of, all_asked, stage_of, take_all, grows_on, there_more, answer_ring}
+use Rattle.check_texts.proofs.{answer_may_say, few_left}
 use Rattle.check_texts.proofs.request_answers.push_answers.Goals.{After-answer-item}
 use Rattle.check_texts.proofs.request_answers.push_answers.Goals as goal
 

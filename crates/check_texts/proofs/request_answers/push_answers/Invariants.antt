@@ -1,5 +1,4 @@
-use Rattle.check_texts.proofs.Words.{Completed, completed_of, all_asked, instructions_of, Grows, MaySay, said_in, stage_of, map, take, Contains}
-use Rattle.check_texts.proofs.Words.{IsTrue}
+use Rattle.check_texts.proofs.{Completed, completed_of, all_asked, instructions_of, Grows, MaySay, said_in, stage_of, map, take, Contains, IsTrue}
 use Rattle.check_texts.proofs.request_answers.push_answers.Given as goal
 
 abbrev pub invariant-loop-answer : goal.invariant-loop-answer

@@ -1,6 +1,4 @@
-use Rattle.check_texts.proofs.Words.{map, refl, stage_of, string_bytes, true, rules, ◌∙◌, ◌≡◌}
-use Rattle.check_texts.proofs.Growth.{inserted}
-use Rattle.check_texts.proofs.Ways.{new_text, ways_more, ways_stay}
+use Rattle.check_texts.proofs.{map, refl, stage_of, string_bytes, true, rules, ◌∙◌, ◌≡◌, inserted, new_text, ways_more, ways_stay}
 use Rattle.check_texts.proofs.rests.push_exit.Goals as goal
 
 pub returns-in_default-clause-ways : goal.returns-in_default-clause-ways

@@ -1,6 +1,5 @@
-use Rattle.check_texts.proofs.Words.{AreOf, all_closed, all_of_ring, few_of_ring, end_printed, refl, stage_of, HasClosed}
-use Rattle.check_texts.proofs.Words.{files_of_ring, ◌∙◌, ◌≡◌}
-use Rattle.check_texts.proofs.Ways.{rest_of_end}
+use Rattle.check_texts.proofs.{AreOf, all_closed, all_of_ring, few_of_ring, end_printed, refl, stage_of, HasClosed, files_of_ring, ◌∙◌, ◌≡◌}
+use Rattle.check_texts.proofs.{rest_of_end}
 use Rattle.check_texts.proofs.rests.rest_at_end.Goals.{After-deref}
 use Rattle.check_texts.proofs.rests.rest_at_end.Goals as goal
 

@@ -1,6 +1,5 @@
-use Rattle.check_texts.proofs.Words.{MayLeadTo, RingState, refl, stage_of, stages_of, subst, sym, take, take_all, true, [], ◌∷◌, map_more}
-use Rattle.check_texts.proofs.Growth.{at_value}
-use Rattle.check_texts.proofs.Ways.{no_ways, rest_of_exits, rest_there}
+use Rattle.check_texts.proofs.{MayLeadTo, RingState, refl, stage_of, stages_of, subst, sym, take, take_all, true, [], ◌∷◌, map_more, at_value}
+use Rattle.check_texts.proofs.{no_ways, rest_of_exits, rest_there}
 use Rattle.check_texts.proofs.rests.rest_before.Goals as goal
 
 pub loop-i-init : goal.loop-i-init

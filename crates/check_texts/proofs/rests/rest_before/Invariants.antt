@@ -1,5 +1,5 @@
-use Rattle.check_texts.proofs.Words.{FileEntry, Instruction, KeptWays, List, map, ring_with_slots, stages_of, string_bytes, take, ◌≡◌, ◌∷◌, All}
-use Rattle.check_texts.proofs.Words.{IsTrue, AreExits, AreWaysBy, IsRest}
+use Rattle.check_texts.proofs.{FileEntry, Instruction, KeptWays, List, map, ring_with_slots, stages_of, string_bytes, take, ◌≡◌, ◌∷◌, All, IsTrue}
+use Rattle.check_texts.proofs.{AreExits, AreWaysBy, IsRest}
 use Rattle.check_texts.proofs.rests.rest_before.Given as goal
 
 abbrev pub invariant-loop-i : goal.invariant-loop-i

@@ -1,5 +1,4 @@
-use Rattle.check_texts.proofs.Words.{[], stage_of, All-push, IsRest}
-use Rattle.check_texts.proofs.Growth.{at_value}
+use Rattle.check_texts.proofs.{[], stage_of, All-push, IsRest, at_value}
 use Rattle.check_texts.proofs.rests.rests_at_end.Goals as goal
 
 pub rest_at_end-requires : goal.rest_at_end-requires

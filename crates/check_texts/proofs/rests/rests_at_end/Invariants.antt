@@ -1,4 +1,4 @@
-use Rattle.check_texts.proofs.Words.{[], All, IsRest}
+use Rattle.check_texts.proofs.{[], All, IsRest}
 use Rattle.check_texts.proofs.rests.rests_at_end.Given as goal
 
 abbrev pub invariant-loop-last : goal.invariant-loop-last

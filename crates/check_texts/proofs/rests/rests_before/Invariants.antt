@@ -1,4 +1,4 @@
-use Rattle.check_texts.proofs.Words.{Instruction, KeptWays, List, All, ◌∷◌, AreExits, IsRest}
+use Rattle.check_texts.proofs.{Instruction, KeptWays, List, All, ◌∷◌, AreExits, IsRest}
 use Rattle.check_texts.proofs.rests.rests_before.Given as goal
 
 abbrev pub invariant-loop-own : goal.invariant-loop-own

@@ -1,6 +1,6 @@
-use Rattle.check_texts.proofs.Words.{Instruction, KeptWays, List, Vec, ap, append-nil, arith, instruction_of, reverse, subst, sym, [], ◌++◌, ◌∙◌, ◌∷◌}
-use Rattle.check_texts.proofs.Words.{◌≡◌, nil_from_length, AreRests, IsLayer, commands_in, rests_in, reverse-append, Layer, All-pop, Some}
-use Rattle.check_texts.proofs.Ways.{commands_before, rests_counted}
+use Rattle.check_texts.proofs.{Instruction, KeptWays, List, Vec, ap, append-nil, arith, instruction_of, reverse, subst, sym, [], ◌++◌, ◌∙◌, ◌∷◌, ◌≡◌}
+use Rattle.check_texts.proofs.{nil_from_length, AreRests, IsLayer, commands_in, rests_in, reverse-append, Layer, All-pop, Some, commands_before}
+use Rattle.check_texts.proofs.{rests_counted}
 use Rattle.check_texts.proofs.rests.rests_of.Goals as goal
 
 -- one more before the others

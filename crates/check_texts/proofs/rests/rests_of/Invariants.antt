@@ -1,4 +1,4 @@
-use Rattle.check_texts.proofs.Words.{Instruction, List, All, length, reverse, ◌++◌, ◌∷◌, ◌≡◌, AreRests, IsLayer, commands_in, rests_in}
+use Rattle.check_texts.proofs.{Instruction, List, All, length, reverse, ◌++◌, ◌∷◌, ◌≡◌, AreRests, IsLayer, commands_in, rests_in}
 use Rattle.check_texts.proofs.rests.rests_of.Given as goal
 
 abbrev pub invariant-loop-layer : goal.invariant-loop-layer

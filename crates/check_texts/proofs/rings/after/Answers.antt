@@ -1,5 +1,4 @@
-use Rattle.check_texts.proofs.Words.{stage_of, take_all}
-use Rattle.check_texts.proofs.Growth.{at_value, from_more, holds_more}
+use Rattle.check_texts.proofs.{stage_of, take_all, at_value, from_more, holds_more}
 use Rattle.check_texts.proofs.rings.after.Goals as goal
 
 pub push_next-requires : goal.push_next-requires

@@ -1,4 +1,4 @@
-use Rattle.check_texts.proofs.Words.{instruction_of, AreStagesFrom, HasEachFrom, stages_of, take, IsTrue}
+use Rattle.check_texts.proofs.{instruction_of, AreStagesFrom, HasEachFrom, stages_of, take, IsTrue}
 use Rattle.check_texts.proofs.rings.after.Given as goal
 
 abbrev pub invariant-loop-reached : goal.invariant-loop-reached

@@ -1,5 +1,4 @@
-use Rattle.check_texts.proofs.Words.{instruction_of, instructions_of, AreStagesFrom, stages_of, take, take_all}
-use Rattle.check_texts.proofs.Walks.{stage_ring, all_more, each_more, taken_one}
+use Rattle.check_texts.proofs.{instruction_of, instructions_of, AreStagesFrom, stages_of, take, take_all, stage_ring, all_more, each_more, taken_one}
 use Rattle.check_texts.proofs.rings.after_all.Goals as goal
 
 pub after-requires : goal.after-requires

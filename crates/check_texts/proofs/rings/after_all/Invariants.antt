@@ -1,4 +1,4 @@
-use Rattle.check_texts.proofs.Words.{instructions_of, new_ring, HasEachLast, MayLeadAllTo, Stage, stages_of, take, Contains, IsTrue}
+use Rattle.check_texts.proofs.{instructions_of, new_ring, HasEachLast, MayLeadAllTo, Stage, stages_of, take, Contains, IsTrue}
 use Rattle.check_texts.proofs.rings.after_all.Given as goal
 
 abbrev pub invariant-loop-command : goal.invariant-loop-command

@@ -1,4 +1,4 @@
-use Rattle.check_texts.proofs.Words.{arith, [], ◌∷◌}
+use Rattle.check_texts.proofs.{arith, [], ◌∷◌}
 use Rattle.check_texts.proofs.rings.start.Goals as goal
 
 pub invariant_of-push : goal.invariant_of-push

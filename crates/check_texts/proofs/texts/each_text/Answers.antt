@@ -1,7 +1,5 @@
-use Rattle.check_texts.proofs.Words.{Contains, Some, ap, arith, concat, contains_map, contains_mapped, inl, inr, length, map, refl, slice_get}
-use Rattle.check_texts.proofs.Words.{slice_get_read, subst, suc, sym, zero, ℕ, ⊎_elim, ◌+◌, ◌∙◌, ◌<◌, ◌≡◌, ◌⊎◌, rests_in, ways_at}
-use Rattle.check_texts.proofs.Growth.{inserted}
-use Rattle.check_texts.proofs.Ways.{gotten}
+use Rattle.check_texts.proofs.{Contains, Some, ap, arith, concat, contains_map, contains_mapped, inl, inr, length, map, refl, slice_get}
+use Rattle.check_texts.proofs.{slice_get_read, subst, suc, sym, zero, ℕ, ⊎_elim, ◌+◌, ◌∙◌, ◌<◌, ◌≡◌, ◌⊎◌, rests_in, ways_at, inserted, gotten}
 use Rattle.check_texts.proofs.texts.each_text.Goals as goal
 
 -- a number below the next one is below this one, or is it

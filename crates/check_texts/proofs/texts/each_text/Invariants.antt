@@ -1,4 +1,4 @@
-use Rattle.check_texts.proofs.Words.{List, Some, concat, map, slice_get, string_bytes, ℕ, ◌<◌, ◌≡◌, Contains, rests_in, ways_at}
+use Rattle.check_texts.proofs.{List, Some, concat, map, slice_get, string_bytes, ℕ, ◌<◌, ◌≡◌, Contains, rests_in, ways_at}
 use Rattle.check_texts.proofs.texts.each_text.Given as goal
 
 abbrev pub invariant-loop-way : goal.invariant-loop-way

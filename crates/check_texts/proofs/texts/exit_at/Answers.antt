@@ -1,4 +1,4 @@
-use Rattle.check_texts.proofs.Words.{length, refl, slice_get_read}
+use Rattle.check_texts.proofs.{length, refl, slice_get_read}
 use Rattle.check_texts.proofs.texts.exit_at.Goals as goal
 
 pub returns-clause-there : goal.returns-clause-there

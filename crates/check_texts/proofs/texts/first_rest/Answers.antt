@@ -1,5 +1,4 @@
-use Rattle.check_texts.proofs.Words.{IfSome, KeptWays, List, Some, length, refl, slice_get, slice_get_read, subst, ◌≡◌}
-use Rattle.check_texts.proofs.Ways.{first_there}
+use Rattle.check_texts.proofs.{IfSome, KeptWays, List, Some, length, refl, slice_get, slice_get_read, subst, ◌≡◌, first_there}
 use Rattle.check_texts.proofs.texts.first_rest.Goals as goal
 
 pub returns : goal.returns

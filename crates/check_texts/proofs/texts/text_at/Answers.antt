@@ -1,6 +1,5 @@
-use Rattle.check_texts.proofs.Words.{[], ap, append-nil, append_assoc, arith, concat-append, drop, drop_all, refl}
-use Rattle.check_texts.proofs.Words.{string_bytes, ◌++◌, ◌+◌, ◌∷◌, ◌≡◌, from_here, rests_in}
-use Rattle.check_texts.proofs.Ways.{way_from}
+use Rattle.check_texts.proofs.{[], ap, append-nil, append_assoc, arith, concat-append, drop, drop_all, refl, string_bytes, ◌++◌, ◌+◌, ◌∷◌, ◌≡◌}
+use Rattle.check_texts.proofs.{from_here, rests_in, way_from}
 use Rattle.check_texts.proofs.texts.text_at.Goals as goal
 
 pub loop-own-init : goal.loop-own-init

@@ -1,4 +1,4 @@
-use Rattle.check_texts.proofs.Words.{List, Some, concat, drop, slice_get, string_bytes, ℕ, ◌++◌, ◌≡◌, AreAllCounted, rests_in, ways_at}
+use Rattle.check_texts.proofs.{List, Some, concat, drop, slice_get, string_bytes, ℕ, ◌++◌, ◌≡◌, AreAllCounted, rests_in, ways_at}
 use Rattle.check_texts.proofs.texts.text_at.Given as goal
 
 abbrev pub invariant-loop-own : goal.invariant-loop-own

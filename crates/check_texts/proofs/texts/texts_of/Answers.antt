@@ -1,7 +1,5 @@
-use Rattle.check_texts.proofs.Words.{AreWays, CountsUpTo, ltb-true, IsTextFound, length, rests_in, string_bytes, ways_at, ◌≡◌, All-nil, new_ring}
-use Rattle.check_texts.proofs.Words.{false, true}
-use Rattle.check_texts.proofs.Growth.{all_of_values}
-use Rattle.check_texts.proofs.Ways.{no_script_ways, rests_counted, script_text, script_texts, script_ways}
+use Rattle.check_texts.proofs.{AreWays, CountsUpTo, ltb-true, IsTextFound, length, rests_in, string_bytes, ways_at, ◌≡◌, All-nil, new_ring, false}
+use Rattle.check_texts.proofs.{true, all_of_values, no_script_ways, rests_counted, script_text, script_texts, script_ways}
 use Rattle.check_texts.proofs.texts.texts_of.Goals.{In-Some}
 use Rattle.check_texts.proofs.texts.texts_of.Goals as goal
 

@@ -1,5 +1,4 @@
-use Rattle.std.proofs.Common.{◌≡◌, ℕ, ℤ, pos, negsuc, int_le, sym, ap, ◌∙◌, rules, slice_index_or, to_z, of_z, w32, Option}
-use Rattle.std.proofs.lemmas.List.{append-nil}
+use Rattle.fx_chain.proofs.Words.{◌≡◌, ℕ, ℤ, pos, negsuc, int_le, sym, ap, ◌∙◌, rules, slice_index_or, to_z, of_z, w32, Option, append-nil}
 use Rattle.std.specs.Global.{Vec}
 use Rattle.fx_chain.proofs.Intents.{positions_more}
 use Rattle.fx_chain.proofs.entries.positions_in.Goals.{then-entry-geminus1+in_ok-push, else-entry-geminus1}

@@ -1,5 +1,4 @@
-use Rattle.fx_chain.proofs.Words.{◌≡◌, take}
-use Rattle.fx_chain.specs.Intents.{positions_from}
+use Rattle.fx_chain.proofs.Words.{◌≡◌, take, positions_from}
 use Rattle.fx_chain.proofs.entries.positions_in.Given as goal
 
 abbrev pub invariant-loop-i : goal.invariant-loop-i

@@ -1,5 +1,5 @@
-use Rattle.fx_chain.proofs.Words.{◌≡◌, ◌≤◌, ◌+◌, ◌++◌, List, length, take, vec_len, vec_capacity, IsIdle, Completed, all_completed, IsSamePlayer, player_view}
-use Rattle.fx_chain.proofs.Words.{first_member, all_asked, PlaysMembers, player, all_installs, all_weights}
+use Rattle.fx_chain.proofs.Words.{◌≡◌, ◌≤◌, ◌+◌, ◌++◌, List, length, take, vec_len, vec_capacity, IsIdle, Completed, all_completed, IsSamePlayer}
+use Rattle.fx_chain.proofs.Words.{player_view, first_member, all_asked, PlaysMembers, player, all_installs, all_weights}
 use Rattle.fx_chain.proofs.ChainGoesOn.{any_severs, asked_from}
 use Rattle.fx_chain.proofs.player.run_chain.Given as goal
 

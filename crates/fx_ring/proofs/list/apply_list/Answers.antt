@@ -4,8 +4,7 @@ use Rattle.fx_ring.proofs.Rings.{opening_files}
 use Rattle.fx_ring.proofs.list.apply_list.Goals as goal
 
 pub apply_number-requires-clause-fresh : goal.apply_number-requires-clause-fresh
-apply_number-requires-clause-fresh c =
-    c.loop-i.invariant.fresh (c.size-first.result + c.loop-i.i) (omega arith) (omega (arith, c.loop-i-test.true))
+apply_number-requires-clause-fresh c = c.loop-i.invariant.fresh (c.size-first.result + c.loop-i.i) (omega arith) (omega (arith, c.loop-i-test.true))
 
 pub apply_number-requires-clause-room : goal.apply_number-requires-clause-room
 apply_number-requires-clause-room c = room_next c.loop-i-test.true c.loop-i.invariant.applied c.requires.room

@@ -1,8 +1,8 @@
-use Rattle.fx_ring.proofs.Words.{◌+◌, List, length, sym, ap, subst, ◌∙◌, arith, PassView, IsIdle, all_asked, runs_of, Completed, all_completed}
-use Rattle.fx_ring.proofs.Words.{HasRoomFor, ring_with, IsOneHistory, Reported, Worker, Completion, CloseListView, Closed, IsPermutation}
-use Rattle.fx_ring.proofs.Words.{accepted-length, ClosesTable, PASS_LOOKS, ◌≡◌, true, All, All-map, HasWorked, map-map, size_of, state_of_worker}
-use Rattle.fx_ring.proofs.Crews.{IsNew, all_gathered, all_new, numbers_are, as_many_passes, new_has_worked, new_has_room, runs_have_all}
-use Rattle.fx_ring.proofs.Crews.{runs_weigh_all, states, scattered_views, completions_joined, files_joined, as_many_completions, as_many_files}
+use Rattle.fx_ring.proofs.Words.{◌+◌, List, length, sym, ap, subst, ◌∙◌, arith, PassView, IsIdle, all_asked, runs_of, Completed, all_completed, ◌≡◌}
+use Rattle.fx_ring.proofs.Words.{HasRoomFor, ring_with, IsOneHistory, Reported, Worker, Completion, CloseListView, Closed, IsPermutation, ClosesTable}
+use Rattle.fx_ring.proofs.Words.{accepted-length, PASS_LOOKS, true, All, All-map, HasWorked, map-map, size_of, state_of_worker}
+use Rattle.fx_ring.proofs.Crews.{IsNew, all_gathered, all_new, numbers_are, as_many_passes, new_has_worked, new_has_room, runs_have_all, states}
+use Rattle.fx_ring.proofs.Crews.{runs_weigh_all, scattered_views, completions_joined, files_joined, as_many_completions, as_many_files}
 use Rattle.fx_ring.proofs.WorkersTogether.{HavePlayed, number_of, one_of_each, closes_weigh, one_history}
 use Rattle.fx_ring.proofs.CompletionPlaces.{as_many, runs_within}
 use Rattle.fx_ring.proofs.submission.play_open.Given.{Over}
@@ -13,8 +13,7 @@ pub gather-requires-clause-count : goal.gather-requires-clause-count
 gather-requires-clause-count g c = c.requires.room.count ∙ sym (as_many_passes g.T.FileTable.view c.args.passes.items _ c.requires.new)
 
 pub gather-requires-clause-room : goal.gather-requires-clause-room
-gather-requires-clause-room g c =
-    omega (arith, as_many_passes g.T.FileTable.view c.args.passes.items _ c.requires.new, c.requires.room.crew)
+gather-requires-clause-room g c = omega (arith, as_many_passes g.T.FileTable.view c.args.passes.items _ c.requires.new, c.requires.room.crew)
 
 pub work_crew-requires-clause-ready : goal.work_crew-requires-clause-ready
 work_crew-requires-clause-ready g c κs within =
@@ -24,11 +23,7 @@ work_crew-requires-clause-ready g c κs within =
     let new = all_gathered (λ p. IsNew PASS_LOOKS (V p)) _ _ _ c.gather.ensures.passes (all_new V c.args.passes.items _ c.requires.new) in
     let room = all_gathered (HasRoomFor (all_asked c.args.submission.now.requests.now)) _ _ _ c.gather.ensures.outcomes c.requires.room.outcomes in
     λ k d l. record {
-      between = record {
-        fits = (ready k d l).0;
-        idle = (ready k d l).1;
-        worked = new_has_worked (new k d l) (room k d l);
-      };
+      between = record { fits = (ready k d l).0; idle = (ready k d l).1; worked = new_has_worked (new k d l) (room k d l) };
       room = new_has_room (new k d l) (room k d l) (omega arith);
     }
 

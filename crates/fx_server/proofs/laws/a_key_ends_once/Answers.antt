@@ -1,5 +1,4 @@
-use Rattle.fx_server.proofs.EndingCalls.{done_removals, done_replacements}
-use Rattle.fx_server.proofs.EndsOfKeys.{keys_end_once}
+use Rattle.fx_server.proofs.EndsOfKeys.{done_removals, done_replacements, keys_end_once}
 use Rattle.fx_server.proofs.laws.a_key_ends_once.Goals as goal
 
 pub returns-clause-once : goal.returns-clause-once

@@ -1,6 +1,5 @@
 use Rattle.fx_server.proofs.ExportsNumbers.{exports_keep}
-use Rattle.fx_server.proofs.FilesNumbers.{own_numbers}
-use Rattle.fx_server.proofs.OpenedNumbers.{opened_draw}
+use Rattle.fx_server.proofs.{own_numbers, opened_draw}
 use Rattle.fx_server.proofs.laws.files_have_their_own_numbers.Goals as goal
 
 pub returns-clause-numbers : goal.returns-clause-numbers

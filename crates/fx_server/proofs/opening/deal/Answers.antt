@@ -1,10 +1,5 @@
-use Rattle.std.specs.Arc.{arc_value}
-use Rattle.std.proofs.Common.{◌≡◌, [], ◌∷◌, None, Some, ap, ◌∙◌, arith, length, length-append}
-use Rattle.fx_server.specs.Worker.{TableWorker}
-use Rattle.std.proofs.lemmas.List.Elements.{All-pop}
-use Rattle.fx_server.specs.Workers.{IsReady}
-use Rattle.fx_server.proofs.Dealing.{all_pushed, dealt_one, in_places}
-use Rattle.fx_server.specs.FileNumbers.{first_numbers}
+use Rattle.fx_server.proofs.{arc_value, ◌≡◌, [], ◌∷◌, None, Some, ap, ◌∙◌, arith, length, length-append, TableWorker, All-pop, IsReady, first_numbers}
+use Rattle.fx_server.proofs.{all_pushed, dealt_one, in_places}
 use Rattle.fx_server.proofs.opening.deal.Goals as goal
 
 pub loop-pass-preserved : goal.loop-pass-preserved

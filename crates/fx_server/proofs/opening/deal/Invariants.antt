@@ -1,9 +1,4 @@
-use Rattle.std.proofs.Common.{◌≡◌, ◌+◌, ◌++◌, All, None, length, map, reverse}
-use Rattle.std.specs.Arc.{arc_value}
-use Rattle.fx_server.specs.FileNumbers.{numbers_of_all}
-use Rattle.fx_server.specs.Opened.{workers_in}
-use Rattle.fx_server.specs.Worker.{TableWorker}
-use Rattle.fx_server.specs.Workers.{IsReady}
+use Rattle.fx_server.proofs.Words.{◌≡◌, ◌+◌, ◌++◌, All, None, length, map, reverse, arc_value, numbers_of_all, workers_in, TableWorker, IsReady}
 use Rattle.fx_server.proofs.opening.deal.Given as goal
 
 -- the workers so far have the first passes, and the others are left, the last one first

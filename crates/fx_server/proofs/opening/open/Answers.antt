@@ -1,9 +1,4 @@
-use Rattle.std.proofs.Common.{arith}
-use Rattle.std.proofs.lemmas.List.{length-map}
-use Rattle.std.specs.Global.{Box}
-use Rattle.fx_server.specs.Worker.{TableWorker}
-use Rattle.fx_lasting.specs.Passes.{empty_slots}
-use Rattle.fx_server.proofs.Dealing.{opened_of}
+use Rattle.fx_server.proofs.{arith, length-map, Box, TableWorker, empty_slots, opened_of}
 use Rattle.fx_server.proofs.opening.open.Goals as goal
 
 pub returns-clause-opened : goal.returns-clause-opened

@@ -1,5 +1,4 @@
-use Rattle.std.proofs.Common.{◌≡◌, ◌∙◌, length, rules}
-use Rattle.std.proofs.lemmas.List.{length-set}
+use Rattle.fx_server.proofs.Words.{◌≡◌, ◌∙◌, length, rules, length-set}
 use Rattle.fx_server.proofs.FromEnd.{left_one, placed_one}
 use Rattle.fx_server.proofs.placing.place_all.Goals as goal
 

@@ -1,6 +1,4 @@
-use Rattle.std.proofs.Common.{◌≡◌, Some, drop, length, map, take}
-use Rattle.fx_server.specs.Opened.{workers_in}
-use Rattle.fx_server.specs.Places.{workers_at}
+use Rattle.fx_server.proofs.Words.{◌≡◌, Some, drop, length, map, take, workers_in, workers_at}
 use Rattle.fx_server.proofs.placing.place_all.Given as goal
 
 -- the last places have their workers

@@ -1,5 +1,5 @@
-use Rattle.fx_table.proofs.Words.{◌≡◌, ◌<◌, ◌+◌, ℕ, length, List, [], ◌∷◌, ◌++◌, ap, ◌∙◌, arith, state_of, length-append, get_or_append_left}
-use Rattle.fx_table.proofs.Words.{get_or_push, Option, Closed, file_in_place}
+use Rattle.fx_table.proofs.Words.{◌≡◌, ◌<◌, ◌+◌, ℕ, length, List, [], ◌∷◌, ◌++◌, ap, ◌∙◌, arith, state_of, length-append, get_or_append_left, Option}
+use Rattle.fx_table.proofs.Words.{get_or_push, Closed, file_in_place}
 use Rattle.fx_table.proofs.Shells.{file_put, last_back}
 use Rattle.fx_table.proofs.shell.put_all.Goals as goal
 

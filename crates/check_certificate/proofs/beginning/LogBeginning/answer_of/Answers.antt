@@ -1,7 +1,6 @@
-use Rattle.check_certificate.proofs.Words.{◌∙◌, arith, sym}
+use Rattle.check_certificate.proofs.Words.{◌∙◌, arith, sym, given_of}
 use Rattle.check_certificate.proofs.Walks.{answer_here, answer_later, answer_none}
 use Rattle.check_certificate.specs.Holds.{answer_of}
-use Rattle.check_certificate.specs.Said.{given_of}
 use Rattle.check_certificate.proofs.beginning.LogBeginning.answer_of.Goals as goal
 
 pub loop-at-preserved : goal.loop-at-preserved

@@ -1,21 +1,11 @@
-use Rattle.check_certificate.proofs.Words.{◌≡◌, ◌∙◌, ◌<◌, ℕ, length, arith, sym, ap, subst, true, slice_get}
+use Rattle.check_certificate.proofs.Words.{◌≡◌, ◌∙◌, ◌<◌, ℕ, length, arith, sym, ap, subst, true, slice_get, given_of, all_below, is_asked_ruled_out}
+use Rattle.check_certificate.proofs.Words.{all_asked, asked_of, slice_get_within, length-map}
 use Rattle.check_certificate.proofs.Walks.{all_more, asked_at, next_member, not_all}
-use Rattle.check_certificate.specs.Said.{given_of}
-use Rattle.check_certificate.specs.Walks.{all_below, are_all_ruled_out, is_asked_ruled_out}
-use Rattle.fx_chain.specs.Operation.{all_asked, asked_of}
-use Rattle.fx_order.proofs.Words.{slice_get_within}
-use Rattle.std.proofs.lemmas.List.{length-map}
+use Rattle.check_certificate.specs.Walks.{are_all_ruled_out}
 use Rattle.check_certificate.proofs.beginning.LogBeginning.are_all_ruled_out.Goals as goal
 
 pub loop-n-preserved : goal.loop-n-preserved
-loop-n-preserved c = record {
-  sound = λ is. next_member c.args.self.now c.args.aim.now c.args.id c.loop-n.n c.args.chain.now c.index-chain-n.result
-      (omega (arith, c.loop-n-test.true)) c.index-chain-n.is (c.is_member_ruled_out.ensures.sound c.if-not-is_member_ruled_out.false is)
-      (c.loop-n.invariant.sound is);
-  exact = all_more (λ n. is_asked_ruled_out (given_of c.args.self.now) c.args.known.now c.args.aim.now c.args.call c.args.id n (slice_get (all_asked c.args.chain.now) n)) c.loop-n.n (ap (is_asked_ruled_out (given_of c.args.self.now) c.args.known.now c.args.aim.now c.args.call c.args.id c.loop-n.n)
-      (asked_at c.args.chain.now c.loop-n.n c.index-chain-n.result (omega (arith, c.loop-n-test.true)) c.index-chain-n.is)
-      ∙ (sym c.is_member_ruled_out.ensures.exact ∙ c.if-not-is_member_ruled_out.false)) c.loop-n.invariant.exact;
-}
+loop-n-preserved c = grind (arith, next_member, all_more, asked_at)
 
 pub returns-then-not-is_member_ruled_out-clause-exact : goal.returns-then-not-is_member_ruled_out-clause-exact
 unfolding are_all_ruled_out

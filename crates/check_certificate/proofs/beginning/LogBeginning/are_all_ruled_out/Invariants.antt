@@ -1,10 +1,6 @@
-use Rattle.check_certificate.proofs.Words.{◌≡◌, ℕ, ◌<◌, Some, slice_get, Asked, true}
+use Rattle.check_certificate.proofs.Words.{◌≡◌, ℕ, ◌<◌, Some, slice_get, Asked, true, given_of, AreRuledOut, member_of, all_below, is_asked_ruled_out}
+use Rattle.check_certificate.proofs.Words.{IsCatalogue, all_asked}
 use Rattle.check_certificate.proofs.beginning.LogBeginning.are_all_ruled_out.Given as goal
-use Rattle.check_certificate.specs.Said.{given_of}
-use Rattle.check_certificate.specs.Walked.{AreRuledOut, member_of}
-use Rattle.check_certificate.specs.Walks.{all_below, is_asked_ruled_out}
-use Rattle.fx_base.specs.Catalogue.{IsCatalogue}
-use Rattle.fx_chain.specs.Operation.{all_asked}
 
 abbrev pub invariant-loop-n : goal.invariant-loop-n
 invariant-loop-n l = record {

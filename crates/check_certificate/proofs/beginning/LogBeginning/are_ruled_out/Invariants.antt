@@ -1,11 +1,5 @@
-use Rattle.check_certificate.proofs.Words.{◌≡◌, true}
+use Rattle.check_certificate.proofs.Words.{◌≡◌, true, intended, given_of, slots_of, AreRuledOutTo, all_below, is_ruled_out, IsCatalogue, operation_of}
 use Rattle.check_certificate.proofs.beginning.LogBeginning.are_ruled_out.Given as goal
-use Rattle.check_certificate.specs.Made.{intended}
-use Rattle.check_certificate.specs.Said.{given_of, slots_of}
-use Rattle.check_certificate.specs.Walked.{AreRuledOutTo}
-use Rattle.check_certificate.specs.Walks.{all_below, is_ruled_out}
-use Rattle.fx_base.specs.Catalogue.{IsCatalogue}
-use Rattle.fx_chain.specs.Operation.{operation_of}
 
 abbrev pub invariant-loop-access : goal.invariant-loop-access
 invariant-loop-access l = record {

@@ -1,5 +1,4 @@
-use Rattle.check_certificate.proofs.Words.{refl, sym}
-use Rattle.fx_flight.specs.Events.{happening_of}
+use Rattle.check_certificate.proofs.Words.{refl, sym, happening_of}
 use Rattle.check_certificate.proofs.beginning.LogBeginning.call_at.Goals as goal
 
 pub returns-in-Call-clause-sound : goal.returns-in-Call-clause-sound

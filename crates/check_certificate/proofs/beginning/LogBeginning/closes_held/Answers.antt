@@ -1,9 +1,5 @@
-use Rattle.check_certificate.proofs.Words.{◌≡◌, ◌∙◌, arith, rules, subst, sym}
-use Rattle.std.proofs.lemmas.Grind.{common_steps}
+use Rattle.check_certificate.proofs.Words.{◌≡◌, ◌∙◌, arith, rules, subst, sym, common_steps, IsForced, happening_of, false≢true, take-map}
 use Rattle.check_certificate.proofs.Forcing.{closes_held}
-use Rattle.check_certificate.specs.Forced.{IsForced}
-use Rattle.fx_flight.specs.Events.{happening_of}
-use Rattle.fx_order.proofs.Words.{false≢true, take-map}
 use Rattle.check_certificate.proofs.beginning.LogBeginning.closes_held.Goals as goal
 
 pub returns-clause-sound : goal.returns-clause-sound

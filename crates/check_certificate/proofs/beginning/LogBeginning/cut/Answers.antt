@@ -1,9 +1,5 @@
+use Rattle.check_certificate.proofs.Words.{◌∙◌, subst, sym, IsForced, completed_of, asked_of, happening_of}
 use Rattle.check_certificate.proofs.Cutting.{cut_said}
-use Rattle.check_certificate.proofs.Words.{◌∙◌, subst, sym}
-use Rattle.check_certificate.specs.Forced.{IsForced}
-use Rattle.fx_chain.specs.Completed.{completed_of}
-use Rattle.fx_chain.specs.Operation.{asked_of}
-use Rattle.fx_flight.specs.Events.{happening_of}
 use Rattle.check_certificate.proofs.beginning.LogBeginning.cut.Goals as goal
 
 pub returns-clause-sound : goal.returns-clause-sound

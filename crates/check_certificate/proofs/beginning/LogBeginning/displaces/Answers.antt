@@ -1,10 +1,5 @@
-use Rattle.check_certificate.proofs.Words.{◌≡◌, ◌∙◌, sym, subst, rules, arith}
-use Rattle.std.proofs.lemmas.Grind.{common_steps}
+use Rattle.check_certificate.proofs.Words.{◌≡◌, ◌∙◌, sym, subst, rules, arith, common_steps, IsForced, Put, Gone, file_Decides, false≢true}
 use Rattle.check_certificate.proofs.Forcing.{displaces_forced, strict_from}
-use Rattle.check_certificate.specs.Forced.{IsForced}
-use Rattle.check_certificate.specs.declared.certificate.Point.TheVariants.{Put, Gone}
-use Rattle.fx_order.proofs.Apart.{file_Decides}
-use Rattle.fx_order.proofs.Words.{false≢true}
 use Rattle.check_certificate.proofs.beginning.LogBeginning.displaces.Goals as goal
 
 pub returns-clause-sound : goal.returns-clause-sound

@@ -1,6 +1,4 @@
-use Rattle.check_certificate.proofs.Words.{◌∙◌, ap, sym, Some}
-use Rattle.fx_flight.specs.Events.{happening_of}
-use Rattle.fx_flight.specs.declared.event.LogEvent.{LogEvent}
+use Rattle.check_certificate.proofs.Words.{◌∙◌, ap, sym, Some, happening_of, LogEvent}
 use Rattle.check_certificate.proofs.beginning.LogBeginning.done_at.Goals as goal
 
 pub returns-in-Done-clause-sound : goal.returns-in-Done-clause-sound

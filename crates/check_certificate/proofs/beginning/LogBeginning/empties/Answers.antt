@@ -1,10 +1,6 @@
-use Rattle.check_certificate.proofs.Words.{◌≡◌, ◌∙◌, sym, Some, subst, rules, arith}
-use Rattle.std.proofs.lemmas.Grind.{common_steps}
-use Rattle.check_certificate.proofs.Forcing.{empties_forced}
-use Rattle.check_certificate.specs.Forced.{IsForced}
+use Rattle.check_certificate.proofs.Words.{◌≡◌, ◌∙◌, sym, Some, subst, rules, arith, common_steps, IsForced, file_Decides, option_Decides, false≢true}
 use Rattle.check_certificate.specs.declared.certificate.Point.TheVariants.{Access}
-use Rattle.fx_order.proofs.Apart.{file_Decides, option_Decides}
-use Rattle.fx_order.proofs.Words.{false≢true}
+use Rattle.check_certificate.proofs.Forcing.{empties_forced}
 use Rattle.check_certificate.proofs.beginning.LogBeginning.empties.Goals as goal
 
 pub returns-clause-sound : goal.returns-clause-sound

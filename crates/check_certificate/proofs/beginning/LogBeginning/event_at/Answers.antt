@@ -1,5 +1,5 @@
+use Rattle.check_certificate.proofs.Words.{happening_of}
 use Rattle.check_certificate.proofs.Forcing.{got_mapped}
-use Rattle.fx_flight.specs.Events.{happening_of}
 use Rattle.check_certificate.proofs.beginning.LogBeginning.event_at.Goals as goal
 
 pub returns : goal.returns

@@ -1,7 +1,5 @@
-use Rattle.check_certificate.proofs.Words.{None, arith, sym}
+use Rattle.check_certificate.proofs.Words.{None, arith, sym, slot_count, Empties}
 use Rattle.check_certificate.proofs.Showing.{evident_look}
-use Rattle.check_certificate.specs.Evidence.{slot_count}
-use Rattle.check_certificate.specs.declared.evidence.Evidence.TheVariants.{Empties}
 use Rattle.check_certificate.proofs.beginning.LogBeginning.evidence_by_look.Goals as goal
 
 pub returns-in-None-clause-sound : goal.returns-in-None-clause-sound

@@ -1,11 +1,6 @@
-use Rattle.check_certificate.proofs.Words.{◌∙◌, sym}
+use Rattle.check_certificate.proofs.Words.{◌∙◌, sym, slot_count, ECANCELED, ENOMEM, completed_of, asked_of, false≢true}
 use Rattle.check_certificate.proofs.Impossible.{error_Decides}
 use Rattle.check_certificate.proofs.Showing.{evident_member}
-use Rattle.check_certificate.specs.Evidence.{slot_count}
-use Rattle.fx_base.specs.declared.errno.Errno.TheVariants.{ECANCELED, ENOMEM}
-use Rattle.fx_chain.specs.Completed.{completed_of}
-use Rattle.fx_chain.specs.Operation.{asked_of}
-use Rattle.fx_order.proofs.Words.{false≢true}
 use Rattle.check_certificate.proofs.beginning.LogBeginning.evidence_by_member.Goals as goal
 
 pub returns-clause-sound : goal.returns-clause-sound

@@ -1,10 +1,6 @@
-use Rattle.check_certificate.proofs.Words.{◌∙◌, arith, subst, sym, slice_index_or, AllSettled}
+use Rattle.check_certificate.proofs.Words.{◌∙◌, arith, subst, sym, slice_index_or, AllSettled, IsForced, log_of_beginning, completed_of, happening_of}
+use Rattle.check_certificate.proofs.Words.{length-map, slice_get-get_or}
 use Rattle.check_certificate.proofs.Holders.{fails_forced}
-use Rattle.check_certificate.specs.Forced.{IsForced, log_of_beginning}
-use Rattle.fx_chain.specs.Completed.{completed_of}
-use Rattle.fx_flight.specs.Events.{happening_of}
-use Rattle.std.proofs.lemmas.List.{length-map}
-use Rattle.std.proofs.lemmas.Option.{slice_get-get_or}
 use Rattle.check_certificate.proofs.beginning.LogBeginning.fails.Goals as goal
 
 pub returns-clause-sound : goal.returns-clause-sound

@@ -1,6 +1,5 @@
-use Rattle.check_certificate.proofs.Words.{subst, sym}
+use Rattle.check_certificate.proofs.Words.{subst, sym, IsForced}
 use Rattle.check_certificate.proofs.Holders.{holder_forced, holder_put, none_forced}
-use Rattle.check_certificate.specs.Forced.{IsForced}
 use Rattle.check_certificate.proofs.beginning.LogBeginning.holds.Goals as goal
 
 pub returns-in-Nothing-clause-sound : goal.returns-in-Nothing-clause-sound

@@ -1,6 +1,5 @@
+use Rattle.check_certificate.proofs.Words.{slot_count, operation_of}
 use Rattle.check_certificate.proofs.Intended.{intended_is}
-use Rattle.check_certificate.specs.Evidence.{slot_count}
-use Rattle.fx_chain.specs.Operation.{operation_of}
 use Rattle.check_certificate.proofs.beginning.LogBeginning.intended.Goals as goal
 
 pub returns-clause-sound : goal.returns-clause-sound

@@ -1,4 +1,5 @@
-use Rattle.check_certificate.proofs.beginning.LogBeginning.is_absent.Goals.{then-is_held-via-then-is_held, then-is_held-via-else-is_held+then-is_known_absent}
+use Rattle.check_certificate.proofs.beginning.LogBeginning.is_absent.Goals.{then-is_held-via-then-is_held}
+use Rattle.check_certificate.proofs.beginning.LogBeginning.is_absent.Goals.{then-is_held-via-else-is_held+then-is_known_absent}
 use Rattle.check_certificate.proofs.beginning.LogBeginning.is_absent.Goals as goal
 
 pub returns-then-is_held-clause-sound : goal.returns-then-is_held-clause-sound

@@ -1,6 +1,5 @@
-use Rattle.check_certificate.proofs.Words.{◌≡◌, ℕ, arith, subst}
+use Rattle.check_certificate.proofs.Words.{◌≡◌, ℕ, arith, subst, IsCallOf}
 use Rattle.check_certificate.proofs.Takers.{later_takes_none}
-use Rattle.fx_flight.specs.Laws.{IsCallOf}
 use Rattle.check_certificate.proofs.beginning.LogBeginning.is_other_time.Goals as goal
 
 pub returns-then-is_known-clause-sound : goal.returns-then-is_known-clause-sound

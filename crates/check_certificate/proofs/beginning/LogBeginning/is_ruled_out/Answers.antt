@@ -1,7 +1,4 @@
-use Rattle.check_certificate.proofs.Words.{◌≡◌, ◌∙◌, Some, subst, sym}
-use Rattle.check_certificate.specs.Taken.{TakesNone}
-use Rattle.check_certificate.specs.Walked.{IsRuledOut}
-use Rattle.check_certificate.specs.declared.walk.WalkAim.{WalkAim}
+use Rattle.check_certificate.proofs.Words.{◌≡◌, ◌∙◌, Some, subst, sym, TakesNone, IsRuledOut, WalkAim}
 use Rattle.check_certificate.proofs.beginning.LogBeginning.is_ruled_out.Goals as goal
 
 pub returns-in-Leaves-clause-sound : goal.returns-in-Leaves-clause-sound

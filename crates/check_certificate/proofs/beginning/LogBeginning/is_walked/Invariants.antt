@@ -1,11 +1,6 @@
-use Rattle.check_certificate.proofs.Words.{◌≡◌, ℕ, ◌<◌, Asked, Called, List, true}
+use Rattle.check_certificate.proofs.Words.{◌≡◌, ℕ, ◌<◌, Asked, Called, List, true, IsEventAt, event_at, given_of, AreAllRuledOut, end_of, all_below}
+use Rattle.check_certificate.proofs.Words.{is_call_ruled_out, IsCatalogue, nat_lt, not, ◌||◌}
 use Rattle.check_certificate.proofs.beginning.LogBeginning.is_walked.Given as goal
-use Rattle.check_certificate.specs.Evidence.{IsEventAt}
-use Rattle.check_certificate.specs.Said.{event_at, given_of}
-use Rattle.check_certificate.specs.Walked.{AreAllRuledOut, end_of}
-use Rattle.check_certificate.specs.Walks.{all_below, is_call_ruled_out}
-use Rattle.fx_base.specs.Catalogue.{IsCatalogue}
-use Rattle.std.specs.Prelude.{nat_lt, not, ◌||◌}
 
 abbrev pub invariant-loop-at : goal.invariant-loop-at
 invariant-loop-at l = record {

@@ -1,5 +1,4 @@
-use Rattle.check_certificate.proofs.Words.{subst, sym}
-use Rattle.check_certificate.specs.Forced.{IsForced}
+use Rattle.check_certificate.proofs.Words.{subst, sym, IsForced}
 use Rattle.check_certificate.proofs.beginning.LogBeginning.left_later.Goals as goal
 
 pub returns-then-answer-l-clause-sound : goal.returns-then-answer-l-clause-sound

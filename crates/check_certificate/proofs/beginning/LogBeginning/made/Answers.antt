@@ -1,7 +1,4 @@
-use Rattle.check_certificate.proofs.Words.{◌∙◌, ap, sym, Some, Called, LookCalled}
-use Rattle.fx_chain.specs.Operation.{all_asked}
-use Rattle.fx_flight.specs.Events.{happening_of}
-use Rattle.fx_flight.specs.declared.event.LogEvent.{LogEvent}
+use Rattle.check_certificate.proofs.Words.{◌∙◌, ap, sym, Some, Called, LookCalled, all_asked, happening_of, LogEvent}
 use Rattle.check_certificate.proofs.beginning.LogBeginning.made.Goals as goal
 
 pub returns-in_ok-evidence-in-Call-clause-sound : goal.returns-in_ok-evidence-in-Call-clause-sound

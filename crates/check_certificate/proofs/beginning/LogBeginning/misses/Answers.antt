@@ -1,6 +1,5 @@
-use Rattle.check_certificate.proofs.Words.{arith, subst, sym}
+use Rattle.check_certificate.proofs.Words.{arith, subst, sym, IsForced}
 use Rattle.check_certificate.proofs.Takers.{misses_forced}
-use Rattle.check_certificate.specs.Forced.{IsForced}
 use Rattle.check_certificate.proofs.beginning.LogBeginning.misses.Goals as goal
 
 pub returns-clause-sound : goal.returns-clause-sound

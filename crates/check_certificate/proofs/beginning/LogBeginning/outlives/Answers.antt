@@ -1,10 +1,5 @@
-use Rattle.check_certificate.proofs.Words.{◌≡◌, ◌∙◌, sym, subst, rules, arith}
-use Rattle.std.proofs.lemmas.Grind.{common_steps}
+use Rattle.check_certificate.proofs.Words.{◌≡◌, ◌∙◌, sym, subst, rules, arith, common_steps, IsForced, Put, Gone, file_Decides, false≢true}
 use Rattle.check_certificate.proofs.Forcing.{outlives_forced, strict_from}
-use Rattle.check_certificate.specs.Forced.{IsForced}
-use Rattle.check_certificate.specs.declared.certificate.Point.TheVariants.{Put, Gone}
-use Rattle.fx_order.proofs.Apart.{file_Decides}
-use Rattle.fx_order.proofs.Words.{false≢true}
 use Rattle.check_certificate.proofs.beginning.LogBeginning.outlives.Goals as goal
 
 pub returns-clause-sound : goal.returns-clause-sound
@@ -19,6 +14,4 @@ returns-clause-sound c = λ known there.
     subst (IsForced c.args.self.now) (sym c.ordered.ensures)
     (outlives_forced c.args.self.now c.in_ok-other.slot c.in_ok-_call._call c.in_ok-other.file c.in_ok-other.other c.in_ok-_call.ensures.sound
     (λ alike. false≢true (sym c.if-eq.false ∙ (c.eq.ensures ∙ (file_Decides c.in_ok-other.other c.in_ok-other.file).1 alike))) later
-    (subst (λ s. IsForced c.args.self.now (strict_from (Put c.in_ok-other.other) (Gone c.in_ok-other.other s))) at
-    (subst (λ f. IsForced c.args.self.now (strict_from (Put c.in_ok-other.other) (Gone f c.in_ok-same.at))) own
-    (subst (λ f. IsForced c.args.self.now (strict_from (Put f) (Gone c.in_ok-same.own c.in_ok-same.at))) same placed))))
+    (grind arith))

@@ -1,9 +1,6 @@
-use Rattle.check_certificate.proofs.Words.{◌≡◌, ◌∙◌, sym, Some, subst, arith}
+use Rattle.check_certificate.proofs.Words.{◌≡◌, ◌∙◌, sym, Some, subst, arith, IsForced, Gone, file_Decides, option_Decides, false≢true}
+use Rattle.check_certificate.specs.declared.certificate.Point.TheVariants.{Access}
 use Rattle.check_certificate.proofs.Forcing.{precedes_forced, strict_from}
-use Rattle.check_certificate.specs.Forced.{IsForced}
-use Rattle.check_certificate.specs.declared.certificate.Point.TheVariants.{Access, Gone}
-use Rattle.fx_order.proofs.Apart.{file_Decides, option_Decides}
-use Rattle.fx_order.proofs.Words.{false≢true}
 use Rattle.check_certificate.proofs.beginning.LogBeginning.precedes.Goals as goal
 
 pub returns-clause-sound : goal.returns-clause-sound

@@ -1,14 +1,7 @@
-use Rattle.check_certificate.proofs.Words.{◌≡◌, ◌∙◌, ◌∷◌, ◌++◌, ◌+◌, ◌<◌, ℕ, List, [], length, arith, ap, sym, rules, Some, None, Option, Bool, true, false, suc, refl}
-use Rattle.check_certificate.proofs.Words.{slice_index_or}
-use Rattle.check_certificate.specs.Holds.{is_some_so}
-use Rattle.check_certificate.specs.Right.{is_contradiction, leads_on, order_added}
-use Rattle.check_certificate.specs.Said.{Given, given_of}
-use Rattle.check_certificate.specs.declared.certificate.PointOrder.{PointOrder}
+use Rattle.check_certificate.proofs.Words.{◌≡◌, ◌∙◌, ◌∷◌, ◌++◌, ◌+◌, ◌<◌, ℕ, List, [], length, arith, ap, sym, rules, Some, None, Option, Bool, true}
+use Rattle.check_certificate.proofs.Words.{false, suc, refl, slice_index_or, is_some_so, is_contradiction, leads_on, order_added, Given, given_of}
+use Rattle.check_certificate.proofs.Words.{PointOrder, drop-cons, common_steps, drop_all, ◌&&◌, ◌||◌, drop}
 use Rattle.check_certificate.specs.declared.certificate.Step.{Step}
-use Rattle.std.proofs.Math.Seq.{drop-cons}
-use Rattle.std.proofs.lemmas.Grind.{common_steps}
-use Rattle.std.proofs.lemmas.List.{drop_all}
-use Rattle.std.specs.Prelude.{◌&&◌, ◌||◌, drop}
 use Rattle.check_certificate.proofs.Forcing.{refuted}
 use Rattle.check_certificate.proofs.beginning.LogBeginning.refutes.Goals.{else-order-via-then-order+else-eq, else-order-via-else-order}
 use Rattle.check_certificate.proofs.beginning.LogBeginning.refutes.Goals as goal
@@ -38,10 +31,7 @@ loop-step-preserved c = record {
   sound = grind (arith, common_steps);
   exact =
       let found = rw c.as_slice.ensures.value at c.in-Some.ensures.exact in
-      let later : is_contradiction c.in-Some.order ≡ false = elim c.else-order.branch [
-        | else-order-via-then-order+else-eq w ↦ no_second _ _ (sym w.eq.ensures ∙ w.if-eq.false)
-        | else-order-via-else-order w ↦ no_first _ _ w.if-order.false
-      ] in
+      let later : is_contradiction c.in-Some.order ≡ false = grind (arith, no_second, no_first) in
       rw c.in_ok-push.ensures.items (sym (next_step (given_of c.args.self.now) c.loop-step.known.items c.args.certificate.now c.loop-step.step-index _ c.loop-step-test.true
       (Some c.in-Some.order) found
       ∙ ap (λ (b : Bool). b || leads_on (given_of c.args.self.now) (c.loop-step.known.items ++ c.in-Some.order ∷ []) (drop (c.loop-step.step-index + 1) c.args.certificate.now)) later)
@@ -69,6 +59,4 @@ returns-in_default-clause-exact c =
     ∙ c.loop-step.invariant.exact
 
 pub returns-clause-exact : goal.returns-clause-exact
-returns-clause-exact c =
-    sym (ap (leads_on (given_of c.args.self.now) c.loop-step.known.items) (drop_all c.loop-step.step-index c.args.certificate.now (omega (arith, c.loop-step-test.false))))
-    ∙ c.loop-step.invariant.exact
+returns-clause-exact c = grind (arith, drop_all)

@@ -1,9 +1,5 @@
-use Rattle.check_certificate.proofs.Words.{◌≡◌, []}
+use Rattle.check_certificate.proofs.Words.{◌≡◌, [], IsForced, leads_on, given_of, All, drop}
 use Rattle.check_certificate.proofs.beginning.LogBeginning.refutes.Given as goal
-use Rattle.check_certificate.specs.Forced.{IsForced}
-use Rattle.check_certificate.specs.Right.{leads_on}
-use Rattle.check_certificate.specs.Said.{given_of}
-use Rattle.std.specs.Prelude.{All, drop}
 
 abbrev pub invariant-loop-step : goal.invariant-loop-step
 invariant-loop-step l = record {

@@ -1,10 +1,6 @@
-use Rattle.check_certificate.proofs.Words.{◌≡◌, ◌∙◌, sym, subst, rules, arith}
-use Rattle.std.proofs.lemmas.Grind.{common_steps}
+use Rattle.check_certificate.proofs.Words.{◌≡◌, ◌∙◌, sym, subst, rules, arith, common_steps, IsForced, Put, Gone, Event, happening_of, false≢true}
+use Rattle.check_certificate.proofs.Words.{take-map}
 use Rattle.check_certificate.proofs.Forcing.{settles_forced, strict_from}
-use Rattle.check_certificate.specs.Forced.{IsForced}
-use Rattle.check_certificate.specs.declared.certificate.Point.TheVariants.{Put, Gone, Event}
-use Rattle.fx_flight.specs.Events.{happening_of}
-use Rattle.fx_order.proofs.Words.{false≢true, take-map}
 use Rattle.check_certificate.proofs.beginning.LogBeginning.settles.Goals as goal
 
 pub returns-clause-sound : goal.returns-clause-sound

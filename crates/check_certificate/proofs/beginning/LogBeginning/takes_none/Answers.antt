@@ -1,5 +1,4 @@
-use Rattle.check_certificate.proofs.Words.{subst, sym}
-use Rattle.check_certificate.specs.Taken.{TakesNone}
+use Rattle.check_certificate.proofs.Words.{subst, sym, TakesNone}
 use Rattle.check_certificate.proofs.beginning.LogBeginning.takes_none.Goals as goal
 
 pub returns-in-Put-clause-sound : goal.returns-in-Put-clause-sound

@@ -1,4 +1,4 @@
-use Rattle.check_texts.proofs.Words.{Table, ap, ring_with_slots, ◌+◌}
+use Rattle.check_texts.proofs.{Table, ap, ring_with_slots, ◌+◌}
 use Rattle.check_texts.proofs.walk.Reached.ring_after.Goals as goal
 
 pub returns-clause-ring : goal.returns-clause-ring

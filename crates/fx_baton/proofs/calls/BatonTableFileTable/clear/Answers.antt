@@ -1,5 +1,4 @@
-use Rattle.fx_baton.proofs.Words.{state_of, cleared_so}
-use Rattle.fx_baton.proofs.Calling.{may_lend, slot_inside, clear_called, added}
+use Rattle.fx_baton.proofs.{state_of, cleared_so, may_lend, slot_inside, clear_called, added}
 use Rattle.fx_baton.proofs.calls.BatonTableFileTable.clear.Goals as goal
 
 pub slot_mut-plain-requires : goal.slot_mut-plain-requires

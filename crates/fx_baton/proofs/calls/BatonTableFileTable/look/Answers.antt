@@ -1,5 +1,4 @@
-use Rattle.fx_baton.proofs.Words.{sym, ◌∙◌, arith}
-use Rattle.fx_baton.proofs.Calling.{may_lend, slot_inside, look_called, empty_looked, file_looked}
+use Rattle.fx_baton.proofs.{sym, ◌∙◌, arith, may_lend, slot_inside, look_called, empty_looked, file_looked}
 use Rattle.fx_baton.proofs.calls.BatonTableFileTable.look.Goals as goal
 
 pub slot_mut-plain-requires : goal.slot_mut-plain-requires

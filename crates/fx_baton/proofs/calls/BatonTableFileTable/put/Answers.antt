@@ -1,5 +1,4 @@
-use Rattle.fx_baton.proofs.Words.{state_of, placed_so}
-use Rattle.fx_baton.proofs.Calling.{may_lend, slot_inside, number_fresh, put_called, added}
+use Rattle.fx_baton.proofs.{state_of, placed_so, may_lend, slot_inside, number_fresh, put_called, added}
 use Rattle.fx_baton.proofs.calls.BatonTableFileTable.put.Goals as goal
 
 pub slot_mut-plain-requires : goal.slot_mut-plain-requires

@@ -1,6 +1,5 @@
-use Rattle.fx_baton.proofs.Words.{subst, arith, Start, IsKept}
+use Rattle.fx_baton.proofs.Words.{subst, arith, Start, IsKept, may_observe}
 use Rattle.fx_baton.proofs.Closing.{settles}
-use Rattle.table_seats.proofs.Moving.{may_observe}
 use Rattle.fx_table.proofs.FileLemmas.{idle_task}
 use Rattle.fx_baton.proofs.calls.BatonTableFileTable.settle.Goals as goal
 

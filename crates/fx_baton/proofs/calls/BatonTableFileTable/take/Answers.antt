@@ -1,5 +1,4 @@
-use Rattle.fx_baton.proofs.Words.{state_of, taken_so}
-use Rattle.fx_baton.proofs.Calling.{may_lend, slot_inside, take_called, added}
+use Rattle.fx_baton.proofs.{state_of, taken_so, may_lend, slot_inside, take_called, added}
 use Rattle.fx_baton.proofs.calls.BatonTableFileTable.take.Goals as goal
 
 pub slot_mut-plain-requires : goal.slot_mut-plain-requires

@@ -1,5 +1,4 @@
-use Rattle.fx_baton.proofs.Words.{◌-◌, vec_capacity, seats, view_of, IsPassOf}
-use Rattle.table_seats.proofs.Moving.{IsDealing}
+use Rattle.fx_baton.proofs.Words.{◌-◌, vec_capacity, seats, view_of, IsPassOf, IsDealing}
 use Rattle.fx_baton.proofs.table.BatonTable.deal.Given as goal
 
 abbrev pub invariant-loop-number : goal.invariant-loop-number

@@ -1,5 +1,4 @@
-use Rattle.fx_baton.proofs.Words.{sym, subst, arith, BatonPass, IsIdleSeatOf, last_of}
-use Rattle.fx_baton.proofs.SeatsKeepRule.{may_join}
+use Rattle.fx_baton.proofs.{sym, subst, arith, BatonPass, IsIdleSeatOf, last_of, may_join}
 use Rattle.fx_baton.proofs.table.BatonTable.gather.Goals as goal
 
 pub join_seat-requires : goal.join_seat-requires

@@ -1,5 +1,4 @@
-use Rattle.fx_baton.proofs.Words.{ap, arith}
-use Rattle.fx_baton.proofs.TurnsKeepRule.{may_store}
+use Rattle.fx_baton.proofs.{ap, arith, may_store}
 use Rattle.fx_baton.proofs.table.BatonTable.give.Goals as goal
 
 pub store-requires : goal.store-requires

@@ -1,5 +1,4 @@
-use Rattle.fx_baton.proofs.Words.{sym, ap, subst, Contents, IsTurn, HasGivenBack, table_of_loan, events_of, doing_of}
-use Rattle.fx_baton.proofs.Passing.{gives_back}
+use Rattle.fx_baton.proofs.{sym, ap, subst, Contents, IsTurn, HasGivenBack, table_of_loan, events_of, doing_of, gives_back}
 use Rattle.fx_baton.proofs.table.BatonTable.give_back.Goals as goal
 
 pub give-requires-clause-turn : goal.give-requires-clause-turn

@@ -1,5 +1,4 @@
-use Rattle.fx_baton.proofs.Words.{◌∙◌, ap, arith}
-use Rattle.fx_baton.proofs.TurnsKeepRule.{may_exchange}
+use Rattle.fx_baton.proofs.{◌∙◌, ap, arith, may_exchange}
 use Rattle.fx_baton.proofs.table.BatonTable.grab.Goals as goal
 
 pub compare_exchange-requires : goal.compare_exchange-requires

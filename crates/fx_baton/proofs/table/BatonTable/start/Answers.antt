@@ -1,5 +1,4 @@
-use Rattle.fx_baton.proofs.Words.{◌≡◌, sym, ◌∙◌, ap, ◌∷◌, [], opening, Contents, state_of, numbers_for, prepared_again}
-use Rattle.fx_baton.proofs.SeatsKeepRule.{opens}
+use Rattle.fx_baton.proofs.{◌≡◌, sym, ◌∙◌, ap, ◌∷◌, [], opening, Contents, state_of, numbers_for, prepared_again, opens}
 use Rattle.fx_baton.proofs.table.BatonTable.start.Goals as goal
 
 pub new-requires : goal.new-requires

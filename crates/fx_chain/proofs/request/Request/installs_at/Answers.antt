@@ -1,7 +1,6 @@
-use Rattle.std.proofs.Common.{◌≡◌, ◌↔◌, ℕ, ℤ, pos, negsuc, int_le, sym, ap, ◌∙◌, rules, refl, List, Some, IsTrue, to_z, of_z, w32, slice_get, arith}
+use Rattle.fx_chain.proofs.Words.{◌≡◌, ◌↔◌, ℕ, ℤ, pos, negsuc, int_le, sym, ap, ◌∙◌, rules, refl, List, Some, IsTrue, to_z, of_z, w32, slice_get}
+use Rattle.fx_chain.proofs.Words.{arith, InstallsAt, Updates, operation_of}
 use Rattle.std.proofs.lemmas.Option.{slice_get_read, slice_get_past}
-use Rattle.fx_chain.specs.Intents.{InstallsAt}
-use Rattle.fx_chain.specs.Operation.{Updates, operation_of}
 use Rattle.fx_chain.proofs.request.Request.installs_at.Goals as goal
 
 -- the number at a position of an update's list

@@ -1,6 +1,5 @@
+use Rattle.fx_chain.proofs.Words.{ap, ◌∙◌, operation_of, may_answer}
 use Rattle.fx_chain.proofs.MayAnswer.{table_may_answer}
-use Rattle.fx_chain.proofs.Words.{ap, ◌∙◌, operation_of}
-use Rattle.fx_chain.specs.MayAnswer.{may_answer}
 use Rattle.fx_chain.proofs.request.Request.may_answer.Goals as goal
 
 pub returns-clause-all : goal.returns-clause-all

@@ -1,5 +1,5 @@
-use Rattle.fx_chain.proofs.MayAnswer.{found_named}
 use Rattle.fx_chain.proofs.Words.{sym}
+use Rattle.fx_chain.proofs.MayAnswer.{found_named}
 use Rattle.fx_chain.proofs.request.Request.opened.Goals as goal
 
 pub returns-in-Open-clause-exact : goal.returns-in-Open-clause-exact

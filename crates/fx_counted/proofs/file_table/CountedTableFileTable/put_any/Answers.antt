@@ -1,5 +1,4 @@
-use Rattle.fx_counted.proofs.Words.{inr, refl, ◌∙◌, arith, Some, HasPlace, new_here}
-use Rattle.fx_counted.proofs.Calling.{its_pass, adds_so, goes_one, goes_then}
+use Rattle.fx_counted.proofs.{inr, refl, ◌∙◌, arith, Some, HasPlace, new_here, its_pass, adds_so, goes_one, goes_then}
 use Rattle.fx_counted.proofs.file_table.CountedTableFileTable.put_any.Goals as goal
 
 pub returns-in-Some-clause-allocated : goal.returns-in-Some-clause-allocated

@@ -1,5 +1,4 @@
-use Rattle.fx_counted.proofs.Words.{refl, arith}
-use Rattle.fx_counted.proofs.ControlSteps.{begins_keep}
+use Rattle.fx_counted.proofs.{refl, arith, begins_keep}
 use Rattle.fx_counted.proofs.table.CountedTable.begin.Goals as goal
 
 pub fetch_add-requires : goal.fetch_add-requires

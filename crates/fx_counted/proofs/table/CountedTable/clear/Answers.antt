@@ -1,6 +1,4 @@
-use Rattle.fx_counted.proofs.Words.{Clear, cleared_so}
-use Rattle.fx_counted.proofs.Calling.{removal_requires, removal_adds}
-use Rattle.fx_counted.proofs.SlotLaws.{cleared}
+use Rattle.fx_counted.proofs.{Clear, cleared_so, removal_requires, removal_adds, cleared}
 use Rattle.fx_counted.proofs.table.CountedTable.clear.Goals as goal
 
 pub swap-found-requires : goal.swap-found-requires

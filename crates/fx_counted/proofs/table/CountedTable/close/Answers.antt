@@ -1,7 +1,6 @@
-use Rattle.fx_counted.proofs.Words.{Contains, List, [], ◌∷◌, ap, arith, All-contains, Contains-append_left, IsIdleSeatOf, view_of, CountedPass}
-use Rattle.fx_counted.proofs.Words.{each_all, IsPassOfTable, IsReady, fits, gathered}
+use Rattle.fx_counted.proofs.{Contains, List, [], ◌∷◌, ap, arith, All-contains, Contains-append_left, IsIdleSeatOf, view_of, CountedPass, each_all}
+use Rattle.fx_counted.proofs.{IsPassOfTable, IsReady, fits, gathered, its_idle}
 use Rattle.fx_counted.proofs.Seats.{all_idle, closes}
-use Rattle.fx_counted.proofs.Calling.{its_idle}
 use Rattle.fx_counted.proofs.table.CountedTable.close.Goals as goal
 
 pub gather-seat-requires-clause-passes : goal.gather-seat-requires-clause-passes

@@ -1,6 +1,5 @@
-use Rattle.fx_counted.proofs.Words.{refl, sym, ◌∙◌, arith}
+use Rattle.fx_counted.proofs.{refl, sym, ◌∙◌, arith, its_pass, its_idle}
 use Rattle.fx_counted.proofs.Chains.{draws_keep}
-use Rattle.fx_counted.proofs.Calling.{its_pass, its_idle}
 use Rattle.fx_counted.proofs.table.CountedTable.draw.Goals as goal
 
 pub fetch_add-given-requires : goal.fetch_add-given-requires

@@ -1,7 +1,6 @@
-use Rattle.fx_counted.proofs.Words.{refl, ap, ◌∙◌, arith, end_amount_of}
+use Rattle.fx_counted.proofs.{refl, ap, ◌∙◌, arith, end_amount_of, ends_by}
 use Rattle.std.proofs.lemmas.Int.{to_z-of_z}
 use mir.Syntax.{w32}
-use Rattle.fx_counted.proofs.ControlSteps.{ends_by}
 use Rattle.fx_counted.proofs.table.CountedTable.end.Goals as goal
 
 pub fetch_sub-requires : goal.fetch_sub-requires

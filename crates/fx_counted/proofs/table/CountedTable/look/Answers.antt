@@ -1,5 +1,4 @@
-use Rattle.fx_counted.proofs.Words.{arith}
-use Rattle.fx_counted.proofs.Calling.{slot_inside, its_pass, its_idle}
+use Rattle.fx_counted.proofs.{arith, slot_inside, its_pass, its_idle}
 use Rattle.fx_counted.proofs.LookUps.{looks_keep}
 use Rattle.fx_counted.proofs.table.CountedTable.look.Goals as goal
 

@@ -1,10 +1,8 @@
-use Rattle.fx_counted.proofs.Words.{◌≡◌, ℕ, [], ◌∷◌, ap, ◌∙◌, subst, arith, Some, ◌▷◌, numbered, Put, takes_in, slot_word_of, Adds, one_number}
-use Rattle.fx_counted.proofs.Words.{place_of, pass_of, view_of, opening_of_table, activity_of, retiring, Bool, sym, File, List, Log, None, Option}
-use Rattle.fx_counted.proofs.Words.{Retired, first_log, is_idle, option_map, refl, rest, is_some, retired_of, Between, not, placed_so}
+use Rattle.fx_counted.proofs.{◌≡◌, ℕ, [], ◌∷◌, ap, ◌∙◌, subst, arith, Some, ◌▷◌, numbered, Put, takes_in, slot_word_of, Adds, one_number, place_of}
+use Rattle.fx_counted.proofs.{pass_of, view_of, opening_of_table, activity_of, retiring, Bool, sym, File, List, Log, None, Option, Retired, first_log}
+use Rattle.fx_counted.proofs.{is_idle, option_map, refl, rest, is_some, retired_of, Between, not, placed_so, slot_inside, slot_at, its_pass, adds_so}
+use Rattle.fx_counted.proofs.{goes_one, goes_then, goes_around, still_pass, installs_keep, may_change}
 use Rattle.std.proofs.lemmas.Bool.{not-false, not-true}
-use Rattle.fx_counted.proofs.Calling.{slot_inside, slot_at, its_pass, adds_so, goes_one, goes_then, goes_around, still_pass}
-use Rattle.fx_counted.proofs.SlotLaws.{installs_keep}
-use Rattle.fx_counted.proofs.ControlSteps.{may_change}
 use Rattle.fx_counted.proofs.table.CountedTable.put.Goals as goal
 
 pub swap-found-requires : goal.swap-found-requires

@@ -1,6 +1,4 @@
-use Rattle.fx_counted.proofs.Words.{ap, ◌∙◌, word_of}
-use Rattle.fx_counted.proofs.LettingGo.{births_keep}
-use Rattle.fx_counted.proofs.Calling.{node_inside}
+use Rattle.fx_counted.proofs.{ap, ◌∙◌, word_of, births_keep, node_inside}
 use Rattle.fx_counted.proofs.table.CountedTable.put_in.Goals as goal
 
 pub store-requires : goal.store-requires

@@ -1,6 +1,5 @@
-use Rattle.fx_counted.proofs.Words.{ap, ◌∙◌, arith, subst, node_place, IsInside, Hold}
-use Rattle.fx_counted.proofs.Calling.{node_inside, its_pass, its_hold, adds_so, out_place, out_and_home}
-use Rattle.fx_counted.proofs.LettingGo.{releases_keep}
+use Rattle.fx_counted.proofs.{ap, ◌∙◌, arith, subst, node_place, IsInside, Hold, node_inside, its_pass, its_hold, adds_so, out_place, out_and_home}
+use Rattle.fx_counted.proofs.{releases_keep}
 use Rattle.fx_counted.proofs.table.CountedTable.release.Goals as goal
 
 pub fetch_sub-found-requires : goal.fetch_sub-found-requires

@@ -1,7 +1,6 @@
-use Rattle.fx_counted.proofs.Words.{◌≡◌, [], refl, ap, ◌∙◌, arith, subst, Some, ◌▷◌, Close, File, no_use, Retired, retired_of, retire_amount_of, Goes}
-use Rattle.fx_counted.proofs.Words.{node_place, HasPlace, pass_of, state_after_all, IsInside, TakesOut, Change, Idle, Retiring, Between}
-use Rattle.fx_counted.proofs.Calling.{node_inside, its_pass, its_removal, adds_so, still_pass, let_go, out_and_home}
-use Rattle.fx_counted.proofs.LettingGo.{retires_keep}
+use Rattle.fx_counted.proofs.{◌≡◌, [], refl, ap, ◌∙◌, arith, subst, Some, ◌▷◌, Close, File, no_use, Retired, retired_of, retire_amount_of, Goes}
+use Rattle.fx_counted.proofs.{node_place, HasPlace, pass_of, state_after_all, IsInside, TakesOut, Change, Idle, Retiring, Between, node_inside}
+use Rattle.fx_counted.proofs.{its_pass, its_removal, adds_so, still_pass, let_go, out_and_home, retires_keep}
 use Rattle.fx_counted.proofs.table.CountedTable.retire.Goals.{After-fetch_sub-found}
 use Rattle.fx_counted.proofs.table.CountedTable.retire.Goals as goal
 

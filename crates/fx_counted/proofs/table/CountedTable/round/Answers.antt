@@ -1,7 +1,5 @@
-use Rattle.fx_counted.proofs.Words.{rules, ◌≡◌, ◌≢◌, refl, sym, ◌∙◌, arith, full_word_of, Same, StillPlaces}
-use Rattle.fx_counted.proofs.Calling.{full_of}
+use Rattle.fx_counted.proofs.{rules, ◌≡◌, ◌≢◌, refl, sym, ◌∙◌, arith, full_word_of, Same, StillPlaces, full_of, begins_keep, answers_keep}
 use Rattle.fx_counted.proofs.Showing.{one_still, still_then, still_placing, allocated_then, allocated_told, answered_full, answered_not}
-use Rattle.fx_counted.proofs.ControlSteps.{begins_keep, answers_keep}
 use Rattle.fx_counted.proofs.table.CountedTable.round.Goals.{In-None}
 use Rattle.fx_counted.proofs.table.CountedTable.round.Goals as goal
 

@@ -1,6 +1,4 @@
-use Rattle.fx_counted.proofs.Words.{Take, taken_so}
-use Rattle.fx_counted.proofs.Calling.{removal_requires, removal_adds}
-use Rattle.fx_counted.proofs.SlotLaws.{taken}
+use Rattle.fx_counted.proofs.{Take, taken_so, removal_requires, removal_adds, taken}
 use Rattle.fx_counted.proofs.table.CountedTable.take.Goals as goal
 
 pub swap-found-requires : goal.swap-found-requires

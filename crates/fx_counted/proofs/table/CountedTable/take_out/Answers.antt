@@ -1,6 +1,4 @@
-use Rattle.fx_counted.proofs.Words.{sym, ap, ◌∙◌, ◌∷◌, Some, None, rest, Sat}
-use Rattle.fx_counted.proofs.LettingGo.{rests_keep}
-use Rattle.fx_counted.proofs.Calling.{node_inside}
+use Rattle.fx_counted.proofs.{sym, ap, ◌∙◌, ◌∷◌, Some, None, rest, Sat, rests_keep, node_inside}
 use Rattle.fx_counted.proofs.table.CountedTable.take_out.Goals as goal
 
 pub exchange-requires : goal.exchange-requires

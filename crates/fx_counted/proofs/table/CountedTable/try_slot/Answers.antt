@@ -1,7 +1,5 @@
-use Rattle.fx_counted.proofs.Words.{arith, rules, ◌≡◌, ◌<◌, ◌^◌, ◌∙◌, None, node_in}
-use Rattle.fx_counted.proofs.Calling.{in_size, slot_inside, slot_at, no_name}
+use Rattle.fx_counted.proofs.{arith, rules, ◌≡◌, ◌<◌, ◌^◌, ◌∙◌, None, node_in, in_size, slot_inside, slot_at, no_name, loads_keep, exchanges_keep}
 use Rattle.fx_counted.proofs.Showing.{exchange_tried}
-use Rattle.fx_counted.proofs.SlotLaws.{loads_keep, exchanges_keep}
 use Rattle.fx_counted.proofs.table.CountedTable.try_slot.Goals as goal
 
 pub load-found-requires : goal.load-found-requires

@@ -1,5 +1,4 @@
-use Rattle.std.proofs.Common.{ℕ, ◌≤◌, ◌<◌, ◌-◌, length}
-use Rattle.fx_direct.specs.Living.{IsNamed}
+use Rattle.fx_direct.proofs.Words.{ℕ, ◌≤◌, ◌<◌, ◌-◌, length, IsNamed}
 use Rattle.fx_direct.proofs.slot_list.SlotList.key_in.Given as goal
 
 abbrev pub invariant-loop-slot : goal.invariant-loop-slot

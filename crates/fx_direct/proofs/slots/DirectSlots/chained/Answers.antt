@@ -1,7 +1,6 @@
 use Rattle.fx_direct.proofs.Keeping.{vacated}
-use Rattle.fx_direct.proofs.Words.{◌≡◌, ◌&&◌, sym, subst, ap, ◌∙◌, Phase, Chained, FitsPhase, phase_at, is_live}
-use Rattle.fx_direct.specs.Transitions.{AdvancesAndAsks, completion, machine_with, unless_live}
-use Rattle.fx_direct.specs.declared.slot_order.SlotRange.{SlotRange}
+use Rattle.fx_direct.proofs.Words.{◌≡◌, ◌&&◌, sym, subst, ap, ◌∙◌, Phase, Chained, FitsPhase, phase_at, is_live, AdvancesAndAsks, completion}
+use Rattle.fx_direct.proofs.Words.{machine_with, unless_live, SlotRange}
 use Rattle.fx_direct.proofs.Asking.{completes, phase_left}
 use Rattle.fx_direct.proofs.slots.DirectSlots.chained.Goals as goal
 

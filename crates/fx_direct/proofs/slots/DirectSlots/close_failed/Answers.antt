@@ -1,5 +1,4 @@
-use Rattle.fx_direct.proofs.Words.{refl, sym, subst, ap, ◌∙◌, Some, FailsToClose, Ending, is_closing, AdvancesAndAsks}
-use Rattle.fx_direct.specs.Transitions.{DirectMachine, machine_with}
+use Rattle.fx_direct.proofs.Words.{refl, sym, subst, ap, ◌∙◌, Some, FailsToClose, Ending, is_closing, AdvancesAndAsks, DirectMachine, machine_with}
 use Rattle.fx_direct.proofs.Asking.{asks, phase_left}
 use Rattle.fx_direct.proofs.slots.DirectSlots.close_failed.Goals as goal
 

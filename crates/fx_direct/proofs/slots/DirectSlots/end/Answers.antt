@@ -1,7 +1,5 @@
-use Rattle.fx_direct.proofs.Words.{refl}
+use Rattle.fx_direct.proofs.Words.{refl, ◌≡◌, sym, ap, ◌∙◌, inl, Ends, IsEnabled, phase_at, Live, Ending, may_end}
 use Rattle.fx_direct.proofs.Keeping.{written}
-use Rattle.fx_direct.proofs.Words.{◌≡◌, sym, ap, ◌∙◌, inl, Ends, IsEnabled, phase_at, Live, Ending}
-use Rattle.fx_direct.specs.Transitions.{may_end}
 use Rattle.fx_direct.proofs.Asking.{asks, phase_left}
 use Rattle.fx_direct.proofs.slots.DirectSlots.end.Goals as goal
 

@@ -1,6 +1,5 @@
-use Rattle.fx_direct.proofs.Words.{refl}
+use Rattle.fx_direct.proofs.Words.{refl, ◌≡◌, ◌-◌, ◌<◌, sym, subst, ap, ◌∙◌, Phase, Finishes, IsEnabled, phase_at, Ending, requests_in}
 use Rattle.fx_direct.proofs.Keeping.{written}
-use Rattle.fx_direct.proofs.Words.{◌≡◌, ◌-◌, ◌<◌, sym, subst, ap, ◌∙◌, Phase, Finishes, IsEnabled, phase_at, Ending, requests_in}
 use Rattle.fx_direct.proofs.Asking.{asks, phase_left}
 use Rattle.fx_direct.proofs.slots.DirectSlots.finish.Goals as goal
 

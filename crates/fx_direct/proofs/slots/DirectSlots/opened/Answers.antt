@@ -1,7 +1,6 @@
-use Rattle.fx_direct.proofs.Words.{Free, None}
+use Rattle.fx_direct.proofs.Words.{Free, None, ◌≡◌, Bool, true, refl, sym, subst, ap, ◌∙◌, Some, Opening, Ending, Opens, phase_at, AdvancesAndAsks}
+use Rattle.fx_direct.proofs.Words.{DirectMachine, machine_with, may_open}
 use Rattle.fx_direct.proofs.Keeping.{vacated}
-use Rattle.fx_direct.proofs.Words.{◌≡◌, Bool, true, refl, sym, subst, ap, ◌∙◌, Some, Opening, Ending, Opens, phase_at, AdvancesAndAsks}
-use Rattle.fx_direct.specs.Transitions.{DirectMachine, machine_with, may_open}
 use Rattle.fx_direct.proofs.Asking.{asks, phase_left}
 use Rattle.fx_direct.proofs.slots.DirectSlots.opened.Goals as goal
 

@@ -1,6 +1,5 @@
-use Rattle.fx_direct.proofs.Words.{refl}
+use Rattle.fx_direct.proofs.Words.{refl, ◌≡◌, ◌-◌, ◌<◌, sym, subst, ap, ◌∙◌, Phase, Releases, IsEnabled, phase_at, Ending, users_in}
 use Rattle.fx_direct.proofs.Keeping.{written}
-use Rattle.fx_direct.proofs.Words.{◌≡◌, ◌-◌, ◌<◌, sym, subst, ap, ◌∙◌, Phase, Releases, IsEnabled, phase_at, Ending, users_in}
 use Rattle.fx_direct.proofs.Asking.{asks, phase_left}
 use Rattle.fx_direct.proofs.slots.DirectSlots.release.Goals as goal
 

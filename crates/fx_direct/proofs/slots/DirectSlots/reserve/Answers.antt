@@ -7,5 +7,5 @@ invariant_of-self-2 c =
     let found = c.in-Some.ensures.found in let k : LifeKey = record { slot = c.in-Some.slot; number = c.number.result + 1 } in
     let inside : c.in-Some.slot < length c.self.inside.list = subst (λ (n : ℕ). c.in-Some.slot < n) c.self.invariant.same found.0 in
     let room = number_left (slot_numbered c.self.inside.list c.in-Some.slot) _ (sym (c.self.invariant.ordered c.in-Some.slot inside) ∙ found.1) in
-    rw c.set.ensures (kept c.self.inside.list c.self.inside.order c.self.invariant k inside c.take.new.self Opening (let n = c.number.ensures in omega arith)
-    c.in-Some.ensures.same c.in-Some.ensures.range (λ s lt. found.2 s lt))
+    rw c.begin.ensures (kept c.self.inside.list c.self.inside.order c.self.invariant k inside c.take.new.self Opening (let n = c.number.ensures in omega arith)
+    c.in-Some.ensures.same c.in-Some.ensures.range (λ s lt. found.2 s))

@@ -1,4 +1,4 @@
-use Rattle.fx_lasting.proofs.Words.{◌≡◌, ◌-◌, ◌+◌, ◌≤◌, map, vec_capacity, stocks_back}
+use Rattle.fx_lasting.proofs.{◌≡◌, ◌-◌, ◌+◌, ◌≤◌, map, vec_capacity, stocks_back}
 use Rattle.fx_lasting.proofs.life.open.first_stocks.Given as goal
 
 abbrev pub invariant-loop-pass : goal.invariant-loop-pass

@@ -1,4 +1,4 @@
-use Rattle.fx_lasting.proofs.Words.{arith}
+use Rattle.fx_lasting.proofs.{arith}
 use Rattle.fx_lasting.proofs.node_lemmas.FirstStocks.{one_named}
 use Rattle.fx_lasting.proofs.life.open.name_slots.Goals as goal
 

@@ -1,4 +1,4 @@
-use Rattle.fx_lasting.proofs.Words.{AreNamed}
+use Rattle.fx_lasting.proofs.{AreNamed}
 use Rattle.fx_lasting.proofs.life.open.name_slots.Given as goal
 
 abbrev pub invariant-loop-slot : goal.invariant-loop-slot

@@ -1,4 +1,4 @@
-use Rattle.fx_lasting.proofs.Words.{◌≡◌, ◌-◌, ◌+◌, ◌≤◌, vec_capacity, range_with_len}
+use Rattle.fx_lasting.proofs.{◌≡◌, ◌-◌, ◌+◌, ◌≤◌, vec_capacity, range_with_len}
 use Rattle.fx_lasting.proofs.life.open.numbers_from.Given as goal
 
 abbrev pub invariant-loop-number : goal.invariant-loop-number

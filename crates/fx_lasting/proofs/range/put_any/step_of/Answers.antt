@@ -1,4 +1,4 @@
-use Rattle.fx_lasting.proofs.Words.{arith, ◌%◌}
+use Rattle.fx_lasting.proofs.{arith, ◌%◌}
 use Rattle.fx_lasting.proofs.range_lemmas.Walks.{all_lead}
 use Rattle.fx_lasting.proofs.range.put_any.step_of.Goals as goal
 

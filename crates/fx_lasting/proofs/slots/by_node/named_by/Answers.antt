@@ -1,5 +1,4 @@
-use Rattle.fx_lasting.proofs.Words.{ℕ, ◌+◌, refl, ap, ◌∙◌, arith}
-use Rattle.fx_lasting.proofs.Running.{no_name, its_name}
+use Rattle.fx_lasting.proofs.{ℕ, ◌+◌, refl, ap, ◌∙◌, arith, no_name, its_name}
 use Rattle.fx_lasting.proofs.slots.by_node.named_by.Goals as goal
 
 pub returns-in-None : goal.returns-in-None

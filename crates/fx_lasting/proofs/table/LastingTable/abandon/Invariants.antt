@@ -1,4 +1,4 @@
-use Rattle.fx_lasting.proofs.Words.{◌≡◌, ◌<◌, ℕ, false, get_or, slots_len, slots_filled, Filled}
+use Rattle.fx_lasting.proofs.{◌≡◌, ◌<◌, ℕ, false, get_or, slots_len, slots_filled, Filled}
 use Rattle.fx_lasting.proofs.table.LastingTable.abandon.Given as goal
 
 -- nothing is left in the places so far

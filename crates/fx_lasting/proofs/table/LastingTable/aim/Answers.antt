@@ -1,7 +1,5 @@
-use Rattle.fx_lasting.proofs.Words.{◌≡◌, ◌+◌, ℕ, ap, ◌∙◌, subst, sym, arith, [], ◌▷◌, Look, None, Nothing, Cold, Hot, Runs, slot_of, full_name_in, IsHot}
-use Rattle.fx_lasting.proofs.Calling.{slot_inside, slot_low}
-use Rattle.fx_lasting.proofs.Places.{slot_back}
-use Rattle.fx_lasting.proofs.Running.{runs_goes, no_name, its_name}
+use Rattle.fx_lasting.proofs.{◌≡◌, ◌+◌, ℕ, ap, ◌∙◌, subst, sym, arith, [], ◌▷◌, Look, None, Nothing, Cold, Hot, Runs, slot_of, full_name_in, IsHot}
+use Rattle.fx_lasting.proofs.{slot_inside, slot_low, slot_back, runs_goes, no_name, its_name}
 use Rattle.fx_lasting.proofs.hold_lemmas.Looking.{aims_keep}
 use Rattle.fx_lasting.proofs.table.LastingTable.aim.Goals as goal
 
@@ -26,10 +24,9 @@ returns-in_default c =
 
 pub returns-then-is_hot_at : goal.returns-then-is_hot_at
 returns-then-is_hot_at c =
-    let named = its_name c.load-word.result c.in-Some.node c.in-Some.ensures in
     let still : (full_name_in c.load-word.result ≡ c.in-Some.node + 1) × IsHot c.load-word.result = c.is_hot_at.ensures.0 c.if-is_hot_at.true in
     let here : slot_of c.slot_place.result ≡ c.args.slot = ap slot_of c.slot_place.ensures ∙ slot_back c.args.slot in
-    let goes = (c.load-word.ensures.2.hot c.in-Some.node named still.1).0 in
+    let goes = (c.load-word.ensures.2.hot c.in-Some.node (its_name c.load-word.result c.in-Some.node c.in-Some.ensures) still.1).0 in
     let m = c.args.seat.now.me in
     record {
       table = c.load-word.ensures.0;

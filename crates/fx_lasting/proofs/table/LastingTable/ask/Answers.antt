@@ -1,14 +1,13 @@
-use Rattle.fx_lasting.proofs.Words.{◌≡◌, ℕ, ◌+◌, ◌<◌, [], refl, ◌∙◌, subst, arith, inr, Start, Covered, groups_in, DecidesIf}
+use Rattle.fx_lasting.proofs.{◌≡◌, ℕ, ◌+◌, ◌<◌, [], refl, ◌∙◌, subst, arith, inr, Start, Covered, groups_in, DecidesIf, runs_within, runs_none}
 use Rattle.fx_lasting.proofs.slot_lemmas.Overtaking.{short_in}
-use Rattle.fx_lasting.proofs.range_lemmas.Questions.{learns_none, learns_at_work, learns_then, tells_then}
-use Rattle.fx_lasting.proofs.Running.{runs_within}
+use Rattle.fx_lasting.proofs.range_lemmas.Questions.{learns_at_work, learns_then, tells_then}
 use Rattle.fx_lasting.proofs.table.LastingTable.ask.Goals as goal
 
 pub loop-group-init : goal.loop-group-init
 loop-group-init c = record {
   table = refl;
   places = refl;
-  asked = learns_none (learns_at_work c.requires.at c.begin.ensures.asked) c.begin.ensures.asked.asked;
+  asked = let r = runs_none (learns_at_work c.requires.at c.begin.ensures.asked) 0 in assumption (r, c.begin.ensures.asked.asked);
   asks = c.begin.ensures.asks;
 }
 

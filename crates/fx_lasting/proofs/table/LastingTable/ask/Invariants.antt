@@ -1,4 +1,4 @@
-use Rattle.fx_lasting.proofs.Words.{◌≡◌, Covered, AsksSo, pass_in, true}
+use Rattle.fx_lasting.proofs.{◌≡◌, Covered, AsksSo, pass_in, true}
 use Rattle.fx_lasting.proofs.table.LastingTable.ask.Given as goal
 
 -- the groups before this one are visited

@@ -1,7 +1,7 @@
-use Rattle.fx_lasting.proofs.Words.{◌≡◌, ℕ, ◌^◌, refl, ap, ◌∙◌, sym, arith, Log, List, first_log, bit_of, NotAsked, subst, HasQuestionOf}
+use Rattle.fx_lasting.proofs.{◌≡◌, ℕ, ◌^◌, refl, ap, ◌∙◌, sym, arith, Log, List, first_log, bit_of, NotAsked, subst, HasQuestionOf, number_is}
+use Rattle.fx_lasting.proofs.{runs_goes, runs_within}
 use Rattle.fx_lasting.proofs.range_lemmas.QuestionSteps.{begins_keep, asks_keep}
 use Rattle.fx_lasting.proofs.range_lemmas.Questions.{is_gone, learns_at_work, learns_then}
-use Rattle.fx_lasting.proofs.Running.{number_is, runs_goes, runs_within}
 use Rattle.fx_lasting.proofs.table.LastingTable.begin.Goals as goal
 
 pub load-question-requires : goal.load-question-requires

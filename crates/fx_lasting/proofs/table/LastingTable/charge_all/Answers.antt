@@ -1,5 +1,4 @@
-use Rattle.fx_lasting.proofs.Words.{◌≡◌, ℕ, ◌+◌, ◌*◌, ◌≤◌, ◌⊎◌, ◌∙◌, arith, refl, ⊎_elim, dite, dec_le, round_to}
-use Rattle.fx_lasting.proofs.Running.{still_at_work, runs_within, placed_none}
+use Rattle.fx_lasting.proofs.{◌≡◌, ℕ, ◌+◌, ◌*◌, ◌≤◌, ◌⊎◌, ◌∙◌, arith, refl, ⊎_elim, dite, dec_le, round_to, still_at_work, runs_within, placed_none}
 use Rattle.fx_lasting.proofs.table.LastingTable.charge_all.Goals as goal
 
 pub loop-pass-init : goal.loop-pass-init

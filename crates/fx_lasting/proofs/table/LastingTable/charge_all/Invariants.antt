@@ -1,4 +1,4 @@
-use Rattle.fx_lasting.proofs.Words.{◌≡◌, ℕ, ◌+◌, ◌-◌, ◌*◌, ◌≤◌, File, Retiring, HasVisited, new_round}
+use Rattle.fx_lasting.proofs.{◌≡◌, ℕ, ◌+◌, ◌-◌, ◌*◌, ◌≤◌, File, Retiring, HasVisited, new_round}
 use Rattle.fx_lasting.proofs.table.LastingTable.charge_all.Given as goal
 
 -- the passes so far were visited

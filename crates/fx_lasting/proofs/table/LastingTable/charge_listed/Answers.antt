@@ -1,8 +1,6 @@
-use Rattle.fx_lasting.proofs.Words.{bit_at, bit_of, list_place, IsIdleIn, ◌≡◌, ℕ, ◌+◌, ◌-◌, ◌*◌, ◌/◌, ◌^◌, ◌≤◌, ◌<◌, ◌∙◌, refl, sym, ap, subst, arith, Sat}
-use Rattle.fx_lasting.proofs.Words.{File, HasVisited, IsAtWork, Start, round_to, w64, trailing_zeros}
-use Rattle.fx_lasting.proofs.Calling.{list_inside}
+use Rattle.fx_lasting.proofs.{bit_at, bit_of, list_place, IsIdleIn, ◌≡◌, ℕ, ◌+◌, ◌-◌, ◌*◌, ◌/◌, ◌^◌, ◌≤◌, ◌<◌, ◌∙◌, refl, sym, ap, subst, arith, Sat}
+use Rattle.fx_lasting.proofs.{File, HasVisited, IsAtWork, Start, round_to, w64, trailing_zeros, list_inside, still_at_work, runs_goes}
 use Rattle.fx_lasting.proofs.hold_lemmas.Rounds.{words_at, loads_more, from_here, goes_past, idle_at, lowest, none_left, shifted, passed_by}
-use Rattle.fx_lasting.proofs.Running.{still_at_work, runs_goes}
 use Rattle.fx_lasting.proofs.hold_lemmas.Skimming.{skims_keep}
 use Rattle.fx_lasting.proofs.table.LastingTable.charge_listed.Goals.{After-load-rest}
 use Rattle.fx_lasting.proofs.table.LastingTable.charge_listed.Goals as goal

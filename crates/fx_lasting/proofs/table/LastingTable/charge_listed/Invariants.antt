@@ -1,4 +1,4 @@
-use Rattle.fx_lasting.proofs.Words.{◌≡◌, ℕ, ◌+◌, ◌-◌, ◌/◌, ◌^◌, ◌≤◌, File, HasVisited, Sat}
+use Rattle.fx_lasting.proofs.{◌≡◌, ℕ, ◌+◌, ◌-◌, ◌/◌, ◌^◌, ◌≤◌, File, HasVisited, Sat}
 use Rattle.fx_lasting.proofs.hold_lemmas.Rounds.{words_at}
 use Rattle.fx_lasting.proofs.table.LastingTable.charge_listed.Given as goal
 

@@ -1,8 +1,7 @@
-use Rattle.fx_lasting.proofs.Words.{◌≡◌, ◌∙◌, Contains, List, [], ◌∷◌, ap, sym, subst, false, length, length-map, IsIdleSeatOf, opening_of, view_of}
-use Rattle.fx_lasting.proofs.Words.{LastingPass, IsPassOfTable, All-contains, Contains-append_left, each_all, IsReady, fits, gathered, last_of, ClosesTable}
-use Rattle.fx_lasting.proofs.Words.{PassView, IsIdle}
+use Rattle.fx_lasting.proofs.{◌≡◌, ◌∙◌, Contains, List, [], ◌∷◌, ap, sym, subst, false, length, length-map, IsIdleSeatOf, opening_of, view_of}
+use Rattle.fx_lasting.proofs.{LastingPass, IsPassOfTable, All-contains, Contains-append_left, each_all, IsReady, fits, gathered, last_of, ClosesTable}
+use Rattle.fx_lasting.proofs.{PassView, IsIdle, idle_seat}
 use Rattle.fx_lasting.proofs.life_lemmas.Gathered.{all_idle, closes}
-use Rattle.fx_lasting.proofs.Passing.{idle_seat}
 use Rattle.fx_lasting.proofs.table.LastingTable.close.Goals.{After-settle_all}
 use Rattle.fx_lasting.proofs.table.LastingTable.close.Goals as goal
 

@@ -1,6 +1,4 @@
-use Rattle.fx_lasting.proofs.Words.{arith, ◌≡◌, refl, sym, ◌∙◌, subst, Start, node_of_number}
-use Rattle.fx_lasting.proofs.Calling.{number_inside, number_word, few_nodes}
-use Rattle.fx_lasting.proofs.Running.{held_inside, runs_goes}
+use Rattle.fx_lasting.proofs.{arith, ◌≡◌, refl, sym, ◌∙◌, subst, Start, node_of_number, number_inside, number_word, few_nodes, held_inside, runs_goes}
 use Rattle.fx_lasting.proofs.node_lemmas.Labelling.{reads_number_keep}
 use Rattle.fx_lasting.proofs.table.LastingTable.compare.Goals as goal
 

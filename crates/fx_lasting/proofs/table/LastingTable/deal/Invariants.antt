@@ -1,4 +1,4 @@
-use Rattle.fx_lasting.proofs.Words.{◌≡◌, ◌≤◌, ◌-◌, ◌+◌, map, vec_capacity, stocks_back, [], dealt, seats, IsPassOf, AreDealt}
+use Rattle.fx_lasting.proofs.{◌≡◌, ◌≤◌, ◌-◌, ◌+◌, map, vec_capacity, stocks_back, [], dealt, seats, IsPassOf, AreDealt}
 use Rattle.fx_lasting.proofs.life_lemmas.Gathered.{shown}
 use Rattle.fx_lasting.proofs.table.LastingTable.deal.Given as goal
 

@@ -1,5 +1,4 @@
-use Rattle.fx_lasting.proofs.Words.{refl, ap, ◌∙◌, sym, arith, List, Log, first_log, Covered}
-use Rattle.fx_lasting.proofs.Calling.{same_groups}
+use Rattle.fx_lasting.proofs.{refl, ap, ◌∙◌, sym, arith, List, Log, first_log, Covered, same_groups}
 use Rattle.fx_lasting.proofs.range_lemmas.QuestionSteps.{decides_keep}
 use Rattle.fx_lasting.proofs.table.LastingTable.decide.Goals as goal
 

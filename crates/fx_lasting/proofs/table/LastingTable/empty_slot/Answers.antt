@@ -1,10 +1,9 @@
-use Rattle.fx_lasting.proofs.Words.{◌≡◌, ◌<◌, ◌≤◌, ℕ, List, ap, sym, ◌∙◌, arith, length, get_elem?, some, nodes_of, last_node, get_or_default}
-use Rattle.fx_lasting.proofs.Calling.{slot_inside, slot_low, few_nodes, stock_inside}
+use Rattle.fx_lasting.proofs.{◌≡◌, ◌<◌, ◌≤◌, ℕ, List, ap, sym, ◌∙◌, arith, length, get_elem?, some, nodes_of, last_node, get_or_default, slot_inside}
+use Rattle.fx_lasting.proofs.{slot_low, few_nodes, stock_inside, stock_is}
 use Rattle.fx_lasting.proofs.slot_lemmas.Removals.{by_removal, by_swap}
 use Rattle.fx_lasting.proofs.slot_lemmas.SlotLaws.{takes_out_keep}
 use Rattle.fx_lasting.proofs.slot_lemmas.SwapsOut.{swap_takes_keep}
 use Rattle.fx_lasting.proofs.node_lemmas.FreeNodes.{entry_is}
-use Rattle.fx_lasting.proofs.Running.{stock_is}
 use Rattle.fx_lasting.proofs.table.LastingTable.empty_slot.Goals.{After-index}
 use Rattle.fx_lasting.proofs.table.LastingTable.empty_slot.Goals as goal
 

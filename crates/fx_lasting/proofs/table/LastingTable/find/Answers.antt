@@ -1,9 +1,8 @@
-use Rattle.fx_lasting.proofs.Words.{refl, [], ◌∙◌, ◌▷◌, Full, true, false, HasAsked, opening_of, view_of, adds_then, no_use, DoesNothing, LastingPass}
-use Rattle.fx_lasting.proofs.Words.{MeetsMore, ℕ, ◌+◌, LastingTable, IsIdle, Adds, groups_in}
+use Rattle.fx_lasting.proofs.{refl, [], ◌∙◌, ◌▷◌, Full, true, false, HasAsked, opening_of, view_of, adds_then, no_use, DoesNothing, LastingPass}
+use Rattle.fx_lasting.proofs.{MeetsMore, ℕ, ◌+◌, LastingTable, IsIdle, Adds, groups_in, at_rest, meets_then, still_pass}
 use Rattle.fx_lasting.proofs.range_lemmas.Scanning.{follows, saw_emptying}
 use Rattle.fx_lasting.specs.Ends.{Does}
 use Rattle.fx_lasting.proofs.slot_lemmas.ByNode.{adds_none, was_before}
-use Rattle.fx_lasting.proofs.Passing.{at_rest, meets_then, still_pass}
 use Rattle.fx_lasting.proofs.range_lemmas.Questions.{asked_so}
 use Rattle.fx_lasting.proofs.table.LastingTable.find.Goals as goal
 

@@ -1,5 +1,5 @@
-use Rattle.fx_lasting.proofs.Words.{vec_len, vec_capacity, length, ◌+◌, ◌≤◌, ◌≡◌, ℕ, List, sym, refl, ap, ◌∙◌, arith, rules, Option, None, some, get_elem?}
-use Rattle.fx_lasting.proofs.Words.{slots_items, file_node_in, slot_place, read_at, none_left, files_at_slots}
+use Rattle.fx_lasting.proofs.{vec_len, vec_capacity, length, ◌+◌, ◌≤◌, ◌≡◌, ℕ, List, sym, refl, ap, ◌∙◌, arith, rules, Option, None, some, get_elem?}
+use Rattle.fx_lasting.proofs.{slots_items, file_node_in, slot_place, read_at, none_left, files_at_slots}
 use Rattle.fx_lasting.proofs.life_lemmas.Listed.{none_listed, one_listed, none_is_there, none_named_here}
 use Rattle.fx_lasting.proofs.life_lemmas.HomeComing.{node_at, home_at_end, leaves_at_end}
 use Rattle.fx_lasting.proofs.table.LastingTable.finish.Goals.{in-Some+in-Some-take_home, in-Some+in_default-take_home, in_default}

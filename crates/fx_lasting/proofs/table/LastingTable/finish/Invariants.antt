@@ -1,4 +1,4 @@
-use Rattle.fx_lasting.proofs.Words.{◌≡◌, slots_items, slots_len, IsFull, ◌≤◌, vec_capacity, vec_len}
+use Rattle.fx_lasting.proofs.{◌≡◌, slots_items, slots_len, IsFull, ◌≤◌, vec_capacity, vec_len}
 use Rattle.fx_lasting.proofs.life_lemmas.Listed.{AreListed}
 use Rattle.fx_lasting.proofs.life_lemmas.HomeComing.{node_at}
 use Rattle.fx_lasting.proofs.table.LastingTable.finish.Given as goal

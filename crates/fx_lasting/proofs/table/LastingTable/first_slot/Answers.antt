@@ -1,4 +1,4 @@
-use Rattle.fx_lasting.proofs.Words.{arith}
+use Rattle.fx_lasting.proofs.{arith}
 use Rattle.fx_lasting.proofs.range_lemmas.Trying.{in_range}
 use Rattle.fx_lasting.proofs.table.LastingTable.first_slot.Goals as goal
 

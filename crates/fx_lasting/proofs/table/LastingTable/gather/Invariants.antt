@@ -1,5 +1,4 @@
-use Rattle.fx_lasting.proofs.Words.{length, seats, IsIdleSeatOf}
-use Rattle.table_seats.proofs.Moving.{IsGathering}
+use Rattle.fx_lasting.proofs.{length, seats, IsIdleSeatOf, IsGathering}
 use Rattle.fx_lasting.proofs.table.LastingTable.gather.Given as goal
 
 abbrev pub invariant-loop-pass : goal.invariant-loop-pass

@@ -1,6 +1,4 @@
-use Rattle.fx_lasting.proofs.Words.{arith, range_at_start, ◌^◌}
-use Rattle.fx_lasting.proofs.Calling.{same_groups}
-use Rattle.table_range.proofs.GroupSlots.{is_group, group_by}
+use Rattle.fx_lasting.proofs.{arith, range_at_start, ◌^◌, same_groups, is_group, group_by}
 use Rattle.fx_lasting.proofs.table.LastingTable.group_of.Goals as goal
 
 pub returns : goal.returns

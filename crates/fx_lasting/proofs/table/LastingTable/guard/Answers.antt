@@ -1,9 +1,8 @@
-use Rattle.fx_lasting.proofs.Words.{ℕ, [], ◌▷◌, subst, inl, inr, ⊎_elim, Work, Idle, Placing, Placement, Runs, Look, Some, Nothing, Cold, HasAnnounced}
-use Rattle.fx_lasting.proofs.Words.{MayAnnounce, announcing, guarding, rules, ◌≡◌, ◌+◌, ◌∙◌, full_name_in, IsHot, ap}
-use Rattle.fx_lasting.proofs.Calling.{hold_inside, hold_word, slot_inside}
+use Rattle.fx_lasting.proofs.{ℕ, [], ◌▷◌, subst, inl, inr, ⊎_elim, Work, Idle, Placing, Placement, Runs, Look, Some, Nothing, Cold, HasAnnounced}
+use Rattle.fx_lasting.proofs.{MayAnnounce, announcing, guarding, rules, ◌≡◌, ◌+◌, ◌∙◌, full_name_in, IsHot, ap, hold_inside, hold_word, slot_inside}
+use Rattle.fx_lasting.proofs.{still_at_work, runs_goes, looks_then, listed_is}
 use Rattle.fx_lasting.proofs.hold_lemmas.HoldWords.{announces_keep}
 use Rattle.fx_lasting.proofs.hold_lemmas.Looking.{confirms_keep}
-use Rattle.fx_lasting.proofs.Running.{still_at_work, runs_goes, looks_then, listed_is}
 use Rattle.fx_lasting.proofs.table.LastingTable.guard.Goals as goal
 
 -- a pass whose hold word names the node now

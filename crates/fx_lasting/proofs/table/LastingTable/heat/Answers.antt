@@ -1,7 +1,5 @@
-use Rattle.fx_lasting.proofs.Words.{cold_takes, ap, ◌∙◌, arith, cond, Bool, Nothing, Heating, le-ltb, count_in, ◌≤◌}
-use Rattle.fx_lasting.proofs.Calling.{slot_inside}
+use Rattle.fx_lasting.proofs.{cold_takes, ap, ◌∙◌, arith, cond, Bool, Nothing, Heating, le-ltb, count_in, ◌≤◌, slot_inside, listed_is}
 use Rattle.fx_lasting.proofs.hold_lemmas.Taking.{heats_keep}
-use Rattle.fx_lasting.proofs.Running.{listed_is}
 use Rattle.fx_lasting.proofs.table.LastingTable.heat.Goals as goal
 
 pub fetch_add-requires : goal.fetch_add-requires

@@ -1,13 +1,11 @@
-use Rattle.fx_lasting.proofs.Words.{◌≡◌, ℕ, [], ◌▷◌, ap, sym, subst, inl, inr, refl, Option, Some, None, Work, Placing, Renewing, Relieving, Placement, Runs, Look, Nothing, Sat}
-use Rattle.fx_lasting.proofs.Words.{◌∙◌, arith, glance_after, announcing, false, guarding, node_of_number, HoldsBesides, true, Start, File, is_guarding, is_some}
+use Rattle.fx_lasting.proofs.{◌≡◌, ℕ, [], ◌▷◌, ap, sym, subst, inl, inr, refl, Option, Some, None, Work, Placing, Renewing, Relieving, Placement}
+use Rattle.fx_lasting.proofs.{Runs, Look, Nothing, Sat, ◌∙◌, arith, glance_after, announcing, false, guarding, node_of_number, HoldsBesides, true}
+use Rattle.fx_lasting.proofs.{Start, File, is_guarding, is_some, slot_inside, does_then, listed_is, still_at_work, runs_goes, runs_within, stays_then}
+use Rattle.fx_lasting.proofs.{took, no_name, its_name, Key, Compared, HoldsBeside, aim_at}
 use Rattle.fx_lasting.specs.Ends.{Guards}
-use Rattle.fx_lasting.specs.declared.key.Key.{Key}
 use Rattle.fx_lasting.specs.declared.tried.Taken.{Taken}
 use Rattle.fx_lasting.specs.declared.tried.Taken.TheVariants as taken
-use Rattle.fx_lasting.proofs.Calling.{slot_inside}
-use Rattle.fx_lasting.proofs.Running.{does_then, listed_is, still_at_work, runs_goes, runs_within, stays_then, took, no_name, its_name}
 use Rattle.fx_lasting.proofs.hold_lemmas.Taking.{takes_beside_keep}
-use Rattle.fx_lasting.specs.slots.ReplaceByKey.{Compared, HoldsBeside, aim_at}
 use Rattle.fx_lasting.proofs.table.LastingTable.hold_beside.Goals as goal
 
 pub fetch_add-word-requires : goal.fetch_add-word-requires
@@ -23,9 +21,8 @@ fetch_add-word-requires c =
 pub heat-requires : goal.heat-requires
 heat-requires c =
     let t = c.args.self.now in
-    let l = c.requires.placing in
     let cold = c.requires.aimed ∙ ap (aim_at c.args.key.slot) c.in_default.is in
-    let goes = (took cold (c.fetch_add-word.ensures.2 c.args.own l.0 l.1)).2 in
+    let goes = (took cold (c.fetch_add-word.ensures.2 c.args.own c.requires.placing.0 c.requires.placing.1)).2 in
     record {
       table = c.fetch_add-word.ensures.0 ∙ c.requires.table;
       at = (c.args.number, still_at_work c.requires.at (runs_goes goes));
@@ -99,12 +96,11 @@ pub returns-in_default : goal.returns-in_default
 returns-in_default c =
     let k : Start = c.args.self.now.table.shared.key in
     let cold = c.requires.aimed ∙ ap (aim_at c.args.key.slot) c.in_default.is in
-    let word = c.fetch_add-word.result in
     let node = c.in-Some-file_node_of.node in
     let own = c.args.own in
     let l = c.requires.placing in
     let took = c.fetch_add-word.ensures.2 in
-    let name = its_name word node c.in-Some-file_node_of.ensures in
+    let name = its_name c.fetch_add-word.result node c.in-Some-file_node_of.ensures in
     record {
       table = c.compare.ensures.table ∙ (c.heat.ensures.table ∙ c.fetch_add-word.ensures.0);
       places = c.compare.ensures.places ∙ (c.heat.ensures.places ∙ ((took own l.0 l.1).holds c.args.key.slot node cold name).2.carried);

@@ -1,5 +1,4 @@
-use Rattle.fx_lasting.proofs.Words.{arith}
-use Rattle.fx_lasting.proofs.Passing.{may_install}
+use Rattle.fx_lasting.proofs.{arith, may_install}
 use Rattle.fx_lasting.proofs.slot_lemmas.Overtaking.{fell_short}
 use Rattle.fx_lasting.proofs.range_lemmas.Questions.{has_asked}
 use Rattle.fx_lasting.proofs.table.LastingTable.is_all_full.Goals as goal

@@ -1,17 +1,12 @@
-use Rattle.fx_lasting.proofs.Words.{ap, ◌∙◌, arith, refl, slot_of, ◌<◌, no_use}
-use Rattle.fx_lasting.proofs.Passing.{adds_so, at_rest, still_pass}
-use Rattle.fx_lasting.proofs.Places.{slot_back}
-use Rattle.fx_lasting.proofs.Running.{runs_goes}
+use Rattle.fx_lasting.proofs.{ap, ◌∙◌, arith, refl, slot_of, ◌<◌, no_use, adds_so, at_rest, still_pass, slot_back, runs_goes}
 use Rattle.fx_lasting.proofs.slot_lemmas.Current.{current_so}
 use Rattle.fx_lasting.proofs.slot_lemmas.Seeing.{may_see}
 use Rattle.fx_lasting.proofs.table.LastingTable.is_current.Goals as goal
 
 pub load-word-requires : goal.load-word-requires
 load-word-requires c =
-    let t = c.args.self.now in
-    let s = c.requires.fits.seated in
-    let inside : c.args.slot < t.size = omega (arith, c.requires.slot, t.same_size) in
-    may_see t c.args.pass.now.seat s.table s.at inside c.slot_place.ensures
+    let inside : c.args.slot < c.args.self.now.size = omega (arith, c.requires.slot, c.args.self.now.same_size) in
+    may_see c.args.self.now c.args.pass.now.seat c.requires.fits.seated.table c.requires.fits.seated.at inside c.slot_place.ensures
 
 pub returns : goal.returns
 returns c =

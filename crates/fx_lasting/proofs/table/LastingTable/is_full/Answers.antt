@@ -1,5 +1,4 @@
-use Rattle.fx_lasting.proofs.Words.{ap, ◌∙◌, sym, List, Log, first_log}
-use Rattle.fx_lasting.proofs.Calling.{group_word, its_group}
+use Rattle.fx_lasting.proofs.{ap, ◌∙◌, sym, List, Log, first_log, group_word, its_group}
 use Rattle.fx_lasting.proofs.range_lemmas.GroupSteps.{counts_keep}
 use Rattle.fx_lasting.proofs.table.LastingTable.is_full.Goals as goal
 

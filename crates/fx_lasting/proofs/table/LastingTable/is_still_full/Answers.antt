@@ -1,6 +1,4 @@
-use Rattle.fx_lasting.proofs.Words.{arith, ap, ◌∙◌, sym, Covered}
-use Rattle.fx_lasting.proofs.Calling.{same_groups}
-use Rattle.fx_lasting.proofs.Passing.{may_install}
+use Rattle.fx_lasting.proofs.{arith, ap, ◌∙◌, sym, Covered, same_groups, may_install}
 use Rattle.fx_lasting.proofs.range_lemmas.Questions.{has_asked, has_not_asked}
 use Rattle.fx_lasting.proofs.table.LastingTable.is_still_full.Goals as goal
 

@@ -1,4 +1,4 @@
-use Rattle.fx_lasting.proofs.Words.{sym, subst, Start, IsInside}
+use Rattle.fx_lasting.proofs.{sym, subst, Start, IsInside}
 use Rattle.fx_lasting.proofs.life_lemmas.Showing.{may_learn, learned_pass}
 use Rattle.fx_lasting.proofs.table.LastingTable.learn.Goals as goal
 

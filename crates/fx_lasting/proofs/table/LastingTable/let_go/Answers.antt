@@ -1,7 +1,6 @@
-use Rattle.fx_lasting.proofs.Words.{arith, ◌≡◌, ◌≢◌, ⊎_elim}
-use Rattle.fx_lasting.proofs.Calling.{node_inside, node_word}
+use Rattle.fx_lasting.proofs.{arith, ◌≡◌, ◌≢◌, ⊎_elim, node_inside, node_word, let_go_inside, still_at_work, runs_goes, runs_one, runs_within}
+use Rattle.fx_lasting.proofs.{out_place, out_and_home, goes_out, releases_out}
 use Rattle.fx_lasting.proofs.hold_lemmas.LetGoLaws.{letting_go_keeps}
-use Rattle.fx_lasting.proofs.Running.{let_go_inside, still_at_work, runs_goes, runs_one, runs_within, out_place, out_and_home, goes_out, releases_out}
 use Rattle.fx_lasting.proofs.table.LastingTable.let_go.Goals as goal
 
 pub fetch_sub-found-requires : goal.fetch_sub-found-requires

@@ -1,5 +1,4 @@
-use Rattle.fx_lasting.proofs.Words.{◌∙◌, arith, refl, true, false, SeesFile, Some}
-use Rattle.fx_lasting.proofs.Running.{runs_none, runs_within}
+use Rattle.fx_lasting.proofs.{◌∙◌, arith, refl, true, false, SeesFile, Some, runs_none, runs_within}
 use Rattle.fx_lasting.proofs.slot_lemmas.ByNode.{stands_then}
 use Rattle.fx_lasting.proofs.range_lemmas.GapSearches.{looks_then, looks_within, looks_at}
 use Rattle.fx_lasting.proofs.range_lemmas.Scanning.{follows, full_lasts, one_more}

@@ -1,6 +1,5 @@
-use Rattle.fx_lasting.proofs.Words.{◌≡◌, ◌-◌, []}
+use Rattle.fx_lasting.proofs.{◌≡◌, ◌-◌, [], EachFrom, WasFull}
 use Rattle.fx_lasting.specs.Ends.{Does}
-use Rattle.fx_lasting.specs.range.Scans.{EachFrom, WasFull}
 use Rattle.fx_lasting.proofs.table.LastingTable.look_between.Given as goal
 
 abbrev pub invariant-loop-slot : goal.invariant-loop-slot

@@ -1,7 +1,6 @@
-use Rattle.fx_lasting.proofs.Words.{ℕ, ap, refl, ◌∙◌, arith, sym, subst, Start, Some, Look, ◌▷◌, [], Adds, one_look, Holding, glance_after, opening_of, view_of, pass_of}
-use Rattle.fx_lasting.proofs.Calling.{slot_inside}
-use Rattle.fx_lasting.proofs.Passing.{adds_so, at_ease, still_pass}
-use Rattle.fx_lasting.proofs.Running.{listed_is, still_at_work, runs_goes, stays_then, took, no_name, its_name}
+use Rattle.fx_lasting.proofs.{ℕ, ap, refl, ◌∙◌, arith, sym, subst, Start, Some, Look, ◌▷◌, [], Adds, one_look, Holding, glance_after, opening_of}
+use Rattle.fx_lasting.proofs.{view_of, pass_of, slot_inside, adds_so, at_ease, still_pass, listed_is, still_at_work, runs_goes, stays_then, took}
+use Rattle.fx_lasting.proofs.{no_name, its_name}
 use Rattle.fx_lasting.proofs.hold_lemmas.Taking.{takes_once_keep}
 use Rattle.fx_lasting.proofs.table.LastingTable.look_cold.Goals as goal
 

@@ -1,4 +1,4 @@
-use Rattle.fx_lasting.proofs.Words.{arith, ap, ℕ, ◌*◌, true, SeesFile, groups_in, group_steps}
+use Rattle.fx_lasting.proofs.{arith, ap, ℕ, ◌*◌, true, SeesFile, groups_in, group_steps}
 use Rattle.fx_lasting.proofs.range_lemmas.Scanning.{follows, full_lasts}
 use Rattle.fx_lasting.proofs.range_lemmas.GapSearches.{looks_then, looks_within}
 use Rattle.fx_lasting.proofs.table.LastingTable.look_for.Goals as goal

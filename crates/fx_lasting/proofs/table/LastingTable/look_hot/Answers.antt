@@ -1,7 +1,6 @@
-use Rattle.fx_lasting.proofs.Words.{◌≡◌, Sat, Work, Idle, Announced, Runs, Cold, Nothing, announcing, guarding, inl, refl, ◌∙◌, arith, sym, Some, ℕ, subst}
-use Rattle.fx_lasting.proofs.Words.{opening_of, view_of, pass_of, Look, ◌▷◌, [], Adds, one_look, Holding}
-use Rattle.fx_lasting.proofs.Running.{still_at_work, does_then}
-use Rattle.fx_lasting.proofs.Passing.{adds_so, at_ease, still_pass, still_seat, charges_then, charges_run}
+use Rattle.fx_lasting.proofs.{◌≡◌, Sat, Work, Idle, Announced, Runs, Cold, Nothing, announcing, guarding, inl, refl, ◌∙◌, arith, sym, Some, ℕ, subst}
+use Rattle.fx_lasting.proofs.{opening_of, view_of, pass_of, Look, ◌▷◌, [], Adds, one_look, Holding, still_at_work, does_then, adds_so, at_ease}
+use Rattle.fx_lasting.proofs.{still_pass, still_seat, charges_then, charges_run}
 use Rattle.fx_lasting.proofs.table.LastingTable.look_hot.Goals as goal
 
 -- an idle pass may announce a node

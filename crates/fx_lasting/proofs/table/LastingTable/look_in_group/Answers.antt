@@ -1,6 +1,5 @@
-use Rattle.fx_lasting.proofs.Words.{◌∙◌, arith, ◌+◌, ◌-◌, ◌*◌, Some, None, LooksFor}
+use Rattle.fx_lasting.proofs.{◌∙◌, arith, ◌+◌, ◌-◌, ◌*◌, Some, None, LooksFor, still_at_work, runs_goes}
 use Rattle.fx_lasting.proofs.Peeking.{may_peek}
-use Rattle.fx_lasting.proofs.Running.{still_at_work, runs_goes}
 use Rattle.fx_lasting.proofs.slot_lemmas.ByNode.{stands_then}
 use Rattle.fx_lasting.proofs.range_lemmas.GapSearches.{looks_then, looks_within}
 use Rattle.fx_lasting.proofs.range_lemmas.Scanning.{begins, ends, few_inside, slots_inside, peeked_full, full_lasts, follows, whole_group}
@@ -31,18 +30,16 @@ look_between-requires-2 c = record {
 
 pub returns-in-Some-clause-looks : goal.returns-in-Some-clause-looks
 returns-in-Some-clause-looks c =
-    let t = c.args.self.now in
-    let k = t.table.shared.key in
+    let k = c.args.self.now.table.shared.key in
     looks_within k c.args.seat.now.me c.look_between.new.seat.me (Some c.in-Some.found)
-    (omega (arith, few_inside t c.args.group c.group_size.ensures c.group_len.ensures, c.start_within-from.ensures.low))
+    (omega (arith, few_inside c.args.self.now c.args.group c.group_size.ensures c.group_len.ensures, c.start_within-from.ensures.low))
     (looks_then k c.args.seat.now.me c.load-word.new.seat.me c.look_between.new.seat.me _ (Some c.in-Some.found) (runs_goes c.load-word.ensures.2.goes) c.in-Some.ensures.looks)
 
 pub returns-clause-looks : goal.returns-clause-looks
 returns-clause-looks c =
-    let t = c.args.self.now in
-    let k = t.table.shared.key in
+    let k = c.args.self.now.table.shared.key in
     looks_within k c.args.seat.now.me c.look_between-2.new.seat.me c.look_between-2.result
-    (omega (arith, few_inside t c.args.group c.group_size.ensures c.group_len.ensures, c.start_within-from.ensures))
+    (omega (arith, few_inside c.args.self.now c.args.group c.group_size.ensures c.group_len.ensures, c.start_within-from.ensures))
     (looks_then k c.args.seat.now.me c.look_between.new.seat.me c.look_between-2.new.seat.me _ c.look_between-2.result
     (stands_then (runs_goes c.load-word.ensures.2.goes) c.in_default.ensures.looks) c.look_between-2.ensures.looks)
 

@@ -1,8 +1,6 @@
-use Rattle.fx_lasting.proofs.Words.{◌∙◌, arith, ◌+◌, ◌%◌, ◌<◌, ℕ, ap, sym, refl, subst, mod-eq_of_lt, Some, groups_in, group_steps}
-use Rattle.fx_lasting.specs.range.Scans.{EachInGroup, WasFull}
+use Rattle.fx_lasting.proofs.{◌∙◌, arith, ◌+◌, ◌%◌, ◌<◌, ℕ, ap, sym, refl, subst, mod-eq_of_lt, Some, groups_in, group_steps, same_groups, runs_none}
+use Rattle.fx_lasting.proofs.{EachInGroup, WasFull}
 use Rattle.std.proofs.Math.Nat.{mod-lt}
-use Rattle.fx_lasting.proofs.Calling.{same_groups}
-use Rattle.fx_lasting.proofs.Running.{runs_none}
 use Rattle.fx_lasting.proofs.slot_lemmas.ByNode.{stands_then}
 use Rattle.fx_lasting.proofs.range_lemmas.GapSearches.{looks_then, looks_within}
 use Rattle.fx_lasting.proofs.range_lemmas.Trying.{group_more, groups_most}

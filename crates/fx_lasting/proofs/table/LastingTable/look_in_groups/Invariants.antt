@@ -1,6 +1,5 @@
-use Rattle.fx_lasting.proofs.Words.{◌≡◌, ℕ, ◌+◌, ◌*◌, ◌%◌, ◌<◌, ◌≤◌, [], groups_in, group_steps}
+use Rattle.fx_lasting.proofs.{◌≡◌, ℕ, ◌+◌, ◌*◌, ◌%◌, ◌<◌, ◌≤◌, [], groups_in, group_steps, EachInGroup, WasFull}
 use Rattle.fx_lasting.specs.Ends.{Does}
-use Rattle.fx_lasting.specs.range.Scans.{EachInGroup, WasFull}
 use Rattle.fx_lasting.proofs.table.LastingTable.look_in_groups.Given as goal
 
 -- the groups before this one are looked at

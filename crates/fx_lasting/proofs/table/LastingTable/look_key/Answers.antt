@@ -1,4 +1,4 @@
-use Rattle.fx_lasting.proofs.Words.{arith}
+use Rattle.fx_lasting.proofs.{arith}
 use Rattle.fx_lasting.proofs.table.LastingTable.look_key.Goals as goal
 
 pub returns-then-number-ne0-clause-met : goal.returns-then-number-ne0-clause-met

@@ -1,13 +1,11 @@
-use Rattle.fx_lasting.proofs.Words.{IsOnList, TableId, Start, LastingPass, IsPassOf, ◌≡◌, ℕ, ◌<◌, refl, ap, ◌∙◌, subst, arith, sym, true, false, IsHot, Look}
-use Rattle.fx_lasting.proofs.Words.{◌▷◌, [], None, Hot, Cold, opening_of, view_of, pass_of, Adds, LookedAfter, LookedUp, no_use, one_look, PassView}
-use Rattle.fx_lasting.proofs.Words.{DoesNothing, Goes, Idle, slot_of, as_listed, Runs, Change, bit_of, list_place, ◌^◌}
+use Rattle.fx_lasting.proofs.{IsOnList, TableId, Start, LastingPass, IsPassOf, ◌≡◌, ℕ, ◌<◌, refl, ap, ◌∙◌, subst, arith, sym, true, false, IsHot}
+use Rattle.fx_lasting.proofs.{Look, ◌▷◌, [], None, Hot, Cold, opening_of, view_of, pass_of, Adds, LookedAfter, LookedUp, no_use, one_look, PassView}
+use Rattle.fx_lasting.proofs.{DoesNothing, Goes, Idle, slot_of, as_listed, Runs, Change, bit_of, list_place, ◌^◌, list_inside, slot_inside, slot_low}
+use Rattle.fx_lasting.proofs.{slot_said, runs_goes, listed_is, no_name, its_name, adds_listed, adds_so, at_ease, listed_seat, still_pass, still_seat}
+use Rattle.fx_lasting.proofs.{after_then, up_then, its_idle, its_flag}
 use Rattle.fx_lasting.specs.Tables.{IsSeatOfTable}
-use Rattle.fx_lasting.proofs.Calling.{list_inside, slot_inside, slot_low}
 use Rattle.fx_lasting.proofs.hold_lemmas.Listing.{lists_keep}
 use Rattle.fx_lasting.proofs.hold_lemmas.Looking.{glances_keep}
-use Rattle.fx_lasting.proofs.Places.{slot_said}
-use Rattle.fx_lasting.proofs.Running.{runs_goes, listed_is, no_name, its_name}
-use Rattle.fx_lasting.proofs.Passing.{adds_listed, adds_so, at_ease, listed_seat, still_pass, still_seat, after_then, up_then, its_idle, its_flag}
 use Rattle.fx_lasting.proofs.node_lemmas.Settled.{still_idle}
 use Rattle.fx_lasting.proofs.table.LastingTable.look_up.Goals.{Then-not-pass}
 use Rattle.fx_lasting.proofs.table.LastingTable.look_up.Goals as goal
@@ -29,12 +27,11 @@ returns-in_default c =
     let s = c.settle.ensures.fits.seated in
     let goes = c.load-word.ensures.2.empty (no_name c.load-word.result c.in_default.ensures) in
     let run = at_ease s (runs_goes goes) in
-    let here = slot_said c.slot_place.ensures in
     record {
       fits = still_pass s _ run (refl, refl) c.load-word.ensures.0 (goes.carried ∙ s.places) (refl, s.next)
           (its_flag c.settle.ensures.fits (still_idle c.settle.ensures.same c.requires.idle), c.settle.ensures.unkept);
       looked = subst (λ (z : ℕ × PassView). Adds (opening_of k) z.1 ([] ▷ Look z.0 None) DoesNothing one_look (pass_of c.load-word.new.seat.me.0))
-          (λ i. (here i, c.settle.ensures.same i)) (adds_so s run one_look);
+          (λ i. ((slot_said c.slot_place.ensures) i, c.settle.ensures.same i)) (adds_so s run one_look);
       never_spent = λ e. cc e;
       steps = let few = run.steps in let one = c.settle.ensures.steps in omega arith;
       met = (omega (arith, c.settle.ensures.met.0, run.met), λ s. let a = c.settle.ensures.met.1 s in let b = run.changes s in omega arith);
@@ -56,11 +53,10 @@ module _ (c : Then-not-pass) where
 
 pub fetch_add-requires : goal.fetch_add-requires
 fetch_add-requires c =
-    let t = c.args.self.now in
     let s = seated (goal.at.fetch_add-requires c).Then-not-pass in
     let not_yet : s.at.log.listed ≡ false = listed_is s.at ∙ (sym s.listed ∙ c.if-not-pass.true) in (
       s.table,
-      list_inside t (omega (arith, s.at.high, t.key.0, t.bounds.1)) c.list_place-place.ensures,
+      list_inside c.args.self.now (omega (arith, s.at.high, c.args.self.now.key.0, c.args.self.now.bounds.1)) c.list_place-place.ensures,
       rw (c.pass_bit.ensures ∙ ap (λ (n : ℕ). 2 ^ bit_of n) (sym s.at.its_number)) (lists_keep _ _ _ _ c.load-word.new.seat.me _ s.at.pass not_yet
           (c.list_place-place.ensures ∙ ap list_place (sym s.at.its_number))),
     )
@@ -155,8 +151,7 @@ returns c =
     let k = c.args.self.now.table.shared.key in
     let s = c.settle.ensures.fits.seated in
     let cold : IsHot c.load-word.result × IsOnList c.settle.new.pass.seat.me → ⊥ = λ h. let bad : true ≡ false = sym (c.is_hot.ensures.1 h.0) ∙ c.if-is_hot.false in cc bad in
-    let goes = c.load-word.ensures.2.cold c.in-Some.node (its_name c.load-word.result c.in-Some.node c.in-Some.ensures) cold in
-    let run = runs_goes goes in
+    let run = runs_goes (c.load-word.ensures.2.cold c.in-Some.node (its_name c.load-word.result c.in-Some.node c.in-Some.ensures) cold) in
     let took = c.look_cold-found-2.ensures in
     record {
       fits = took.fits;

@@ -1,9 +1,7 @@
-use Rattle.fx_lasting.proofs.Words.{◌≡◌, refl, ap, ◌∙◌, sym, subst, arith, uncounted, Inside, Change, group_of, group_at, range_at_start, true, Runs, []}
-use Rattle.fx_lasting.proofs.Calling.{group_word, its_group}
-use Rattle.table_range.proofs.GroupSlots.{was_in, group_back}
+use Rattle.fx_lasting.proofs.{◌≡◌, refl, ap, ◌∙◌, sym, subst, arith, uncounted, Inside, Change, group_of, group_at, range_at_start, true, Runs, []}
+use Rattle.fx_lasting.proofs.{group_word, its_group, still_at_work, runs_one, runs_goes, turns_then, runs_within, was_in, group_back}
 use Rattle.fx_lasting.proofs.range_lemmas.GroupSteps.{lowers_keep}
 use Rattle.fx_lasting.proofs.range_lemmas.QuestionSteps.{checks_keep, breaks_keep}
-use Rattle.fx_lasting.proofs.Running.{still_at_work, runs_one, runs_goes, turns_then, runs_within}
 use Rattle.fx_lasting.proofs.table.LastingTable.lower.Goals.{After-fetch_sub}
 use Rattle.fx_lasting.proofs.table.LastingTable.lower.Goals as goal
 
@@ -41,19 +39,17 @@ its_change c = let here = ap group_at c.group_place.ensures ∙ (group_back c.gr
 
 pub returns-then-question-ne0-clause-runs : goal.returns-then-question-ne0-clause-runs
 returns-then-question-ne0-clause-runs c =
-    let m = c.args.seat.now.me in
     let lowered = c.fetch_sub.ensures.2.turns.stepped in
     let goes = c.load-question.ensures.2.asked (omega (arith, c.if-question-ne0.true)) in
     let broke = c.swap.ensures.2.turns (group_at c.group_place.result) (goes.stepped.change ∙ lowered.change) in
-    subst (λ (z : Change). Runs m [] m.0.work m.0.glance z 3 c.swap.new.seat.me)
+    subst (λ (z : Change). Runs c.args.seat.now.me [] c.args.seat.now.me.0.work c.args.seat.now.me.0.glance z 3 c.swap.new.seat.me)
     (its_change (goal.at.returns-then-question-ne0-clause-runs c).After-fetch_sub)
     (turns_then (turns_then (runs_one lowered) (runs_goes goes)) (runs_one broke.stepped))
 
 pub returns-else-question-ne0-clause-runs : goal.returns-else-question-ne0-clause-runs
 returns-else-question-ne0-clause-runs c =
-    let m = c.args.seat.now.me in
     let lowered = c.fetch_sub.ensures.2.turns.stepped in
     let quiet = c.load-question.ensures.2.quiet (group_at c.group_place.result) lowered.change (omega (arith, c.if-question-ne0.false)) in
-    subst (λ (z : Change). Runs m [] m.0.work m.0.glance z 3 c.load-question.new.seat.me)
+    subst (λ (z : Change). Runs c.args.seat.now.me [] c.args.seat.now.me.0.work c.args.seat.now.me.0.glance z 3 c.load-question.new.seat.me)
     (its_change (goal.at.returns-else-question-ne0-clause-runs c).After-fetch_sub)
     (runs_within (omega arith) (turns_then (runs_one lowered) (runs_one quiet.stepped)))

@@ -1,19 +1,14 @@
-use Rattle.fx_lasting.proofs.Words.{◌≡◌, subst, Start, node_of_number}
-use Rattle.fx_lasting.proofs.Calling.{number_inside, number_word}
+use Rattle.fx_lasting.proofs.{◌≡◌, subst, Start, node_of_number, number_inside, number_word, holds_on, held_inside}
 use Rattle.fx_lasting.proofs.node_lemmas.Labelling.{reads_number_keep}
-use Rattle.fx_lasting.proofs.Passing.{holds_on}
-use Rattle.fx_lasting.proofs.Running.{held_inside}
 use Rattle.fx_lasting.proofs.table.LastingTable.number_of.Goals as goal
 
 pub load-requires : goal.load-requires
 load-requires c =
-    let t = c.args.self.now in
-    let s = c.requires.fits.seated in
     let holds = holds_on _ c.requires.held.1 in (
-      s.table,
-      number_inside t (held_inside s.at holds) c.number_place-place.ensures,
-      reads_number_keep _ _ _ _ c.args.hold.now.node c.requires.held.0 c.args.pass.now.seat.me _ s.at.pass holds
-          (number_word t c.args.hold.now.node c.number_place-place.ensures),
+      c.requires.fits.seated.table,
+      number_inside c.args.self.now (held_inside c.requires.fits.seated.at holds) c.number_place-place.ensures,
+      reads_number_keep _ _ _ _ c.args.hold.now.node c.requires.held.0 c.args.pass.now.seat.me _ c.requires.fits.seated.at.pass holds
+          (number_word c.args.self.now c.args.hold.now.node c.number_place-place.ensures),
     )
 
 pub returns-clause-number : goal.returns-clause-number

@@ -1,8 +1,6 @@
-use Rattle.fx_lasting.proofs.Words.{◌≡◌, ◌<◌, ◌∙◌, ℕ, List, ap, sym, arith, length, get_elem?, get_or, some}
-use Rattle.fx_lasting.proofs.Calling.{node_inside, node_word}
+use Rattle.fx_lasting.proofs.{◌≡◌, ◌<◌, ◌∙◌, ℕ, List, ap, sym, arith, length, get_elem?, get_or, some, node_inside, node_word, its_inside, stock_is}
 use Rattle.fx_lasting.proofs.node_lemmas.FreeNodes.{entry_is}
 use Rattle.fx_lasting.proofs.node_lemmas.KeptNodes.{parks_keep}
-use Rattle.fx_lasting.proofs.Running.{its_inside, stock_is}
 use Rattle.fx_lasting.proofs.node_lemmas.Settled.{parked_so}
 use Rattle.fx_lasting.proofs.table.LastingTable.park.Goals as goal
 
@@ -12,14 +10,12 @@ there stock entry node inside same = entry_is stock entry inside ∙ ap some sam
 
 pub load-requires : goal.load-requires
 load-requires c =
-    let t = c.args.self.now in
-    let at = c.requires.at.1 in
     let there = there c.args.stock.now c.args.entry c.args.node (omega (arith, c.if-stock-at.false)) (omega (arith, c.if-stock-at-2.false)) in (
       c.requires.table,
-      node_inside t (its_inside at c.requires.emptying) c.requires.word,
-      parks_keep _ _ _ _ c.args.node c.args.seat.now.me _ at.pass c.requires.emptying
-          (c.args.entry, ap (λ (l : List ℕ). get_elem? l c.args.entry) (sym (c.requires.stock ∙ stock_is at)) ∙ there) c.requires.place
-          (node_word t c.args.node c.requires.word),
+      node_inside c.args.self.now (its_inside c.requires.at.1 c.requires.emptying) c.requires.word,
+      parks_keep _ _ _ _ c.args.node c.args.seat.now.me _ c.requires.at.1.pass c.requires.emptying
+          (c.args.entry, ap (λ (l : List ℕ). get_elem? l c.args.entry) (sym (c.requires.stock ∙ stock_is c.requires.at.1)) ∙ there) c.requires.place
+          (node_word c.args.self.now c.args.node c.requires.word),
     )
 
 pub returns-clause-parked : goal.returns-clause-parked

@@ -1,11 +1,11 @@
-use Rattle.fx_lasting.proofs.Words.{◌≡◌, ◌∙◌, ◌∷◌, ℕ, List, ap, sym, subst, arith, Bool, true, None, Option, Closed, some, get_or, Keeping, MayPlace}
-use Rattle.fx_lasting.proofs.Words.{Unlabelled, Tag, tag_place, Placing, as_written, label_of, ◌-◌, ◌+◌, [], read_at}
+use Rattle.fx_lasting.proofs.{◌≡◌, ◌∙◌, ◌∷◌, ℕ, List, ap, sym, subst, arith, Bool, true, None, Option, Closed, some, get_or, MayPlace, Unlabelled}
+use Rattle.fx_lasting.proofs.{Tag, tag_place, Placing, as_written, label_of, ◌-◌, ◌+◌, [], read_at, node_inside, node_word, few_nodes, tag_inside}
+use Rattle.fx_lasting.proofs.{tag_word, its_inside, still_at_work, does_then, runs_one, runs_goes, runs_within}
+use Rattle.fx_lasting.proofs.Words.{Keeping}
 use Rattle.fx_lasting.specs.Ends.{Does}
 use Rattle.fx_lasting.proofs.node_lemmas.Births.{births_keep}
-use Rattle.fx_lasting.proofs.Calling.{node_inside, node_word, few_nodes, tag_inside, tag_word}
 use Rattle.fx_lasting.proofs.node_lemmas.KeptNodes.{resumes_keep}
 use Rattle.fx_lasting.proofs.node_lemmas.Labelling.{tags_keep}
-use Rattle.fx_lasting.proofs.Running.{its_inside, still_at_work, does_then, runs_one, runs_goes, runs_within}
 use Rattle.fx_lasting.proofs.table.LastingTable.place.Goals.{Then-keeps}
 use Rattle.fx_lasting.proofs.table.LastingTable.place.Goals as goal
 
@@ -25,8 +25,7 @@ module _ (c : Then-keeps) where
 
 pub node_place-place-requires : goal.node_place-place-requires
 node_place-place-requires c =
-    let a = (goal.at.node_place-place-requires c).Then-keeps in
-    omega (arith, its_inside c.requires.at (works a), few_nodes c.args.self.now)
+    omega (arith, its_inside c.requires.at (works ((goal.at.node_place-place-requires c).Then-keeps)), few_nodes c.args.self.now)
 
 pub load-word-requires : goal.load-word-requires
 load-word-requires c =
@@ -58,24 +57,21 @@ put_tag-requires-clause-placing c =
 pub overflow_sub-result : goal.overflow_sub-result
 overflow_sub-result c =
     let a = (goal.at.overflow_sub-result c).Then-keeps in
-    let counts = (c.load-word.ensures.2.goes (node a) (kept a).1 (works a)).2 in
-    omega (arith, counts)
+    omega (arith, (c.load-word.ensures.2.goes (node a) (kept a).1 (works a)).2)
 
 pub returns-then-keeps : goal.returns-then-keeps
 returns-then-keeps c =
     let a = (goal.at.returns-then-keeps c).Then-keeps in
     let m = c.args.seat.now.me in
     let resumed = c.load-word.ensures.2.goes (node a) (kept a).1 (works a) in
-    let counts = resumed.2 in
-    let few = resumed.3 in
-    let lost : (kept a).1 ≡ 4294967297 - c.load-word.result = omega (arith, counts) in
+    let lost : (kept a).1 ≡ 4294967297 - c.load-word.result = omega (arith, resumed.2) in
     let tagged = c.put_tag.ensures.stored (kept a).1 resumed.0.work in
     let stored = c.put_in.ensures.stored (kept a).1 (tagged.work ∙ ap (λ (z : ℕ). Placing (node a) (as_written (kept a).1 (Tag z))) c.tag.ensures) in
     record {
       table = c.put_in.ensures.table ∙ (c.put_tag.ensures.table ∙ c.load-word.ensures.0);
       placed = subst (λ (z : ℕ). Does m [] (Placing (node a) (as_written z (label_of c.args.file))) (c.args.self.now.passes + 3) c.put_in.new.seat.me) lost
           (runs_within (omega (arith, c.requires.start)) (does_then (does_then (runs_one resumed.0) tagged) stored));
-      few_lost = omega (arith, counts, few);
+      few_lost = omega (arith, resumed.2, resumed.3);
       place = c.put_in.ensures.place;
       stocked = (kept a).3 ∙ ap some (sym (same a));
       entry = c.requires.start;
@@ -92,13 +88,12 @@ put_in-requires-2-clause-placing c =
 
 pub store-requires : goal.store-requires
 store-requires c =
-    let t = c.args.self.now in
     let n = c.seek-entry.result.1 in
     let found = c.seek-entry.ensures.found in
     let at = still_at_work c.requires.at found in (
       c.seek-entry.ensures.table ∙ c.requires.table,
-      node_inside t (its_inside at found.work) c.node_place-place-2.ensures,
-      births_keep _ _ _ _ n c.seek-entry.new.seat.me _ at.pass found.work (node_word t n c.node_place-place-2.ensures),
+      node_inside c.args.self.now (its_inside at found.work) c.node_place-place-2.ensures,
+      births_keep _ _ _ _ n c.seek-entry.new.seat.me _ at.pass found.work (node_word c.args.self.now n c.node_place-place-2.ensures),
     )
 
 pub returns-clause-placed : goal.returns-clause-placed

@@ -1,12 +1,10 @@
-use Rattle.fx_lasting.proofs.Words.{◌-◌, get_elem?, some, set, pass_in, name_in, nodes_of, as_swapped, ◌≡◌, ℕ, ◌+◌, ◌<◌, refl, ap, ◌∙◌, subst, arith, Put}
-use Rattle.fx_lasting.proofs.Words.{numbered, ◌▷◌, [], slot_of, opening_of, view_of, pass_of, Runs, rest, retiring_work, doing_in, Start, Glance, Outside}
-use Rattle.fx_lasting.proofs.Words.{file_word_of, IsAtWork, Adds, one_number, account, range_at_start}
-use Rattle.fx_lasting.proofs.Calling.{slot_inside, slot_low, begins_at, few_nodes}
-use Rattle.fx_lasting.proofs.Places.{slot_back}
-use Rattle.fx_lasting.proofs.Running.{still_at_work, runs_one, turns_then, swapped_then, at_swapped}
+use Rattle.fx_lasting.proofs.{◌-◌, get_elem?, some, set, pass_in, name_in, nodes_of, as_swapped, ◌≡◌, ℕ, ◌+◌, ◌<◌, refl, ap, ◌∙◌, subst, arith, Put}
+use Rattle.fx_lasting.proofs.{numbered, ◌▷◌, [], slot_of, opening_of, view_of, pass_of, Runs, rest, retiring_work, doing_in, Start, Glance, Outside}
+use Rattle.fx_lasting.proofs.{file_word_of, IsAtWork, Adds, one_number, account, range_at_start, slot_inside, slot_low, begins_at, few_nodes}
+use Rattle.fx_lasting.proofs.{slot_back, still_at_work, runs_one, turns_then, swapped_then, at_swapped, adds_swapped, swapped_pass, swapped_looking}
+use Rattle.fx_lasting.proofs.{its_place, may_install, account_so, knows_removed, placed_so, first_by}
 use Rattle.fx_lasting.proofs.range_lemmas.Trying.{stocked_at}
 use Rattle.fx_lasting.proofs.slot_lemmas.SlotLaws.{installs_keep}
-use Rattle.fx_lasting.proofs.Passing.{adds_swapped, swapped_pass, swapped_looking, its_place, may_install, account_so, knows_removed, placed_so, first_by}
 use Rattle.fx_lasting.proofs.table.LastingTable.put.Goals.{After-place-entry}
 use Rattle.fx_lasting.proofs.table.LastingTable.put.Goals as goal
 
@@ -35,9 +33,6 @@ at_entry c = stocked_at c.as_slice-stock.result.now c.args.pass.now.seat.me c.pl
 its_seat : (c : After-place-entry) → IsAtWork c.args.self.now.table.shared.key c.args.pass.now.number c.place-entry.new.seat.me
 its_seat c = still_at_work c.requires.fits.seated.at c.place-entry.ensures.placed
 
-its_change : (c : After-place-entry) → c.place-entry.new.seat.me.0.change ≡ Outside
-its_change c = c.place-entry.ensures.placed.change ∙ c.requires.fits.seated.change
-
 pub swap-found-requires : goal.swap-found-requires
 swap-found-requires c =
     let t = c.args.self.now in
@@ -48,7 +43,8 @@ swap-found-requires c =
       born.table ∙ c.requires.fits.seated.table,
       slot_inside t inside c.slot_place.ensures,
       installs_keep _ _ _ _ c.args.slot n c.place-entry.result.2 _ c.args.file c.place-entry.new.seat.me _ (its_seat a).pass born.placed.work
-          born.place (omega (arith, c.entry-file_entry.type_inv, c.entry-file_entry.ensures)) (slot_low t inside) (its_change a) c.slot_place.ensures
+          born.place (omega (arith, c.entry-file_entry.type_inv, c.entry-file_entry.ensures)) (slot_low t inside)
+          (a.place-entry.ensures.placed.change ∙ a.requires.fits.seated.change) c.slot_place.ensures
           (ap (λ (z : ℕ). z + c.place-entry.result.2) (c.file_word.ensures ∙ ap (file_word_of n) c.entry-file_entry.ensures)),
     )
 
@@ -85,7 +81,6 @@ returns c =
     let t = c.args.self.now in
     let k : Start = t.table.shared.key in
     let fits = c.requires.fits in
-    let s = fits.seated in
     let e = c.place-entry.result.0 in
     let file = c.args.file in
     let born = c.place-entry.ensures in
@@ -97,18 +92,17 @@ returns c =
     let is = c.removed_in-replaced.ensures replaced went.names in
     let stepped = went.stepped c.place-entry.result.1 c.place-entry.result.2 e file born.placed.work born.place (at_entry a) in
     let first = born.placed in
-    let start : c.place-entry.new.seat.me.0.start ≡ k = first.start ∙ s.at.pass.0 in
-    let around = turns_then (runs_one stepped.2) c.raise.ensures.runs in
+    let start : c.place-entry.new.seat.me.0.start ≡ k = first.start ∙ fits.seated.at.pass.0 in
     let run = swapped_looking fits e named found replaced (swapped_then e named first (subst (λ (g : Glance). Runs (as_swapped e named c.place-entry.new.seat.me)
     ([] ▷ Put (slot_of c.slot_place.result) (numbered stepped.0 file) replaced) (retiring_work c.place-entry.new.seat.me.0.start found replaced)
-    g Outside 2 c.raise.new.seat.me) first.glance around)) start in
+    g Outside 2 c.raise.new.seat.me) first.glance (turns_then (runs_one stepped.2) c.raise.ensures.runs))) start in
     let v = view_of c.args.pass.now in
     let w = pass_of c.raise.new.seat.me.0 in
     let here : slot_of c.slot_place.result ≡ c.args.slot = ap slot_of c.slot_place.ensures ∙ slot_back c.args.slot in
     let adds = subst (λ (z : ℕ). Adds (opening_of k) v ([] ▷ Put z (numbered stepped.0 file) replaced) (doing_in (retiring_work k found replaced)) one_number
-    w) here (adds_swapped s e named inside run one_number) in
+    w) here (adds_swapped fits.seated e named inside run one_number) in
     record {
-      fits = swapped_pass s e named inside _ run (refl, refl) (c.raise.ensures.table ∙ (c.swap-found.ensures.0 ∙ born.table))
+      fits = swapped_pass fits.seated e named inside _ run (refl, refl) (c.raise.ensures.table ∙ (c.swap-found.ensures.0 ∙ born.table))
           (c.raise.ensures.places ∙ (went.carried ∙ ap rest born.place))
           (ap (λ (n : ℕ). set c.args.pass.now.stock.items e n) c.node_named.ensures, λ _. omega (arith, c.place-entry.ensures.entry, t.key.0))
           (knows_removed k found replaced c.removed_in-replaced.result _ _ _ _ e (set c.args.pass.now.stock.items e c.node_named.result) refl is

@@ -1,8 +1,6 @@
-use Rattle.fx_lasting.proofs.Words.{◌≡◌, ℕ, ap, ◌∙◌, sym, ◌+◌, ◌∷◌, subst, arith, [], None, rest, Placing, Label, as_written, Runs, number_of_mark}
-use Rattle.fx_lasting.proofs.Words.{number_place}
-use Rattle.fx_lasting.proofs.Calling.{number_inside, number_word, few_nodes}
+use Rattle.fx_lasting.proofs.{◌≡◌, ℕ, ap, ◌∙◌, sym, ◌+◌, ◌∷◌, subst, arith, [], None, rest, Placing, Label, as_written, Runs, number_of_mark}
+use Rattle.fx_lasting.proofs.{number_place, number_inside, number_word, few_nodes, its_inside, runs_goes, runs_carried}
 use Rattle.fx_lasting.proofs.node_lemmas.Labelling.{numbers_keep}
-use Rattle.fx_lasting.proofs.Running.{its_inside, runs_goes, runs_carried}
 use Rattle.fx_lasting.proofs.table.LastingTable.put_in.Goals as goal
 
 pub overflow_add-place : goal.overflow_add-place
@@ -28,8 +26,7 @@ exchange-before-requires c =
 
 pub returns-clause-stored : goal.returns-clause-stored
 returns-clause-stored c lost works =
-    let goes = c.store.ensures.2.goes c.args.node lost c.args.file.tag works in
     let number : c.number_of_mark-number.result ≡ number_of_mark c.args.file.mark = c.number_of_mark-number.ensures ∙ ap number_of_mark c.mark.ensures in
     let run = subst (λ (z : ℕ). Runs c.args.seat.now.me [] (Placing c.args.node (as_written lost (Label c.args.file.tag z))) c.args.seat.now.me.0.glance
-    c.args.seat.now.me.0.change 1 c.store.new.seat.me) number (runs_goes goes) in
+    c.args.seat.now.me.0.change 1 c.store.new.seat.me) number (runs_goes (c.store.ensures.2.goes c.args.node lost c.args.file.tag works)) in
     rw c.exchange-before.ensures.3 (runs_carried _ run)

@@ -1,9 +1,7 @@
-use Rattle.fx_lasting.proofs.Words.{[], ◌▷◌, refl, ◌∙◌, subst, arith, inl, Start, Doing, DoesNothing, Adds, no_use, one_look, opening_of, view_of, pass_of}
-use Rattle.fx_lasting.proofs.Words.{Look, None, adds_then, ◌<◌, Closed, Glance, LastingPass, Option, Runs, Sat, TableId, MeetsMore, sym, IsSeatOf}
-use Rattle.fx_lasting.proofs.Calling.{slot_low}
-use Rattle.fx_lasting.proofs.Passing.{adds_so, at_ease, still_pass}
+use Rattle.fx_lasting.proofs.{[], ◌▷◌, refl, ◌∙◌, subst, arith, inl, Start, Doing, DoesNothing, Adds, no_use, one_look, opening_of, view_of, pass_of}
+use Rattle.fx_lasting.proofs.{Look, None, adds_then, ◌<◌, Closed, Glance, LastingPass, Option, Runs, Sat, TableId, MeetsMore, sym, IsSeatOf, slot_low}
+use Rattle.fx_lasting.proofs.{adds_so, at_ease, still_pass, PutsAlone}
 use Rattle.fx_lasting.proofs.slot_lemmas.RenewalEnds.{frees_later, puts_before}
-use Rattle.fx_lasting.specs.slots.ReplaceByKey.{PutsAlone}
 use Rattle.fx_lasting.proofs.table.LastingTable.put_over_key.Goals as goal
 
 pub returns-in_default-clause-fits : goal.returns-in_default-clause-fits
@@ -40,28 +38,24 @@ returns-in-Ends-clause-placed c =
 
 pub returns-in-Moved-clause-placed : goal.returns-in-Moved-clause-placed
 returns-in-Moved-clause-placed c =
-    let t = c.args.self.now in
-    let k : Start = t.table.shared.key in
-    let low : c.args.key.slot < t.size = omega (arith, c.if-self-key.false) in
-    let m = c.aim.new.seat.me in
+    let k : Start = c.args.self.now.table.shared.key in
+    let low : c.args.key.slot < c.args.self.now.size = omega (arith, c.if-self-key.false) in
     let p₁ = c.renew.new.pass in
     let p' = c.renew_cold.new.pass in
     let moved = c.in-Moved.ensures.renews in
-    let aimed = c.in-Some.ensures.aimed in
-    let before = frees_later k (view_of c.args.pass.now) (pass_of m.0) (view_of p₁) c.in-Moved.freed
-    (aims c.args.pass.now c.enlist.ensures.fits.seated c.enlist.ensures.adds _ m aimed) moved.2.frees in
+    let before = frees_later k (view_of c.args.pass.now) (pass_of c.aim.new.seat.me.0) (view_of p₁) c.in-Moved.freed
+    (aims c.args.pass.now c.enlist.ensures.fits.seated c.enlist.ensures.adds _ c.aim.new.seat.me c.in-Some.ensures.aimed) moved.2.frees in
     let few : MeetsMore c.args.pass.now p₁ = (
-      omega (arith, c.enlist.ensures.met.0, aimed.met, c.renew.ensures.met.0),
-      λ s. let a = c.enlist.ensures.met.1 s in let b = aimed.changes s in let d = c.renew.ensures.met.1 s in omega arith,
+      omega (arith, c.enlist.ensures.met.0, c.in-Some.ensures.aimed.met, c.renew.ensures.met.0),
+      λ s. let a = c.enlist.ensures.met.1 s in let b = c.in-Some.ensures.aimed.changes s in let d = c.renew.ensures.met.1 s in omega arith,
     ) in
     let done : PutsAlone k p₁ c.args.key c.args.file c.renew_cold.result.put None c.renew_cold.result.released p' =
     subst (λ (z : Closed). PutsAlone k p₁ c.args.key z c.renew_cold.result.put None c.renew_cold.result.released p') moved.0 c.renew_cold.ensures.placed in
     subst (λ (z : Option Closed). PutsAlone k c.args.pass.now c.args.key c.args.file c.renew_cold.result.put z c.renew_cold.result.released p') (sym c.renew_cold.ensures.freed)
-    (puts_before k c.args.pass.now p₁ p' c.args.key c.in-Moved.freed before few (slot_low t low) c.args.file c.renew_cold.result.put
+    (puts_before k c.args.pass.now p₁ p' c.args.key c.in-Moved.freed before few (slot_low c.args.self.now low) c.args.file c.renew_cold.result.put
     c.renew_cold.result.released done)
 
 pub returns-in-Moved-clause-steps : goal.returns-in-Moved-clause-steps
 returns-in-Moved-clause-steps c =
-    let moved = c.in-Moved.ensures.renews in
     let few = c.in-Some.ensures.aimed.steps in
-    omega (arith, c.enlist.ensures.steps, c.renew_cold.ensures.steps, moved.2.steps, c.args.self.now.key.0)
+    omega (arith, c.enlist.ensures.steps, c.renew_cold.ensures.steps, c.in-Moved.ensures.renews.2.steps, c.args.self.now.key.0)

@@ -1,8 +1,7 @@
-use Rattle.fx_lasting.proofs.Words.{◌≡◌, ℕ, ap, ◌∙◌, ◌+◌, arith, Tag, tag_place, subst, [], Placing, as_written}
+use Rattle.fx_lasting.proofs.{◌≡◌, ℕ, ap, ◌∙◌, ◌+◌, arith, Tag, tag_place, subst, [], Placing, as_written, tag_inside, tag_word, few_nodes}
+use Rattle.fx_lasting.proofs.{its_inside, still_at_work, runs_goes, runs_within, does_then}
 use Rattle.fx_lasting.specs.Ends.{Does}
-use Rattle.fx_lasting.proofs.Calling.{tag_inside, tag_word, few_nodes}
 use Rattle.fx_lasting.proofs.node_lemmas.Labelling.{tags_keep, recalls_tag_keep}
-use Rattle.fx_lasting.proofs.Running.{its_inside, still_at_work, runs_goes, runs_within, does_then}
 use Rattle.fx_lasting.proofs.table.LastingTable.put_tag.Goals as goal
 
 pub overflow_add-place : goal.overflow_add-place

@@ -1,6 +1,4 @@
-use Rattle.fx_lasting.proofs.Words.{◌∙◌, sym, uncounted, range_at_start}
-use Rattle.fx_lasting.proofs.Calling.{group_word, its_group}
-use Rattle.table_range.proofs.GroupSlots.{was_in}
+use Rattle.fx_lasting.proofs.{◌∙◌, sym, uncounted, range_at_start, group_word, its_group, was_in}
 use Rattle.fx_lasting.proofs.range_lemmas.GroupSteps.{raises_keep}
 use Rattle.fx_lasting.proofs.table.LastingTable.raise.Goals as goal
 

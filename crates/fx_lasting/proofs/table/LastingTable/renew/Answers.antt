@@ -1,14 +1,12 @@
-use Rattle.fx_lasting.proofs.Words.{◌-◌, [], refl, ap, ◌∙◌, subst, arith, inl, inr, alone_in, rested, label_of, as_written, Some, None, Work, Runs, Closed}
-use Rattle.fx_lasting.proofs.Words.{HasPlace, Start, full_name_in, count_in, retired_at, set, one_look, false, ◌≡◌, ◌≤◌, ◌∷◌, ℕ, List, Sat, pass_in, get_elem?}
-use Rattle.fx_lasting.proofs.Words.{some, most_carried, Placing, sym, File, HoldsBesides, Placement, is_some}
+use Rattle.fx_lasting.proofs.{◌-◌, [], refl, ap, ◌∙◌, subst, arith, inl, inr, alone_in, rested, label_of, as_written, Some, None, Work, Runs, Closed}
+use Rattle.fx_lasting.proofs.{HasPlace, Start, full_name_in, count_in, retired_at, set, one_look, false, ◌≡◌, ◌≤◌, ◌∷◌, ℕ, List, Sat, pass_in}
+use Rattle.fx_lasting.proofs.{get_elem?, some, most_carried, Placing, sym, File, HoldsBesides, Placement, is_some, slot_low, adds_so, at_ease}
+use Rattle.fx_lasting.proofs.{charges_run, still_seat, still_pass, swapped_pass, knows_removed, first_by, lets_run, looks_then, does_then, file_then}
+use Rattle.fx_lasting.proofs.{still_at_work, IsBeside, RenewsAlone}
 use Rattle.std.specs.Vec.{with_item}
-use Rattle.fx_lasting.proofs.Calling.{slot_low}
 use Rattle.fx_lasting.proofs.node_lemmas.Labelling.{held_besides}
-use Rattle.fx_lasting.proofs.Passing.{adds_so, at_ease, charges_run, still_seat, still_pass, swapped_pass, knows_removed, first_by, lets_run}
-use Rattle.fx_lasting.proofs.Running.{looks_then, does_then, file_then, still_at_work}
 use Rattle.fx_lasting.proofs.range_lemmas.Trying.{stocked_at}
 use Rattle.fx_lasting.proofs.slot_lemmas.RenewalEnds.{frees_so, was_other, left, renews, swaps}
-use Rattle.fx_lasting.specs.slots.ReplaceByKey.{IsBeside, RenewsAlone}
 use Rattle.fx_lasting.proofs.table.LastingTable.renew.Goals as goal
 
 -- the pass works with the node that it holds and with its own
@@ -45,20 +43,18 @@ take_out-file-requires-clause-place c = let placed = c.place-entry.ensures.place
 
 pub returns-in-Nothing : goal.returns-in-Nothing
 returns-in-Nothing c =
-    let t = c.args.self.now in
-    let s = c.requires.seated in
     let placed = c.place-entry.ensures.placed in
     let h = c.in-Nothing.ensures.holds _ placed.work in
     let m₂ = c.hold_beside.new.seat.me in
     let end = c.take_out-file.ensures in
     let rests = subst (λ (z : Work). Runs m₂ [] (rested z) m₂.0.glance m₂.0.change 1 c.take_out-file.new.seat.me) h.work end.rests in
-    let run = at_ease s (does_then (looks_then placed h) rests) in
+    let run = at_ease c.requires.seated (does_then (looks_then placed h) rests) in
     let place : HasPlace c.place-entry.result.1 (Some c.args.file) m₂ =
     own_place (as_written c.place-entry.result.2 (label_of c.args.file)) (ap alone_in h.work) (c.hold_beside.ensures.places ∙ c.place-entry.ensures.place) in record {
       renews = (
-        still_pass s _ run (refl, refl) (end.table ∙ (c.hold_beside.ensures.table ∙ c.place-entry.ensures.table)) end.empty
-            (refl, λ _. omega (arith, c.place-entry.ensures.entry, t.key.0)) (c.requires.idle, refl),
-        (end.file c.args.file place, inl (adds_so s run one_look, refl)),
+        still_pass c.requires.seated _ run (refl, refl) (end.table ∙ (c.hold_beside.ensures.table ∙ c.place-entry.ensures.table)) end.empty
+            (refl, λ _. omega (arith, c.place-entry.ensures.entry, c.args.self.now.key.0)) (c.requires.idle, refl),
+        (end.file c.args.file place, inl (adds_so c.requires.seated run one_look, refl)),
       );
       steps = let few = run.steps in omega arith;
       met = (run.met, run.changes);
@@ -84,7 +80,6 @@ unplace-file-requires-clause-beside c =
 
 pub returns-in-Other : goal.returns-in-Other
 returns-in-Other c =
-    let t = c.args.self.now in
     let s = c.requires.seated in
     let placed = c.place-entry.ensures.placed in
     let h = c.in-Other.ensures.holds _ placed.work in
@@ -99,10 +94,10 @@ returns-in-Other c =
     (c.hold_beside.ensures.places ∙ c.place-entry.ensures.place) c.place-entry.ensures.stocked in record {
       renews = (
         still_pass s _ run (refl, refl) (end.table ∙ (c.hold_beside.ensures.table ∙ c.place-entry.ensures.table)) end.places
-            (refl, λ _. omega (arith, c.place-entry.ensures.entry, t.key.0)) (c.requires.idle, refl),
+            (refl, λ _. omega (arith, c.place-entry.ensures.entry, c.args.self.now.key.0)) (c.requires.idle, refl),
         (
           end.file c.place-entry.result.2 c.args.file b,
-          inl (was_other s c.args.key (slot_low t c.requires.slot) placed c.args.hot h.0 h.2 h.1 m₃ c.unplace-file.result.1 lets),
+          inl (was_other s c.args.key (slot_low c.args.self.now c.requires.slot) placed c.args.hot h.0 h.2 h.1 m₃ c.unplace-file.result.1 lets),
         ),
       );
       steps = let few = run.steps in omega arith;
@@ -119,7 +114,6 @@ returns-in-Ok c =
     let placed = c.place-entry.ensures.placed in
     let h = c.in-Its.ensures.holds _ placed.work in
     let f = h.0 in
-    let held = looks_then placed h.2.4 in
     let won = c.in-Ok.ensures.tried in
     let found = c.in-Ok.found in
     let its = c.removed_by.ensures in
@@ -133,7 +127,7 @@ returns-in-Ok c =
       idle = false;
     } in
     let stocked = stocked_at c.as_slice-stock.result.now c.args.pass.now.seat.me c.hold_beside.new.seat.me e c.place-entry.result.1
-    (c.as_slice-stock.ensures.value ∙ s.stock) held.stock c.place-entry.ensures.stocked in
+    (c.as_slice-stock.ensures.value ∙ s.stock) (looks_then placed h.2.4).stock c.place-entry.ensures.stocked in
     let run = swaps s c.args.key inside placed c.args.hot f h.2 h.1 p' c.identity-identity.result found won e stocked c.removed_by.result its.node its.entry its.takes in
     record {
       renews = (
@@ -155,7 +149,6 @@ returns-in-Err c =
     let placed = c.place-entry.ensures.placed in
     let h = c.in-Its.ensures.holds _ placed.work in
     let f = h.0 in
-    let m₂ = c.hold_beside.new.seat.me in
     let m₃ = c.try_renewal.new.seat.me in
     let m₄ = c.unplace-file-in-Err.new.seat.me in
     let tried = c.in-Err.ensures.tried in
@@ -167,7 +160,7 @@ returns-in-Err c =
     beside_now c.place-entry.result.0 c.args.file (c.as_slice-stock.ensures.value ∙ (s.stock ∙ sym still.stock)) (tried.2.work ∙ held.work) h.2.2 c.place-entry.ensures.few_lost
     (tried.3 ∙ (c.hold_beside.ensures.places ∙ c.place-entry.ensures.place)) c.place-entry.ensures.stocked in
     let lets = end.released f (held_besides (besides_so (tried.2.work ∙ held.work) h.2.2)) in
-    let run = at_ease s (does_then held (lets_run m₂ m₄ f 9 r (file_then m₄ f 4 r tried.2 lets)).1) in
+    let run = at_ease s (does_then held (lets_run c.hold_beside.new.seat.me m₄ f 9 r (file_then m₄ f 4 r tried.2 lets)).1) in
     let p' = record c.args.pass.now { seat = c.unplace-file-in-Err.new.seat; next_entry = c.place-entry.result.0; keeps = false } in
     record {
       renews = (
@@ -192,18 +185,14 @@ take_out-file-requires-in-Moved-clause-place c = let placed = c.place-entry.ensu
 -- the announcement was in vain
 pub returns-in-Moved : goal.returns-in-Moved
 returns-in-Moved c =
-    let t = c.args.self.now in
     let s = c.requires.seated in
     let placed = c.place-entry.ensures.placed in
     let h = c.in-Moved.ensures.holds _ placed.work in
     let m₂ = c.hold_beside.new.seat.me in
     let m₃ = c.take_out-file-in-Moved.new.seat.me in
-    let m₄ = c.withdraw.new.seat.me in
     let end = c.take_out-file-in-Moved.ensures in
-    let rests = subst (λ (z : Work). Runs m₂ [] (rested z) m₂.0.glance m₂.0.change 1 m₃) h.1.work end.rests in
-    let vain = does_then (looks_then placed h.1) rests in
-    let lets = charges_run m₃ m₄ 3 c.withdraw.result c.withdraw.ensures.withdraws in
-    let run = does_then vain lets.1 in
+    let vain = does_then (looks_then placed h.1) (subst (λ (z : Work). Runs m₂ [] (rested z) m₂.0.glance m₂.0.change 1 m₃) h.1.work end.rests) in
+    let run = does_then vain (charges_run m₃ c.withdraw.new.seat.me 3 c.withdraw.result c.withdraw.ensures.withdraws).1 in
     let place : HasPlace c.place-entry.result.1 (Some c.args.file) m₂ =
     own_place (as_written c.place-entry.result.2 (label_of c.args.file)) (ap alone_in h.1.work) (c.hold_beside.ensures.places ∙ c.place-entry.ensures.place) in record {
       renews = (
@@ -211,14 +200,14 @@ returns-in-Moved c =
         ap is_some h.0,
         record {
           seated = still_seat s _ (at_ease s run) (refl, refl) (c.withdraw.ensures.table ∙ (end.table ∙ (c.hold_beside.ensures.table ∙ c.place-entry.ensures.table)))
-              c.withdraw.ensures.places (refl, λ _. omega (arith, c.place-entry.ensures.entry, t.key.0));
+              c.withdraw.ensures.places (refl, λ _. omega (arith, c.place-entry.ensures.entry, c.args.self.now.key.0));
           idle = c.requires.idle;
           unkept = refl;
           works = run.work;
           listed = run.listed ∙ c.requires.listed;
           cold = run.glance;
           number = refl;
-          frees = frees_so s vain m₄ c.withdraw.result c.withdraw.ensures.withdraws;
+          frees = frees_so s vain c.withdraw.new.seat.me c.withdraw.result c.withdraw.ensures.withdraws;
           steps = let few = run.steps in omega arith;
         },
       );

@@ -1,12 +1,11 @@
-use Rattle.fx_lasting.proofs.Words.{false, Round, new_round, IsPassed, ◌/◌, ◌≡◌, ◌≢◌, ℕ, ◌+◌, ◌-◌, ◌*◌, ◌≤◌, refl, ◌∙◌, subst, arith, sym, inl, inr, ⊎_elim, []}
-use Rattle.fx_lasting.proofs.Words.{Some, File, Start, IsAtWork, Runs, Retiring, Sat, state_after_all, pass_in, TakesOut, HasPlace, At, Retires}
-use Rattle.fx_lasting.proofs.Words.{retirement_amount, Work, Goes, ap, Finishes, List, ◌▷◌, Close, TakenOut, opening_of, view_of, pass_of, Adds, no_use, Doing}
+use Rattle.fx_lasting.proofs.{false, Round, new_round, IsPassed, ◌/◌, ◌≡◌, ◌≢◌, ℕ, ◌+◌, ◌-◌, ◌*◌, ◌≤◌, refl, ◌∙◌, subst, arith, sym, inl, inr, ⊎_elim}
+use Rattle.fx_lasting.proofs.{[], Some, File, Start, IsAtWork, Runs, Retiring, Sat, state_after_all, pass_in, TakesOut, HasPlace, At, Retires}
+use Rattle.fx_lasting.proofs.{retirement_amount, Work, Goes, ap, Finishes, List, ◌▷◌, Close, TakenOut, opening_of, view_of, pass_of, Adds, no_use}
+use Rattle.fx_lasting.proofs.{Doing, node_inside, node_word, still_at_work, does_then, runs_goes, runs_one, its_inside, out_place, out_and_home}
+use Rattle.fx_lasting.proofs.{adds_so, at_rest, still_pass, its_retiring, its_unkept}
 use Rattle.fx_lasting.proofs.hold_lemmas.Rounds.{passed_by}
-use Rattle.fx_lasting.proofs.Calling.{node_inside, node_word}
 use Rattle.fx_lasting.proofs.hold_lemmas.Finishing.{finishes_keep}
 use Rattle.fx_lasting.proofs.hold_lemmas.Retiring.{retires_keep}
-use Rattle.fx_lasting.proofs.Running.{still_at_work, does_then, runs_goes, runs_one, its_inside, out_place, out_and_home}
-use Rattle.fx_lasting.proofs.Passing.{adds_so, at_rest, still_pass, its_retiring, its_unkept}
 use Rattle.fx_lasting.proofs.node_lemmas.Settled.{out_so}
 use Rattle.fx_lasting.proofs.table.LastingTable.retire.Goals.{After-charge_all-charges}
 use Rattle.fx_lasting.proofs.table.LastingTable.retire.Goals as goal
@@ -147,7 +146,6 @@ fetch_sub-found-requires c =
 pub returns-then-found-amount : goal.returns-then-found-amount
 returns-then-found-amount c =
     let a = (goal.at.returns-then-found-amount c).After-charge_all-charges in
-    let t = c.args.self.now in
     let fits = c.requires.fits in
     let s = fits.seated in
     let goes = still_waits a c.load-left.ensures.2 (not_yet c.args.retired.takes c.charge_all-charges.result c.if-left-amount.false c.retire_amount-amount.ensures) in
@@ -160,7 +158,7 @@ returns-then-found-amount c =
       fits = still_pass s _ run (refl, refl) (c.fetch_sub-found.ensures.0 ∙ (c.load-left.ensures.0 ∙ c.charge_all-charges.ensures.table))
           (went.0.carried ∙ (goes.carried ∙ (c.charge_all-charges.ensures.places ∙ s.places))) (refl, s.next) (refl, its_unkept fits (λ is. cc (sym c.requires.removed.1 ∙ is)));
       retired = (file a, c.requires.removed.1, (removed, adds_so s run no_use));
-      steps = let few = run.steps in omega (arith, few, t.bounds.0);
+      steps = let few = run.steps in omega (arith, few, c.args.self.now.bounds.0);
     }
 
 -- nobody has to let the file go any more
@@ -183,7 +181,6 @@ take_out-requires c =
 pub returns : goal.returns
 returns c =
     let a = (goal.at.returns c).After-charge_all-charges in
-    let t = c.args.self.now in
     let goes = still_waits a c.load-left.ensures.2 (not_yet c.args.retired.takes c.charge_all-charges.result c.if-left-amount.false c.retire_amount-amount.ensures) in
     let is : c.fetch_sub-found.result ≡ c.retire_amount-amount.result + 1 = omega (arith, c.if-found-amount.false) in
     let fits = c.requires.fits in
@@ -195,5 +192,5 @@ returns c =
           (c.take_out.ensures.table ∙ (c.fetch_sub-found.ensures.0 ∙ (c.load-left.ensures.0 ∙ c.charge_all-charges.ensures.table))) c.take_out.ensures.empty
           (refl, s.next) (refl, its_unkept fits (λ is. cc (sym c.requires.removed.1 ∙ is)));
       retired = (file a, c.requires.removed.1, (c.take_out.ensures.file (file a).identity (place a goes.carried went), adds_so s run no_use));
-      steps = let few = run.steps in omega (arith, few, t.bounds.0);
+      steps = let few = run.steps in omega (arith, few, c.args.self.now.bounds.0);
     }

@@ -1,4 +1,4 @@
-use Rattle.fx_lasting.proofs.Words.{arith, ap, ◌*◌, ℕ, groups_in, group_steps}
+use Rattle.fx_lasting.proofs.{arith, ap, ◌*◌, ℕ, groups_in, group_steps}
 use Rattle.fx_lasting.specs.range.Tries.{scan_steps}
 use Rattle.fx_lasting.proofs.range_lemmas.Trying.{still_then, still_within, found_then}
 use Rattle.fx_lasting.proofs.range_lemmas.Scanning.{fails_last, follows}

@@ -1,8 +1,6 @@
-use Rattle.fx_lasting.proofs.Words.{◌∙◌, arith, ◌+◌, ◌%◌, ◌<◌, ℕ, ap, sym, refl, subst, mod-eq_of_lt, groups_in, group_steps, FailsToFill}
-use Rattle.fx_lasting.specs.range.Scans.{EachInGroup}
+use Rattle.fx_lasting.proofs.{◌∙◌, arith, ◌+◌, ◌%◌, ◌<◌, ℕ, ap, sym, refl, subst, mod-eq_of_lt, groups_in, group_steps, FailsToFill, same_groups}
+use Rattle.fx_lasting.proofs.{placed_none, EachInGroup}
 use Rattle.std.proofs.Math.Nat.{mod-lt}
-use Rattle.fx_lasting.proofs.Calling.{same_groups}
-use Rattle.fx_lasting.proofs.Running.{placed_none}
 use Rattle.fx_lasting.proofs.range_lemmas.Trying.{still_then, allocated_then, allocated_within, group_more, groups_most}
 use Rattle.fx_lasting.proofs.range_lemmas.Scanning.{all_groups, fails_last, follows, next_group}
 use Rattle.fx_lasting.proofs.range_lemmas.Walks.{walk_on}

@@ -1,5 +1,4 @@
-use Rattle.fx_lasting.proofs.Words.{◌≡◌, ℕ, ◌+◌, ◌*◌, ◌%◌, ◌<◌, ◌≤◌, groups_in, StillPlaces, FailsToFill, group_steps}
-use Rattle.fx_lasting.specs.range.Scans.{EachInGroup}
+use Rattle.fx_lasting.proofs.{◌≡◌, ℕ, ◌+◌, ◌*◌, ◌%◌, ◌<◌, ◌≤◌, groups_in, StillPlaces, FailsToFill, group_steps, EachInGroup}
 use Rattle.fx_lasting.proofs.table.LastingTable.scan_groups.Given as goal
 
 -- the groups before this one are scanned

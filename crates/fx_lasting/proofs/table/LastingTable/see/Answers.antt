@@ -1,6 +1,5 @@
-use Rattle.fx_lasting.proofs.Words.{ap, ◌∙◌, slot_of}
+use Rattle.fx_lasting.proofs.{ap, ◌∙◌, slot_of, slot_back}
 use Rattle.fx_lasting.proofs.slot_lemmas.ByNode.{saw_if}
-use Rattle.fx_lasting.proofs.Places.{slot_back}
 use Rattle.fx_lasting.proofs.slot_lemmas.Seeing.{may_see}
 use Rattle.fx_lasting.proofs.table.LastingTable.see.Goals as goal
 

@@ -1,8 +1,7 @@
-use Rattle.fx_lasting.proofs.Words.{◌≡◌, ◌≢◌, ◌≤◌, ◌<◌, ◌∙◌, ℕ, List, ap, sym, arith, get_elem?, get_or, some, pass_in, Sat, nodes_of, LastingTable, IsAtWork}
+use Rattle.fx_lasting.proofs.{◌≡◌, ◌≢◌, ◌≤◌, ◌<◌, ◌∙◌, ℕ, List, ap, sym, arith, get_elem?, get_or, some, pass_in, Sat, nodes_of, LastingTable}
+use Rattle.fx_lasting.proofs.{IsAtWork, node_inside, node_word, as_long, stock_inside, few_nodes, runs_within, stock_is}
 use Rattle.fx_lasting.proofs.node_lemmas.Births.{seeks_keep}
 use Rattle.fx_lasting.proofs.node_lemmas.FreeNodes.{entry_is}
-use Rattle.fx_lasting.proofs.Calling.{node_inside, node_word, as_long, stock_inside, few_nodes}
-use Rattle.fx_lasting.proofs.Running.{runs_within, stock_is}
 use Rattle.fx_lasting.proofs.node_lemmas.Sought.{sought_at, sought_work, sought_stock, sought_here, sought_more}
 use Rattle.fx_lasting.proofs.table.LastingTable.seek.Goals as goal
 
@@ -57,15 +56,14 @@ returns-then-word-eq0-clause-stocked c = let r = c.requires in
 
 pub loop-preserved : goal.loop-preserved
 loop-preserved c =
-    let t = c.args.self.now in
     let r = c.requires in
     let i = c.loop.invariant in
     let not_so : c.load-word.result ≢ 0 = c.if-word-eq0.false in
-    let here = there t c.args.number c.args.seat.now.me c.args.stock.now r.at r.installs r.stock c.loop.entry i.sought.inside in
+    let here = there c.args.self.now c.args.number c.args.seat.now.me c.args.stock.now r.at r.installs r.stock c.loop.entry i.sought.inside in
     record {
       table = c.load-word.ensures.0 ∙ i.table;
       places = c.load-word.ensures.2.goes.carried ∙ i.places;
       sought = rw c.entry_after-entry.ensures (sought_more r.at r.idle r.stock i.sought here
-          (node_word t (get_or c.args.stock.now c.loop.entry 0) c.node_place-place.ensures)
-          c.load-word.ensures.2 not_so (sym (as_long t r.at r.installs r.stock)) r.start c.loop-test.true);
+          (node_word c.args.self.now (get_or c.args.stock.now c.loop.entry 0) c.node_place-place.ensures)
+          c.load-word.ensures.2 not_so (sym (as_long c.args.self.now r.at r.installs r.stock)) r.start c.loop-test.true);
     }

@@ -1,4 +1,4 @@
-use Rattle.fx_lasting.proofs.Words.{◌≡◌}
+use Rattle.fx_lasting.proofs.{◌≡◌}
 use Rattle.fx_lasting.proofs.node_lemmas.Sought.{Sought}
 use Rattle.fx_lasting.proofs.table.LastingTable.seek.Given as goal
 

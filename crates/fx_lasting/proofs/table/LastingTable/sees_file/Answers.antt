@@ -1,5 +1,4 @@
-use Rattle.fx_lasting.proofs.Words.{ap, ◌∙◌, slot_of}
-use Rattle.fx_lasting.proofs.Places.{slot_back}
+use Rattle.fx_lasting.proofs.{ap, ◌∙◌, slot_of, slot_back}
 use Rattle.fx_lasting.proofs.slot_lemmas.Seeing.{may_see}
 use Rattle.fx_lasting.proofs.slot_lemmas.EmptySlots.{sees_so}
 use Rattle.fx_lasting.proofs.table.LastingTable.sees_file.Goals as goal

@@ -1,8 +1,7 @@
-use Rattle.fx_lasting.proofs.Words.{◌≡◌, ◌<◌, ◌∙◌, ℕ, sym, ap, refl, arith, nodes_of, Keeping, stands_at, read_at}
-use Rattle.fx_lasting.proofs.Calling.{node_inside, node_word, few_nodes}
+use Rattle.fx_lasting.proofs.{◌≡◌, ◌<◌, ◌∙◌, ℕ, sym, ap, refl, arith, nodes_of, stands_at, read_at, node_inside, node_word, few_nodes, at_rest}
+use Rattle.fx_lasting.proofs.{still_pass, its_kept, its_inside, runs_goes}
+use Rattle.fx_lasting.proofs.Words.{Keeping}
 use Rattle.fx_lasting.proofs.node_lemmas.KeptNodes.{settles_keep}
-use Rattle.fx_lasting.proofs.Passing.{at_rest, still_pass, its_kept}
-use Rattle.fx_lasting.proofs.Running.{its_inside, runs_goes}
 use Rattle.fx_lasting.proofs.node_lemmas.Settled.{settled_view}
 use Rattle.fx_lasting.proofs.table.LastingTable.settle.Goals.{After-index-node}
 use Rattle.fx_lasting.proofs.table.LastingTable.settle.Goals as goal
@@ -22,32 +21,27 @@ index-node-requires c = let p = c.args.pass.now in let kept = its_kept c.require
     omega (arith, (stands_at p.stock.items p.next_entry kept.0 kept.4).0)
 
 pub node_place-place-requires : goal.node_place-place-requires
-node_place-place-requires c =
-    let a = (goal.at.node_place-place-requires c).After-index-node in
-    omega (arith, inside a, few_nodes c.args.self.now)
+node_place-place-requires c = omega (arith, inside ((goal.at.node_place-place-requires c).After-index-node), few_nodes c.args.self.now)
 
 pub store-requires : goal.store-requires
 store-requires c =
     let a = (goal.at.store-requires c).After-index-node in
-    let t = c.args.self.now in
     let s = c.requires.fits.seated in (
       s.table,
-      node_inside t (inside a) c.node_place-place.ensures,
+      node_inside c.args.self.now (inside a) c.node_place-place.ensures,
       settles_keep _ _ _ _ c.index-node.result.now (its_kept c.requires.fits c.if-pass.true).1 c.args.pass.now.seat.me _ s.at.pass (works a)
-          (node_word t c.index-node.result.now c.node_place-place.ensures),
+          (node_word c.args.self.now c.index-node.result.now c.node_place-place.ensures),
     )
 
 pub returns-then-pass : goal.returns-then-pass
 returns-then-pass c =
-    let a = (goal.at.returns-then-pass c).After-index-node in
     let fits = c.requires.fits in
     let s = fits.seated in
-    let kept = its_kept fits c.if-pass.true in
     let did = c.store.ensures.2 in
     let run = at_rest fits (runs_goes did.goes) in
     record {
-      fits = still_pass s _ run (refl, refl) c.store.ensures.0 (did.goes.carried ∙ s.places) (refl, s.next) (kept.3, refl);
-      same = settled_view (works a) did;
+      fits = still_pass s _ run (refl, refl) c.store.ensures.0 (did.goes.carried ∙ s.places) (refl, s.next) ((its_kept fits c.if-pass.true).3, refl);
+      same = settled_view (works ((goal.at.returns-then-pass c).After-index-node)) did;
       unkept = refl;
       steps = let few = run.steps in omega arith;
       begun = let any = run.begun in omega arith;

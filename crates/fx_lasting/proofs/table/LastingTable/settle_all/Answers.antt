@@ -1,5 +1,5 @@
-use Rattle.fx_lasting.proofs.Words.{◌≡◌, ◌<◌, ◌∙◌, ap, sym, subst, refl, arith, false, length, length-set, view_of, IsPassOfTable, LastingPass, All-set}
-use Rattle.fx_lasting.proofs.Words.{AllWithin-more_set, IsIdle}
+use Rattle.fx_lasting.proofs.{◌≡◌, ◌<◌, ◌∙◌, ap, sym, subst, refl, arith, false, length, length-set, view_of, IsPassOfTable, LastingPass, All-set}
+use Rattle.fx_lasting.proofs.{AllWithin-more_set, IsIdle}
 use Rattle.std.proofs.Math.Seq.{map-set_same}
 use Rattle.fx_lasting.proofs.node_lemmas.Settled.{still_idle}
 use Rattle.fx_lasting.proofs.table.LastingTable.settle_all.Goals.{After-index_mut}

@@ -1,4 +1,4 @@
-use Rattle.fx_lasting.proofs.Words.{◌≡◌, All, false, length, map, view_of, IsPassOfTable, AllWithin, IsIdle}
+use Rattle.fx_lasting.proofs.{◌≡◌, All, false, length, map, view_of, IsPassOfTable, AllWithin, IsIdle}
 use Rattle.fx_lasting.proofs.table.LastingTable.settle_all.Given as goal
 
 -- the passes so far keep no node

@@ -1,4 +1,4 @@
-use Rattle.fx_lasting.proofs.Words.{◌≡◌, ℕ, sym, ap, ◌∙◌, arith, Start, nodes_of, replicate, nodes_for}
+use Rattle.fx_lasting.proofs.{◌≡◌, ℕ, sym, ap, ◌∙◌, arith, Start, nodes_of, replicate, nodes_for}
 use Rattle.fx_lasting.proofs.life_lemmas.Openings.{opening_keeps}
 use Rattle.fx_lasting.proofs.life_lemmas.Sparse.{same_size, opens_with}
 use Rattle.fx_lasting.proofs.table.LastingTable.start_sparse.Goals as goal

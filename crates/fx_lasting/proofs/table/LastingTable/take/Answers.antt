@@ -1,5 +1,4 @@
-use Rattle.fx_lasting.proofs.Words.{opening_of, view_of}
-use Rattle.fx_lasting.proofs.Passing.{taken_so}
+use Rattle.fx_lasting.proofs.{opening_of, view_of, taken_so}
 use Rattle.fx_lasting.proofs.table.LastingTable.take.Goals as goal
 
 pub returns-clause-taken : goal.returns-clause-taken

@@ -1,4 +1,4 @@
-use Rattle.fx_lasting.proofs.Words.{subst, inr, Start, Result, Hold, KeyFault, LookedByKey, view_of}
+use Rattle.fx_lasting.proofs.{subst, inr, Start, Result, Hold, KeyFault, LookedByKey, view_of}
 use Rattle.fx_lasting.proofs.slot_lemmas.HeldTries.{left_alone}
 use Rattle.fx_lasting.proofs.table.LastingTable.take_key.Goals as goal
 

@@ -1,7 +1,5 @@
-use Rattle.fx_lasting.proofs.Words.{sym, ap, ◌∙◌, ◌∷◌, Some, None, rest, Sat, subst, [], Runs, rested}
-use Rattle.fx_lasting.proofs.Running.{runs_one}
+use Rattle.fx_lasting.proofs.{sym, ap, ◌∙◌, ◌∷◌, Some, None, rest, Sat, subst, [], Runs, rested, runs_one, node_inside, node_word, place_inside}
 use Rattle.fx_lasting.proofs.node_lemmas.Births.{rests_keep}
-use Rattle.fx_lasting.proofs.Calling.{node_inside, node_word, place_inside}
 use Rattle.fx_lasting.proofs.table.LastingTable.take_out.Goals as goal
 
 pub exchange-requires : goal.exchange-requires
@@ -10,16 +8,14 @@ exchange-requires c = let h = c.requires.place.1 in
 
 pub store-requires : goal.store-requires
 store-requires c =
-    let t = c.args.self.now in
-    let n = c.args.node in
     let at = c.requires.at.1 in
     let h = c.requires.place.1 in
     let me = c.exchange.ensures.3 in
     let view = ap (λ (z : Sat). z.0) me in (
       c.exchange.ensures.0 ∙ c.requires.table,
-      node_inside t (place_inside at h) c.node_place.ensures,
-      rests_keep t.table.shared.key _ _ _ n c.exchange.new.seat.me at.log (rw view at.pass) (rw view h.work)
-          (ap (λ (z : Sat). z.1) me ∙ λ i. (n, None) ∷ ap rest h.place i) (node_word t c.args.node c.node_place.ensures),
+      node_inside c.args.self.now (place_inside at h) c.node_place.ensures,
+      rests_keep c.args.self.now.table.shared.key _ _ _ c.args.node c.exchange.new.seat.me at.log (rw view at.pass) (rw view h.work)
+          (ap (λ (z : Sat). z.1) me ∙ λ i. (c.args.node, None) ∷ ap rest h.place i) (node_word c.args.self.now c.args.node c.node_place.ensures),
     )
 
 pub returns-clause-rests : goal.returns-clause-rests

@@ -1,7 +1,7 @@
-use Rattle.fx_lasting.proofs.Words.{◌≡◌, ◌∙◌, ◌∷◌, ap, sym, subst, false, inl, Some, None, rest, Sat, Work, Runs, rested, Idle, Parked, Keeping, IsAtWork, [], true, arith}
+use Rattle.fx_lasting.proofs.{◌≡◌, ◌∙◌, ◌∷◌, ap, sym, subst, false, inl, Some, None, rest, Sat, Work, Runs, rested, Idle, Parked, IsAtWork, [], true}
+use Rattle.fx_lasting.proofs.{arith, node_inside, node_word, its_inside, still_at_work, does_then, runs_one, runs_within}
+use Rattle.fx_lasting.proofs.Words.{Keeping}
 use Rattle.fx_lasting.proofs.node_lemmas.Births.{rests_keep}
-use Rattle.fx_lasting.proofs.Calling.{node_inside, node_word}
-use Rattle.fx_lasting.proofs.Running.{its_inside, still_at_work, does_then, runs_one, runs_within}
 use Rattle.fx_lasting.proofs.table.LastingTable.take_out_or_keep.Goals.{After-park}
 use Rattle.fx_lasting.proofs.table.LastingTable.take_out_or_keep.Goals as goal
 
@@ -32,13 +32,12 @@ module _ (c : After-park) (no : c.park.result ≡ false) where
 pub store-requires : goal.store-requires
 store-requires c =
     let a = (goal.at.store-requires c).After-park in
-    let t = c.args.self.now in
     let still = still a c.if-park.false in
     let there = still_at_work (at a c.if-park.false) still.0 in (
       c.park.ensures.table ∙ (c.exchange.ensures.0 ∙ c.requires.table),
-      node_inside t (its_inside there still.0.work) c.requires.word,
+      node_inside c.args.self.now (its_inside there still.0.work) c.requires.word,
       rests_keep _ _ _ _ c.args.node c.park.new.seat.me _ there.pass (inl still.0.work) (still.1 ∙ place a c.if-park.false)
-          (node_word t c.args.node c.requires.word),
+          (node_word c.args.self.now c.args.node c.requires.word),
     )
 
 pub returns-clause-out : goal.returns-clause-out

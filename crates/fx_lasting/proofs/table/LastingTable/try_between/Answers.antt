@@ -1,5 +1,4 @@
-use Rattle.fx_lasting.proofs.Words.{◌∙◌, arith, refl}
-use Rattle.fx_lasting.proofs.Running.{placed_none}
+use Rattle.fx_lasting.proofs.{◌∙◌, arith, refl, placed_none}
 use Rattle.fx_lasting.proofs.range_lemmas.Trying.{still_then, allocated_then, still_within, allocated_within}
 use Rattle.fx_lasting.proofs.range_lemmas.Scanning.{follows, fails_last, one_more}
 use Rattle.fx_lasting.proofs.table.LastingTable.try_between.Goals as goal
@@ -20,14 +19,12 @@ loop-slot-preserved c = let i = c.loop-slot.invariant in record {
 }
 
 pub returns-in-Some-clause-found : goal.returns-in-Some-clause-found
-returns-in-Some-clause-found c = let i = c.loop-slot.invariant in
-    allocated_within c.args.seat.now.me c.try_slot.new.seat.me c.args.node c.loop-slot.slot c.in-Some.named c.args.file
+returns-in-Some-clause-found c = allocated_within c.args.seat.now.me c.try_slot.new.seat.me c.args.node c.loop-slot.slot c.in-Some.named c.args.file
     (omega (arith, c.loop-slot-test.true, c.loop-slot.auto.slot))
-    (allocated_then c.in-Some.named i.still c.in-Some.ensures.tries)
+    (allocated_then c.in-Some.named c.loop-slot.invariant.still c.in-Some.ensures.tries)
 
 pub returns-clause-none : goal.returns-clause-none
-returns-clause-none c none = let i = c.loop-slot.invariant in
-    still_within c.args.file (omega (arith, c.loop-slot.auto.slot, c.loop-slot-test.false)) i.still
+returns-clause-none c none = still_within c.args.file (omega (arith, c.loop-slot.auto.slot, c.loop-slot-test.false)) c.loop-slot.invariant.still
 
 pub returns-clause-fails : goal.returns-clause-fails
 returns-clause-fails c none = λ slot low high. c.loop-slot.invariant.fails slot low (omega (arith, high, c.loop-slot-test.false))

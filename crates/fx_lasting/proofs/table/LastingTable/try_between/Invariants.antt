@@ -1,5 +1,4 @@
-use Rattle.fx_lasting.proofs.Words.{◌≡◌, ◌-◌, ◌*◌, StillPlaces, FailsToFill}
-use Rattle.fx_lasting.specs.range.Scans.{EachFrom}
+use Rattle.fx_lasting.proofs.{◌≡◌, ◌-◌, ◌*◌, StillPlaces, FailsToFill, EachFrom}
 use Rattle.fx_lasting.proofs.table.LastingTable.try_between.Given as goal
 
 abbrev pub invariant-loop-slot : goal.invariant-loop-slot

@@ -1,9 +1,7 @@
-use Rattle.fx_lasting.proofs.Words.{◌≤◌, ◌+◌, ℕ, refl, ap, ◌∙◌, arith, slot_of, full_name_in, subst, sym, step, none, At, Sees, ◌≢◌}
-use Rattle.fx_lasting.proofs.Calling.{slot_inside}
+use Rattle.fx_lasting.proofs.{◌≤◌, ◌+◌, ℕ, refl, ap, ◌∙◌, arith, slot_of, full_name_in, subst, sym, step, none, At, Sees, ◌≢◌, slot_inside, slot_back}
+use Rattle.fx_lasting.proofs.{placed_none, still_at_work, runs_goes, runs_within}
 use Rattle.fx_lasting.proofs.slot_lemmas.ByNode.{lost_run, lost_so, stands_then}
-use Rattle.fx_lasting.proofs.slot_lemmas.Overtaking.{Tried, tried_nothing, tried_more}
-use Rattle.fx_lasting.proofs.Places.{slot_back}
-use Rattle.fx_lasting.proofs.Running.{placed_none, still_at_work, runs_goes, runs_within}
+use Rattle.fx_lasting.proofs.slot_lemmas.Overtaking.{Tried, tried_more}
 use Rattle.fx_lasting.specs.slots.ByNode.{word_put}
 use Rattle.fx_lasting.proofs.table.LastingTable.try_exchange.Given.{Over}
 use Rattle.fx_lasting.proofs.table.LastingTable.try_exchange.Goals.{After-compare_exchange-found}
@@ -19,21 +17,26 @@ saw_word : (g : Over) (c : After-compare_exchange-found g) → c.compare_exchang
 saw_word g c other = c.requires.loses (at_last g c) c.loop.seat.me c.compare_exchange-found.result c.compare_exchange-found.new.seat.me c.compare_exchange-found.ensures.2 other
 
 pub loop-init : goal.loop-init
-loop-init g c = record { table = refl; places = refl; named = c.requires.named; still = placed_none c.requires.at.1 refl; tries = tried_nothing c.args.slot c.args.word c.args.seat.now.me }
+loop-init g c = record {
+  table = refl;
+  places = refl;
+  named = c.requires.named;
+  still = placed_none c.requires.at.1 refl;
+  tries =
+      record { watches = λ l. absurd (omega arith); overtaken = λ l. absurd (omega arith) };
+}
 
 pub compare_exchange-found-requires : goal.compare_exchange-found-requires
 compare_exchange-found-requires g c =
-    let t = c.args.self.now in
     let i = c.loop.invariant in (
       i.table ∙ c.requires.table,
-      slot_inside t c.requires.slot c.slot_place-place.ensures,
+      slot_inside c.args.self.now c.requires.slot c.slot_place-place.ensures,
       rw c.slot_place-place.ensures (rw c.word_put.ensures (c.requires.may _ _ c.loop.expected c.loop.counter c.loop.seat.me i.still i.places i.named)),
     )
 
 pub returns-then-found-expected : goal.returns-then-found-expected
 returns-then-found-expected g c =
     let i = c.loop.invariant in
-    let same = c.if-found-expected.true in
     record {
       table = c.compare_exchange-found.ensures.0 ∙ i.table;
       tried = record {
@@ -42,9 +45,9 @@ returns-then-found-expected g c =
         still = runs_within (omega (arith, c.loop-test.true)) i.still;
         places = i.places;
         here = ap slot_of c.slot_place-place.ensures ∙ slot_back c.args.slot;
-        named = ap (λ (z : ℕ). full_name_in z) same ∙ i.named;
-        first = same;
-        second = c.word_put.ensures ∙ ap (λ (z : ℕ). word_put c.args.to z) (sym same);
+        named = ap (λ (z : ℕ). full_name_in z) c.if-found-expected.true ∙ i.named;
+        first = c.if-found-expected.true;
+        second = c.word_put.ensures ∙ ap (λ (z : ℕ). word_put c.args.to z) (sym c.if-found-expected.true);
         last = c.compare_exchange-found.ensures.2;
       };
     }

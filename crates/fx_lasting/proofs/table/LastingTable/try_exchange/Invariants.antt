@@ -1,4 +1,4 @@
-use Rattle.fx_lasting.proofs.Words.{◌≡◌, [], ◌+◌, full_name_in}
+use Rattle.fx_lasting.proofs.{◌≡◌, [], ◌+◌, full_name_in}
 use Rattle.fx_lasting.specs.Ends.{Does}
 use Rattle.fx_lasting.proofs.slot_lemmas.Overtaking.{Tried}
 use Rattle.fx_lasting.proofs.table.LastingTable.try_exchange.Given as goal

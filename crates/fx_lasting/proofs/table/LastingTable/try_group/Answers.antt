@@ -1,6 +1,5 @@
-use Rattle.fx_lasting.proofs.Words.{◌∙◌, arith, inl, StillPlaces, group_steps}
+use Rattle.fx_lasting.proofs.{◌∙◌, arith, inl, StillPlaces, group_steps, still_at_work}
 use Rattle.fx_lasting.proofs.Peeking.{may_peek}
-use Rattle.fx_lasting.proofs.Running.{still_at_work}
 use Rattle.fx_lasting.proofs.range_lemmas.Trying.{peeked, placing_still, still_then, still_within, allocated_then, allocated_within, found_then}
 use Rattle.fx_lasting.proofs.range_lemmas.Scanning.{begins, ends, few_inside, slots_inside, peeked_full, fails_last, follows, whole_group}
 use Rattle.fx_lasting.proofs.table.LastingTable.try_group.Goals as goal
@@ -43,10 +42,9 @@ pub returns-in-Some-clause-found : goal.returns-in-Some-clause-found
 returns-in-Some-clause-found c =
     let goes = c.load-word.ensures.2.goes in
     let before : StillPlaces c.args.node c.args.lost c.args.file 1 c.args.seat.now.me c.load-word.new.seat.me = (peeked c.requires.placing goes, goes.carried) in
-    let found = c.in-Some.found in
-    allocated_within c.args.seat.now.me c.try_between.new.seat.me c.args.node found.0 found.1 c.args.file
+    allocated_within c.args.seat.now.me c.try_between.new.seat.me c.args.node c.in-Some.found.0 c.in-Some.found.1 c.args.file
     (omega (arith, few_inside c.args.self.now c.args.group c.group_size.ensures c.group_len.ensures, c.start_within-from.ensures.low))
-    (allocated_then found.1 before c.in-Some.ensures.found)
+    (allocated_then c.in-Some.found.1 before c.in-Some.ensures.found)
 
 pub returns-clause-found : goal.returns-clause-found
 returns-clause-found c =

@@ -1,5 +1,5 @@
-use Rattle.fx_lasting.proofs.Words.{◌≡◌, ◌<◌, ◌∙◌, ℕ, List, ap, sym, arith, length, get_elem?, some, get_or_default, pass_in}
-use Rattle.fx_lasting.proofs.Calling.{few_nodes, slot_low, stock_inside}
+use Rattle.fx_lasting.proofs.{◌≡◌, ◌<◌, ◌∙◌, ℕ, List, ap, sym, arith, length, get_elem?, some, get_or_default, pass_in, few_nodes, slot_low}
+use Rattle.fx_lasting.proofs.{stock_inside}
 use Rattle.fx_lasting.proofs.node_lemmas.FreeNodes.{entry_is}
 use Rattle.fx_lasting.proofs.slot_lemmas.HeldTries.{left_held, may_leave_held, may_move_held, moved_held}
 use Rattle.fx_lasting.proofs.table.LastingTable.try_out.Goals.{After-index}

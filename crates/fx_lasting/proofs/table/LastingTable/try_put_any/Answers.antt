@@ -1,6 +1,5 @@
-use Rattle.fx_lasting.proofs.Words.{refl, arith, [], ◌▷◌, Allocate, Full, opening_of, view_of, true, false, HasAsked, adds_then, no_use, one_number}
-use Rattle.fx_lasting.proofs.Words.{DoesNothing, sym, ◌∙◌}
-use Rattle.fx_lasting.proofs.Passing.{meets_then, new_file_so}
+use Rattle.fx_lasting.proofs.{refl, arith, [], ◌▷◌, Allocate, Full, opening_of, view_of, true, false, HasAsked, adds_then, no_use, one_number}
+use Rattle.fx_lasting.proofs.{DoesNothing, sym, ◌∙◌, meets_then, new_file_so}
 use Rattle.fx_lasting.proofs.range_lemmas.Questions.{asked_so}
 use Rattle.fx_lasting.proofs.range_lemmas.Scanning.{Follows, gave_up}
 use Rattle.fx_lasting.proofs.table.LastingTable.try_put_any.Goals as goal

@@ -1,10 +1,7 @@
-use Rattle.fx_lasting.proofs.Words.{ap, sym, subst, refl, arith, ◌∙◌, ◌+◌, ◌<◌, ◌^◌, List, ℕ, get_elem?, HoldsBesides, Start, Work, as_written, label_of}
-use Rattle.fx_lasting.proofs.Words.{is_guarding, Ok, SawIf}
-use Rattle.fx_lasting.proofs.Calling.{slot_low}
-use Rattle.fx_lasting.proofs.Running.{at_swapped, still_at_work}
+use Rattle.fx_lasting.proofs.{ap, sym, subst, refl, arith, ◌∙◌, ◌+◌, ◌<◌, ◌^◌, List, ℕ, get_elem?, HoldsBesides, Start, Work, as_written, label_of}
+use Rattle.fx_lasting.proofs.{is_guarding, Ok, SawIf, slot_low, at_swapped, still_at_work, IsBeside}
 use Rattle.fx_lasting.proofs.slot_lemmas.RenewalTries.{its_hold, its_left, renewal_failed, renewal_missed, renewal_won, renewed_it}
 use Rattle.fx_lasting.proofs.slot_lemmas.Renewals.{replaces_held_keep}
-use Rattle.fx_lasting.specs.slots.ReplaceByKey.{IsBeside}
 use Rattle.fx_lasting.proofs.table.LastingTable.try_renewal.Goals.{After-see}
 use Rattle.fx_lasting.proofs.table.LastingTable.try_renewal.Goals as goal
 
@@ -31,7 +28,6 @@ overflow_add-new c = let few = c.requires.beside.few_lost in let made = c.file_w
 
 pub try_exchange-requires : goal.try_exchange-requires
 try_exchange-requires c =
-    let t = c.args.self.now in
     let saw = c.in-Ok.ensures.saw in
     let b = beside (goal.at.try_exchange-requires c).After-see c.in-Ok.word saw in
     let at = still_at_work c.requires.at saw.2 in
@@ -44,7 +40,7 @@ try_exchange-requires c =
       may = λ slots id old tries m' still places named. replaces_held_keep _ slots id _ c.args.slot c.args.own c.args.lost old _ c.args.node c.args.file b.held m' _
           (still_at_work at still).pass
           (subst (λ (w : Work). HoldsBesides w b.held c.args.node c.args.own (as_written c.args.lost (label_of c.args.file))) (sym still.work) b.work)
-          (places ∙ b.place) small named (slot_low t c.requires.slot) (still.change ∙ (saw.2.change ∙ c.requires.change)) refl
+          (places ∙ b.place) small named (slot_low c.args.self.now c.requires.slot) (still.change ∙ (saw.2.change ∙ c.requires.change)) refl
           (ap (λ (z : ℕ). z + c.args.lost) c.file_word.ensures);
       loses = λ st m found m' did. did.loses;
     }
@@ -59,11 +55,10 @@ end_hold-requires c =
     let found = c.in-Ok-try_exchange.found in
     let won = renewed_it at c.args.slot c.args.node c.args.own c.args.lost (c.file_word.result + c.args.lost) c.args.file b (Ok found) c.try_exchange.new.seat.me
     c.in-Ok-try_exchange.ensures.tried in
-    let z = won.1.6 b.stocked.0 b.stocked.1 in
     let m₁ = c.see.new.seat.me in
     record {
       table = c.try_exchange.ensures.table ∙ (c.see.ensures.table ∙ c.requires.table);
-      at = still_at_work (at_swapped at b.stocked.0 c.args.node won.1.4) z.2;
+      at = still_at_work (at_swapped at b.stocked.0 c.args.node won.1.4) (won.1.6 b.stocked.0 b.stocked.1).2;
       left = its_left k c.args.slot c.args.node c.args.own c.args.file c.args.seat.now.me m₁ c.try_exchange.new.seat.me found saw.2 won c.args.guarded guards b.stocked;
       hold = its_hold k c.args.slot c.args.node c.args.own c.args.file c.args.seat.now.me m₁ c.try_exchange.new.seat.me found saw.2 won c.args.guarded guards;
     }

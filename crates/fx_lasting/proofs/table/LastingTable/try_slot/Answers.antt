@@ -1,12 +1,8 @@
-use Rattle.fx_lasting.proofs.Words.{◌≡◌, ◌≢◌, ◌+◌, ◌<◌, ◌^◌, ap, ◌∙◌, sym, arith, rules, None, file_node_in, name_in, ℕ, ◌-◌, subst, slot_of, refl, Inside}
-use Rattle.fx_lasting.proofs.Words.{group_of, range_at_start, inl, inr, [], IsWatching}
-use Rattle.table_range.proofs.GroupSlots.{in_range_so}
-use Rattle.fx_lasting.proofs.Calling.{slot_inside}
+use Rattle.fx_lasting.proofs.{◌≡◌, ◌≢◌, ◌+◌, ◌<◌, ◌^◌, ap, ◌∙◌, sym, arith, rules, None, file_node_in, name_in, ℕ, ◌-◌, subst, slot_of, refl, Inside}
+use Rattle.fx_lasting.proofs.{group_of, range_at_start, inl, inr, [], IsWatching, slot_inside, slot_back, still_at_work, no_name, in_range_so}
 use Rattle.fx_lasting.proofs.slot_lemmas.Seeing.{may_see}
 use Rattle.fx_lasting.proofs.slot_lemmas.EmptySlots.{full_so}
 use Rattle.fx_lasting.proofs.slot_lemmas.Overtaking.{overtaken_in, overtaken_now}
-use Rattle.fx_lasting.proofs.Places.{slot_back}
-use Rattle.fx_lasting.proofs.Running.{still_at_work, no_name}
 use Rattle.fx_lasting.proofs.slot_lemmas.SlotLaws.{exchanges_keep}
 use Rattle.fx_lasting.proofs.range_lemmas.Trying.{in_size, peeked, lost_still, won_run, won_named, won_at_work, won_so}
 use Rattle.fx_lasting.proofs.table.LastingTable.try_slot.Goals as goal
@@ -18,7 +14,6 @@ load-old-requires c =
 
 pub compare_exchange-found-requires : goal.compare_exchange-found-requires
 compare_exchange-found-requires c =
-    let t = c.args.self.now in
     let place = c.slot_place-place.ensures in
     let goes = c.load-old.ensures.2.goes in
     let run = peeked c.requires.placing goes in
@@ -26,7 +21,7 @@ compare_exchange-found-requires c =
     let small : c.args.file.entry < 2 ^ 8 = omega arith in
     let empty : file_node_in c.load-old.result ≡ None = search rules in (
       c.load-old.ensures.0 ∙ c.requires.table,
-      slot_inside t (in_size t c.args.slot c.requires.range) place,
+      slot_inside c.args.self.now (in_size c.args.self.now c.args.slot c.requires.range) place,
       exchanges_keep _ _ _ _ c.args.slot c.args.node c.args.lost _ _ c.args.file c.load-old.new.seat.me _ at.pass run.work
           (goes.carried ∙ c.requires.placing.place) small (run.change ∙ c.requires.change) c.requires.range place
           (no_name c.load-old.result (sym empty)) (ap (λ (z : ℕ). z + c.args.lost) c.file_word.ensures),

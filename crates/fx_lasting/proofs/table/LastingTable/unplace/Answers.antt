@@ -1,8 +1,7 @@
-use Rattle.fx_lasting.proofs.Words.{◌≡◌, ℕ, ap, sym, ◌∙◌, inr, ⊎_elim, alone_in, as_written, label_of, rested, Runs, [], File, Counted, Guarded, Closed, Sat}
-use Rattle.fx_lasting.proofs.Words.{HasPlace, is_guarding, true, false, IsAtWork, LetsFileGo, None, Option, Some, Start, arith}
-use Rattle.fx_lasting.proofs.Running.{file_then, runs_within, still_at_work}
+use Rattle.fx_lasting.proofs.{◌≡◌, ℕ, ap, sym, ◌∙◌, inr, ⊎_elim, alone_in, as_written, label_of, rested, Runs, [], File, Counted, Guarded, Closed}
+use Rattle.fx_lasting.proofs.{Sat, HasPlace, is_guarding, true, false, IsAtWork, LetsFileGo, None, Option, Some, Start, arith, file_then, runs_within}
+use Rattle.fx_lasting.proofs.{still_at_work, IsBeside}
 use Rattle.fx_lasting.proofs.node_lemmas.Labelling.{held_besides}
-use Rattle.fx_lasting.specs.slots.ReplaceByKey.{IsBeside}
 use Rattle.fx_lasting.proofs.table.LastingTable.unplace.Goals as goal
 
 -- the pass has the place of its own node
@@ -33,52 +32,48 @@ out_of at rests = still_at_work at rests
 
 pub step_down-requires : goal.step_down-requires
 step_down-requires c =
-    let b = c.requires.beside.2 in
     let out = c.take_out-file.ensures in
     let is : is_guarding c.args.seat.now.me.0.work ≡ true = sym c.requires.guarded ∙ c.if-guarded.true in
     record {
       table = out.table ∙ c.requires.table;
       at = out_of c.requires.at out.rests;
-      guarded = (b.held, out.rests.work ∙ by_guard is b);
+      guarded = (c.requires.beside.2.held, out.rests.work ∙ by_guard is c.requires.beside.2);
       places = out.empty;
     }
 
 pub returns-then-guarded : goal.returns-then-guarded
 returns-then-guarded c =
-    let b = c.requires.beside.2 in
     let out = c.take_out-file.ensures in
     let is : is_guarding c.args.seat.now.me.0.work ≡ true = sym c.requires.guarded ∙ c.if-guarded.true in
     record {
       table = c.step_down.ensures.table ∙ out.table;
       file = λ lost file beside. out.file file (has_place beside);
-      released = λ f holds. let same : b.held ≡ f = cc (sym (held_besides b.work) ∙ holds) in
+      released = λ f holds. let same : c.requires.beside.2.held ≡ f = cc (sym (held_besides c.requires.beside.2.work) ∙ holds) in
           file_then c.step_down.new.seat.me f 3 c.step_down.result out.rests
-          (c.step_down.ensures.releases f (out.rests.work ∙ (by_guard is b ∙ ap (λ (z : File). Guarded z c.args.node) same)));
+          (c.step_down.ensures.releases f (out.rests.work ∙ (by_guard is c.requires.beside.2 ∙ ap (λ (z : File). Guarded z c.args.node) same)));
       places = c.step_down.ensures.places;
     }
 
 pub let_go-requires : goal.let_go-requires
 let_go-requires c =
-    let b = c.requires.beside.2 in
     let out = c.take_out-file.ensures in
     let is : is_guarding c.args.seat.now.me.0.work ≡ false = sym c.requires.guarded ∙ c.if-guarded.false in
     record {
       table = out.table ∙ c.requires.table;
       at = (c.args.number, out_of c.requires.at out.rests);
-      has = inr (inr (b.held, out.rests.work ∙ by_take is b));
+      has = inr (inr (c.requires.beside.2.held, out.rests.work ∙ by_take is c.requires.beside.2));
       places = out.empty;
     }
 
 pub returns : goal.returns
 returns c =
-    let b = c.requires.beside.2 in
     let out = c.take_out-file.ensures in
     let is : is_guarding c.args.seat.now.me.0.work ≡ false = sym c.requires.guarded ∙ c.if-guarded.false in
     record {
       table = c.let_go.ensures.table ∙ out.table;
       file = λ lost file beside. out.file file (has_place beside);
-      released = λ f holds. let same : b.held ≡ f = cc (sym (held_besides b.work) ∙ holds) in
+      released = λ f holds. let same : c.requires.beside.2.held ≡ f = cc (sym (held_besides c.requires.beside.2.work) ∙ holds) in
           file_within c.args.seat.now.me c.let_go.new.seat.me f c.let_go.result (file_then c.let_go.new.seat.me f 2 c.let_go.result out.rests
-          (c.let_go.ensures.held f (inr (out.rests.work ∙ (by_take is b ∙ ap (λ (z : File). Counted z c.args.node) same)))));
+          (c.let_go.ensures.held f (inr (out.rests.work ∙ (by_take is c.requires.beside.2 ∙ ap (λ (z : File). Counted z c.args.node) same)))));
       places = c.let_go.ensures.places;
     }

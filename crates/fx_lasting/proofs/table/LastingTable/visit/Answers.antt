@@ -1,8 +1,6 @@
-use Rattle.fx_lasting.proofs.Words.{◌≡◌, ℕ, ◌+◌, ◌≤◌, ◌∙◌, ap, sym, subst, arith, rules, refl, inl, dite, ℕ_discrete, Retiring, Runs, [], round_to, round_at}
-use Rattle.fx_lasting.proofs.Words.{pass_at, announced, hold_place, File, Round, Sat, Start, LastingTable}
-use Rattle.fx_lasting.proofs.Calling.{hold_inside, hold_word}
-use Rattle.fx_lasting.proofs.Places.{pass_back}
-use Rattle.fx_lasting.proofs.Running.{still_at_work, runs_goes, runs_within, does_then}
+use Rattle.fx_lasting.proofs.{◌≡◌, ℕ, ◌+◌, ◌≤◌, ◌∙◌, ap, sym, subst, arith, rules, refl, inl, dite, ℕ_discrete, Retiring, Runs, [], round_to}
+use Rattle.fx_lasting.proofs.{round_at, pass_at, announced, hold_place, File, Round, Sat, Start, LastingTable, hold_inside, hold_word, pass_back}
+use Rattle.fx_lasting.proofs.{still_at_work, runs_goes, runs_within, does_then}
 use Rattle.fx_lasting.proofs.hold_lemmas.Rounds.{passed_by, visited_more}
 use Rattle.fx_lasting.proofs.hold_lemmas.Visiting.{visits_keep, charges_keep}
 use Rattle.fx_lasting.proofs.table.LastingTable.visit.Goals as goal

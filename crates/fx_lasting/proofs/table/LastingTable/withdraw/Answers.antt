@@ -1,7 +1,5 @@
-use Rattle.fx_lasting.proofs.Words.{◌≡◌, ◌≢◌, arith, rules, announced}
-use Rattle.fx_lasting.proofs.Calling.{hold_inside, hold_word}
+use Rattle.fx_lasting.proofs.{◌≡◌, ◌≢◌, arith, rules, announced, hold_inside, hold_word, still_at_work, runs_goes, runs_within, charge_then}
 use Rattle.fx_lasting.proofs.hold_lemmas.HoldWords.{withdraws_keep}
-use Rattle.fx_lasting.proofs.Running.{still_at_work, runs_goes, runs_within, charge_then}
 use Rattle.fx_lasting.proofs.table.LastingTable.withdraw.Goals as goal
 
 pub swap-found-requires : goal.swap-found-requires

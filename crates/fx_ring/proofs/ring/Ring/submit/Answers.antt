@@ -4,8 +4,7 @@ use Rattle.fx_ring.proofs.SubmittedRing.{submitted_at_rest, submitted_entries}
 use Rattle.fx_ring.proofs.ring.Ring.submit.Goals as goal
 
 pub dismiss-requires-clause-settled : goal.dismiss-requires-clause-settled
-dismiss-requires-clause-settled g c =
-    emptied_settled (ap state_of (c.replace.ensures.value ∙ c.replace-plain.ensures.after) ∙ c.none.ensures.state)
+dismiss-requires-clause-settled g c = emptied_settled (ap state_of (c.replace.ensures.value ∙ c.replace-plain.ensures.after) ∙ c.none.ensures.state)
 
 pub dismiss-requires-in-Err-clause-settled : goal.dismiss-requires-in-Err-clause-settled
 dismiss-requires-in-Err-clause-settled g c =

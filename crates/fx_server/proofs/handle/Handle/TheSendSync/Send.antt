@@ -1,5 +1,5 @@
 -- A handle may go to another thread, as its worker may.
-use denote.Param.Send.{IsSend, owning_send, sendable}
+use Rattle.fx_server.proofs.Words.{IsSend, owning_send, sendable}
 use Rattle.fx_server.proofs.Sending.{at_handle}
 use Rattle.fx_server.specs.contracts.handle.Handle.{the_row, the_type}
 

@@ -1,5 +1,5 @@
 -- `as_mut` lends the worker at the pointer, and the handle follows it.
-use Rattle.fx_box.proofs.Lends.{lends}
+use Rattle.fx_server.proofs.Words.{lends}
 use Rattle.fx_server.proofs.AsBox.{lender}
 use Rattle.fx_server.specs.contracts.handle.Handle.as_mut.Key.{name}
 use Rattle.fx_server.proofs.handle.Handle.as_mut.Statement.{statement}

@@ -1,5 +1,5 @@
 -- `into_parts` moves two fields, and what they own goes with them.
-use Rattle.fx_box.proofs.Moves.{moves}
+use Rattle.fx_server.proofs.Words.{moves}
 use Rattle.fx_server.proofs.AsBox.{to_parts}
 use Rattle.fx_server.specs.contracts.handle.Handle.into_parts.Key.{name}
 use Rattle.fx_server.proofs.handle.Handle.into_parts.Statement.{statement}

@@ -1,5 +1,5 @@
 -- A place may go to another thread, with the worker that it owns.
-use denote.Param.Send.{IsSend, owning_send, sendable}
+use Rattle.fx_server.proofs.Words.{IsSend, owning_send, sendable}
 use Rattle.fx_server.proofs.Sending.{at_place}
 use Rattle.fx_server.specs.contracts.handle.WorkerPlace.{the_row, the_type}
 

@@ -1,5 +1,5 @@
 -- `of_parts` moves two fields, and the place owns what they own.
-use Rattle.fx_box.proofs.Moves.{moves}
+use Rattle.fx_server.proofs.Words.{moves}
 use Rattle.fx_server.proofs.AsBox.{to_place}
 use Rattle.fx_server.specs.contracts.handle.WorkerPlace.of_parts.Key.{name}
 use Rattle.fx_server.proofs.handle.WorkerPlace.of_parts.Statement.{statement}

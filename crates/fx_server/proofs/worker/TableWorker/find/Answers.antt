@@ -1,4 +1,4 @@
-use Rattle.std.proofs.Common.{inl, refl}
+use Rattle.fx_server.proofs.Words.{inl, refl}
 use Rattle.fx_lasting.specs.declared.answers.FoundSlot.TheVariants as found
 use Rattle.fx_server.proofs.worker.TableWorker.find.Goals as goal
 

@@ -1,9 +1,4 @@
-use Rattle.std.proofs.Common.{inl, refl, subst, sym, Ok, ◌∙◌}
-use Rattle.std.specs.Arc.{arc_value}
-use Rattle.fx_table.specs.Calls.{LookedUp}
-use Rattle.fx_table.specs.Pass.{IsHoldOf, PassView}
-use Rattle.fx_lasting.specs.Tables.{opening_of_table, view_of}
-use Rattle.fx_server.specs.Workers.{HasLabel}
+use Rattle.fx_server.proofs.Words.{inl, refl, subst, sym, Ok, ◌∙◌, arc_value, LookedUp, IsHoldOf, PassView, opening_of_table, view_of, HasLabel}
 use Rattle.fx_server.proofs.Looking.{holds}
 use Rattle.fx_server.proofs.worker.TableWorker.get_at.Goals.{After-number_of-out}
 use Rattle.fx_server.proofs.worker.TableWorker.get_at.Goals as goal

@@ -1,4 +1,4 @@
-use Rattle.std.proofs.Common.{inl, refl}
+use Rattle.fx_server.proofs.Words.{inl, refl}
 use Rattle.fx_lasting.specs.declared.tried.TriedPut.TheVariants as tried
 use Rattle.fx_server.proofs.worker.TableWorker.insert.Goals as goal
 

@@ -1,4 +1,4 @@
-use Rattle.std.proofs.Common.{inl, refl, rules}
+use Rattle.fx_server.proofs.Words.{inl, refl, rules}
 use Rattle.fx_server.proofs.worker.TableWorker.remove.Goals as goal
 
 pub returns-in-Ok : goal.returns-in-Ok

@@ -1,4 +1,4 @@
-use Rattle.std.proofs.Common.{inl, refl, rules}
+use Rattle.fx_server.proofs.Words.{inl, refl, rules}
 use Rattle.fx_server.proofs.worker.TableWorker.replace.Goals as goal
 
 pub returns-in-Replaced : goal.returns-in-Replaced

@@ -1,0 +1,6 @@
+use Rattle.fx_direct.proofs.Words.{arith}
+use Rattle.fx_direct.proofs.Sums.{few_counted}
+use Rattle.fx_direct.proofs.slot_list.SlotList.set_begun.Goals as goal
+
+pub overflow_add-self : goal.overflow_add-self
+overflow_add-self c = let few = few_counted c.self.inside.slots.items c.self.inside.lives c.self.inside.calls c.self.invariant in omega (arith, few.1)
