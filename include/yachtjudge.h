@@ -3,7 +3,7 @@
  * flight (docs/inside/FLIGHT.md). The functions are verified. Their contracts say what YACHT_LEGAL,
  * YACHT_NOT_LEGAL, YACHT_BAD_SCRIPT, YACHT_ALL, YACHT_SOME, YACHT_FAULTY, YACHT_MALFORMED,
  * YACHT_TOO_MANY_SLOTS and YACHT_BAD_FILE mean (docs/inside/PROOFS.md). The other numbers, the note
- * and the steps of a reason are tested.
+ * and the steps of a reason are tested, and so is how yacht_judge_log reads a text.
  * C11 or C++17. Link with -lyachtjudge.
  *
  * The caller must ensure the following, which nothing checks:
@@ -38,6 +38,7 @@ const char *yacht_judge_version(void);
 #define yacht_outcomes yacht_outcomes_6
 #define yacht_judge_events yacht_judge_events_6
 #define yacht_judge_whole_updates yacht_judge_whole_updates_6
+#define yacht_judge_log yacht_judge_log_6
 
 /* What the functions return. */
 enum {
@@ -51,6 +52,9 @@ enum {
     YACHT_MALFORMED = 6,   /* of a log: an event can't be read */
     YACHT_TOO_MANY_SLOTS = 7, /* of a log: the table has more than YACHT_MOST_LOG_SLOTS */
     YACHT_BAD_FILE = 8,    /* of a log: a file can't be one of the catalogue */
+    YACHT_NOT_A_LOG = 9,   /* of a log's text: a line can't follow those before it in a log */
+    YACHT_KERNEL_LOG = 10, /* of a log's text: a line that the kernel's recorder alone prints */
+    YACHT_LONG_LOG = 11,   /* of a log's text: it has 2^32 bytes or more */
     YACHT_ALL = 0,         /* yacht_outcomes: all texts are listed */
     YACHT_SOME = 1,        /* yacht_outcomes: all listed texts are right, and there may be more */
     YACHT_NO_ROOM = 2      /* yacht_outcomes: there is no room for the texts */
@@ -237,8 +241,8 @@ enum {
     YACHT_RULE_CLOSES_HELD = 18,  /* a file was closed while a look held it: first, second */
     YACHT_RULE_CANT_ANSWER = 19,  /* a request can't have its answer: first, second */
     YACHT_RULE_HOLDS = 20,        /* an access finds a file at a slot, and each other file isn't
-                                   * there by earlier steps and by the log: first, second, access,
-                                   * slot */
+                                   * there by earlier steps and by the log, or has other bytes than
+                                   * the read answered: first, second, access, slot */
     YACHT_RULE_DIFFERS = 21,      /* accesses of different calls aren't at the same time (premise):
                                    * the calls first and second */
     YACHT_RULE_STAYS = 22,        /* a file that isn't gone at some event (premise) is at its slot
@@ -316,6 +320,32 @@ uint32_t yacht_judge_whole_updates(const yacht_file *files, size_t files_length,
                                    const yacht_event *events, size_t events_length, uint32_t states,
                                    uint32_t memory, yacht_step *steps, size_t steps_length,
                                    yacht_judgement *judgement);
+
+/* The details of a verdict on the text of a log. Lines are numbered from 1. A field is 0 unless its
+ * number is returned. */
+typedef struct yacht_reading {
+    /* YACHT_NOT_LEGAL: the line up to and with which the log has no flight in which each request
+     * finds memory, or none by whole updates; YACHT_NOT_A_LOG, YACHT_KERNEL_LOG: the first such
+     * line; YACHT_UNDECIDED: the line of the first answer -12, or 0 */
+    uint64_t line;
+    uint64_t steps; /* YACHT_NOT_LEGAL: the number of steps of the reason; 0 if none is found */
+    uint64_t note;  /* YACHT_NOT_A_LOG: the number of bytes of the whole note */
+} yacht_reading;
+
+/* Judges the text of a log of calls in flight (docs/inside/FLIGHT.md), as yacht_judge_events judges
+ * its events, or by whole updates unless `whole_updates` is 0. The text is read once. That it is
+ * read rightly is tested, not proved. Of a log with an answer -12, the events before it are judged.
+ * In the steps of a reason an event is named by its line in place of its position, and the call
+ * that installed a file by its number in the text.
+ * For a text that isn't a log, the note is the fault of the line, in words. Its first bytes are
+ * written, at most note_length, without a 0 at the end.
+ * A log with a line `tag`, `pipe` or `fed`, or with a request `regupdate`, is not judged: the
+ * Python module yachtlog judges it.
+ * Returns YACHT_LEGAL, YACHT_NOT_LEGAL, YACHT_UNDECIDED, YACHT_JUDGE_NO_MEMORY, YACHT_NOT_A_LOG,
+ * YACHT_KERNEL_LOG or YACHT_LONG_LOG, and writes *reading. */
+uint32_t yacht_judge_log(const uint8_t *text, size_t text_length, uint32_t whole_updates,
+                         uint32_t states, uint32_t memory, uint8_t *note, size_t note_length,
+                         yacht_step *steps, size_t steps_length, yacht_reading *reading);
 
 #ifdef __cplusplus
 }

@@ -116,8 +116,8 @@ static inline void yacht_record_crash(int number) {
 }
 /* Plays a plan on a table, and prints the log. Returns the exit status: 0; 1 if a call crashes or
  * never returns, or a thread gets no handle: the log ends there, standard error says why, and the
- * table must not be freed; 2 if the plan has no slot: nothing is played or printed; 4 if the log
- * can't be printed; 5 if an allocation fails. */
+ * table must not be freed; 2 if the plan has no slot: standard error says so, and there is no log;
+ * 4 if the log can't be printed; 5 if an allocation fails. */
 static inline int yacht_record(void *table, yacht_calls its, yacht_plan plan) {
     static const int signals[] = {SIGABRT, SIGSEGV, SIGBUS, SIGFPE, SIGILL};
     struct yacht_recording *it = &yacht_recorded;
@@ -127,7 +127,7 @@ static inline int yacht_record(void *table, yacht_calls its, yacht_plan plan) {
     yacht_record_line *lines = (yacht_record_line *)calloc(2 * (room * plan.threads + calls + 4), sizeof *lines);
     yacht_record_line *sorted = lines + room * plan.threads, closed = {0, 0, 0, "closed %llu.1.0 v\n"};
     it->values = (yacht_value *)calloc(calls + 2, sizeof *it->values), it->its = its, it->plan = plan, it->table = table, it->owner = thread, it->last = 1;
-    if (!plan.slots) return free(all), free(lines), free(it->values), 2;
+    if (!plan.slots) return free(all), free(lines), free(it->values), fputs("recorder: the plan has no slot\n", stderr), 2;
     if (!all || !lines || !it->values) return 5;
     for (at = 0; at < 5; at++) yacht_record_signal(signals[at], yacht_record_crash);
     for (own = all; own < all + plan.threads; own++) {

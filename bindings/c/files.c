@@ -1,5 +1,5 @@
 /* An example: prints the first bytes of the files with the given paths, each read by one
- * submission: an open at a slot, a read and a close, linked. No file has a descriptor of the
+ * submission: an open at a slot, two reads and a close, linked. No file has a descriptor of the
  * process. It ends with status 1 if a file can't be read, and with 77 if io_uring is refused. */
 #define _GNU_SOURCE
 #include <fcntl.h>
@@ -8,18 +8,20 @@
 #include <string.h>
 #include <yachtdirect_uring.h>
 
-enum { SLOTS = 4, BYTES = 4096, ENTRIES = 16, NO_IO_URING = 77 };
-enum { READ }; /* the kind of the request on a file */
-struct file { const char *path; int error, length; char bytes[BYTES]; };
+enum { SLOTS = 4, PARTS = 2, BYTES = 2048, ENTRIES = 16, NO_IO_URING = 77 };
+/* the kind of a read is the number of the part that it fills */
+struct file { const char *path; int error, lengths[PARTS]; char parts[PARTS][BYTES]; };
 static int begin(yacht_uring *ring, struct file **files, const char *path) {
-    struct io_uring_sqe chain[2];
+    struct io_uring_sqe chain[1 + PARTS];
     struct file *file = calloc(1, sizeof *file);
     uint64_t key;
     io_uring_prep_openat(&chain[0], AT_FDCWD, path, O_RDONLY, 0);
-    io_uring_prep_read(&chain[1], 0, file->bytes, BYTES, 0);
-    chain[1].user_data = READ;
+    for (unsigned part = 0; part < PARTS; part++) {
+        io_uring_prep_read(&chain[1 + part], 0, file->parts[part], BYTES, part * BYTES);
+        chain[1 + part].user_data = part;
+    }
     file->path = path;
-    if (yacht_uring_chain(ring, chain, 2, 1, &key) != YACHT_DIRECT_DONE) return free(file), 0; /* no slot */
+    if (yacht_uring_chain(ring, chain, 1 + PARTS, 1, &key) != YACHT_DIRECT_DONE) return free(file), 0; /* no slot */
     files[yacht_direct_slot_of(key)] = file;
     return 1;
 }
@@ -36,12 +38,12 @@ int main(int count, char **words) {
         struct file *file = files[yacht_direct_slot_of(event.key)];
         if (event.kind != YACHT_URING_OVER) {
             if (event.result < 0 && !file->error) file->error = -event.result;
-            if (event.kind == READ && event.result > 0) file->length = event.result;
+            if (event.kind < PARTS && event.result > 0) file->lengths[event.kind] = event.result;
             continue;
         }
         left--;
         if (file->error) status = 1, fprintf(stderr, "files: %s: %s\n", file->path, strerror(file->error));
-        fwrite(file->bytes, 1, (size_t)file->length, stdout);
+        for (int part = 0; part < PARTS; part++) fwrite(file->parts[part], 1, (size_t)file->lengths[part], stdout);
         free(file); /* the kernel has it no more */
     }
     yacht_uring_close(&ring);

@@ -95,9 +95,18 @@ static void rest(void *of) {
     pthread_mutex_unlock(&lock);
 }
 
+/* Reads a number, or ends the program. */
+static unsigned long number(const char *word) {
+    char *end;
+    unsigned long it = strtoul(word, &end, 10);
+    if (*word >= '0' && *word <= '9' && !*end) return it;
+    fprintf(stderr, "recorded: '%s' is not a number\n", word);
+    exit(2);
+}
+
 int main(int count, char **words) {
     yacht_calls calls = {enter, get, release, put, put_any, take, rest};
-    yacht_plan plan = {count > 1 ? strtoul(words[1], NULL, 10) : 1, THREADS, 20, 1000, SLOTS, 20};
-    wrong_look = count > 2 ? strtoul(words[2], NULL, 10) : 0;
+    yacht_plan plan = {count > 1 ? number(words[1]) : 1, THREADS, 20, 1000, SLOTS, 20};
+    wrong_look = count > 2 ? number(words[2]) : 0;
     return yacht_record(NULL, calls, plan);
 }

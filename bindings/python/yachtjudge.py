@@ -1,16 +1,14 @@
-"""The verified judge of io_uring's registered file table: judge(script, text), outcomes(script) and judge_events(log).
+"""The verified judge of io_uring's registered file table: judge(script, text), outcomes(script) and judge_log(text).
 
-A script is what fixfiles plays. A text is what fixfiles, or a kernel, prints for it. Both are str or bytes. A log is one of calls in flight,
-as the module yachtlog reads it. The library libyachtjudge.so.6 is looked for in the folder YACHTBANYAN_LIB_DIR if that is set, else beside
+A script is what fixfiles plays. A text is what fixfiles, or a kernel, prints for it. A log is the text of calls in flight. All are str or
+bytes. The library libyachtjudge.so.6 is looked for in the folder YACHTBANYAN_LIB_DIR if that is set, else beside
 this file and in the folders lib above it; and at last where the system finds libraries.
 
     >>> import yachtjudge
     >>> script = "file a.txt 68656c6c6f\\nsparse 2\\nopen a.txt at 0\\nsubmit\\n"
     >>> yachtjudge.judge(script, "sparse 0\\n1.1.1 0\\nteardown\\nclosed 1.1.1.0 a.txt\\n")
     Verdict(word='legal', ...)
-    >>> import yachtlog
-    >>> log = yachtlog.Log("file a 61\\ncall 1 sparse 1\\ndone 1.1 0\\ncall 2 open a at 0\\ndone 2.1 0\\nsettled\\n")
-    >>> yachtjudge.judge_events(log)
+    >>> yachtjudge.judge_log("file a 61\\ncall 1 sparse 1\\ndone 1.1 0\\ncall 2 open a at 0\\ndone 2.1 0\\nsettled\\n")
     LogVerdict(word='legal', line=0)
 """
 from __future__ import annotations
@@ -18,40 +16,42 @@ from __future__ import annotations
 import ctypes
 import operator
 import os
-from collections.abc import Iterator, Sequence
-from ctypes import POINTER, byref, c_int32, c_size_t, c_uint8, c_uint32, c_uint64
+from collections.abc import Iterable, Iterator, Sequence
+from ctypes import POINTER, byref, c_size_t, c_uint8, c_uint32, c_uint64
 from dataclasses import dataclass, field
 from pathlib import Path
-from typing import TYPE_CHECKING, Any, Literal, Union
+from typing import Any, Literal, Union
 
-from yachtevents import BadEvent, Events, Faulty
-from yachtsteps import Point, Step, Steps, _Step, fields
+from yachtlines import BadLog, Event, Lines
+from yachtsteps import Point, Step, _Step, fields, step_of
 
-if TYPE_CHECKING:
-    import yachtlog
-
-__all__ = ["BadEvent", "BadScript", "LogVerdict", "NoMemory", "Outcomes", "Point", "Step", "Verdict", "judge", "judge_events", "outcomes"]
+__all__ = ["BadLog", "BadScript", "LogVerdict", "NoMemory", "Outcomes", "Point", "Step", "Verdict", "judge", "judge_events", "judge_log", "outcomes"]
 __version__ = "6.0.0"
 
 # what a script or a text may be
 Words = Union[str, bytes, bytearray, memoryview]
 
-LEGAL, NOT_LEGAL, UNDECIDED, BAD_SCRIPT, NO_MEMORY, FAULTY, MALFORMED, TOO_MANY_SLOTS, BAD_FILE = range(9)
+LEGAL, NOT_LEGAL, UNDECIDED, BAD_SCRIPT, NO_MEMORY = range(5)
+NOT_A_LOG, KERNEL_LOG, LONG_LOG = range(9, 12)
 ALL, SOME, NO_ROOM = range(3)
-# the faults of a log, and the flaws of an event, in the order of their numbers from 1
-FAULTS = ["wrong-number", "not-one-chain", "not-called", "out-of-turn", "answered-twice", "not-held", "still-open"]
-FLAWS = ["unknown-event", "unknown-request", "unknown-flags", "unknown-file", "past-the-end"]
 
 # fixcheck's own defaults, and the largest number of each
 STATES = 1_000_000
 MEMORY = 1_024
 MOST = 2**32 - 1
-# the largest number of steps of a reason that the judge has room for at first
-ROOM = 4_096
+# the largest number of steps of a reason that the judge has room for at first, and room for the fault of a line
+ROOM, FAULT_ROOM = 4_096, 400
 
 
-class BadScript(Faulty):
+class BadScript(ValueError):
     """The bytes are not a script. `line` has the first fault, from 1, or 0 if there are too many bytes; `fault` is its name."""
+
+    line: int
+    fault: str
+
+    def __init__(self, line: int, fault: str) -> None:
+        super().__init__(f"line {line}: {fault}")
+        self.line, self.fault = line, fault
 
 
 class NoMemory(MemoryError):
@@ -97,7 +97,8 @@ class LogVerdict:
 
     Up to and with the line `line`, from 1, a log that is not legal has no flight in which each request finds memory, or none by whole updates
     if they were required. `reason` has the steps of the reason, or none if no reason is found: each follows from the log and from steps before
-    it, and the last one has a point in time before itself. Verdicts are equal whatever their reasons are."""
+    it, and the last one has a point in time before itself. Verdicts are equal whatever their reasons are. The line of an undecided log is
+    that of its first answer -12, or 0."""
 
     word: Literal["legal", "not legal", "undecided"]
     line: int = 0
@@ -115,20 +116,8 @@ class _Texts(ctypes.Structure):
     _fields_ = fields(uint64="count bytes", uint32="line")
 
 
-class _File(ctypes.Structure):
-    _fields_ = fields(uint32="name name_length first count")
-
-
-class _Event(ctypes.Structure):
-    _fields_ = [*fields(uint32="kind call member", int32="res"), *fields(uint32="slot first count by_call by_member by_entry", uint8="file")]
-
-
-class _Request(ctypes.Structure):
-    _fields_ = fields(uint32="kind slot first count", uint8="flags file")
-
-
-class _Judgement(ctypes.Structure):
-    _fields_ = fields(uint64="at steps", uint32="fault")
+class _Reading(ctypes.Structure):
+    _fields_ = fields(uint64="line steps note")
 
 
 def _paths() -> Iterator[Path]:
@@ -171,16 +160,14 @@ def _load() -> ctypes.CDLL:
 
 
 _library = _load()
-# bytes, the limits, a log, and the steps of a reason
+# bytes, the limits, and the steps of a reason
 _BYTES = POINTER(c_uint8), c_size_t
 _LIMITS = c_uint32, c_uint32
 _REASON = POINTER(_Step), c_size_t
-_LOG = POINTER(_File), c_size_t, c_uint32, POINTER(_Request), c_size_t, POINTER(c_int32), c_size_t, *_BYTES, POINTER(_Event), c_size_t
 for _function, _given in (
     (_library.yacht_judge_6, (*_BYTES, *_BYTES, *_LIMITS, *_BYTES, POINTER(_Verdict))),
     (_library.yacht_outcomes_6, (*_BYTES, *_LIMITS, *_BYTES, POINTER(c_uint64), c_size_t, POINTER(_Texts))),
-    (_library.yacht_judge_events_6, (*_LOG, *_LIMITS, *_REASON, POINTER(_Judgement))),
-    (_library.yacht_judge_whole_updates_6, (*_LOG, *_LIMITS, *_REASON, POINTER(_Judgement))),
+    (_library.yacht_judge_log_6, (*_BYTES, c_uint32, *_LIMITS, *_BYTES, *_REASON, POINTER(_Reading))),
 ):
     _function.restype, _function.argtypes = c_uint32, _given
 
@@ -190,7 +177,7 @@ def _bytes(of: Words, name: str) -> tuple[Any, int]:
     if not isinstance(of, (str, bytes, bytearray, memoryview)):
         raise TypeError(f"{name} must be str or bytes, not {type(of).__name__}")
     data = of.encode() if isinstance(of, str) else bytes(of)
-    return (c_uint8 * max(len(data), 1)).from_buffer_copy(data or b"\0"), len(data)
+    return ctypes.cast(ctypes.c_char_p(data), POINTER(c_uint8)), len(data)
 
 
 def _limits(states: int, memory: int) -> tuple[int, int]:
@@ -251,66 +238,55 @@ def outcomes(script: Words, states: int = STATES, memory: int = MEMORY) -> Outco
     return Outcomes(tuple(listed), code == ALL)
 
 
-def _array(kind: type[Any], data: bytearray) -> tuple[Any, int]:
-    """Returns the bytes of structs or numbers as an array that C may read, and their number."""
-    size = ctypes.sizeof(kind)
-    return (kind * max(len(data) // size, 1)).from_buffer_copy(data or bytes(size)), len(data) // size
+def read_log(text: Words, states: int = STATES, memory: int = MEMORY, whole_updates: bool = False, lines: Sequence[int] = ()) -> LogVerdict | None:
+    """Returns what `judge_log` returns, or None if the log has lines of the kernel's recorder. With `lines` each line of the text is one of
+    another text."""
+    given, limits, reading, note = _bytes(text, "text"), _limits(states, memory), _Reading(), (c_uint8 * FAULT_ROOM)()
 
+    def line_of(number: int) -> int:
+        return lines[number - 1] if number and lines else number
 
-class _Passed:
-    """A log as C reads it: the events, and all arguments up to them. Raises ValueError if two files have one name."""
-
-    def __init__(self, log: yachtlog.Log, events: Sequence[yachtlog.Event] | None) -> None:
-        if len(log.names) < len(log.contents):
-            raise ValueError("two files have one name")
-        self.log = log
-        self.events = [it for it in log.events if it.word != "tag"] if events is None else list(events)
-        said = Events(log, self.events)
-        self.arguments = (
-            *_array(_File, said.files),
-            min(log.slots, MOST),
-            *_array(_Request, said.requests),
-            *_array(c_int32, said.entries),
-            *_array(c_uint8, said.bytes),
-            *_array(_Event, said.events),
-        )
-
-    def check(self, code: int, at: int, fault: int) -> None:
-        """Raises what a number other than a verdict's says."""
-        if code == NO_MEMORY:
-            raise NoMemory("an allocation of the judge failed")
-        if code == TOO_MANY_SLOTS:
-            raise ValueError(f"the table has too many slots: {self.log.slots}")
-        if code == BAD_FILE:
-            raise ValueError(f"no catalogue has the file {list(self.log.names)[at]}")
-        if code in (FAULTY, MALFORMED):
-            raise BadEvent(self.events[at].line, (FAULTS if code == FAULTY else FLAWS)[fault - 1])
-
-    def judged(self, limits: tuple[int, int], whole_updates: bool) -> tuple[int, int, list[_Step]]:
-        """Returns the number of the verdict, the position of its event, and the structs of its reason."""
-        judge_log = _library.yacht_judge_whole_updates_6 if whole_updates else _library.yacht_judge_events_6
-        # a short log has a short reason
-        judgement, room = _Judgement(), min(64 + len(self.events), ROOM)
-        while True:
-            steps = (_Step * room)()
-            code = judge_log(*self.arguments, *limits, steps, room, byref(judgement))
-            if judgement.steps <= room:
-                break
-            room = judgement.steps
-        self.check(code, judgement.at, judgement.fault)
-        return code, judgement.at, steps[: judgement.steps]
-
-
-def judge_events(log: yachtlog.Log, events: Sequence[yachtlog.Event] | None = None, states: int = STATES, memory: int = MEMORY, *,
-                 whole_updates: bool = False) -> LogVerdict:
-    """Decides whether a log of calls in flight that yachtlog has read is legal, by searches of at most `states` states and `memory` MiB. Its
-    events are those of the log, without its tags, or others of the same calls. With `whole_updates` each update is one step, not one for each
-    entry. A log with an answer -12 is undecided.
-
-    Raises BadEvent if an event has a fault, or says what no call can; NoMemory if an allocation fails; TypeError or ValueError if a limit is
-    none; and ValueError if the files aren't a catalogue, or the table has too many slots."""
-    limits, passed = _limits(states, memory), _Passed(log, events)
-    code, at, steps = passed.judged(limits, whole_updates)
+    # a short log has a short reason
+    room = min(64 + given[1] // 16, ROOM)
+    while True:
+        steps = (_Step * room)()
+        code = _library.yacht_judge_log_6(*given, whole_updates, *limits, note, FAULT_ROOM, steps, room, byref(reading))
+        if reading.steps <= room:
+            break
+        room = reading.steps
+    if code == NO_MEMORY:
+        raise NoMemory("an allocation of the judge failed")
+    if code == NOT_A_LOG:
+        raise BadLog(line_of(reading.line), bytes(note[: reading.note]).decode())
+    if code == LONG_LOG:
+        raise ValueError("the text has 2**32 bytes or more")
     if code == NOT_LEGAL:
-        return LogVerdict("not legal", passed.events[at].line, Steps(log, passed.events, steps).all if steps else ())
-    return LogVerdict("legal" if code == LEGAL else "undecided")
+        return LogVerdict("not legal", line_of(reading.line), tuple(step_of(it, line_of) for it in steps[: reading.steps]))
+    return None if code == KERNEL_LOG else LogVerdict(_WORDS[code], line_of(reading.line))
+
+
+_WORDS: dict[int, Literal["legal", "undecided"]] = {LEGAL: "legal", UNDECIDED: "undecided"}
+
+
+def judge_log(text: Words, states: int = STATES, memory: int = MEMORY, *, whole_updates: bool = False) -> LogVerdict:
+    """Decides whether the text of a log of calls in flight is legal, by searches of at most `states` states and `memory` MiB. With
+    `whole_updates` each update is one step, not one for each entry. Of a log with an answer -12 only what comes before may be refused.
+
+    Raises BadLog if the text is not a log, NoMemory if an allocation fails, and TypeError or ValueError if a limit is none or the text is too
+    long."""
+    verdict = read_log(text, states, memory, whole_updates)
+    if verdict is not None:
+        return verdict
+    from yachtlog import Log
+
+    return Log(text if isinstance(text, str) else bytes(text)).judge(states, memory, whole_updates=whole_updates)
+
+
+def judge_events(log: Lines, events: Iterable[Event] | None = None, states: int = STATES, memory: int = MEMORY, *,
+                 whole_updates: bool = False) -> LogVerdict:
+    """Decides by `judge_log` whether a log that yachtlog has read is legal: the events of the log, without its tags, or others of the same
+    calls. The lines of the verdict are those of the events."""
+    text, lines = log.plain((it for it in log.events if it.word != "tag") if events is None else events)
+    verdict = read_log(text, states, memory, whole_updates, lines)
+    assert verdict is not None
+    return verdict

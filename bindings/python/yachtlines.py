@@ -3,7 +3,7 @@ has there. The module yachtlog judges what is read here."""
 from __future__ import annotations
 
 import re
-from collections.abc import Iterator
+from collections.abc import Iterable, Iterator
 from typing import NamedTuple
 
 __all__ = ["Answer", "BadLog", "Event", "Lines", "Mark", "NO_FILE", "Request"]
@@ -108,7 +108,7 @@ def _mark(word: str) -> Mark:
 def _request(text: str) -> Request:
     """Reads a request."""
     words = text.split(" ")
-    link = words.pop() if words[-1] in ("link", "hardlink") else ""
+    link = words.pop() if len(words) > 1 and words[-1] in ("link", "hardlink") else ""
     kind, rest = words[0], words[1:]
     _want(all(rest), f"words are separated by one space: {_shown(text)}")
     if kind == "open" and rest[1:2] == ["any"] and len(rest) == 2:
@@ -126,6 +126,16 @@ def _request(text: str) -> Request:
         _want(len(entries) <= UPDATE_ENTRIES, f"an update has at most {UPDATE_ENTRIES} entries, not {len(entries)}")
         return Request("update", _number(rest[0], "a slot"), entries=entries, link=link)
     raise _Fault(f"no request has the words {_shown(text)}")
+
+
+def _written(it: Request) -> str:
+    """Returns the words of a request."""
+    if it.kind == "open":
+        words = ["open", it.name, "any" if it.slot is None else f"at {it.slot}"]
+    else:
+        numbers = [it.first, it.count] if it.kind == "read" else [",".join(map(str, it.entries))] if it.kind == "update" else []
+        words = [it.kind, str(it.slot), *map(str, numbers)]
+    return " ".join(filter(None, [*words, it.link]))
 
 
 def _name(word: str) -> str:
@@ -335,6 +345,26 @@ class Lines:
             events = (it for it in self.events if it.word != "closed" or it.mark not in tagged)
             yield [it._replace(word="closed") if it.word == "tag" else it for it in events]
 
+    def plain(self, events: Iterable[Event]) -> tuple[str, list[int]]:
+        """Returns the text of a log with these events, without the words of the kernel's recorder; and for each of its lines that of its event."""
+        registration, names = next(iter(self.chains)), list(self.names)
+        lines = [f"file {name} {self.contents[at] or '-'}" for name, at in self.names.items()]
+        lines += [f"call {registration} sparse {self.slots}", f"done {registration}.1 0"]
+        numbers = [0] * len(lines)
+        for it in events:
+            words = [it.word, *([str(it.call)] if it.word in ("call", "free") else [])]
+            if it.word == "call":
+                words.append(" ; ".join(map(_written, self.chains[it.call])))
+            elif it.word == "done":
+                result, found = self.answers[it.call, it.member]
+                words += [f"{it.call}.{it.member}", str(result), found if isinstance(found, str) else ".".join(map(str, found))]
+            elif it.word == "closed":
+                # of a file that no call installed, under any name
+                words += [".".join(map(str, it.mark)), names[max(self.file_of(it.mark), 0)]]
+            lines.append(" ".join(filter(None, words)))
+            numbers.append(it.line)
+        return "".join(f"{it}\n" for it in lines), numbers
+
     def file_of(self, mark: Mark) -> int:
         """Returns the number in the catalogue of the file that the request of a mark installs, or -1 if it installs none there."""
         call, member, entry = mark
@@ -352,6 +382,6 @@ def _slots(what: str) -> int:
     """Reads the first call, and returns the number of slots."""
     kind, _, slots = what.partition(" ")
     _want(kind == "sparse", f"the first call registers the table, as in `sparse 3`, not {_shown(what)}")
-    number = _number(slots, "the number of slots")
-    _want(1 <= number <= SLOTS, f"a table has 1 to {SLOTS} slots, not {number}")
+    number = int(slots) if NUMBER.fullmatch(slots) else 0
+    _want(1 <= number <= SLOTS, f"a table has 1 to {SLOTS} slots, not {_shown(slots)}")
     return number

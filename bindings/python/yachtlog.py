@@ -1,7 +1,7 @@
 """Logs of calls in flight (docs/inside/FLIGHT.md): reads a log as the recorders print it, and has the verified judge decide whether it is legal
 (yachtjudge.judge_events). That the lines are read rightly is tested.
 
-    python3 yachtlog.py [--full-reason] [--whole-updates] [--states N] [--memory MIB] [--draw SVG] LOG..
+    python3 yachtlog.py [--full-reason] [--whole-updates] [--states N] [--memory MIB] [--seconds N] [--draw SVG] LOG..
 
 prints for each log `legal`, `not legal` with the line at which no flight is left and the reason, `undecided`, or `not a log` with the first
 line that no log has there. Of a long reason the last sentences are printed, and with --full-reason all of them. With --whole-updates each
@@ -29,6 +29,7 @@ if sys.version_info < (3, 10):
 
 import argparse
 import os
+import signal
 from typing import TYPE_CHECKING
 
 from yachtlines import Answer, BadLog, Event, Lines, Request
@@ -54,27 +55,21 @@ class Log(Lines):
         undecided log is one that the judge leaves undecided whatever its limits are, or 0.
 
         Raises ImportError if the library yachtjudge is missing, and what yachtjudge.judge_events raises."""
-        from yachtjudge import LogVerdict
-
-        verdict = LogVerdict("legal")
-        for events in self.readings():
-            verdict = self._verdict(events, states, memory, whole_updates)
-            if verdict.word != "legal":
-                break
-        return verdict
-
-    def _verdict(self, events: list[Event], states: int, memory: int, whole_updates: bool) -> LogVerdict:
-        """Judges events. The judge doesn't decide a log with an answer -12, but it may refuse the beginning before that."""
         import yachtjudge
 
-        before = [it for it in events if it.line < self.lacking] if self.lacking else events
-        try:
-            verdict = yachtjudge.judge_events(self, before, states, memory, whole_updates=whole_updates)
-        except yachtjudge.BadEvent as bad:
-            raise BadLog(bad.line, bad.fault) from bad
-        if verdict.word == "not legal" or len(before) == len(events):
+        verdict = yachtjudge.read_log(self.source, states, memory, whole_updates)
+        if verdict is not None:
             return verdict
-        return yachtjudge.LogVerdict("undecided", self.lacking)
+        for events in self.readings():
+            # the answer -12 of a pipe is not one of a look
+            before = [it for it in events if it.line < self.lacking] if self.lacking else events
+            verdict = yachtjudge.judge_events(self, before, states, memory, whole_updates=whole_updates)
+            if self.lacking and verdict.word != "not legal":
+                return yachtjudge.LogVerdict("undecided", self.lacking)
+            if verdict.word != "legal":
+                break
+        assert verdict is not None
+        return verdict
 
     def reason(self, verdict: LogVerdict) -> list[str]:
         """Returns the reason of a verdict on the log in sentences, or none if it has no reason. The last one is a contradiction, and each of the
@@ -117,8 +112,9 @@ def arguments() -> argparse.Namespace:
     parser.add_argument("--full-reason", action="store_true", help=f"print the whole reason, not its last {SENTENCES} sentences")
     parser.add_argument("--whole-updates", action="store_true", help="each update must be one step, not one for each entry")
     parser.add_argument("--shorten", action="store_true", help="print a log with fewer calls and the same wrong line, and the verdict on standard error")
-    parser.add_argument("--draw", metavar="SVG", help="write a picture of the log to this file")
-    parser.add_argument("--memory", type=limit, default=MEMORY, metavar="MIB", help=f"largest number of MiB for them (default {MEMORY})")
+    parser.add_argument("--draw", metavar="SVG", help="write a picture of the log, of at most 120 lines, to this file")
+    parser.add_argument("--memory", type=limit, default=MEMORY, metavar="MIB", help=f"largest number of MiB for the states (default {MEMORY})")
+    parser.add_argument("--seconds", type=limit, default=0, metavar="N", help="largest number of seconds to judge each log (default 0: no limit)")
     options = parser.parse_args()
     if (options.shorten or options.draw) and len(options.logs) > 1:
         parser.error(f"{'--shorten' if options.shorten else '--draw'} takes one log")
@@ -132,26 +128,39 @@ def content_of(path: str) -> bytes:
         return file.read()
 
 
-def judged(path: str, options: argparse.Namespace) -> tuple[Log, LogVerdict]:
-    """Returns a log, or with --shorten one with fewer calls if it isn't legal; and the verdict on it."""
-    log = Log(content_of(path))
-    verdict = log.judge(options.states, options.memory, whole_updates=options.whole_updates)
-    if options.shorten and verdict.word == "not legal":
-        log = Log(log.shortened(verdict, options.states, options.memory, whole_updates=options.whole_updates))
-        verdict = log.judge(options.states, options.memory, whole_updates=options.whole_updates)
-    return log, verdict
+def judged(path: str, options: argparse.Namespace) -> tuple[Log | None, LogVerdict, str]:
+    """Returns a log that is not legal, or is drawn, and with --shorten has fewer calls; the verdict on it; and the line of the verdict."""
+    content = content_of(path)
+    try:
+        from yachtjudge import judge_log
+    except ImportError:
+        Log(content)
+        raise
+    # the time to load a log doesn't count
+    signal.setitimer(signal.ITIMER_REAL, options.seconds)
+    verdict = judge_log(content, options.states, options.memory, whole_updates=options.whole_updates)
+    lines = content.split(b"\n")
+    if verdict.word == "not legal":
+        log = Log(content if options.draw else b"\n".join([*lines[: verdict.line], b""]))
+        if options.shorten:
+            log = Log(log.shortened(verdict, options.states, options.memory, whole_updates=options.whole_updates))
+            verdict = log.judge(options.states, options.memory, whole_updates=options.whole_updates)
+        return log, verdict, log.line(verdict.line)
+    return Log(content) if options.draw else None, verdict, lines[verdict.line - 1].decode("ascii")
 
 
 def status_of(path: str, options: argparse.Namespace) -> int:
     """Prints the verdict on a log. Returns the status that it has by itself."""
     try:
-        log, verdict = judged(path, options)
+        log, verdict, shown_line = judged(path, options)
     except OSError as fault:
         print(f"yachtlog: {path} can't be read: {fault.strerror}", file=sys.stderr)
         return MISSING
     except ImportError as missing:
         print(f"{path}: a log, not judged")
         print(f"yachtlog: {missing}", file=sys.stderr)
+        if options.draw:
+            print(f"yachtlog: {options.draw} is not drawn", file=sys.stderr)
         return MISSING
     except MemoryError:
         print(f"yachtlog: {path}: there is no memory to judge it", file=sys.stderr)
@@ -159,12 +168,31 @@ def status_of(path: str, options: argparse.Namespace) -> int:
     except BadLog as fault:
         print(f"{path}: not a log: {fault}")
         return NOT_A_LOG
-    if options.shorten and verdict.word == "not legal":
+    if options.shorten and log and verdict.word == "not legal":
         print(log.source, end="")
-    line, to = f": line {verdict.line}: {log.line(verdict.line)}" if verdict.line else "", sys.stderr if options.shorten else sys.stdout
+    line, to = f": line {verdict.line}: {shown_line}" if verdict.line else "", sys.stderr if options.shorten else sys.stdout
     print(f"{path}: {verdict.word}{line}", file=to)
-    print(shown(log.reason(verdict), options.full_reason), end="", file=to)
-    return (drawn(log, verdict, options) if options.draw else 0) or STATUSES[verdict.word]
+    print(shown(log.reason(verdict) if log else [], options.full_reason), end="", file=to)
+    return (drawn(log, verdict, options) if log and options.draw else 0) or STATUSES[verdict.word]
+
+
+def status_within(path: str, options: argparse.Namespace) -> int:
+    """Prints the verdict on a log, and returns its status. With --seconds a process of its own judges it, which its alarm ends. Another signal ends both."""
+    if not options.seconds:
+        return status_of(path, options)
+    sys.stdout.flush()
+    child = os.fork()
+    if not child:
+        status = status_of(path, options)
+        sys.stdout.flush()
+        os._exit(status)
+    status = os.waitstatus_to_exitcode(os.waitpid(child, 0)[1])
+    if status >= 0:
+        return status
+    if status != -signal.SIGALRM:
+        os.kill(os.getpid(), -status)
+    print(f"{path}: undecided", file=sys.stderr if options.shorten else sys.stdout)
+    return STATUSES["undecided"]
 
 
 def drawn(log: Log, verdict: LogVerdict, options: argparse.Namespace) -> int:
@@ -190,12 +218,14 @@ def shown(sentences: list[str], is_full: bool) -> str:
 
 def main() -> int:
     options = arguments()
-    found = {status_of(it, options) for it in options.logs}
+    found = {status_within(it, options) for it in options.logs}
     return next((it for it in ORDER if it in found), 0)
 
 
 def command() -> int:
     """Runs the command. If nobody reads standard output any more, the rest is not printed."""
+    # the judge doesn't return for a signal
+    signal.signal(signal.SIGINT, signal.SIG_DFL)
     try:
         status = main()
         sys.stdout.flush()

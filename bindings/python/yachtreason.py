@@ -9,11 +9,13 @@ from yachtlines import NO_FILE
 from yachtsteps import Point, Step
 
 if TYPE_CHECKING:
-    from yachtlines import Event, Lines, Mark
+    from yachtlines import Event, Lines, Mark, Request
 
 
 # the result of a request that an earlier one of its chain cancels
 CANCELED = -125
+# the number of digits of a read's bytes in a sentence
+DIGITS = 32
 
 
 def name_of(mark: Mark) -> str:
@@ -21,8 +23,8 @@ def name_of(mark: Mark) -> str:
 
 
 def listed(parts: Iterable[str]) -> str:
-    """Joins the clauses that say something."""
-    *most, last = [it for it in parts if it] or [""]
+    """Joins the clauses that say something, each once."""
+    *most, last = [it for it in dict.fromkeys(parts) if it] or [""]
     return f"{', '.join(most)} and {last}" if most else last
 
 
@@ -36,18 +38,52 @@ class Words:
 
     def sentences(self) -> list[str]:
         """Returns the sentences of the reason. The last one is the contradiction."""
-        return [*(f"{self._link(it)}{self._evidence(it)}, since {self._premises(it)}" for it in self._derived()), self._contradiction()]
+        return [*(f"{self._link(it)}{self._evidence(it)}, since {self._why(it)}" for it in self._derived()), self._contradiction()]
 
     def orders(self) -> list[Step]:
         """Returns for each sentence the step with its order. That of the contradiction is what the last line shows."""
         return [*self._derived(), self._cycle()[0]]
 
     def _derived(self) -> list[Step]:
-        return [it for it in self._steps[:-1] if it.premises and it.rule != "then"]
+        return [it for it in self._steps[:-1] if it.rule != "then" and (it.premises or self._why(it))]
 
-    def _premises(self, step: Step) -> str:
-        """Returns the orders that a step follows from."""
-        return listed(self._link(it) for nth in step.premises for it in self._parts(nth))
+    def _why(self, step: Step) -> str:
+        """Returns the orders that a step follows from, and those by which other files and accesses are excluded."""
+        return listed(self._link(it) for nth in [*step.premises, *self._excluding(step)] for it in self._parts(nth))
+
+    def _excluding(self, step: Step) -> Iterator[int]:
+        """Yields the numbers of the earlier steps by which other files aren't at a slot, or other accesses don't take a file."""
+        excluded = self._absent if step.rule == "holds" else self._passing
+        seen = {step.before, step.after, None}
+        for nth, it in enumerate(self._steps[: self._steps.index(step)] if step.rule in ("holds", "stays", "takes", "taken-by") else ()):
+            point = excluded(step, it)
+            if point not in seen:
+                seen.add(point)
+                yield nth
+
+    def _absent(self, step: Step, it: Step) -> Point | None:
+        """Returns a point of a file that by the order of a step isn't the one that an access finds."""
+        access, own = Point("access", step.lines[1], step.access), {step.before.file, step.after.file}
+        point = it.after if it.before == access else it.before
+        is_absent = point.kind == "put" if it.before == access else it.after == access and it.is_strict and (point.kind, point.slot) == ("gone", step.slot)
+        return point if is_absent and point.file not in own and self._changes(*point.file[:2], step.slot) else None
+
+    def _passing(self, step: Step, it: Step) -> Point | None:
+        """Returns the time of an access, or of its call, that by the order of a step isn't the one at which a file leaves its slot."""
+        gone = step.before if step.before.kind == "gone" else step.after
+        point = it.after if it.before == gone else it.before
+        event = self._events.get(point.line)
+        if not it.is_strict or gone not in (it.before, it.after) or point.kind == "gone" or (point.kind == "event" and it.after == gone):
+            return None
+        call, member = point.file[:2] if point.kind == "put" else (event.call, event.member) if event else (0, 0)
+        return point if self._changes(call, member, gone.slot) else None
+
+    def _changes(self, call: int, member: int, slot: int) -> bool:
+        """Returns whether a member of a call, or any for 0, may change a slot."""
+        def may(it: Request) -> bool:
+            return it.kind in ("open", "close", "update") and (it.slot is None or it.slot <= slot < it.slot + max(len(it.entries), 1))
+
+        return any(may(it) for nth, it in enumerate(self._log.chains.get(call, []), 1) if member in (0, nth))
 
     def _evidence(self, step: Step) -> str:
         """Returns what shows that an access leaves a slot without a file, or that a file isn't closed."""
@@ -68,8 +104,10 @@ class Words:
         return parts[begin:] + parts[:begin]
 
     def _contradiction(self) -> str:
-        first, *rest = filter(None, map(self._link, self._cycle()))
-        return f"{first}; but {listed(rest)}" if rest else first
+        cycle = self._cycle()
+        first, *rest = filter(None, map(self._link, cycle))
+        why = self._why(cycle[0]) if cycle[0].rule == "holds" and not rest else ""
+        return f"{first}; but {listed(rest)}" if rest else f"{first}, since {why}" if why else first
 
     def _parts(self, nth: int) -> Iterator[Step]:
         """Yields the steps whose orders make that of a step, one after another."""
@@ -147,11 +185,13 @@ class Words:
         return f"{self._answered(it.lines[1])}, which such a request never answers"
 
     def _holds(self, it: Step) -> str:
-        found = f"{self._who(it.lines[1])} found a file at slot {it.slot} by line {it.lines[1]}"
-        if it.before == it.after:
-            return f"{found}, where no file can have been"
-        file = (it.after if it.after.kind == "gone" else it.before).file
-        return f"{found}, which can only have been {name_of(file)}"
+        who, file = self._who(it.lines[1]), (it.after if it.after.kind == "gone" else it.before).file
+        found, what = f"{who} found a file at slot {it.slot} by line {it.lines[1]}", "no file"
+        content = self._log.answers[self._events[it.lines[1]].call, self._events[it.lines[1]].member].found
+        if content and isinstance(content, str):
+            shown = content if len(content) <= DIGITS else f"{content[:DIGITS]}.."
+            found, what = f"{who} got {shown} from slot {it.slot} by line {it.lines[1]}", "no file with these bytes"
+        return f"{found}, where {what} can have been" if it.before == it.after else f"{found}, which can only have been {name_of(file)}"
 
     def _lands(self, it: Step) -> str:
         return f"{name_of(it.after.file)} was installed at slot {it.after.slot}"

@@ -48,8 +48,11 @@ def _call(its: Any, kind: int, slot: int, value: Value, lines: list[str]) -> Non
 
 def record(table: Any, seed: int = 1, threads: int = 3, rounds: int = 20, calls: int = 50, slots: int = 3, silence: float = 20) -> int:
     """Prints a log of `threads`, each with `calls` calls in each of `rounds`, after which all rest. If a call raises an exception, or none begins or
-    returns for `silence` seconds, the log ends there, and standard error says why. Returns the exit status: 1 if the log ends early, or else 0.
-    It sets the interpreter's switch interval to 10 microseconds."""
+    returns for `silence` seconds, the log ends there, and standard error says why. Returns the exit status: 1 if the log ends early, 2 if
+    there is no slot, or else 0. It sets the interpreter's switch interval to 10 microseconds."""
+    if slots < 1:
+        sys.stderr.write("recorder: the plan has no slot\n")
+        return 2
     lines, why, ids = ["file v -", f"call 1 sparse {slots}", "done 1.1 0"], list[BaseException](), iter(range(2, threads * rounds * calls + 2))
     rests, settles = threading.Barrier(threads), threading.Barrier(threads, lambda: lines.append("settled"))
     def play(number: int) -> None:

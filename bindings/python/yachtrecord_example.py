@@ -1,5 +1,6 @@
 """An example of yachtrecord: records random calls of three threads on a table of three slots under a lock, and prints the log
 (docs/use/RECORDING.md). yachtrecord_example.py SEED [N]: one look of N returns what the slot had before. Without N the table is right."""
+import argparse
 import sys
 import threading
 from typing import Optional
@@ -53,5 +54,8 @@ class Table:
 
 
 if __name__ == "__main__":
-    seed, wrong_look = (list(map(int, sys.argv[1:])) + [1, 0][len(sys.argv) - 1 :])[:2]
-    sys.exit(yachtrecord.record(Table(wrong_look), seed, calls=1000, slots=SLOTS))
+    parser = argparse.ArgumentParser(description=__doc__)
+    parser.add_argument("seed", metavar="SEED", type=int, nargs="?", default=1)
+    parser.add_argument("wrong_look", metavar="N", type=int, nargs="?", default=0)
+    options = parser.parse_args()
+    sys.exit(yachtrecord.record(Table(options.wrong_look), options.seed, calls=1000, slots=SLOTS))

@@ -3,14 +3,10 @@ that C fills, and what they say in the lines and the marks of the log."""
 from __future__ import annotations
 
 import ctypes
-from collections.abc import Sequence
-from typing import TYPE_CHECKING, Any, NamedTuple
+from collections.abc import Callable
+from typing import Any, NamedTuple
 
-from yachtevents import numbered
 from yachtlines import NO_FILE, Mark
-
-if TYPE_CHECKING:
-    from yachtlines import Event, Lines
 
 # the rules and the kinds of points, in the order of their numbers from 1
 RULES = ["events", "begins", "ends", "calls", "installs", "places", "follows", "finds", "closes", "settles", "empties", "precedes", "displaces",
@@ -68,24 +64,18 @@ class _Step(ctypes.Structure):
     _fields_ = [*fields(uint32="rule is_strict", uint64="first second access premise other slot"), ("from", _Point), ("to", _Point)]
 
 
-class Steps:
-    """Steps, by the events of a log, and by the numbers of its calls: `all` has what the structs say."""
+def _point(it: _Point, line_of: Callable[[int], int]) -> Point:
+    kind = POINTS[it.kind - 1]
+    if kind in ("event", "access"):
+        return Point(kind, line_of(it.at), it.access)
+    return Point(kind, file=(it.by_call, it.by_member, it.by_entry), slot=it.slot)
 
-    def __init__(self, log: Lines, events: Sequence[Event], steps: Sequence[_Step]) -> None:
-        self._events = events
-        self._calls = numbered(log, events)
-        self.all = tuple(map(self._step, steps))
 
-    def _point(self, it: _Point) -> Point:
-        kind = POINTS[it.kind - 1]
-        if kind in ("event", "access"):
-            return Point(kind, self._events[it.at].line, it.access)
-        return Point(kind, file=(self._calls[it.by_call], it.by_member, it.by_entry), slot=it.slot)
-
-    def _step(self, it: _Step) -> Step:
-        rule = RULES[it.rule - 1]
-        events, is_of_access, premises = SHAPES[rule]
-        lines = tuple(self._events[at].line for at in (it.first, it.second)[:events])
-        before, after = self._point(getattr(it, "from")), self._point(it.to)
-        access = it.access if is_of_access else 0
-        return Step(rule, lines, access, (it.premise, it.other)[:premises], before, after, bool(it.is_strict), it.slot)
+def step_of(it: _Step, line_of: Callable[[int], int]) -> Step:
+    """Returns what a struct says of a text, whose lines are those of another one by `line_of`."""
+    rule = RULES[it.rule - 1]
+    events, is_of_access, premises = SHAPES[rule]
+    lines = tuple(line_of(at) for at in (it.first, it.second)[:events])
+    before, after = _point(getattr(it, "from"), line_of), _point(it.to, line_of)
+    access = it.access if is_of_access else 0
+    return Step(rule, lines, access, (it.premise, it.other)[:premises], before, after, bool(it.is_strict), it.slot)

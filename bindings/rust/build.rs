@@ -79,9 +79,10 @@ fn main() {
     }
     let target = env::var("TARGET").expect("cargo sets it");
     let is_host = env::var("HOST").as_deref() == Ok(target.as_str());
-    let all = Path::new(&env::var("CARGO_MANIFEST_DIR").expect("cargo sets it")).join("lib");
+    let here = PathBuf::from(env::var("CARGO_MANIFEST_DIR").expect("cargo sets it"));
+    let all = here.join("lib");
     let own = all.join(&target);
-    let given = env::var_os("YACHTBANYAN_LIB_DIR").map(PathBuf::from);
+    let given = env::var_os("YACHTBANYAN_LIB_DIR").map(|it| here.join(it));
     let by = given.as_ref().map_or("pkg-config", |_| "YACHTBANYAN_LIB_DIR");
     let known = given.or_else(|| own.join(LIBRARY).exists().then_some(own));
     let Some(folder) = known.or_else(|| is_host.then(by_pkg_config).flatten()) else {

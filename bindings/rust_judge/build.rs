@@ -45,12 +45,11 @@ fn main() {
         return;
     }
     let target = env::var("TARGET").expect("cargo sets it");
-    let all = Path::new(&env::var("CARGO_MANIFEST_DIR").expect("cargo sets it")).join("lib");
+    let here = PathBuf::from(env::var("CARGO_MANIFEST_DIR").expect("cargo sets it"));
+    let all = here.join("lib");
     let own = all.join(target);
-    let given = env::var_os("YACHTBANYAN_LIB_DIR").map(PathBuf::from);
-    let by = given
-        .as_ref()
-        .map_or("pkg-config", |_| "YACHTBANYAN_LIB_DIR");
+    let given = env::var_os("YACHTBANYAN_LIB_DIR").map(|it| here.join(it));
+    let by = given.as_ref().map_or("pkg-config", |_| "YACHTBANYAN_LIB_DIR");
     let known = given.or_else(|| own.join(LIBRARY).exists().then_some(own));
     let Some(folder) = known.or_else(by_pkg_config) else {
         panic!("there is no {LIBRARY}. Set YACHTBANYAN_LIB_DIR to its folder");

@@ -81,9 +81,10 @@ fn log_of_library(table: &str, _: Plan) -> Option<Result<Log, String>> {
     needed.then(|| Err(format!("{table} needs the feature yachtbanyan")))
 }
 
-/// Returns the fault of a table that is wrong at one of N calls, by its name, `WRONG:N`.
+/// Returns the fault of a table that is wrong at one of N calls, by its name, `WRONG:N`, or at each
+/// one, `WRONG`.
 fn rare_fault(table: &str) -> Option<Result<Fault, String>> {
-    let (name, number) = table.split_once(':')?;
+    let (name, number) = table.split_once(':').unwrap_or((table, "1"));
     let wrong = match name {
         "stale" => Wrong::Stale,
         "early" => Wrong::Early,
@@ -101,8 +102,6 @@ fn rare_fault(table: &str) -> Option<Result<Fault, String>> {
 fn log_of(table: &str, plan: Plan) -> Result<Log, String> {
     let fault = match table {
         "slots" => Fault::None,
-        "stale" => Fault::Stale,
-        "early" => Fault::Early,
         "walk" => Fault::OneWalk,
         _ => match rare_fault(table) {
             Some(fault) => fault?,

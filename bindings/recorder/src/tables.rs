@@ -9,10 +9,6 @@ use std::sync::{Arc, Mutex};
 pub enum Fault {
     /// It is right.
     None,
-    /// A look returns what the slot had some looks before.
-    Stale,
-    /// A removed value is dropped at once, also while it is in use.
-    Early,
     /// A search that found each slot full at some time says full, also if the table changed.
     OneWalk,
     /// One of this number of calls is wrong, of those that may be wrong so.
@@ -46,12 +42,9 @@ pub struct Slots {
 /// A thread's access to [`Slots`].
 pub struct SlotsHandle<'a> {
     table: &'a Slots,
-    /// Old copies, with the number of looks that each one has served.
-    copies: RefCell<Vec<(usize, Option<Arc<Value>>)>>,
+    /// What each slot had at the last look.
+    copies: RefCell<Vec<Option<Arc<Value>>>>,
 }
-
-/// The number of looks that an old copy serves.
-const LOOKS: usize = 4;
 
 impl Slots {
     /// Opens an empty table of `slots` slots.
@@ -81,7 +74,7 @@ impl Slots {
         let Some(old) = old else {
             return false;
         };
-        if self.fault == Fault::Early || self.is_wrong(Wrong::Early) {
+        if self.is_wrong(Wrong::Early) {
             old.close();
         }
         if self.is_wrong(Wrong::Lost) {
@@ -113,7 +106,7 @@ impl Table for Slots {
     type Handle<'a> = SlotsHandle<'a>;
 
     fn handle(&self) -> SlotsHandle<'_> {
-        let copies = RefCell::new(vec![(0, None); self.slots.len()]);
+        let copies = RefCell::new(vec![None; self.slots.len()]);
         SlotsHandle { table: self, copies }
     }
 }
@@ -125,21 +118,16 @@ impl Handle for SlotsHandle<'_> {
         Self: 'a;
 
     fn get(&self, slot: usize) -> Option<Arc<Value>> {
-        let current = || self.table.slots[slot].lock().unwrap().clone();
-        if let Fault::Rare(Wrong::Stale, _) = self.table.fault {
-            let now = current();
-            let old = std::mem::replace(&mut self.copies.borrow_mut()[slot].1, now.clone());
-            return if self.table.is_wrong(Wrong::Stale) { old } else { now };
+        let now = self.table.slots[slot].lock().unwrap().clone();
+        let Fault::Rare(Wrong::Stale, _) = self.table.fault else {
+            return now;
+        };
+        let old = std::mem::replace(&mut self.copies.borrow_mut()[slot], now.clone());
+        if self.table.is_wrong(Wrong::Stale) {
+            old
+        } else {
+            now
         }
-        if self.table.fault != Fault::Stale {
-            return current();
-        }
-        let (served, copy) = &mut self.copies.borrow_mut()[slot];
-        if *served % LOOKS == 0 {
-            *copy = current();
-        }
-        *served += 1;
-        copy.clone()
     }
 
     fn put(&self, slot: usize, value: Value) {
@@ -168,8 +156,6 @@ impl Handle for SlotsHandle<'_> {
     }
 
     fn rest(&self) {
-        for copy in self.copies.borrow_mut().iter_mut() {
-            *copy = (0, None);
-        }
+        self.copies.borrow_mut().fill(None);
     }
 }

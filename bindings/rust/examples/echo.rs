@@ -48,7 +48,7 @@ fn completed(lives: &mut Lines, key: Key, kind: u8, result: i32) {
 }
 fn serve(mut lives: Lines, listener: &TcpListener) -> Result<(), Box<dyn Error>> {
     let (mut opened, mut closed, mut byte) = (0, 0, 0);
-    lives.push_other(Sqe::read_of(0, &mut byte, 1), INPUT);
+    lives.push_other(Sqe::read(0, &mut byte, 1), INPUT);
     lives.accept(listener.as_raw_fd(), 4, 0);
     while let Some(event) = lives.next()? {
         match event {

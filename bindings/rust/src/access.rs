@@ -43,7 +43,7 @@ mod with;
 
 pub use self::cached::{Cached, OwnedCached};
 pub(crate) use self::core::{MOST_INSTALLING, MOST_SLOTS, MOST_WORKERS};
-pub use self::guard::{Guard, OwnedGuard};
+pub use self::guard::{Guard, OwnedGuard, Part};
 pub use self::handle::Handle;
 pub use self::reader::Reader;
 pub use self::table::Table;

@@ -7,6 +7,7 @@
 //! | `Reader<T>` | `T: Send + Sync` | never | no | invariant | | `T` is, in both ways |
 //! | `Guard<'r, T>` | never | `T: Sync` | no | invariant | covariant | `T` is, in both ways |
 //! | `OwnedGuard<T>` | `T: Send + Sync` | `T: Sync` | no | invariant | | `T` is, in both ways |
+//! | `Part<G, U>` | `G: Send, U: Sync` | `U: Sync` | no | covariant (`U`) | as `G` | as `&U`, `G` |
 //! | `Cached<'r, T>` | never | never | no | invariant | covariant | `T` is, in both ways |
 //! | `OwnedCached<T>` | `T: Send + Sync` | never | no | invariant | | `T` is, in both ways |
 //! | `Iter<'r, T>` | never | never | no | invariant | covariant | `T` is, in both ways |
@@ -53,7 +54,8 @@ bounds! {
 use yachtbanyan::*;
 type Unshared = Cell<u8>;
 type Staying = std::sync::MutexGuard<'static, u8>;
-type Changing = &'static mut u8;"
+type Changing = &'static mut u8;
+type Own<U> = Part<OwnedGuard<u8>, U>;"
     // threads share values, and the last user drops them
     Send: Table<{Unshared u8} {Staying u8}>;
     Send: Handle<{Unshared u8} {Staying u8}>;
@@ -64,6 +66,9 @@ type Changing = &'static mut u8;"
     // a guard is `Sync` if the value is, also if that isn't `Send`
     Sync: Guard<'static, {Unshared Staying}>;
     Sync: OwnedGuard<{Unshared Staying}>;
+    Send: Own<{Unshared Staying}>;
+    Sync: Own<{Unshared Staying}>;
+    {Send Sync}: Part<Guard<'static, u8>, u8>;
     // one thread at a time has a handle, a reader, a guard, a cached slot or an iterator
     {Sync Send}: Handle<u8>;
     {Sync Send}: Reader<u8>;
@@ -103,6 +108,7 @@ type Changing = &'static mut u8;"
     RefUnwindSafe: OwnedCached<{Unshared u8} {Changing u8}>;
     UnwindSafe: Cached<'static, {Unshared u8} {Changing u8}>;
     RefUnwindSafe: Cached<'static, {Unshared u8} {Changing u8}>;
+    UnwindSafe: Own<{Unshared u8}>;
     UnwindSafe: Iter<'static, {Unshared u8} {Changing u8}>;
     RefUnwindSafe: Iter<'static, {Unshared u8} {Changing u8}>;
     UnwindSafe: Old<{Changing Unshared}>;
@@ -150,6 +156,7 @@ covariant! {
     "Refused<&", "str>";
     "Guard<", ", u8>";
     "Cached<", ", u8>";
+    "Part<yachtbanyan::Guard<", ", u8>, u8>";
     "Iter<", ", u8>";
 }
 
@@ -176,7 +183,8 @@ let lent = it.", $call, ";\ndrop(") {it other} (");\ndrop(lent);"));)* };
 }
 
 lends! {
-    handle "get_at(0)"; handle "get(key)"; handle "iter()"; handle "cached(0)";
+    handle "get_at(0)"; handle "get(key)"; handle "iter()"; handle "cached(0)"; handle "drain()";
+    handle "get_at(0).map(|it| yachtbanyan::Guard::map(it, |it| it))";
     reader "get_at(0)"; reader "get(key)"; reader "iter()"; reader "cached(0)";
 }
 

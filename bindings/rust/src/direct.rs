@@ -55,8 +55,8 @@ mod machine;
 mod releases;
 mod ring;
 mod slots;
-#[cfg(yachtbanyan_stand_in)]
-#[allow(unsafe_code)]
+#[cfg(any(test, yachtbanyan_stand_in))]
+#[allow(dead_code, unsafe_code)]
 mod stand_in;
 #[cfg(test)]
 mod tests;

@@ -77,8 +77,8 @@ pub mod patterns {
     //!     table.replace_at(number, (number, open))?;
     //! }
     //! let request = table.get_owned_at(1)?; // from here on no thread installs
-    //! let olds = (0..4).map(|it| table.remove_at(it)).collect::<Result<Vec<_>, _>>()?;
-    //! assert!(matches!(olds[..], [Old::Unused(_), Old::InUse, Old::Unused(_), Old::None]));
+    //! let olds: Vec<_> = table.handle()?.drain().collect();
+    //! assert!(matches!(olds[..], [(0, Old::Unused(_)), (1, Old::InUse), (2, Old::Unused(_))]));
     //! drop(olds);
     //! assert_eq!(request.0, 1); // the guard keeps it
     //! thread::spawn(move || drop(request)); // its last user drops it
@@ -86,7 +86,7 @@ pub mod patterns {
     //! # Ok::<(), Box<dyn std::error::Error>>(())
     //! ```
     //!
-    //! `remove_at` empties one slot after another, so first stop the threads that install. Handles
+    //! `drain` empties one slot after another, so first stop the threads that install. Handles
     //! and guards may be alive: the last user of a value drops it. Values that are left in slots
     //! are dropped with the table's last clone, handle, reader, owned guard and owned cached slot.
     //! So an owned guard keeps its value and the table; if it is forgotten, for ever.

@@ -242,7 +242,11 @@ impl fmt::Display for NoSeat {
             NoSeat::Guard { in_use } => (in_use, "guard", MOST_WORKERS - 2),
         };
         let are = if in_use == 1 { " is" } else { "s are" };
-        write!(f, "{in_use} {kind}{are} in use; Options::{kind}s sets at most {most}")
+        write!(f, "{in_use} {kind}{are} in use; ")?;
+        if in_use >= most {
+            return write!(f, "Options::{kind}s sets at most {most}");
+        }
+        write!(f, "to have more, set Options::{kind}s (at most {most})")
     }
 }
 

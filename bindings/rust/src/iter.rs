@@ -6,8 +6,8 @@ use std::fmt;
 /// An iterator over guards of the values of a table, in the order of the slots: what each slot had
 /// when it was looked at.
 ///
-/// A slot that can't be looked up for want of a seat is an error. That can be only if an earlier
-/// guard is still alive.
+/// A slot that can't be looked up for want of a seat is an error. That can be only if a guard or a
+/// cached slot of the same handle or reader is alive.
 #[must_use = "an iterator looks slots up as it is advanced"]
 pub struct Iter<'r, T> {
     reader: &'r Reader<T>,

@@ -15,7 +15,7 @@ mod old;
 mod options;
 mod unwind;
 
-pub use access::{Cached, Guard, Handle, OwnedCached, OwnedGuard, Reader, Table};
+pub use access::{Cached, Guard, Handle, OwnedCached, OwnedGuard, Part, Reader, Table};
 pub use errors::{GetError, NoSeat, NoSlot, OpenError, Reason, Refused, RemoveError};
 pub use iter::Iter;
 pub use key::Key;

@@ -52,7 +52,8 @@ impl Options {
     /// let key = handle.insert(7)?;
     /// let (_first, _second) = (handle.get(key)?, handle.get(key)?);
     /// let error = table.get_owned(key).unwrap_err();
-    /// assert_eq!(error.to_string(), "1 guard is in use; Options::guards sets at most 1022");
+    /// let words = "1 guard is in use; to have more, set Options::guards (at most 1022)";
+    /// assert_eq!(error.to_string(), words);
     /// # Ok::<(), Box<dyn std::error::Error>>(())
     /// ```
     pub fn guards(self, guards: u32) -> Options {

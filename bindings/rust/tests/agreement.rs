@@ -14,8 +14,9 @@ mod sync;
 
 use self::core::{
     yacht_core_close, yacht_core_find, yacht_core_get, yacht_core_get_at, yacht_core_insert,
-    yacht_core_is_current, yacht_core_open, yacht_core_put_empty, yacht_core_release, yacht_core_remove,
-    yacht_core_remove_at, yacht_core_replace, yacht_core_replace_at, Core, Outcome, DONE,
+    yacht_core_is_current, yacht_core_open, yacht_core_put_empty, yacht_core_release,
+    yacht_core_remove, yacht_core_remove_at, yacht_core_replace, yacht_core_replace_at, Core,
+    Outcome, DONE,
 };
 use std::cell::Cell;
 use std::collections::BTreeMap;

@@ -1,8 +1,8 @@
 //! Cached slots: what they find, when they drop a value, and which seats they take. Expected
 //! numbers are worked out by hand. One thread publishes versions, and others never find an older
 //! one than they have seen published (`YACHTBANYAN_ROUNDS` sets the rounds).
-use std::sync::atomic::{AtomicBool, AtomicU64, AtomicUsize, Ordering};
 use std::sync::atomic::Ordering::{Acquire, Relaxed, Release, SeqCst};
+use std::sync::atomic::{AtomicBool, AtomicU64, AtomicUsize, Ordering};
 use std::sync::Arc;
 use yachtbanyan::{GetError, NoSeat, NoSlot, Old, Options, Table};
 

@@ -10,7 +10,7 @@ use std::sync::atomic::{AtomicBool, AtomicU64, AtomicUsize, Ordering::Relaxed, O
 use std::sync::Mutex;
 use std::time::{Duration, Instant};
 use support::{begin, join, together, Job};
-use yachtbanyan::{GetError, Guard, Handle, Key, NoSeat, Old, Options, Reason, Table};
+use yachtbanyan::{GetError, Guard, Handle, Key, NoSeat, Old, Options, OwnedGuard, Reason, Table};
 
 static MADE: AtomicUsize = AtomicUsize::new(0);
 static DROPPED: AtomicUsize = AtomicUsize::new(0);
@@ -140,6 +140,8 @@ fn serve(handle: &Handle<Value>, mut seed: u64, rounds: u64) {
                 own = key.map(|key| (key, number));
             }
             15 => drop(handle.remove_at(slot)),
+            16 if round % 16 == 0 => drop(handle.drain().take(slot as usize).count()),
+            16 if round % 16 == 1 => drop(handle.retain(|it| *it.again % 3 > 0)),
             _ => serve_own(handle, &mut own, random >> 12, number),
         }
     }
@@ -176,7 +178,7 @@ fn hand_over(rounds: u64) {
     let table = options.open().unwrap();
     table.insert(Value::new(0)).unwrap();
     for round in 0..rounds {
-        let given = table.get_owned_at(0).unwrap();
+        let given = OwnedGuard::map(table.get_owned_at(0).unwrap(), |it| it);
         drop(table.replace_at(0, Value::new(round)).unwrap());
         // SAFETY: it is joined below.
         let thread = unsafe { begin(Box::new(move || given.check())) };
@@ -339,7 +341,7 @@ fn main() {
         // left
         let left = MADE.load(SeqCst) - DROPPED.load(SeqCst);
         assert_eq!(left, table.handle().unwrap().len() as usize);
-        drop(table);
+        assert_eq!(left, table.into_inner().unwrap().len());
         let (made, dropped) = (MADE.load(SeqCst), DROPPED.load(SeqCst));
         println!("{slots} slots, {threads} threads: {made} values made, {dropped} dropped");
         assert_eq!(made, dropped);

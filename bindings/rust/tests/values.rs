@@ -204,7 +204,7 @@ fn each_error_has_words_of_its_own() {
     let (slot, slots) = (3, 2);
     let (none, seat) = (NoSlot { slot, slots }, NoSeat::Reader { in_use: 1 });
     let of_slot = "slot 3 is out of range: the table has slots 0 to 1";
-    let of_seat = "1 reader is in use; Options::readers sets at most 1022";
+    let of_seat = "1 reader is in use; to have more, set Options::readers (at most 1022)";
     let words = ["slot 3 is empty", "slot 3 has another value", of_slot, of_seat];
     let errors = [
         GetError::Empty { slot },
@@ -383,31 +383,21 @@ fn a_drop_that_panics_leaves_the_other_values_of_a_table_to_be_dropped() {
 }
 
 #[test]
-fn what_is_left_is_dropped_with_the_last_handle() {
+fn what_is_left_is_dropped_with_the_last_handle_or_guard() {
     let notes = Notes::default();
     let table = Table::with_slots(16).unwrap();
     let clone = table.clone();
     let handle = table.handle().unwrap();
     for number in 0..16 {
-        handle.insert(notes.value(number)).unwrap();
+        handle.replace_at(number, notes.value(number)).unwrap();
     }
+    let own = table.get_owned_at(7).unwrap();
     drop((table, clone));
-    assert_eq!(notes.drops(), 0);
+    assert_eq!((notes.drops(), handle.get_at(1).unwrap().number), (0, 1));
     drop(handle);
-    assert_eq!(notes.drops(), 16);
-}
-
-#[test]
-fn an_owned_guard_keeps_the_table() {
-    let notes = Notes::default();
-    let table = Table::with_slots(2).unwrap();
-    let key = table.insert(notes.value(7)).unwrap();
-    table.insert(notes.value(8)).unwrap();
-    let own = table.get_owned(key).unwrap();
-    drop(table);
-    assert_eq!((own.number, notes.drops()), (7, 0));
+    assert_eq!((notes.drops(), own.number), (0, 7));
     drop(own);
-    assert_eq!(notes.drops(), 2);
+    assert_eq!(notes.drops(), 16);
 }
 
 #[test]
@@ -471,9 +461,19 @@ fn an_iterator_has_what_each_slot_had_when_it_was_looked_at() {
 }
 
 #[test]
-fn a_table_of_one_thread_has_values_of_any_type() {
-    let table: Table<std::rc::Rc<u8>> = Table::with_slots(1).unwrap();
+fn each_slot_has_its_turn_where_all_are_emptied() {
+    let table = opened([8, 1, 0, 1]);
     let handle = table.handle().unwrap();
-    handle.replace_at(0, std::rc::Rc::new(1)).unwrap();
-    assert_eq!(**handle.get_at(0).unwrap(), 1);
+    (0..4).for_each(|it| assert!(handle.replace_at(2 * it, 7).is_ok()));
+    // what comes in place of a refused value stays, as what comes to a slot after its turn
+    let replace = |it: &Guard<'_, u32>| {
+        let slots = [it.slot(), it.slot().saturating_sub(1)];
+        slots.map(|it| handle.replace_at(it, it).unwrap().1.is_none())[1]
+    };
+    assert_eq!(handle.retain(replace), Ok(0));
+    let guards = (handle.get_at(0).unwrap(), handle.get_at(2).unwrap());
+    assert_eq!(handle.retain(|_| false), Err(NoSeat::Guard { in_use: 1 }));
+    assert_eq!(handle.drain().next(), Some((0, Old::InUse)));
+    drop(guards);
+    assert!(handle.drain().eq([1, 2, 3, 4, 5, 6].map(|it| (it, Old::Unused(it)))));
 }

@@ -3,12 +3,12 @@
 //!
 //! ```
 //! use std::panic::{RefUnwindSafe, UnwindSafe};
-//! use yachtjudge::{File, JudgeError, Limits, Link, Log, LogFault, LogVerdict, Op, Outcomes};
-//! use yachtjudge::{Point, Request, Rule, Step, Verdict};
+//! use yachtjudge::{File, JudgeError, Limits, LogVerdict, Outcomes};
+//! use yachtjudge::{Point, Rule, Step, Verdict};
 //!
 //! fn plain<T: Clone + Send + Sync + UnwindSafe + RefUnwindSafe + Unpin + 'static>() {}
 //! fn error<T: std::error::Error>() {}
-//! plain::<(File, JudgeError, Limits, Link, Log, LogFault, LogVerdict, Op, Outcomes)>();
-//! plain::<(Point, Request, Rule, Step, Verdict)>();
+//! plain::<(File, JudgeError, Limits, LogVerdict, Outcomes)>();
+//! plain::<(Point, Rule, Step, Verdict)>();
 //! error::<JudgeError>();
 //! ```

@@ -1,6 +1,6 @@
 //! The verified judge of io_uring's registered file table: decides whether a script may print a
 //! text ([`judge`]), lists the texts that a script may print ([`outcomes`]), and judges logs of
-//! calls in flight ([`Log::judge`]). The verdict on a log that isn't legal has the reason.
+//! calls in flight ([`judge_log`]). The verdict on a log that isn't legal has the reason.
 //!
 //! A script is what `fixfiles` plays. A text is what `fixfiles`, or a kernel, prints for it. The
 //! library `libyachtjudge.a` is proved; this crate passes arguments to it.
@@ -23,12 +23,11 @@ mod bounds;
 mod core;
 mod errors;
 mod log;
-mod part;
 mod reason;
 mod script;
 
-pub use errors::{JudgeError, LogFault};
-pub use log::{File, Link, Log, LogVerdict, Op, Request};
+pub use errors::JudgeError;
+pub use log::{judge_log, judge_log_by_whole_updates, File, LogVerdict};
 pub use reason::{Point, Rule, Step};
 pub use script::{judge, outcomes, Outcomes, Verdict};
 
@@ -43,9 +42,6 @@ pub struct Limits {
 
 impl Default for Limits {
     fn default() -> Limits {
-        Limits {
-            states: 1_000_000,
-            memory: 1_024,
-        }
+        Limits { states: 1_000_000, memory: 1_024 }
     }
 }

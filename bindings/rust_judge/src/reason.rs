@@ -2,16 +2,16 @@
 use crate::core;
 use crate::log::File;
 
-/// A point in time of a flight. Positions of events and numbers of accesses are from 0.
+/// A point in time of a flight. Events are named by their lines, from 1.
 #[derive(Clone, Copy, Debug, PartialEq, Eq)]
 pub enum Point {
-    /// The event at this position.
+    /// The event of this line.
     Event(usize),
-    /// An access of the member, or of the look, that an event answers.
+    /// An access of the member, or of the look, that a line answers.
     Access {
-        /// The position of the answer.
+        /// The line of the answer.
         answer: usize,
-        /// The number of the access among those of its member.
+        /// The number of the access among those of its member, from 0.
         access: usize,
     },
     /// The installation of the file; the end of the flight if it never is installed.
@@ -77,8 +77,8 @@ rules! {
     ClosesHeld,
     /// A contradiction: a request can't have its answer, whatever it finds.
     CantAnswer,
-    /// An access finds a file at a slot, and each other file isn't there. If no file may be there,
-    /// it is a contradiction.
+    /// An access finds a file at a slot, and each other file isn't there, or has other bytes than
+    /// the read answered. If no file may be there, it is a contradiction.
     Holds,
     /// Accesses of different calls aren't at the same time.
     Differs,
@@ -102,16 +102,16 @@ rules! {
     Cut,
 }
 
-/// A step of a reason: a point comes before another one in each flight. `first`, `second`,
-/// `access`, `premise`, `other` and `slot` are 0 if the rule doesn't use them
-/// (`include/yachtjudge.h`, `YACHT_RULE_EVENTS` and the others).
+/// A step of a reason: a point comes before another one in each flight. Which of `first`, `second`,
+/// `access`, `premise`, `other` and `slot` a rule uses, `include/yachtjudge.h` says; the others say
+/// nothing.
 #[derive(Clone, Copy, Debug, PartialEq, Eq)]
 pub struct Step {
     /// The rule.
     pub rule: Rule,
-    /// The position of the first event of the rule: mostly a call.
+    /// The line of the first event of the rule: mostly a call.
     pub first: usize,
-    /// The position of the second event of the rule: mostly the answer of the call.
+    /// The line of the second event of the rule: mostly the answer of the call.
     pub second: usize,
     /// The number of the access among those of its member, from 0.
     pub access: usize,
@@ -131,23 +131,12 @@ pub struct Step {
 
 // Returns what a point of C says.
 fn point_of(it: core::Point) -> Point {
-    let file = File {
-        call: it.by_call,
-        member: it.by_member,
-        entry: it.by_entry,
-        file: it.file,
-    };
+    let file = File { call: it.by_call, member: it.by_member, entry: it.by_entry, file: it.file };
     match it.kind {
         core::POINT_EVENT => Point::Event(it.at as usize),
-        core::POINT_ACCESS => Point::Access {
-            answer: it.at as usize,
-            access: it.access as usize,
-        },
+        core::POINT_ACCESS => Point::Access { answer: it.at as usize, access: it.access as usize },
         core::POINT_PUT => Point::Put(file),
-        _ => Point::Gone {
-            file,
-            slot: it.slot,
-        },
+        _ => Point::Gone { file, slot: it.slot },
     }
 }
 

@@ -89,18 +89,11 @@ pub fn judge(script: &[u8], text: &[u8], limits: Limits) -> Result<Verdict, Judg
     let words = String::from_utf8_lossy(&note).into_owned();
     match number {
         core::LEGAL => Ok(Verdict::Legal),
-        core::NOT_LEGAL => Ok(Verdict::NotLegal {
-            commands: verdict.commands,
-            at: verdict.at,
-            expected: words,
-        }),
-        core::UNDECIDED => Ok(Verdict::Undecided {
-            submission: verdict.submission,
-        }),
-        core::BAD_SCRIPT => Err(JudgeError::BadScript {
-            line: verdict.line,
-            fault: words,
-        }),
+        core::NOT_LEGAL => {
+            Ok(Verdict::NotLegal { commands: verdict.commands, at: verdict.at, expected: words })
+        }
+        core::UNDECIDED => Ok(Verdict::Undecided { submission: verdict.submission }),
+        core::BAD_SCRIPT => Err(JudgeError::BadScript { line: verdict.line, fault: words }),
         _ => Err(JudgeError::NoMemory),
     }
 }
@@ -143,15 +136,7 @@ pub fn outcomes(script: &[u8], limits: Limits) -> Result<Outcomes, JudgeError> {
             }
             // the judge names the fault
             core::BAD_SCRIPT => {
-                let (_, verdict, note) = judged(
-                    script,
-                    b"",
-                    Limits {
-                        states: 0,
-                        memory: 0,
-                    },
-                    256,
-                );
+                let (_, verdict, note) = judged(script, b"", Limits { states: 0, memory: 0 }, 256);
                 let fault = String::from_utf8_lossy(&note).into_owned();
                 let line = verdict.line;
                 return Err(JudgeError::BadScript { line, fault });

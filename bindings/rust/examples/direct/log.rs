@@ -11,22 +11,21 @@ use std::collections::HashMap;
 use std::fs::{self, File};
 use std::io::{LineWriter, Result, Write};
 use std::path::Path;
-use yachtbanyan::direct::{Completion, Entry, Key, Request};
+use yachtbanyan::direct::{Completion, Key};
 
 const EMPTY_SLOT: i32 = -9;
 const CANCELED: i32 = -125;
 
 pub struct Log {
     out: LineWriter<File>,
-    calls: u32,
-    // the words of the chain that is queued
+    // the number of the call that is queued, and its words
+    call: u32,
     words: Vec<String>,
-    // of each request, by its user data: its name in the log, the first letter of its words, and
-    // its entry
-    in_flight: HashMap<u64, (String, u8, Option<Sqe>)>,
-    // the open of each life, and that of the life at which a client's number was seen first
-    opens: HashMap<Key, String>,
-    owners: HashMap<u32, String>,
+    // of each request, by its user data: its call, its place there, and its entry
+    in_flight: HashMap<u64, (u32, usize, Sqe)>,
+    // the call that opened each life, and that of the life where a client's number was seen first
+    opens: HashMap<Key, u32>,
+    owners: HashMap<u32, u32>,
 }
 
 fn hex(bytes: &[u8]) -> String {
@@ -35,8 +34,8 @@ fn hex(bytes: &[u8]) -> String {
 
 /// Returns the number of the client whose line is among these bytes.
 fn number_in(bytes: &[u8]) -> Option<u32> {
-    let whole = std::str::from_utf8(bytes).ok()?.lines().filter_map(|it| it.split_once(' '));
-    whole.filter_map(|it| it.0.parse().ok()).next()
+    let mut lines = std::str::from_utf8(bytes).ok()?.lines();
+    lines.find_map(|it| it.split_once(' ')?.0.parse().ok())
 }
 
 impl Log {
@@ -51,31 +50,30 @@ impl Log {
             }
         }
         writeln!(out, "call 1 sparse {slots}\ndone 1.1 0")?;
-        let (in_flight, opens, owners) = (HashMap::new(), HashMap::new(), HashMap::new());
-        Ok(Log { out, calls: 1, words: Vec::new(), in_flight, opens, owners })
+        let (in_flight, opens, owners) = Default::default();
+        Ok(Log { out, call: 2, words: Vec::new(), in_flight, opens, owners })
     }
 
     /// Appends a call, once the last entry of a chain is queued.
-    pub fn queued(&mut self, it: &Entry<Sqe>) -> Result<()> {
+    pub fn queued(&mut self, it: &Sqe) -> Result<()> {
         const LINKS: [&str; 3] = ["", " link", " hardlink"];
-        let (to, slot) = (it.file_index.wrapping_sub(1), it.fd);
-        let (words, own) = match it.request {
-            Request::Accept(_) => (format!("open c at {to}"), None),
-            Request::Close => (format!("close {to}"), None),
-            Request::Own(own) => (own.words(slot, to), Some(own)),
-            _ => (String::new(), None),
+        let (slot, to, link) = (it.fd, it.file_index.wrapping_sub(1), usize::from(it.flags / 4));
+        let words = match it.opcode {
+            Sqe::ACCEPT => format!("open c at {to}"),
+            Sqe::OPEN => format!("open f{} at {to}", it.name()),
+            Sqe::READ if it.flags > 0 => format!("read {slot} 0 {}", it.len), // on a slot
+            Sqe::RECEIVE => format!("look {slot}"),
+            Sqe::CLOSE => format!("close {to}"),
+            _ => return Ok(()),
         };
-        let Some(letter) = words.bytes().next() else {
-            return Ok(());
-        };
-        let link = LINKS[usize::from(it.flags / 4)];
-        self.words.push(words + link);
-        let name = format!("{}.{}", self.calls + 1, self.words.len());
-        self.in_flight.insert(it.user_data, (name, letter, own));
-        if link.is_empty() {
-            self.calls += 1;
-            writeln!(self.out, "call {} {}", self.calls, self.words.join(" ; "))?;
+        self.words.push(words + LINKS[link]);
+        self.in_flight.insert(it.data, (self.call, self.words.len(), *it));
+        // the first request with a life's key is its open
+        self.opens.entry(Key::from_bits(it.data).0).or_insert(self.call);
+        if link == 0 {
+            writeln!(self.out, "call {} {}", self.call, self.words.join(" ; "))?;
             self.words.clear();
+            self.call += 1;
         }
         Ok(())
     }
@@ -83,29 +81,19 @@ impl Log {
     /// Appends an answer.
     pub fn completed(&mut self, it: Completion) -> Result<()> {
         let Completion { user_data, result, .. } = it;
-        let Some((name, letter, own)) = self.in_flight.remove(&user_data) else {
-            return Ok(());
-        };
-        let bytes = own.map(|it| it.written(result)).unwrap_or_default();
-        let key = Key::from_bits(user_data).0;
-        match letter {
+        let Some((call, member, sqe)) = self.in_flight.remove(&user_data) else { return Ok(()) };
+        let seen = match sqe.opcode {
             // an accept that was canceled has no answer
-            b'o' if own.is_none() && result == CANCELED => Ok(()),
-            b'o' if result >= 0 => {
-                self.opens.insert(key, name.clone());
-                writeln!(self.out, "done {name} 0")
+            Sqe::ACCEPT if result == CANCELED => return Ok(()),
+            Sqe::RECEIVE if result != EMPTY_SLOT => {
+                let own = self.opens[&Key::from_bits(user_data).0];
+                let number = number_in(sqe.written(result));
+                let owner = number.map_or(own, |it| *self.owners.entry(it).or_insert(own));
+                format!("0 {owner}.1.0\nfree {call}")
             }
-            b'l' if result != EMPTY_SLOT => {
-                let own = self.opens.get(&key).cloned().unwrap_or_default();
-                let owner = match number_in(&bytes) {
-                    Some(number) => self.owners.entry(number).or_insert(own),
-                    None => &own,
-                };
-                let call = name.trim_end_matches(".1");
-                writeln!(self.out, "done {name} 0 {owner}.0\nfree {call}")
-            }
-            b'r' if result > 0 => writeln!(self.out, "done {name} {result} {}", hex(&bytes)),
-            _ => writeln!(self.out, "done {name} {result}"),
-        }
+            Sqe::READ if result > 0 => format!("{result} {}", hex(sqe.written(result))),
+            _ => result.to_string(),
+        };
+        writeln!(self.out, "done {call}.{member} {seen}")
     }
 }

@@ -21,72 +21,25 @@ mod work;
 
 use log::Log;
 use ring::Ring;
-use server::{Counts, Server};
+use server::{serve, Counts};
 use std::env;
 use std::error::Error;
-use std::net::TcpListener;
 use std::path::{Path, PathBuf};
 use std::process::ExitCode;
-use std::sync::atomic::Ordering;
-use std::sync::mpsc::channel;
-use std::sync::Mutex;
-use std::thread;
-use work::{work, Bell, STALE};
-use yachtbanyan::direct::Lives;
-use yachtbanyan::Options;
-
-const WORKERS: u32 = 2;
-const ENTRIES: u32 = 256;
-const BACKLOG: i32 = 512;
-const NO_IO_URING: u8 = 77;
-
-fn serve(ring: Ring, slots: u32, folder: PathBuf) -> Result<Counts, Box<dyn Error>> {
-    let listener = TcpListener::bind(("127.0.0.1", 0))?;
-    ring::set_backlog(&listener, BACKLOG)?;
-    println!("{}", listener.local_addr()?.port());
-    let table = Options::new(slots).handles(1).readers(WORKERS).guards(0).open()?;
-    let (asked, questions) = channel();
-    let (answers, answered) = channel();
-    let (bell, questions) = (Bell::new()?, Mutex::new(questions));
-    thread::scope(|scope| {
-        for _ in 0..WORKERS {
-            let (reader, to, bell) = (table.reader()?, answers.clone(), bell.clone());
-            let questions = &questions;
-            scope.spawn(move || work(&reader, questions, &to, &bell));
-        }
-        let (ringing, handle) = (bell.clone(), table.handle()?);
-        let (lives, counts, unread) = (Lives::new(ring, slots)?, Counts::default(), Box::default());
-        let releases = lives.slots().releases(move || ringing.ring());
-        let it = Server {
-            lives,
-            handle,
-            releases,
-            asked,
-            answered,
-            listener,
-            folder,
-            bell,
-            unread,
-            counts,
-        };
-        it.serve()
-    })
-}
 
 fn main() -> Result<ExitCode, Box<dyn Error>> {
     let folder = PathBuf::from(env::args().nth(1).ok_or("direct FOLDER [SLOTS [LOG]]")?);
     let slots = env::args().nth(2).map_or(Ok(64), |it| it.parse())?;
     let log = env::args().nth(3).map(|it| Log::new(Path::new(&it), &folder, slots)).transpose()?;
-    let Ok(ring) = Ring::new(ENTRIES, slots, log) else {
+    let Ok(ring) = Ring::new(256, slots, log) else {
         eprintln!("io_uring is refused");
-        return Ok(ExitCode::from(NO_IO_URING));
+        return Ok(ExitCode::from(77));
     };
-    let Counts { opened, closed, waits, ended, late, .. } = serve(ring, slots, folder)?;
+    let Counts { opened, closed, waits, ended, late, stale, .. } = serve(ring, slots, folder)?;
     println!(
         "{opened} opened, {closed} closed; {waits} times the backlog waited; {ended} ended by the \
          server"
     );
-    let stale = STALE.load(Ordering::Relaxed);
     println!("{late} answers were late, {stale} keys stale; 0 wrong");
     Ok(ExitCode::from(u8::from(opened != closed)))
 }

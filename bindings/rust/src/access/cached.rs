@@ -1,5 +1,5 @@
 //! Values that a seat keeps while their slot has them.
-use super::core::{self, Outcome};
+use super::core;
 use super::handle::Handle;
 use super::reader::Reader;
 use super::seats::Place;
@@ -7,6 +7,7 @@ use super::table::Table;
 use super::values::{add_unused, drop_last, drop_unused, At, Held, Unused, Values};
 use crate::errors::GetError;
 use std::fmt;
+use std::mem::MaybeUninit;
 
 /// The value that a seat found at a slot, and holds, if there was one.
 struct Kept<T> {
@@ -44,15 +45,15 @@ impl<T> Kept<T> {
     /// As of `get`.
     #[inline(never)]
     unsafe fn look(&mut self, values: &Values<T>) {
-        let (mut out, mut unused) = (Outcome::default(), Unused::new());
+        let (mut out, mut unused) = (MaybeUninit::uninit(), Unused::new());
         // SAFETY: as the caller ensures. No reference to the value is left: `self` isn't borrowed.
         unused.extend(unsafe { self.release(values) });
         // SAFETY: as the caller ensures. The seat holds nothing.
-        let answer = unsafe { values.look(self.place.core, At(self.slot), &mut out) };
+        let (answer, out) = unsafe { values.look(self.place.core, At(self.slot), &mut out) };
         // SAFETY: the core closed these files in the look-up (`found`).
-        unsafe { add_unused(&mut unused, &out) };
+        unsafe { add_unused(&mut unused, out) };
         if answer == core::DONE {
-            self.value = Held::of(&out).value;
+            self.value = Held::of(out).value;
         }
         drop_unused(unused);
     }

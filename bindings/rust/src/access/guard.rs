@@ -158,6 +158,36 @@ impl<T> OwnedGuard<T> {
     }
 }
 
+/// A guard of a part of a value, such as a field ([`Guard::map`], [`OwnedGuard::map`]). It keeps
+/// the guard `G` of the whole value until it is dropped.
+#[must_use = "the value is released when the guard is dropped"]
+pub struct Part<G, U: ?Sized> {
+    part: *const U,
+    _guard: G,
+}
+
+// SAFETY: another thread may read the part (`U: Sync`) and end the guard (`G: Send`).
+unsafe impl<G: Send, U: Sync + ?Sized> Send for Part<G, U> {}
+// SAFETY: a shared part gives references to `U` alone.
+unsafe impl<G, U: Sync + ?Sized> Sync for Part<G, U> {}
+
+impl<G, U: ?Sized> Deref for Part<G, U> {
+    type Target = U;
+
+    #[inline]
+    fn deref(&self) -> &U {
+        // SAFETY: a function made this reference of one to the guard's value, of any lifetime. The
+        // value stays where it is until the guard's end.
+        unsafe { &*self.part }
+    }
+}
+
+impl<G, U: fmt::Debug + ?Sized> fmt::Debug for Part<G, U> {
+    fn fmt(&self, f: &mut fmt::Formatter<'_>) -> fmt::Result {
+        (**self).fmt(f)
+    }
+}
+
 /// Gives a guard what guards have alike, and prints its value.
 macro_rules! guards {
     ($($guard:ident $(<$lifetime:lifetime>)?;)*) => { $(
@@ -188,6 +218,25 @@ macro_rules! guards {
                 // SAFETY: the seat is this guard's, and holds its value. `&mut self` is the only
                 // reference to the guard, so no other thread uses the seat (one user).
                 unsafe { self.values().is_current(core, slot) }
+            }
+
+            /// Makes a guard of a part of the value, as [`std::cell::Ref::map`]. It is called as
+            /// a function, so it hides no method `map` of the value. If `part` panics, the guard
+            /// is dropped.
+            ///
+            /// ```
+            /// use yachtbanyan::{Guard, OwnedGuard, Table};
+            ///
+            /// let table = Table::<(u16, &str)>::with_slots(1)?;
+            /// let (handle, _) = (table.handle()?, table.insert((80, "http"))?);
+            /// let port = Guard::map(handle.get_at(0)?, |it| &it.0);
+            /// let name = OwnedGuard::map(table.get_owned_at(0)?, |it| it.1);
+            /// handle.remove_at(0)?;
+            /// assert_eq!((*port, &*name), (80, "http"));
+            /// # Ok::<(), Box<dyn std::error::Error>>(())
+            /// ```
+            pub fn map<U: ?Sized>(guard: Self, part: impl FnOnce(&T) -> &U) -> Part<Self, U> {
+                Part { part: part(&guard), _guard: guard }
             }
 
             /// Returns the key of the value, by which others find it while it is at its slot.

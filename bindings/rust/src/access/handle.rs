@@ -6,14 +6,15 @@ use super::seats::{Installer, Place};
 use super::storage::{self, Spare};
 use super::table::Table;
 use super::values::{At, Round, Values, Wanted};
-use crate::errors::{GetError, NoSlot, Reason, Refused};
+use crate::errors::{GetError, NoSeat, NoSlot, Reason, Refused};
 use crate::iter::Iter;
 use crate::key::Key;
 use crate::old::Old;
 use std::cell::Cell;
 
 /// The access of one thread at a time to a [`Table`]: it looks slots up, and installs and removes
-/// values. It is `Send`, but not `Sync`.
+/// values. It is `Send`, but not `Sync`: if the compiler refuses to share a `Cell`, take a handle
+/// for each thread. A guard of [`Table::get_owned`] may go to another thread.
 ///
 /// ```
 /// use yachtbanyan::Table;
@@ -96,7 +97,8 @@ impl<T> Handle<T> {
     ///
     /// # Errors
     /// `Empty` if the slot has no value, `NoSlot` if the table has no such slot, `NoSeat` if a
-    /// guard of this handle is alive already and the table has no seat for another.
+    /// guard or a cached slot of this handle is alive already and the table has no seat for
+    /// another.
     ///
     /// ```
     /// use yachtbanyan::{GetError, Table};
@@ -270,6 +272,52 @@ impl<T> Handle<T> {
     /// Returns an iterator over guards of the values, as [`Reader::iter`].
     pub fn iter(&self) -> Iter<'_, T> {
         self.reader.iter()
+    }
+
+    /// Looks each slot up in its turn, as [`Handle::iter`], and removes its value if `keep` returns
+    /// `false` for the guard. Returns the number of removed values. What comes to a slot after its
+    /// turn stays, and so does what replaces the value of the guard meanwhile.
+    ///
+    /// # Errors
+    /// As of [`Iter`]. Earlier slots had their turns, also if `keep` panics.
+    ///
+    /// ```
+    /// let table = yachtbanyan::Table::<u32>::with_slots(8)?;
+    /// let handle = table.handle()?;
+    /// assert!((0..8).all(|it| handle.insert(it).is_ok()));
+    /// assert_eq!((handle.retain(|it| **it % 2 == 0)?, handle.len()), (4, 4));
+    /// # Ok::<(), Box<dyn std::error::Error>>(())
+    /// ```
+    pub fn retain(&self, mut keep: impl FnMut(&Guard<'_, T>) -> bool) -> Result<u32, NoSeat> {
+        let mut removed = 0;
+        for guard in self {
+            let guard = guard?;
+            removed += u32::from(!keep(&guard) && guard.remove().is_ok());
+        }
+        Ok(removed)
+    }
+
+    /// Returns an iterator that empties each slot in its turn, by [`Handle::remove_at`]. It yields
+    /// each slot that had a value, and what became of the value. Slots that it doesn't reach stay
+    /// as they are, also if it is dropped.
+    ///
+    /// ```
+    /// let table = yachtbanyan::Table::<&str>::with_slots(4)?;
+    /// let handle = table.handle()?;
+    /// handle.replace_at(3, "three")?;
+    /// assert!(handle.drain().eq([(3, yachtbanyan::Old::Unused("three"))]));
+    /// # Ok::<(), Box<dyn std::error::Error>>(())
+    /// ```
+    pub fn drain(&self) -> impl Iterator<Item = (u32, Old<T>)> + '_ {
+        let slots = 0..self.table().slots();
+        let all = slots.map(|it| (it, self.remove_at(it).unwrap_or(Old::None)));
+        all.filter(|(_, old)| !old.is_none())
+    }
+
+    /// Empties each slot in its turn, as [`Handle::drain`], and drops the values. A value in use is
+    /// dropped by its last user. If a drop panics, later slots stay as they are.
+    pub fn clear(&self) {
+        self.drain().for_each(drop);
     }
 
     /// Returns the table.

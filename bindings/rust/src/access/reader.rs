@@ -8,6 +8,7 @@ use crate::errors::{GetError, NoSeat};
 use crate::iter::Iter;
 use crate::key::Key;
 use std::cell::Cell;
+use std::mem::MaybeUninit;
 
 /// A seat that looks slots up, for one thread at a time. It is `Send`, but not `Sync`.
 ///
@@ -56,7 +57,8 @@ impl<T> Reader<T> {
     ///
     /// # Errors
     /// `Empty` if the slot has no value, `NoSlot` if the table has no such slot, `NoSeat` if a
-    /// guard of this reader is alive already and the table has no seat for another.
+    /// guard or a cached slot of this reader is alive already and the table has no seat for
+    /// another.
     #[inline]
     pub fn get_at(&self, slot: u32) -> Result<Guard<'_, T>, GetError> {
         self.find(At(slot))
@@ -79,24 +81,24 @@ impl<T> Reader<T> {
         if self.is_busy.get() {
             return Ok(self.find_by_another(wanted)?.moved());
         }
-        let (values, mut out) = (self.values(), Outcome::default());
+        let mut out = MaybeUninit::uninit();
         // SAFETY: the seat is this reader's (one user), and no guard uses it.
-        let answer = unsafe { values.look(self.own.core, wanted, &mut out) };
-        if answer != core::DONE || frees(&out) {
-            return Ok(self.finish(self.own, wanted.slot(), answer, &out)?.moved());
+        let (answer, out) = unsafe { self.values().look(self.own.core, wanted, &mut out) };
+        if answer != core::DONE || frees(out) {
+            return Ok(self.finish(self.own, wanted.slot(), answer, out)?.moved());
         }
         self.is_busy.set(true);
-        Ok(Guard::new(self, Held::of(&out), self.own, wanted.slot()))
+        Ok(Guard::new(self, Held::of(out), self.own, wanted.slot()))
     }
 
     // Looks up by a seat of the table.
     #[inline(never)]
     fn find_by_another(&self, wanted: impl Wanted) -> Result<Guard<'_, T>, GetError> {
-        let (values, mut out) = (self.values(), Outcome::default());
+        let (values, mut out) = (self.values(), MaybeUninit::uninit());
         let place = values.seats.claim_guard().map_err(GetError::NoSeat)?;
         // SAFETY: the seat is this call's (one user).
-        let answer = unsafe { values.look(place.core, wanted, &mut out) };
-        self.finish(place, wanted.slot(), answer, &out)
+        let (answer, out) = unsafe { values.look(place.core, wanted, &mut out) };
+        self.finish(place, wanted.slot(), answer, out)
     }
 
     // Turns the answer and the outcome of a look-up into a guard, which has the look-up's seat, or

@@ -1,5 +1,5 @@
 //! The table.
-use super::core::{self, Outcome};
+use super::core;
 use super::guard::OwnedGuard;
 use super::handle::Handle;
 use super::reader::Reader;
@@ -9,6 +9,7 @@ use crate::key::Key;
 use crate::old::Old;
 use crate::options::Options;
 use std::fmt;
+use std::mem::MaybeUninit;
 use std::sync::Arc;
 
 /// A table of slots, each of which is empty or has a value of type `T`.
@@ -85,7 +86,8 @@ impl<T> Table<T> {
     /// let table = Options::new(4).handles(1).open::<u64>()?;
     /// let handle = table.handle()?;
     /// let error = table.handle().unwrap_err();
-    /// assert_eq!(error.to_string(), "1 handle is in use; Options::handles sets at most 64");
+    /// let words = "1 handle is in use; to have more, set Options::handles (at most 64)";
+    /// assert_eq!(error.to_string(), words);
     /// drop(handle);
     /// assert!(table.handle().is_ok());
     /// # Ok::<(), Box<dyn std::error::Error>>(())
@@ -105,7 +107,8 @@ impl<T> Table<T> {
     /// let table = yachtbanyan::Options::new(4).readers(100).open::<u64>()?;
     /// let readers: Vec<_> = (0..100).map(|_| table.reader().unwrap()).collect();
     /// let error = table.reader().unwrap_err();
-    /// assert_eq!(error.to_string(), "100 readers are in use; Options::readers sets at most 1022");
+    /// let words = "100 readers are in use; to have more, set Options::readers (at most 1022)";
+    /// assert_eq!(error.to_string(), words);
     /// # Ok::<(), Box<dyn std::error::Error>>(())
     /// ```
     pub fn reader(&self) -> Result<Reader<T>, NoSeat> {
@@ -143,13 +146,13 @@ impl<T> Table<T> {
     pub(super) fn find_owned(&self, wanted: impl Wanted) -> Result<OwnedGuard<T>, GetError> {
         let (seats, slot) = (&self.values.seats, wanted.slot());
         let place = seats.claim_guard().map_err(GetError::NoSeat)?;
-        let (mut out, mut unused) = (Outcome::default(), Vec::new());
+        let (mut out, mut unused) = (MaybeUninit::uninit(), Vec::new());
         // SAFETY: the seat is this call's (one user).
-        let answer = unsafe { self.values.look(place.core, wanted, &mut out) };
+        let (answer, out) = unsafe { self.values.look(place.core, wanted, &mut out) };
         // SAFETY: the core closed these files in the look-up (`found`).
-        unsafe { add_unused::<T>(&mut unused, &out) };
+        unsafe { add_unused::<T>(&mut unused, out) };
         let guard = if answer == core::DONE {
-            Ok(OwnedGuard::new(self.clone(), Held::of(&out), place, slot))
+            Ok(OwnedGuard::new(self.clone(), Held::of(out), place, slot))
         } else {
             seats.give_back(place.number);
             Err(self.values.get_error(answer, slot))
@@ -241,6 +244,29 @@ impl<T> Table<T> {
         drop(call);
         drop_unused(unused);
         Ok(sees)
+    }
+
+    /// Ends the table, and returns its values with their slots.
+    ///
+    /// # Errors
+    /// The table, if it has another user: a clone, a handle, a reader, an owned guard or a part of
+    /// its value, or a cached slot.
+    ///
+    /// ```
+    /// let table = yachtbanyan::Table::<&str>::with_slots(4)?;
+    /// table.replace_at(3, "three")?;
+    /// let guard = table.get_owned_at(3)?;
+    /// let table = table.into_inner().unwrap_err();
+    /// drop(guard);
+    /// assert_eq!(table.into_inner().unwrap(), [(3, "three")]);
+    /// # Ok::<(), Box<dyn std::error::Error>>(())
+    /// ```
+    pub fn into_inner(mut self) -> Result<Vec<(u32, T)>, Table<T>> {
+        if Arc::get_mut(&mut self.values).is_none() {
+            return Err(self);
+        }
+        let value = |slot| Some((slot, self.remove_at(slot).ok()?.unused()?));
+        Ok((0..self.slots()).filter_map(value).collect())
     }
 }
 

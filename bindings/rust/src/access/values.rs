@@ -7,6 +7,7 @@ use crate::key::Key;
 use crate::old::Old;
 use crate::options::Options;
 use std::marker::PhantomData;
+use std::mem::MaybeUninit;
 use std::num::NonZeroU64;
 
 /// The part of a table that its users share.
@@ -171,25 +172,27 @@ impl<T> Values<T> {
         Reason::Full { slots }
     }
 
-    /// Looks up a slot or a key. Returns the core's answer. If it is `DONE`, the seat holds the
-    /// value of the outcome ([`Held::of`]) until `release`. The caller drops the values that the
-    /// look-up was the last to use (`add_unused`).
+    /// Looks up a slot or a key. Returns the core's answer and its outcome. If it is `DONE`, the
+    /// seat holds the value of the outcome ([`Held::of`]) until `release`. The caller drops the
+    /// values that the look-up was the last to use (`add_unused`).
     ///
     /// # Safety
     /// The core's worker is of a seat that the caller has (one user). It holds nothing.
     #[inline(always)]
-    pub(super) unsafe fn look(
+    pub(super) unsafe fn look<'o>(
         &self,
         core: *mut Core,
         wanted: impl Wanted,
-        out: &mut Outcome,
-    ) -> i64 {
+        out: &'o mut MaybeUninit<Outcome>,
+    ) -> (i64, &'o Outcome) {
         // SAFETY: no other call uses the core's worker meanwhile.
-        let answer = unsafe { wanted.look(core, out) };
+        let answer = unsafe { wanted.look(core, out.as_mut_ptr()) };
+        // SAFETY: the core writes all of it, whatever its answer is (`found`).
+        let out = unsafe { out.assume_init_ref() };
         if answer == core::DONE {
             order::acquire(out.tag);
         }
-        answer
+        (answer, out)
     }
 
     /// Returns the error of a call that has this number of the core.
@@ -220,11 +223,11 @@ impl<T> Values<T> {
     #[inline]
     pub(super) unsafe fn release(&self, core: *mut Core, value: *const T) -> Option<Box<T>> {
         order::release(value as usize as u64);
-        let mut closed = 0;
+        let mut closed = MaybeUninit::uninit();
         // SAFETY: no other call uses the core's worker meanwhile.
-        let answer = unsafe { core::yacht_core_release(core, &mut closed) };
-        // SAFETY: the core closed this file in this call (`released`).
-        (answer == core::DROPPED).then(|| unsafe { value_of(closed) })
+        let answer = unsafe { core::yacht_core_release(core, closed.as_mut_ptr()) };
+        // SAFETY: the core closed this file in this call, and wrote its tag (`released`).
+        (answer == core::DROPPED).then(|| unsafe { value_of(closed.assume_init()) })
     }
 
     /// Looks a slot or a key up and releases what is found. Returns whether there was a value, and
@@ -233,14 +236,15 @@ impl<T> Values<T> {
     /// # Safety
     /// As of `look`.
     pub(super) unsafe fn sees(&self, core: *mut Core, wanted: impl Wanted) -> (bool, Unused<T>) {
-        let (mut out, mut unused) = (Outcome::default(), Vec::new());
+        let (mut out, mut unused) = (MaybeUninit::uninit(), Vec::new());
         // SAFETY: as the caller ensures.
-        let sees = unsafe { self.look(core, wanted, &mut out) } == core::DONE;
+        let (answer, out) = unsafe { self.look(core, wanted, &mut out) };
+        let sees = answer == core::DONE;
         // SAFETY: the core closed these files in the look-up (`found`).
-        unsafe { add_unused(&mut unused, &out) };
+        unsafe { add_unused(&mut unused, out) };
         if sees {
             // SAFETY: the seat holds this value, to which there is no reference.
-            unused.extend(unsafe { self.release(core, Held::of(&out).value) });
+            unused.extend(unsafe { self.release(core, Held::of(out).value) });
         }
         (sees, unused)
     }

@@ -4,13 +4,13 @@
 
 /// A machine. Its field is its own.
 #[repr(C)]
-pub(super) struct Machine {
-    pub(super) slots: *mut u8,
+pub struct Machine {
+    pub slots: *mut u8,
 }
 
 /// Defines numbers of the header.
 macro_rules! numbers {
-    ($($name:ident $number:literal),*) => { $(pub(super) const $name: i32 = $number;)* };
+    ($($name:ident $number:literal),*) => { $(pub const $name: i32 = $number;)* };
 }
 
 // the answers, as yachtdirect.h describes them
@@ -21,65 +21,49 @@ numbers! { IS_CHAINED -17, STOPPED -18, NOT_FREE -19, OTHER_MACHINE -20 }
 numbers! { OPENING 1, LIVE 2, ENDING 3, CLOSING 4, CHAINED 5 }
 
 /// The largest number of slots.
-pub(super) const MOST_SLOTS: u32 = 1_048_576;
+pub const MOST_SLOTS: u32 = 1_048_576;
 
 #[cfg(yachtbanyan_stand_in)]
 pub(super) use super::stand_in::*;
 
 #[cfg(not(yachtbanyan_stand_in))]
 unsafe extern "C" {
-    pub(super) fn yacht_direct_open_6(
-        machine: *mut Machine,
-        slots: u32,
-        first: u32,
-        length: u32,
-    ) -> i32;
-    pub(super) fn yacht_direct_free(machine: Machine);
-    pub(super) fn yacht_direct_reserve(machine: *mut Machine, key: *mut u64, slot: *mut u32)
+    pub fn yacht_direct_open_6(machine: *mut Machine, slots: u32, first: u32, length: u32) -> i32;
+    pub fn yacht_direct_free(machine: Machine);
+    pub fn yacht_direct_reserve(machine: *mut Machine, key: *mut u64, slot: *mut u32) -> i32;
+    pub fn yacht_direct_opened(machine: *mut Machine, key: u64, result: i32, slot: *mut u32)
         -> i32;
-    pub(super) fn yacht_direct_opened(
-        machine: *mut Machine,
-        key: u64,
-        result: i32,
-        slot: *mut u32,
-    ) -> i32;
-    pub(super) fn yacht_direct_adopt(machine: *mut Machine, slot: u32, key: *mut u64) -> i32;
-    pub(super) fn yacht_direct_stop(machine: *mut Machine);
-    pub(super) fn yacht_direct_chain(
+    pub fn yacht_direct_adopt(machine: *mut Machine, slot: u32, key: *mut u64) -> i32;
+    pub fn yacht_direct_stop(machine: *mut Machine);
+    pub fn yacht_direct_chain(
         machine: *mut Machine,
         key: u64,
         requests: u32,
         closes: u32,
         slot: *mut u32,
     ) -> i32;
-    pub(super) fn yacht_direct_chained(
+    pub fn yacht_direct_chained(
         machine: *mut Machine,
         key: u64,
         member: u32,
         result: i32,
         slot: *mut u32,
     ) -> i32;
-    pub(super) fn yacht_direct_start(machine: *mut Machine, key: u64, slot: *mut u32) -> i32;
-    pub(super) fn yacht_direct_finish(machine: *mut Machine, key: u64, slot: *mut u32) -> i32;
-    pub(super) fn yacht_direct_hold(machine: *mut Machine, key: u64) -> i32;
-    pub(super) fn yacht_direct_release(machine: *mut Machine, key: u64, slot: *mut u32) -> i32;
-    pub(super) fn yacht_direct_end(machine: *mut Machine, key: u64, slot: *mut u32) -> i32;
-    pub(super) fn yacht_direct_closed(machine: *mut Machine, key: u64) -> i32;
-    pub(super) fn yacht_direct_close_failed(machine: *mut Machine, key: u64, slot: *mut u32)
-        -> i32;
-    pub(super) fn yacht_direct_phase(
+    pub fn yacht_direct_start(machine: *mut Machine, key: u64, slot: *mut u32) -> i32;
+    pub fn yacht_direct_finish(machine: *mut Machine, key: u64, slot: *mut u32) -> i32;
+    pub fn yacht_direct_hold(machine: *mut Machine, key: u64) -> i32;
+    pub fn yacht_direct_release(machine: *mut Machine, key: u64, slot: *mut u32) -> i32;
+    pub fn yacht_direct_end(machine: *mut Machine, key: u64, slot: *mut u32) -> i32;
+    pub fn yacht_direct_closed(machine: *mut Machine, key: u64) -> i32;
+    pub fn yacht_direct_close_failed(machine: *mut Machine, key: u64, slot: *mut u32) -> i32;
+    pub fn yacht_direct_phase(
         machine: *mut Machine,
         key: u64,
         requests: *mut u32,
         users: *mut u32,
     ) -> i32;
-    pub(super) fn yacht_direct_len(machine: *mut Machine) -> u32;
-    pub(super) fn yacht_direct_in_flight(machine: *mut Machine) -> u64;
-    pub(super) fn yacht_direct_key_at(machine: *mut Machine, slot: u32, key: *mut u64) -> i32;
-    pub(super) fn yacht_direct_key_in(
-        machine: *mut Machine,
-        phase: i32,
-        from: u32,
-        key: *mut u64,
-    ) -> i32;
+    pub fn yacht_direct_len(machine: *mut Machine) -> u32;
+    pub fn yacht_direct_in_flight(machine: *mut Machine) -> u64;
+    pub fn yacht_direct_key_at(machine: *mut Machine, slot: u32, key: *mut u64) -> i32;
+    pub fn yacht_direct_key_in(machine: *mut Machine, phase: i32, from: u32, key: *mut u64) -> i32;
 }

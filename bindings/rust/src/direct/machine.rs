@@ -11,7 +11,7 @@ use std::mem::MaybeUninit;
 use std::ops::Range;
 
 /// The machine of one ring.
-pub(super) struct Machine {
+pub struct Machine {
     raw: UnsafeCell<Raw>,
 }
 
@@ -19,8 +19,16 @@ pub(super) struct Machine {
 // value may go to another thread (`fx_direct::machine_crosses`).
 unsafe impl Send for Machine {}
 
+/// Calls a function of the library for a machine.
+macro_rules! call {
+    ($it:ident.$name:ident($($given:expr),*)) => {
+        // SAFETY: the machine is open, and no other thread uses it.
+        unsafe { core::$name($it.raw.get(), $($given),*) }
+    };
+}
+
 impl Machine {
-    pub(super) fn open(slots: u32, range: Range<u32>) -> Result<Machine, OpenError> {
+    pub fn open(slots: u32, range: Range<u32>) -> Result<Machine, OpenError> {
         let length = range.end.saturating_sub(range.start);
         let mut raw = MaybeUninit::uninit();
         // SAFETY: it writes the machine if it returns DONE, and else nothing.
@@ -55,10 +63,9 @@ impl Machine {
         next_of(answer, key, slot)
     }
 
-    pub(super) fn reserve(&mut self, slots: u32) -> Result<Key, ReserveError> {
+    pub fn reserve(&mut self, slots: u32) -> Result<Key, ReserveError> {
         let (mut key, mut slot) = (0, 0);
-        // SAFETY: the machine is open, and no other thread uses it.
-        match unsafe { core::yacht_direct_reserve(self.raw.get(), &mut key, &mut slot) } {
+        match call!(self.yacht_direct_reserve(&mut key, &mut slot)) {
             DONE => Ok(Key::from_bits(key).0),
             STOPPED => Err(ReserveError::Stopped),
             _ => Err(ReserveError::Full { slots }),
@@ -66,10 +73,9 @@ impl Machine {
     }
 
     // Adopts the file at a slot, and returns whether its close is asked for.
-    pub(super) fn adopt(&mut self, slot: u32) -> Result<(Key, Next), AdoptError> {
+    pub fn adopt(&mut self, slot: u32) -> Result<(Key, Next), AdoptError> {
         let mut key = 0;
-        // SAFETY: the machine is open, and no other thread uses it.
-        let answer = unsafe { core::yacht_direct_adopt(self.raw.get(), slot, &mut key) };
+        let answer = call!(self.yacht_direct_adopt(slot, &mut key));
         match answer {
             DONE => Ok((Key::from_bits(key).0, Next::Nothing)),
             CLOSE => Ok((Key::from_bits(key).0, Next::Close(slot))),
@@ -79,79 +85,60 @@ impl Machine {
         }
     }
 
-    pub(super) fn stop(&mut self) {
-        // SAFETY: the machine is open, and no other thread uses it.
-        unsafe { core::yacht_direct_stop(self.raw.get()) }
+    pub fn stop(&mut self) {
+        call!(self.yacht_direct_stop())
     }
 
-    pub(super) fn opened(&mut self, key: Key, result: i32) -> Result<Next, Refusal> {
+    pub fn opened(&mut self, key: Key, result: i32) -> Result<Next, Refusal> {
         let mut slot = 0;
-        // SAFETY: the machine is open, and no other thread uses it.
-        let answer =
-            unsafe { core::yacht_direct_opened(self.raw.get(), key.bits(), result, &mut slot) };
+        let answer = call!(self.yacht_direct_opened(key.bits(), result, &mut slot));
         next_of(answer, key, slot)
     }
 
-    pub(super) fn chain(&mut self, key: Key, requests: u32, closes: bool) -> Result<u32, Refusal> {
+    pub fn chain(&mut self, key: Key, requests: u32, closes: bool) -> Result<u32, Refusal> {
         let (mut slot, closes) = (0, u32::from(closes));
-        // SAFETY: the machine is open, and no other thread uses it.
-        let answer = unsafe {
-            core::yacht_direct_chain(self.raw.get(), key.bits(), requests, closes, &mut slot)
-        };
+        let answer = call!(self.yacht_direct_chain(key.bits(), requests, closes, &mut slot));
         done(answer, key)?;
         Ok(slot)
     }
 
-    pub(super) fn chained(
-        &mut self,
-        key: Key,
-        member: Member,
-        result: i32,
-    ) -> Result<Next, Refusal> {
+    pub fn chained(&mut self, key: Key, member: Member, result: i32) -> Result<Next, Refusal> {
         let (mut slot, member) = (0, member as u32);
-        // SAFETY: the machine is open, and no other thread uses it.
-        let answer = unsafe {
-            core::yacht_direct_chained(self.raw.get(), key.bits(), member, result, &mut slot)
-        };
+        let answer = call!(self.yacht_direct_chained(key.bits(), member, result, &mut slot));
         next_of(answer, key, slot)
     }
 
-    pub(super) fn start(&mut self, key: Key) -> Result<u32, Refusal> {
+    pub fn start(&mut self, key: Key) -> Result<u32, Refusal> {
         Ok(self.numbered(core::yacht_direct_start, key)?.1)
     }
 
-    pub(super) fn finish(&mut self, key: Key) -> Result<Next, Refusal> {
+    pub fn finish(&mut self, key: Key) -> Result<Next, Refusal> {
         self.next(core::yacht_direct_finish, key)
     }
 
-    pub(super) fn hold(&mut self, key: Key) -> Result<(), Refusal> {
-        // SAFETY: the machine is open, and no other thread uses it.
-        done(unsafe { core::yacht_direct_hold(self.raw.get(), key.bits()) }, key)
+    pub fn hold(&mut self, key: Key) -> Result<(), Refusal> {
+        done(call!(self.yacht_direct_hold(key.bits())), key)
     }
 
-    pub(super) fn release(&mut self, key: Key) -> Result<Next, Refusal> {
+    pub fn release(&mut self, key: Key) -> Result<Next, Refusal> {
         self.next(core::yacht_direct_release, key)
     }
 
-    pub(super) fn end(&mut self, key: Key) -> Result<Next, Refusal> {
+    pub fn end(&mut self, key: Key) -> Result<Next, Refusal> {
         self.next(core::yacht_direct_end, key)
     }
 
-    pub(super) fn closed(&mut self, key: Key) -> Result<(), Refusal> {
-        // SAFETY: the machine is open, and no other thread uses it.
-        done(unsafe { core::yacht_direct_closed(self.raw.get(), key.bits()) }, key)
+    pub fn closed(&mut self, key: Key) -> Result<(), Refusal> {
+        done(call!(self.yacht_direct_closed(key.bits())), key)
     }
 
-    pub(super) fn close_failed(&mut self, key: Key) -> Result<u32, Refusal> {
+    pub fn close_failed(&mut self, key: Key) -> Result<u32, Refusal> {
         Ok(self.numbered(core::yacht_direct_close_failed, key)?.1)
     }
 
-    pub(super) fn phase(&self, key: Key) -> Option<Phase> {
+    pub fn phase(&self, key: Key) -> Option<Phase> {
         let (mut requests, mut users) = (0, 0);
-        // SAFETY: the machine is open, and no other thread uses it.
-        let phase = unsafe {
-            core::yacht_direct_phase(self.raw.get(), key.bits(), &mut requests, &mut users)
-        };
+        let phase = call!(self.yacht_direct_phase(key.bits(), &mut requests, &mut users));
         match phase {
             core::OPENING => Some(Phase::Opening),
             core::LIVE => Some(Phase::Live { requests, users }),
@@ -162,29 +149,25 @@ impl Machine {
         }
     }
 
-    pub(super) fn len(&self) -> u32 {
-        // SAFETY: the machine is open, and no other thread uses it.
-        unsafe { core::yacht_direct_len(self.raw.get()) }
+    pub fn len(&self) -> u32 {
+        call!(self.yacht_direct_len())
     }
 
-    pub(super) fn in_flight(&self) -> u64 {
-        // SAFETY: the machine is open, and no other thread uses it.
-        unsafe { core::yacht_direct_in_flight(self.raw.get()) }
+    pub fn in_flight(&self) -> u64 {
+        call!(self.yacht_direct_in_flight())
     }
 
     // Returns the key of the life at a slot.
-    pub(super) fn key_at(&self, slot: u32) -> Option<Key> {
+    pub fn key_at(&self, slot: u32) -> Option<Key> {
         let mut key = 0;
-        // SAFETY: the machine is open, and no other thread uses it.
-        let answer = unsafe { core::yacht_direct_key_at(self.raw.get(), slot, &mut key) };
+        let answer = call!(self.yacht_direct_key_at(slot, &mut key));
         (answer == DONE).then(|| Key::from_bits(key).0)
     }
 
     // Returns the key of the first life in a phase, from a slot on.
-    pub(super) fn key_in(&self, phase: PhaseName, from: u32) -> Option<Key> {
+    pub fn key_in(&self, phase: PhaseName, from: u32) -> Option<Key> {
         let (mut key, phase) = (0, phase as i32);
-        // SAFETY: the machine is open, and no other thread uses it.
-        let answer = unsafe { core::yacht_direct_key_in(self.raw.get(), phase, from, &mut key) };
+        let answer = call!(self.yacht_direct_key_in(phase, from, &mut key));
         (answer == DONE).then(|| Key::from_bits(key).0)
     }
 }

@@ -1,53 +1,33 @@
-//! Lives against a model that counts on its own, with random calls.
+//! Lives beside those of the plain machine (`stand_in.rs`), with random calls: over the library, a
+//! model of the verified one.
+use super::core::{CHAINED, CLOSE, CLOSING, DONE, ENDING, LIVE, OPENING};
+use super::stand_in::Plain;
 use super::{
     AdoptError, Adopted, After, Key, Member, Next, OpenError, OtherSlots, Phase, PhaseName,
     Refusal, Releases,
 };
 use super::{ReserveError, Slots};
 use std::cell::Cell;
-use std::collections::HashMap;
-use std::mem::discriminant;
 use std::sync::atomic::{AtomicU32, Ordering::Relaxed};
 use std::sync::{Arc, OnceLock};
 
-/// A life as the model has it.
-#[derive(Clone, Copy, PartialEq, Debug)]
-enum Life {
-    Opening,
-    Live(u32, u32),
-    Ending(u32, u32),
-    Closing,
-    Chained(Chain),
+const MEMBERS: [Member; 3] = [Member::Open, Member::Request, Member::Close];
+
+/// Slots whose values are their keys, and the plain machine.
+struct Model {
+    slots: Slots<Key>,
+    plain: Plain,
+    all: Vec<Key>,
+    seed: u64,
 }
 
-/// A chain, as the lists of the completions that are to come and of those that were seen.
-#[derive(Clone, Copy, PartialEq, Debug, Default)]
-struct Chain {
-    requests: u32,
-    closes: bool,
-    open: Option<bool>,
-    close: Option<bool>,
-    ended: bool,
-}
-
-fn phase_of(life: Life) -> Phase {
-    match life {
-        Life::Opening => Phase::Opening,
-        Life::Live(requests, users) => Phase::Live { requests, users },
-        Life::Ending(requests, users) => Phase::Ending { requests, users },
-        Life::Closing => Phase::Closing,
-        Life::Chained(chain) => Phase::Chained { requests: chain.requests },
-    }
-}
-
-fn refusal(life: Option<Life>, key: Key) -> Refusal {
-    match life {
-        None => Refusal::Stale { key },
-        Some(Life::Opening) => Refusal::IsOpening { key },
-        Some(Life::Live(..)) => Refusal::IsLive { key },
-        Some(Life::Ending(..)) => Refusal::IsEnding { key },
-        Some(Life::Closing) => Refusal::IsClosing { key },
-        Some(Life::Chained(_)) => Refusal::IsChained { key },
+/// Returns the number of what a call asks for, or of its refusal.
+fn number_of(key: Key, answer: Result<Next, Refusal>) -> Result<i32, i32> {
+    match answer {
+        Ok(Next::Nothing) => Ok(DONE),
+        Ok(Next::Close(slot)) if slot == key.slot() => Ok(CLOSE),
+        Err(refusal) if refusal.key() == key => Err(refusal.number()),
+        other => panic!("{other:?} of {key}"),
     }
 }
 
@@ -73,268 +53,174 @@ fn submit_chain(slots: &mut Slots<Key>, key: Key, requests: u32, closes: bool) {
     assert_eq!(slots.in_flight(), before + u64::from(submitted.get()) - 1);
 }
 
-struct Model {
-    lives: HashMap<Key, Life>,
-    all: Vec<Key>,
-    seed: u64,
-    stopped: bool,
-    // the number of slots in the allocation range
-    ranged: usize,
-}
-
 impl Model {
     fn below(&mut self, most: usize) -> usize {
         self.seed = self.seed.wrapping_mul(6364136223846793005).wrapping_add(1442695040888963407);
         (self.seed >> 33) as usize % most
     }
 
-    // What a request or a user that is gone leaves, and whether the slot is to be closed.
-    fn left(&mut self, key: Key, life: Life) -> Next {
-        let is_last = life == Life::Ending(0, 0);
-        self.lives.insert(key, if is_last { Life::Closing } else { life });
-        if is_last {
-            Next::Close(key.slot())
-        } else {
-            Next::Nothing
+    /// Returns the number of what a completion leaves, or of its refusal. A life that is over
+    /// returns its value.
+    fn after(&mut self, key: Key, answer: Result<After<Key>, Refusal>) -> Result<i32, i32> {
+        let is_over = self.plain.phase(key.bits()).is_err();
+        number_of(
+            key,
+            answer.map(|after| match after {
+                After::Close(slot) => Next::Close(slot),
+                After::Nothing => {
+                    assert!(!is_over, "{key} is over");
+                    Next::Nothing
+                }
+                After::Over(value) => {
+                    assert_eq!((value, is_over), (key, true));
+                    Next::Nothing
+                }
+            }),
+        )
+    }
+
+    fn chain(&mut self, key: Key, requests: u32, closes: bool) {
+        match self.plain.chain(key.bits(), requests, closes) {
+            Ok(_) => submit_chain(&mut self.slots, key, requests, closes),
+            Err(number) => {
+                let refused = self.slots.chain(key, |_| panic!("an open is submitted")).map(drop);
+                assert_eq!(refused.map_err(Refusal::number), Err(number));
+                let refused = self.slots.count_chain(key, requests, closes);
+                assert_eq!(refused.map_err(Refusal::number), Err(number));
+            }
         }
     }
 
-    // What a completion of a chain's member leaves, or nothing if it can't come.
-    fn chained(
-        &mut self,
-        key: Key,
-        mut chain: Chain,
-        member: Member,
-        good: bool,
-    ) -> Option<After<Key>> {
-        match member {
-            Member::Open if chain.open.is_none() => chain.open = Some(good),
-            Member::Request if chain.requests > 0 => chain.requests -= 1,
-            Member::Close if chain.closes && chain.close.is_none() => chain.close = Some(good),
-            _ => return None,
-        }
-        if (chain.open, chain.close) == (Some(false), Some(true)) {
-            return None;
-        }
-        let is_over = chain.requests == 0 && chain.closes == chain.close.is_some();
-        let life = match chain.open {
-            Some(true) if !chain.closes && !chain.ended && !self.stopped => {
-                Life::Live(chain.requests, 0)
-            }
-            Some(true) if !chain.closes => Life::Ending(chain.requests, 0),
-            Some(true) if is_over && chain.close == Some(false) => Life::Ending(0, 0),
-            Some(_) if is_over => {
-                self.lives.remove(&key);
-                return Some(After::Over(key));
-            }
-            _ => Life::Chained(chain),
+    fn call(&mut self, key: Key, what: usize) {
+        let (bits, slot) = (key.bits(), key.slot());
+        let (few, good) = (self.below(3) as u32, self.below(3) > 0);
+        let result = if good { few as i32 } else { -125 };
+        let to = |close: bool| if close { Next::Close(slot) } else { Next::Nothing };
+        let at = |close, answer: Result<u32, Refusal>| {
+            number_of(key, answer.inspect(|it| assert_eq!(*it, slot)).map(|_| to(close)))
         };
-        Some(self.after(key, life))
+        let (wanted, found) = match what {
+            0 => {
+                let wanted = self.plain.opened(bits, good);
+                let opened = self.slots.opened(key, result);
+                (wanted, self.after(key, opened))
+            }
+            1 | 2 => (self.plain.start(bits), at(false, self.slots.start(key))),
+            3 | 4 => (self.plain.finish(bits), number_of(key, self.slots.finish(key))),
+            5 => (self.plain.hold(bits), number_of(key, self.slots.hold(key).map(|_| to(false)))),
+            6 => (self.plain.release(bits), number_of(key, self.slots.release(key))),
+            7 => (self.plain.end(bits), number_of(key, self.slots.end(key))),
+            8 => {
+                let value = self.slots.closed(key).inspect(|value| assert_eq!(*value, key));
+                (self.plain.closed(bits), number_of(key, value.map(|_| to(false))))
+            }
+            9 => (self.plain.close_failed(bits), at(true, self.slots.close_failed(key))),
+            10 => return self.chain(key, few, good),
+            _ => {
+                let wanted = self.plain.chained(bits, what as u32 % 3, good);
+                let seen = self.slots.chained(key, MEMBERS[what % 3], result);
+                (wanted, self.after(key, seen))
+            }
+        };
+        assert_eq!(found, wanted, "call {what} of {key}");
     }
 
-    // What a completion leaves that ends no life.
-    fn after(&mut self, key: Key, life: Life) -> After<Key> {
-        match self.left(key, life) {
-            Next::Nothing => After::Nothing,
-            Next::Close(slot) => After::Close(slot),
+    fn reserve(&mut self) {
+        let (wanted, count) = (self.plain.reserve(), self.slots.slots());
+        let found = self.slots.reserve_with(|key| key);
+        assert_eq!(found.map(Key::bits).map_err(ReserveError::number), wanted);
+        if let Err(ReserveError::Full { slots }) = found {
+            assert_eq!(slots, count);
         }
+        self.all.extend(found);
     }
 
-    // A completion of a member, or a chain's begin.
-    fn call_of_a_chain(&mut self, slots: &mut Slots<Key>, key: Key, what: usize) {
-        let life = self.lives.get(&key).copied();
-        let no = refusal(life, key);
-        let (requests, good) = (self.below(3) as u32, self.below(3) > 0);
-        let member = [Member::Open, Member::Request, Member::Close][what % 3];
-        match (what, life) {
-            (0, Some(Life::Opening)) => {
-                let (closes, open, close) = (good, None, None);
-                let ended = false;
-                self.lives
-                    .insert(key, Life::Chained(Chain { requests, closes, open, close, ended }));
-                submit_chain(slots, key, requests, closes);
-            }
-            (0, _) => {
-                let refused = slots.chain(key, |_| panic!("an open is submitted"));
-                assert_eq!(refused.map(drop), Err(no));
-                assert_eq!(slots.count_chain(key, requests, good), Err(no));
-            }
-            (_, Some(Life::Chained(chain))) => {
-                let seen = self.chained(key, chain, member, good);
-                let result = if good { requests as i32 } else { -125 };
-                assert_eq!(slots.chained(key, member, result), seen.ok_or(no));
-            }
-            _ => {}
+    fn adopt(&mut self, slot: u32) {
+        let earlier = self.slots.key_at(slot);
+        let wanted = self.plain.adopt(slot);
+        let found = self.slots.adopt_with(slot, |key| key);
+        if let Ok(Adopted { key, earlier: value, .. }) = found {
+            assert_eq!((value, key.slot()), (earlier, slot));
+            self.all.push(key);
         }
+        let number = |it: Adopted<Key>| (it.key.bits(), number_of(it.key, Ok(it.next)).unwrap());
+        assert_eq!(found.map(number).map_err(AdoptError::number), wanted);
     }
 
-    fn call(&mut self, slots: &mut Slots<Key>, key: Key, what: usize) {
-        let life = self.lives.get(&key).copied();
-        let no = refusal(life, key);
-        match (what, life) {
-            (0, Some(Life::Opening)) => {
-                let life = if self.stopped { Life::Ending(0, 0) } else { Life::Live(0, 0) };
-                let after = self.after(key, life);
-                assert_eq!(slots.opened(key, key.slot() as i32), Ok(after));
-            }
-            (1, Some(Life::Opening)) => {
-                self.lives.remove(&key);
-                assert_eq!(slots.opened(key, -125), Ok(After::Over(key)));
-            }
-            (0 | 1, _) => assert_eq!(slots.opened(key, -(what as i32)), Err(no)),
-            (2 | 3, Some(Life::Live(r, u))) => {
-                self.lives.insert(key, Life::Live(r + 1, u));
-                assert_eq!(slots.start(key), Ok(key.slot()));
-            }
-            (2 | 3, _) => assert_eq!(slots.start(key), Err(no)),
-            (4 | 5, Some(Life::Live(r, u))) if r > 0 => {
-                assert_eq!(slots.finish(key), Ok(self.left(key, Life::Live(r - 1, u))));
-            }
-            (4 | 5, Some(Life::Ending(r, u))) if r > 0 => {
-                assert_eq!(slots.finish(key), Ok(self.left(key, Life::Ending(r - 1, u))));
-            }
-            (4 | 5, _) => assert_eq!(slots.finish(key), Err(no)),
-            (6, Some(Life::Live(r, u))) => {
-                self.lives.insert(key, Life::Live(r, u + 1));
-                assert_eq!(slots.hold(key), Ok(()));
-            }
-            (6, _) => assert_eq!(slots.hold(key), Err(no)),
-            (7, Some(Life::Live(r, u))) if u > 0 => {
-                assert_eq!(slots.release(key), Ok(self.left(key, Life::Live(r, u - 1))));
-            }
-            (7, Some(Life::Ending(r, u))) if u > 0 => {
-                assert_eq!(slots.release(key), Ok(self.left(key, Life::Ending(r, u - 1))));
-            }
-            (7, _) => assert_eq!(slots.release(key), Err(no)),
-            (8, Some(Life::Live(r, u))) => {
-                assert_eq!(slots.end(key), Ok(self.left(key, Life::Ending(r, u))));
-            }
-            (8, Some(Life::Chained(mut chain))) => {
-                chain.ended = true;
-                self.lives.insert(key, Life::Chained(chain));
-                assert_eq!(slots.end(key), Ok(Next::Nothing));
-            }
-            (8, _) => assert_eq!(slots.end(key), Err(no)),
-            (9, Some(Life::Closing)) => {
-                self.lives.remove(&key);
-                assert_eq!(slots.closed(key), Ok(key));
-            }
-            (9, _) => assert_eq!(slots.closed(key), Err(no)),
-            (_, Some(Life::Closing)) => assert_eq!(slots.close_failed(key), Ok(key.slot())),
-            _ => assert_eq!(slots.close_failed(key), Err(no)),
-        }
-    }
-
-    fn reserve(&mut self, slots: &mut Slots<Key>) {
-        match slots.reserve_with(|key| key) {
-            Ok(key) => {
-                assert!(!self.all.contains(&key), "{key} again");
-                assert!(
-                    self.lives.keys().all(|it| it.slot() != key.slot()),
-                    "{key} beside another"
-                );
-                self.all.push(key);
-                self.lives.insert(key, Life::Opening);
-            }
-            Err(ReserveError::Full { slots: count }) => {
-                let all = count as usize - self.ranged;
-                assert_eq!((count, self.lives.len()), (slots.slots(), all));
-            }
-            Err(error) => assert!(self.stopped && error == ReserveError::Stopped),
-        }
-    }
-
-    // Ends each live life, and completes each call and each user: then no life is left.
-    fn stop(&mut self, slots: &mut Slots<Key>) {
-        self.stopped = true;
-        slots.stop();
-        self.reserve(slots);
-        let mut from = 0;
-        while let Some(key) = slots.key_in(PhaseName::Live, from) {
-            from = key.slot() + 1;
-            self.call(slots, key, 8);
-        }
-        assert_eq!(slots.keys(PhaseName::Live).next(), None);
-        while let Some((key, life)) = self.lives.iter().next().map(|(key, life)| (*key, *life)) {
-            let (open, close, member) = (self.below(2), 9 + self.below(2), self.below(3) + 1);
-            match life {
-                Life::Opening => self.call(slots, key, open),
-                Life::Chained(_) => self.call_of_a_chain(slots, key, member),
-                Life::Ending(0, _) => self.call(slots, key, 7),
-                Life::Ending(..) => self.call(slots, key, 4),
-                Life::Closing => self.call(slots, key, close),
-                Life::Live(..) => panic!("{key} is live after a stop"),
-            }
-        }
-        self.agrees(slots);
-        assert!(slots.is_empty() && slots.in_flight() == 0);
+    // Makes a call of a life under way, or of one of the latest that may be over.
+    fn random_call(&mut self) {
+        let slot = self.below(self.slots.slots() as usize) as u32;
+        let back = self.below(self.all.len().min(60));
+        let latest = self.all[self.all.len() - 1 - back];
+        let key = self.slots.key_at(slot).filter(|_| back % 4 != 0).unwrap_or(latest);
+        let what = self.below(14);
+        self.call(key, what);
     }
 
     // Checks what can be asked.
-    fn agrees(&self, slots: &mut Slots<Key>) {
-        let count = self.lives.len();
-        assert_eq!((slots.len() as usize, slots.is_empty()), (count, count == 0));
-        let kinds = [
-            (PhaseName::Opening, Life::Opening),
-            (PhaseName::Live, Life::Live(0, 0)),
-            (PhaseName::Ending, Life::Ending(0, 0)),
-            (PhaseName::Closing, Life::Closing),
-            (PhaseName::Chained, Life::Chained(Chain::default())),
-        ];
-        for (name, like) in kinds {
-            let is_like = |life: &Life| discriminant(life) == discriminant(&like);
-            let of_model = self.lives.iter().filter(|(_, life)| is_like(life));
-            let mut of_model: Vec<Key> = of_model.map(|(key, _)| *key).collect();
-            of_model.sort_by_key(|key| key.slot());
-            assert_eq!(slots.keys(name).collect::<Vec<_>>(), of_model);
+    fn agrees(&mut self) {
+        let (slots, plain) = (&mut self.slots, &mut self.plain);
+        assert_eq!((slots.len(), slots.is_empty()), (plain.len, plain.len == 0));
+        assert_eq!(slots.in_flight(), plain.in_flight);
+        let names = [PhaseName::Opening, PhaseName::Live, PhaseName::Ending, PhaseName::Closing];
+        for name in names.into_iter().chain([PhaseName::Chained]) {
+            let next =
+                |key: &u64| plain.key_in(name as i32, Key::from_bits(*key).0.slot() + 1).ok();
+            let wanted = std::iter::successors(plain.key_in(name as i32, 0).ok(), next);
+            assert!(slots.keys(name).map(Key::bits).eq(wanted), "{name:?}");
         }
-        let in_flight = self.lives.values().map(|life| match life {
-            Life::Opening | Life::Closing => 1,
-            Life::Live(requests, _) | Life::Ending(requests, _) => u64::from(*requests),
-            Life::Chained(it) => {
-                let others = [it.open.is_none(), it.closes && it.close.is_none()];
-                others.into_iter().map(u64::from).sum::<u64>() + u64::from(it.requests)
-            }
-        });
-        assert_eq!(slots.in_flight(), in_flight.sum::<u64>());
         for key in self.all.iter().rev().take(20) {
-            let life = self.lives.get(key).copied();
-            assert_eq!(slots.phase(*key), life.map(phase_of));
-            assert_eq!(slots.get(*key), life.map(|_| key));
-            assert_eq!(slots.get_mut(*key).copied(), life.map(|_| *key));
-            assert_eq!(slots.key_at(key.slot()) == Some(*key), life.is_some());
+            let found = slots.phase(*key).map(|phase| match phase {
+                Phase::Opening => (OPENING, 0, 0),
+                Phase::Live { requests, users } => (LIVE, requests, users),
+                Phase::Ending { requests, users } => (ENDING, requests, users),
+                Phase::Closing => (CLOSING, 0, 0),
+                Phase::Chained { requests } => (CHAINED, requests, 0),
+            });
+            assert_eq!(found, plain.phase(key.bits()).ok(), "{key}");
+            let value = found.map(|_| *key);
+            assert_eq!((slots.get(*key).copied(), slots.get_mut(*key).copied()), (value, value));
+            let at = slots.key_at(key.slot()).map(Key::bits);
+            assert_eq!(at, plain.key_at(key.slot()).ok());
         }
     }
 }
 
 #[test]
-fn random_calls_answer_as_the_model() {
-    for (seed, count) in [(1, 1), (2, 3), (3, 40)] {
-        let mut slots = Slots::new(count).unwrap();
-        let (lives, all) = (HashMap::new(), Vec::new());
-        let (stopped, ranged) = (false, 0);
-        let mut model = Model { lives, all, seed, stopped, ranged };
+fn random_calls_answer_as_the_plain_machine() {
+    for (seed, count, range) in [(1, 1, 0..0), (2, 3, 0..0), (3, 40, 0..0), (4, 5, 2..4)] {
+        let slots = Slots::with_range(count, range.clone()).unwrap();
+        let plain = Plain::new(count, (range.start, range.end - range.start));
+        let mut model = Model { slots, plain, all: Vec::new(), seed };
+        model.reserve();
         for round in 0..20_000 {
-            if model.all.is_empty() || model.below(12) == 0 {
-                model.reserve(&mut slots);
-            } else {
-                // most calls are of lives under way, and some of the latest that are over
-                let living = slots.key_at(model.below(slots.slots() as usize) as u32);
-                let back = model.below(model.all.len().min(60));
-                let latest = model.all[model.all.len() - 1 - back];
-                let key = living.filter(|_| back % 4 != 0).unwrap_or(latest);
-                let what = model.below(18);
-                match what {
-                    0..=10 => model.call(&mut slots, key, what),
-                    _ => model.call_of_a_chain(&mut slots, key, what % 4),
+            match model.below(24) {
+                0 | 1 => model.reserve(),
+                2 | 3 => {
+                    let slot = model.below(count as usize + 1) as u32;
+                    model.adopt(slot);
                 }
+                _ => model.random_call(),
             }
             if round % 16 == 0 {
-                model.agrees(&mut slots);
+                model.agrees();
             }
         }
         assert!(model.all.len() > 300, "{} lives", model.all.len());
-        model.stop(&mut slots);
+        // after a stop each life comes to its end
+        model.slots.stop();
+        model.plain.stopped = true;
+        model.reserve();
+        while let Some(key) = model.slots.key_in(PhaseName::Live, 0) {
+            model.call(key, 7);
+        }
+        while !model.slots.is_empty() {
+            model.random_call();
+            model.agrees();
+        }
+        assert_eq!(model.slots.in_flight(), 0);
+        (0..count).for_each(|slot| model.adopt(slot));
+        model.agrees();
     }
 }
 
@@ -434,67 +320,4 @@ fn users_in_other_threads_come_back() {
     assert_eq!((woken.load(Relaxed), collected.1.load(Relaxed)), (2, 1));
     assert_eq!(slots.release(key), Ok(Next::Close(key.slot())));
     assert_eq!(slots.phase(key), Some(Phase::Closing));
-}
-
-#[test]
-fn adoptions_are_lives_of_the_range() {
-    let (lives, all) = (HashMap::new(), Vec::new());
-    let mut model = Model { lives, all, seed: 4, stopped: false, ranged: 2 };
-    let mut slots = Slots::with_range(5, 2..4).unwrap();
-    // the lives of the range, and whether each is closing
-    let mut kept: [Option<(Key, bool)>; 2] = [None; 2];
-    let mut early = 0;
-    for round in 0..4_000 {
-        let slot = model.below(2);
-        let key = kept[slot].map(|it| it.0);
-        match (model.below(3), kept[slot]) {
-            (0, Some((_, false))) => {
-                let error = AdoptError::NotFree { slot: slot as u32 + 2 };
-                assert_eq!(slots.adopt_with(slot as u32 + 2, |key| key), Err(error));
-            }
-            (0, life) => {
-                let Adopted { key, next, earlier } =
-                    slots.adopt_with(slot as u32 + 2, |key| key).unwrap();
-                assert_eq!(
-                    (key.slot(), next, slots.get(key)),
-                    (slot as u32 + 2, Next::Nothing, Some(&key))
-                );
-                assert_eq!(earlier, life.map(|it| it.0));
-                if let Some((earlier, _)) = life {
-                    assert_eq!(slots.closed(earlier), Err(Refusal::Stale { key: earlier }));
-                    early += 1;
-                }
-                kept[slot] = Some((key, false));
-            }
-            (1, Some((key, false))) => {
-                assert_eq!(slots.end(key), Ok(Next::Close(key.slot())));
-                kept[slot] = Some((key, true));
-            }
-            (2, Some((key, true))) => {
-                assert_eq!(slots.closed(key), Ok(key));
-                kept[slot] = None;
-            }
-            _ => assert_eq!(slots.key_at(slot as u32 + 2), key),
-        }
-        if round % 16 == 0 {
-            model.reserve(&mut slots);
-        }
-        let closing = kept.iter().flatten().filter(|it| it.1).count();
-        assert_eq!(slots.in_flight(), (model.lives.len() + closing) as u64);
-    }
-    assert!(early > 100 && model.lives.keys().all(|key| !(2..4).contains(&key.slot())));
-    assert_eq!(slots.reserve_with(|key| key), Err(ReserveError::Full { slots: 5 }));
-    for slot in [1, 4, 5, u32::MAX] {
-        assert_eq!(slots.adopt_with(slot, |key| key), Err(AdoptError::OutOfRange { slot }));
-    }
-    slots.stop();
-    for slot in [2, 3] {
-        match slots.adopt_with(slot, |key| key) {
-            Ok(Adopted { key, next, .. }) => {
-                assert_eq!((key.slot(), next), (slot, Next::Close(slot)));
-                assert_eq!(slots.phase(key), Some(Phase::Closing));
-            }
-            Err(error) => assert_eq!((error, error.number()), (AdoptError::NotFree { slot }, -19)),
-        }
-    }
 }

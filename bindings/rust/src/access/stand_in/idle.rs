@@ -19,10 +19,7 @@ impl Table {
                 "a slot has too many takes"
             );
             let heat = (word - file_word(name, takes).min(word)) / HEAT;
-            assert!(
-                !is_hot(word) || heat <= self.passes as u64,
-                "a pass heats a slot twice"
-            );
+            assert!(!is_hot(word) || heat <= self.passes as u64, "a pass heats a slot twice");
             nodes.push(name);
         }
     }
@@ -56,10 +53,7 @@ impl Table {
 /// # Safety
 /// As of the core's functions. These are all workers of the table.
 pub(crate) unsafe fn check_idle(cores: &[Core]) {
-    let workers: Vec<&Worker> = cores
-        .iter()
-        .map(|it| unsafe { &*it.worker().cast() })
-        .collect();
+    let workers: Vec<&Worker> = cores.iter().map(|it| unsafe { &*it.worker().cast() }).collect();
     let (table, mut nodes) = (&workers[0].table, Vec::new());
     table.check_slots(&mut nodes);
     table.check_groups();
@@ -68,11 +62,7 @@ pub(crate) unsafe fn check_idle(cores: &[Core]) {
         table.check_pass(&it.pass, &mut nodes);
         list += u64::from(it.pass.listed) << (it.pass.number - 1);
     }
-    assert_eq!(
-        table.list(1).peek(),
-        list,
-        "the list has the wrong bit for a pass"
-    );
+    assert_eq!(table.list(1).peek(), list, "the list has the wrong bit for a pass");
     nodes.sort();
     assert!(nodes.iter().copied().eq(0..nodes.len()), "a node is lost");
 }

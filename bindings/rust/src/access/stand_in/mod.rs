@@ -71,11 +71,7 @@ impl Worker {
 
     // Retires the file of a slot that had this word.
     fn retire(&mut self, word: u64, out: &mut Outcome) -> i64 {
-        answer(
-            self.table.retire(&mut self.pass, word),
-            IN_USE,
-            &mut out.tag,
-        )
+        answer(self.table.retire(&mut self.pass, word), IN_USE, &mut out.tag)
     }
 
     // Removes the file of a key, by a worker that isn't refused. The pass holds it meanwhile, and
@@ -168,12 +164,7 @@ unsafe fn worker<'a>(handle: *mut Core) -> Turn<'a, Worker> {
     sync::call(unsafe { &mut *(*handle).worker().cast() })
 }
 
-pub(crate) unsafe fn yacht_core_open(
-    slots: u32,
-    installing: u32,
-    out: *mut Core,
-    count: usize,
-) -> i64 {
+pub unsafe fn yacht_core_open(slots: u32, installing: u32, out: *mut Core, count: usize) -> i64 {
     let is_right = (1..=MOST_SLOTS).contains(&slots)
         && (1..=MOST_INSTALLING.min(count as u32)).contains(&installing)
         && count <= MOST_WORKERS as usize;
@@ -199,7 +190,7 @@ pub(crate) unsafe fn yacht_core_open(
     DONE
 }
 
-pub(crate) unsafe fn yacht_core_close(handle: Core) {
+pub unsafe fn yacht_core_close(handle: Core) {
     // SAFETY: the handle is used no more.
     drop(unsafe { Box::from_raw(handle.worker().cast::<Worker>()) });
 }
@@ -209,7 +200,7 @@ pub(crate) unsafe fn yacht_core_close(handle: Core) {
 macro_rules! calls {
     ($($name:ident($it:ident $(, $given:ident: $kind:ty)* => $out:ident: $to:ty;
                    $slot:expr, $installs:literal) $body:block)*) => { $(
-        pub(crate) unsafe fn $name(handle: *mut Core, $($given: $kind,)* out: *mut $to) -> i64 {
+        pub unsafe fn $name(handle: *mut Core, $($given: $kind,)* out: *mut $to) -> i64 {
             let (mut $it, $out) = unsafe { (worker(handle), &mut *out) };
             *$out = <$to>::default();
             if let Some(refusal) = $it.refuses($slot, $installs) {
@@ -288,7 +279,7 @@ calls! {
     }
 }
 
-pub(crate) unsafe fn yacht_core_release(handle: *mut Core, dropped: *mut u64) -> i64 {
+pub unsafe fn yacht_core_release(handle: *mut Core, dropped: *mut u64) -> i64 {
     let (mut it, dropped) = unsafe { (worker(handle), &mut *dropped) };
     *dropped = 0;
     let Some(node) = it.held.take() else {
@@ -298,7 +289,7 @@ pub(crate) unsafe fn yacht_core_release(handle: *mut Core, dropped: *mut u64) ->
     answer(table.release(pass, node), DONE, dropped)
 }
 
-pub(crate) unsafe fn yacht_core_is_current(handle: *mut Core, slot: u32) -> i64 {
+pub unsafe fn yacht_core_is_current(handle: *mut Core, slot: u32) -> i64 {
     let it = unsafe { worker(handle) };
     match it.held {
         None => IDLE,
@@ -307,7 +298,7 @@ pub(crate) unsafe fn yacht_core_is_current(handle: *mut Core, slot: u32) -> i64 
     }
 }
 
-pub(crate) unsafe fn yacht_core_put_empty(handle: *mut Core, slot: u32, tag: u64) -> i64 {
+pub unsafe fn yacht_core_put_empty(handle: *mut Core, slot: u32, tag: u64) -> i64 {
     let mut it = unsafe { worker(handle) };
     let number = std::mem::take(&mut it.kept);
     if let Some(refusal) = it.refuses(Some(slot), true) {
@@ -322,7 +313,7 @@ pub(crate) unsafe fn yacht_core_put_empty(handle: *mut Core, slot: u32, tag: u64
 ///
 /// # Safety
 /// As of the core's functions.
-pub(crate) unsafe fn draw_next(handle: *mut Core, number: u64) {
+pub unsafe fn draw_next(handle: *mut Core, number: u64) {
     unsafe { worker(handle) }.number = number;
 }
 
@@ -330,6 +321,6 @@ pub(crate) unsafe fn draw_next(handle: *mut Core, number: u64) {
 ///
 /// # Safety
 /// As of the core's functions.
-pub(crate) unsafe fn words_of(handle: *mut Core) -> Vec<u64> {
+pub unsafe fn words_of(handle: *mut Core) -> Vec<u64> {
     unsafe { worker(handle) }.table.words().collect()
 }

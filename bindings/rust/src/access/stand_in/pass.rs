@@ -95,8 +95,7 @@ impl Table {
         let (mut found, mut freed) = (None, None);
         if let Some(node) = node_in(word) {
             if !pass.listed {
-                self.list(pass.number)
-                    .fetch_add(bit_of(pass.number), SeqCst);
+                self.list(pass.number).fetch_add(bit_of(pass.number), SeqCst);
                 pass.listed = true;
             } else if is_hot(word) {
                 found = self.guard(pass, slot, node);
@@ -115,8 +114,7 @@ impl Table {
     // Lists a pass that isn't listed.
     fn enlist(&self, pass: &mut Pass) {
         if !pass.listed {
-            self.list(pass.number)
-                .fetch_add(bit_of(pass.number), SeqCst);
+            self.list(pass.number).fetch_add(bit_of(pass.number), SeqCst);
             pass.listed = true;
         }
     }
@@ -263,11 +261,7 @@ impl Table {
         number: u64,
     ) -> Replaced {
         self.enlist(pass);
-        let mut it = Replaced {
-            changed: Err(Miss::Empty),
-            freed: None,
-            released: None,
-        };
+        let mut it = Replaced { changed: Err(Miss::Empty), freed: None, released: None };
         let word = self.slot(slot).load(SeqCst);
         let Some(named) = node_in(word) else {
             return it;
@@ -329,10 +323,7 @@ impl Table {
     fn exchange(&self, slot: usize, node: usize, word: u64, own: u64) -> Result<u64, Miss> {
         let mut expected = word;
         for _ in 0..self.config.tries {
-            match self
-                .slot(slot)
-                .compare_exchange(expected, own, SeqCst, SeqCst)
-            {
+            match self.slot(slot).compare_exchange(expected, own, SeqCst, SeqCst) {
                 Ok(found) => return Ok(found),
                 Err(found) => expected = named_by(found, node)?,
             }
@@ -344,9 +335,7 @@ impl Table {
     fn charge(&self, pass: usize, node: usize) -> bool {
         let (hold, name) = (self.hold(pass), announced(node));
         hold.load(SeqCst) == name
-            && hold
-                .compare_exchange(name, name | CHARGE, SeqCst, SeqCst)
-                .is_ok()
+            && hold.compare_exchange(name, name | CHARGE, SeqCst, SeqCst).is_ok()
     }
 
     // Charges the hold words of the other listed passes that announce the node. Returns the number

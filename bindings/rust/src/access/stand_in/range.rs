@@ -45,8 +45,7 @@ impl Table {
     #[inline(always)]
     pub(crate) fn lower(&self, slot: usize) {
         if self.groups > 0 {
-            self.group(slot >> self.config.group_bits)
-                .fetch_sub(1, SeqCst);
+            self.group(slot >> self.config.group_bits).fetch_sub(1, SeqCst);
             if self.question().load(SeqCst) != 0 {
                 self.question().swap(0, SeqCst);
             }
@@ -57,8 +56,7 @@ impl Table {
     #[inline(always)]
     pub(crate) fn raise(&self, slot: usize, was_empty: bool) {
         if self.groups > 0 && was_empty {
-            self.group(slot >> self.config.group_bits)
-                .fetch_add(1, SeqCst);
+            self.group(slot >> self.config.group_bits).fetch_add(1, SeqCst);
         }
     }
 
@@ -112,6 +110,8 @@ impl Table {
         if let Some(found) = at(first) {
             return Some(found);
         }
+        // another pass may have emptied the slot before, which this one filled last
+        let first = if from == Some(first) { first.saturating_sub(1) } else { first };
         let (step, mut group) = (STEPS[number % 8] % groups, first >> bits);
         for _ in 0..groups {
             let begin = group << bits;

@@ -27,22 +27,17 @@ const COLD: Family = Family::of(1, 1, 16, None, 1);
 const WARM: Family = Family::of(1, 1, 2, None, 1);
 const NEW: Family = Family::of(1, 1, 0, None, 0);
 // an allocation range of one slot; of two, each a group of its own, full or with a free slot; of
-// two in one group; and of three, in groups of two and of one
+// two in one group; and of three, in groups of two and of one, or each a group of its own
 const ONE: Family = Family::of(1, 1, 16, Some(0), 1);
 const RANGE: Family = Family::of(2, 2, 16, Some(0), 1);
 const HALF: Family = Family::of(2, 1, 16, Some(0), 1);
 const GROUP: Family = Family::of(2, 2, 16, Some(1), 1);
 const GROUPS: Family = Family::of(3, 3, 16, Some(1), 1);
+const APART: Family = Family::of(3, 3, 16, Some(0), 1);
 
 impl Family {
     const fn of(slots: u32, full: u32, cold_takes: u64, bits: Option<u32>, looks: u32) -> Family {
-        Family {
-            slots,
-            full,
-            cold_takes,
-            group_bits: bits,
-            looks,
-        }
+        Family { slots, full, cold_takes, group_bits: bits, looks }
     }
 
     fn open(&self, count: usize) -> Scene {
@@ -124,9 +119,7 @@ fn want_states(found: usize, states: usize) {
 /// Returns each list with each item at its end.
 fn product<T: Clone>(lists: &[Vec<T>], items: &[T]) -> Vec<Vec<T>> {
     let with = |list: &Vec<T>, it: &T| [list.as_slice(), std::slice::from_ref(it)].concat();
-    let all = lists
-        .iter()
-        .flat_map(|list| items.iter().map(move |it| with(list, it)));
+    let all = lists.iter().flat_map(|list| items.iter().map(move |it| with(list, it)));
     all.collect()
 }
 
@@ -181,6 +174,7 @@ fn steps_of_the_range() {
     GROUPS.has_all(1099, &[&[CHANGES], &[CHANGES]]);
     RANGE.has_all(985, &[&[CHANGES], &[BY_KEY]]);
     RANGE.has(650, &[&[INSERT, INSERT], &[REMOVE_SECOND]]);
+    APART.has_all(1216, &[&[CHANGES], &[CHANGES]]);
     GROUPS.has(633, &[&[INSERT, INSERT], &[REMOVE_SECOND]]);
     let moved = &[REMOVE, PUT_SECOND, REMOVE_SECOND, PUT, REMOVE, PUT_SECOND];
     HALF.has(894, &[moved, &[FIND]]);
@@ -212,7 +206,7 @@ fn steps_of_three_threads() {
 fn steps_of_more_calls() {
     HOT.has_all(83_167, &[&[REQUESTS; 2], &[REQUESTS; 2]]);
     WARM.has_all(67_374, &[&[REQUESTS; 2], &[REQUESTS; 2]]);
-    RANGE.has_all(86_318, &[&[CHANGES; 2], &[CHANGES; 2]]);
+    RANGE.has_all(86_314, &[&[CHANGES; 2], &[CHANGES; 2]]);
     GROUPS.has_all(8098, &[&[CHANGES; 2], &[CHANGES]]);
     COLD.has_all(21_644, &[&[BY_KEY; 2], &[BY_KEY]]);
 }

@@ -68,11 +68,7 @@ impl Scene {
 
     /// Ends a call that removes or replaces a file. Returns whether it did.
     fn end(&self, done: i64, out: &Outcome) -> bool {
-        self.close([
-            if done == DROPPED { out.tag } else { 0 },
-            out.freed,
-            out.released,
-        ]);
+        self.close([if done == DROPPED { out.tag } else { 0 }, out.freed, out.released]);
         done >= 0
     }
 
@@ -83,8 +79,7 @@ impl Scene {
             let right = out.tag == 100 * (FIRST as u64 + 1);
             assert!(right, "another file than the key's is removed");
         }
-        self.ends
-            .set(self.ends.get() + u32::from(self.end(done, out)));
+        self.ends.set(self.ends.get() + u32::from(self.end(done, out)));
     }
 
     /// Fills a slot. Returns the file's number.
@@ -118,11 +113,7 @@ impl Scene {
         let open = || self.files.borrow().values().filter(|it| it.get()).count() as u32;
         let count = self.cores.borrow().len();
         for who in 0..count {
-            let free = if family.group_bits.is_some() {
-                family.slots - open()
-            } else {
-                0
-            };
+            let free = if family.group_bits.is_some() { family.slots - open() } else { 0 };
             let inserted = (0..free).find(|_| self.insert(who) < 0);
             assert_eq!(inserted, None, "an insertion finds no free slot");
             if family.group_bits.is_some() {
@@ -183,10 +174,7 @@ pub(super) const REMOVE_SECOND: Call = |it, who| it.remove(who, 1);
 pub(super) const INSERT: Call = |it, who| {
     marked(true);
     let done = it.insert(who);
-    assert!(
-        done != FULL || marked(false),
-        "the answer is full, and a slot was free"
-    );
+    assert!(done != FULL || marked(false), "the answer is full, and a slot was free");
 };
 
 /// A search for a free slot.
@@ -194,10 +182,7 @@ pub(super) const FIND: Call = |it, who| {
     marked(true);
     let mut number = 0;
     let done = unsafe { yacht_core_find(it.core(who), &mut number) };
-    assert!(
-        done != FULL || marked(false),
-        "the answer is full, and a slot was free"
-    );
+    assert!(done != FULL || marked(false), "the answer is full, and a slot was free");
 };
 
 pub(super) const REMOVE_KEY: Call = |it, who| {
@@ -219,8 +204,5 @@ pub(super) const REPLACE_KEY: Call = |it, who| {
 pub(super) const REMOVE_KEY_SURELY: Call = |it, who| {
     let before = it.ends.get();
     REMOVE_KEY(it, who);
-    assert!(
-        it.ends.get() > before,
-        "a call tries no more after one change"
-    );
+    assert!(it.ends.get() > before, "a call tries no more after one change");
 };
