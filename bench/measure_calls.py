@@ -12,6 +12,7 @@ from scripts.repository import ROOT
 
 PROGRAM = f"{ROOT}/build/bench_rust/release/bench_rust"
 TABLES = "crate", "crate by key", "core", "arc-swap load", "sharded-slab"
+CACHED = "crate cached", "arc-swap cache"
 RANDOM = "crate", "crate by key", "sharded-slab"
 CALLS = "look", "insert, remove", "insert, look, remove", "replace"
 
@@ -54,6 +55,8 @@ def command():
         for calls in CALLS:
             if (table, calls) != ("sharded-slab", "replace") and not (table == "arc-swap load" and calls.startswith("insert")):
                 measure(those, table, calls, given.times)
+    for table in CACHED:
+        measure(those, table, "look", given.times)
     times = 10 * given.times
     for table in RANDOM:
         small, large = ((last - first) / times for first, last in zip(missed(table, times), missed(table, 2 * times)))

@@ -6,6 +6,7 @@ import re
 import statistics
 
 from bench.ratios import read_kept, title
+from scripts.checks import arguments
 from scripts.crates import minutes
 from scripts.repository import ROOT, read, write
 
@@ -80,6 +81,7 @@ def summary():
         ("on 1 to 4 threads", "times as long as", "ratio"),
         ("a look-up by slot, and the drop of its guard", "`load` of arc-swap", f"{looks} (two machines)"),
         ("", "a look-up of sharded-slab", f"{slab[0]} of 4,096 slots, {slab[1]} of 65,536 (four threads)"),
+        ("a cached slot", "`load` of arc-swap's Cache", span(crate("a cached slot", "arc-swap cache", "Rust crate cached"))),
         ("90 % look-ups, 10 % replacements", "the same with arc-swap", f"{crate('90 % look, 10 % replace, 256 slots', 'arc-swap load')[2]} (four threads)"),
         ("an insertion, a look-up and a removal, by slot", "the same with sharded-slab", f"{span(pairs(it)[2] for it in FULL)} (four threads)"),
         ("the same by key", "", f"{by_key} (two machines)"),
@@ -91,6 +93,7 @@ def of_crate():
     rows += [(f"{it}: arc-swap load", *crate(it, "arc-swap load")) for it in ("look and release, 256 slots", "look and release, 1 slot")]
     for it in ("look and release, 4,096 slots", "look and release, 65,536 slots"):
         rows += [(f"{it}: sharded-slab", *crate(it, "sharded-slab keys")), ("the same by key", *crate(it, "sharded-slab keys", "Rust crate keys"))]
+    rows += [(f"a cached slot: arc-swap {name}", *crate("a cached slot", f"arc-swap {it}", "Rust crate cached")) for name, it in (("Cache", "cache"), ("load", "load"))]
     rows += [("90 % look, 10 % replace, 256 slots: arc-swap", *crate("90 % look, 10 % replace, 256 slots", "arc-swap load"))]
     rows += [(f"insert, get and remove, {it}: sharded-slab", *pairs(it)) for it in FULL]
     rows += [(f"the same by key, {it}", *pairs(it, "Rust crate keys")) for it in FULL]
@@ -106,6 +109,8 @@ def of_calls():
         those = ["" if it == "arc-swap load" and name.startswith("insert") else it for it in tables.values()]
         counts = [re.search(rf"^{it}: {name}: ([\d.]+) instructions, ([\d.]+) locked", text, re.MULTILINE) for it in those]
         rows.append((name, *(f"{float(it[1]):.0f} ({it[2]})" if it else "" for it in counts)))
+    ours, theirs = found("bench/calls.txt", r"^(?:crate cached|arc-swap cache): look: ([\d.]+) instructions")
+    rows.insert(2, ("a cached slot", f"{float(ours):.0f} (0.0)", "", "", f"{float(theirs):.0f} (0.0)", ""))
     misses = [re.search(rf"^{it}: look at random: .*, ([\d.]+) beyond 1 MB", text, re.MULTILINE) for it in tables.values()]
     return lines([*rows, ("lines fetched at random", *(it[1] if it else "" for it in misses))])
 
@@ -132,6 +137,13 @@ def of_searches():
         names = [f"insert and remove by {who}, 2 of {slots} slots empty" for slots in (4096, 65536, 1048576)]
         rows.append((f"removed by {who}", *(f"{median('bench/searches.txt', it, 'median') / 1000:.1f}" for it in names)))
     return lines(rows)
+
+
+def of_fills():
+    """Returns how many times as long 16 handles in turn need to fill a table as one."""
+    sizes = [1 << it for it in range(12, 21, 2)]
+    ratios = (found("bench/searches.txt", rf"^searches: fill {it} slots by 16 handles: .* ratio ([\d. ]+)$")[0].split() for it in sizes)
+    return lines([("slots", *(f"{it:,}" for it in sizes)), ("16 handles / one handle", *(f"{statistics.median(map(float, it)):.2f}" for it in ratios))])
 
 
 def of_lasting():
@@ -170,14 +182,16 @@ def of_program():
 
 
 def of_judge():
-    """Returns the CPU seconds of the judge of logs."""
+    """Returns the CPU seconds of the judge of logs, for each kind of fault a dash if it gave no verdict."""
     rows = [("log", "seconds of CPU time")]
     for calls, count, seconds in found("bench/logs.txt", r"^(\d+) calls, 5 open, (\d+) lines: legal ([\d.]+)"):
         rows.append((f"{int(calls):,} calls, 5 open, {int(count):,} lines: legal", seconds))
-    calls, seconds, more = found("bench/logs.txt", r"^(\d+) calls, 6 open, .*: not legal ([\d.]+); \d+ steps ([\d.]+)")[0]
-    rows += [(f"{int(calls):,} calls, 6 open: not legal", seconds), ("the reason of that one", more)]
-    rows.append(("5,000 calls, 3 to 8 open: not legal / legal", span(found("bench/logs.txt", r"^5000 calls.* ratio ([\d.]+)"), 1)))
-    return lines(rows)
+    calls, seconds = found("bench/logs.txt", r"^(\d+) calls, 6 open, .*: not legal ([\d.]+);")[0]
+    rows.append((f"{int(calls):,} calls, 6 open: not legal", seconds))
+    faults = [("open", "legal", *re.findall(r"(\w+) [\d.]+ \(", read("bench/faults.txt").splitlines()[0]))]
+    for width, legal, those in found("bench/faults.txt", r"^5000 calls, (\d+) open: legal ([\d.]+), (.*)$"):
+        faults.append((width, legal, *("-" if verdict else seconds for seconds, verdict in re.findall(r"([\d.]+) \((no verdict)?", those))))
+    return f"{lines(rows)}\n\n{lines(faults)}"
 
 
 def of_lives():
@@ -185,16 +199,6 @@ def of_lives():
     chain, of_chain = found("bench/direct.txt", r"^chain (.*), ratio (.*)$")[0]
     rows = [("a life by requests", f"{machine} instructions", slab, other), ("a life by a chain of three", f"{chain} instructions", slab, of_chain)]
     return lines([("", "libyachtdirect", "slab in plain Rust", "ratio"), *rows])
-
-
-def of_descriptors():
-    """Returns the CPU time by direct descriptors, divided by that by the process's: the least and the greatest of the kept runs."""
-    works = {"request": "64 bytes: a send and a receive", "life": "a connection: accept, receive, shutdown, close", "file": "a file: open, read, close"}
-    rows = [("direct / the process's", "a ring without flags", "a single issuer")]
-    for name, words in works.items():
-        ratios = (found("bench/descriptors.txt", f"^a ring with{ring}, {name}: (.*)$")[0] for ring in ("out flags", " a single issuer"))
-        rows.append((words, *(span(it.split()) for it in ratios)))
-    return lines(rows)
 
 
 def of_machine():
@@ -212,20 +216,6 @@ def of_memory():
              found("bench/memory.txt", r"^memory: (\d+) slots, (\d+) handles, (\d+) seats: ([\d.]+) MB")]
     each = ("each of the first 4,096 slots", first), ("each further slot", further), ("each seat", seat), ("each handle, for each seat", handle)
     return cells([*rows, *((words, f"{size} bytes") for words, size in each)])
-
-
-def of_fixcheck():
-    """Returns how many texts were undecided, and the longest and the largest run."""
-    rows = [("submissions", "played", "longest, largest", "spoiled", "longest, largest")]
-    kinds = dict.fromkeys(found("bench/fixcheck.txt", "^(.*), played: "))
-    for kind in kinds:
-        row = [kind]
-        for how in ("played", "spoiled"):
-            *counts, seconds, memory = found("bench/fixcheck.txt", rf"^{re.escape(kind)}, {how}: (\d+) legal, (\d+) not legal, (\d+) undecided; ([\d.]+) s, (.*)$")[0]
-            row += [f"{counts[-1]} of {sum(map(int, counts))}", f"{float(seconds):.1f} s, {memory}"]
-        rows.append(row)
-    others = [it for it in found("bench/fixcheck.txt", r"^(.* files closed): 1 legal.*; ([\d.]+ s), (.*)$")]
-    return f"{lines(rows)}\n\n{lines([('one text', 'seconds', 'memory'), *others])}"
 
 
 def of_wrong():
@@ -246,38 +236,16 @@ def of_rare_calls():
     return cells([("wrong call", *(f"one of {it:,}" for it in sorted(those["stale"]))), *rows])
 
 
-def of_stale_looks():
-    rares = of_wrong()["stale"]
-    rows = [(f"{calls:,}", *("{} of {}".format(*rares[it][calls]) for it in sorted(rares))) for calls in sorted(rares[100])]
-    return cells([("calls", *(f"stale at one of {it:,} looks" for it in sorted(rares))), *rows])
-
-
-def of_vm():
-    def started(kernel):
-        return span(found("bench/in_vm.txt", rf"^in-vm: kernel {kernel}, started in ([\d.]+) s"), 1) + " s"
-
-    user, system = found("bench/in_vm.txt", r"^build: ([\d.]+) seconds of user and ([\d.]+) of system")[0]
-    return lines([
-        ("the build of the small kernel", f"{round((float(user) + float(system)) / 60)} minutes of CPU time"),
-        ("its image", f"{int(found('bench/in_vm.txt', r'^image: (.*) bytes')[0]) / 1e6:.1f} MB"),
-        ("its start", started(r"6\.1\.192")),
-        ("the start of Debian's own kernel (package linux-image-cloud-amd64)", started(".*cloud-amd64")),
-        ("one rule", found("bench/in_vm.txt", r"^conform: .*, in (\d+ s)")[0]),
-        ("conform with 100 random scripts", found("bench/in_vm.txt", r"^conform: .*, in (\d+ s)")[-1]),
-    ])
-
-
 def quoted(path, pattern):
     """Returns lines of a kept run as an indented block."""
     return "\n".join(f"    {it}".rstrip() for it in found(path, pattern))
 
 
 TABLES = {
-    "calls": of_calls, "crate": of_crate, "descriptors": of_descriptors, "fixcheck": of_fixcheck, "judge": of_judge, "lasting": of_lasting,
+    "calls": of_calls, "crate": of_crate, "judge": of_judge, "lasting": of_lasting,
     "lives": of_lives, "machine": of_machine, "memory": of_memory, "others": of_others, "program": of_program,
-    "rare-calls": of_rare_calls, "searches": of_searches, "stale-looks": of_stale_looks, "summary": summary, "tails": of_tails, "vm": of_vm,
+    "rare-calls": of_rare_calls, "fills": of_fills, "searches": of_searches, "summary": summary, "tails": of_tails,
     "conform": lambda: quoted("bench/conform.txt", r"^# scripts: .*|^# Totals: .*"),
-    "contending": lambda: quoted("bench/conform.txt", "^(?:as it is|with IOSQE_ASYNC): .*"),
     "litmus": lambda: quoted("bench/litmus.txt", "^(?!#).*$").removesuffix("\n"),
 }
 # what is between other words of a page: the words before it, its form, and what writes it
@@ -314,6 +282,7 @@ def named():
 
 
 def command():
+    arguments(__doc__)
     for it in pages():
         write(f"{ROOT}/{it}", written(it, read(it)))
     return 0

@@ -334,10 +334,10 @@ def command():
             return NOTHING_TO_PLAY_ON
     if options.build:
         flights.built_recorder()
-        print("1..0 # SKIP the programs in C are built")
+        print("# the programs in C are built\n1..0")
         return PASSED
     if not os.path.exists(options.fixcheck):
-        print(f"1..0 # SKIP {missing_program(os.path.relpath(options.fixcheck, ROOT), 'check')}")
+        print(f"1..0 # SKIP {missing_program(options.fixcheck.removeprefix(f'{ROOT}/'), 'check')}")
         return NOTHING_TO_PLAY_ON
     what = f"rule {options.rule}" if options.rule not in ("", RANDOM) else f"{options.scripts} random scripts, seed {options.seed}"
     print(f"# {judged}; {what}", flush=True)

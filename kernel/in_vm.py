@@ -7,7 +7,7 @@ The machine has 512 MB, and one processor with `tcg`, else two. It needs no righ
 cc and liburing.a (Debian: qemu-system-x86 gcc liburing-dev). ACCEL is QEMU's accelerator, `tcg` by default: the machine's clock counts
 instructions, so the load of the host changes no result.
 
-The exit status is that of the player; 77 if a tool, KERNEL or the kernel's io_uring is missing; 4 if the machine doesn't start, or ends
+The exit status is that of the player; 2 if an argument is invalid; 77 if a tool, KERNEL or the kernel's io_uring is missing; 4 if the machine doesn't start, or ends
 before the answer. Only the QEMU that it started is ended."""
 import contextlib
 import os
@@ -21,7 +21,7 @@ import tempfile
 from kernel.vm.machine import Ended, Machine, Missing
 from scripts.programs import given_time
 
-MISSING, ENDED = 77, 4
+MISSING, ENDED, INVALID = 77, 4, 2
 # the most seconds of a play on a host that does nothing else
 SECONDS = 100
 # the variable with the path of the socket of a machine that runs
@@ -98,8 +98,13 @@ def command():
     signal.signal(signal.SIGTERM, lambda *_: sys.exit(143))
     words = sys.argv[1:]
     asked = words[1:] if words[:1] == ["--with"] else None
+    if words in (["-h"], ["--help"]):
+        print(__doc__)
+        return 0
     if asked == [] or asked is None and words not in ([], ["--async"]):
-        sys.exit(__doc__)
+        wrong = "no COMMAND follows --with" if asked == [] else f"there is no argument {words[words[0] == '--async']}"
+        print(f"in-vm: {wrong}; it is called as: in-vm [--async] or in-vm --with COMMAND WORD..", file=sys.stderr)
+        return INVALID
     program, given = ["/play", *words], sys.stdin.buffer.read() if asked is None else b""
     if asked is None and os.environ.get(ROOM):
         return written(*played_there(os.environ[ROOM], program, given))

@@ -85,16 +85,98 @@ class Log:
             self.lines.append(f"closed {file[0]} {'vw'[file[1]]}")
 
 
-def spoiled(lines, share):
-    """Returns the lines of a log, spoiled near a share of its length: a look answers the file that an earlier look of its slot found."""
-    slots = {it.split()[1]: it.split()[3] for it in lines if it.startswith("call") and it.split()[2] == "look"}
-    # the lines of looks that found a file, each with the slot and the file
-    found = {}
-    for at, (word, *words) in enumerate(map(str.split, lines)):
-        call = words[0].split(".")[0]
-        if word == "done" and len(words) == 3 and call in slots:
-            found[at] = slots[call], words[2]
-    at = next(it for it in found if it >= int(share * len(lines)))
-    slot, file = found[at]
-    before = next(other for it, (where, other) in reversed(found.items()) if it < at - 30 and where == slot and other != file)
-    return [it for it in [*lines[:at], f"{lines[at].rsplit(' ', 1)[0]} {before}", *lines[at + 1 :]] if not it.startswith(f"closed {before} ")]
+    def settled(self):
+        """Returns the lines, then the closes of all removed files, and a wait for them."""
+        return [*self.lines, *(f"closed {file} {'vw'[kind]}" for file, kind in self.removed), "settled"]
+
+
+class Spoiler:
+    """Spoils the lines of a log, from a position near a share of its length on. Each kind of fault yields logs. Not each of them is illegal."""
+
+    def __init__(self, lines, share):
+        self.lines, self.words = lines, [it.split() for it in lines]
+        self.calls = {it[1]: it[2:] for it in self.words if it[0] == "call"}
+        self.positions = {it[1]: at for at, it in enumerate(self.words) if it[0] == "call"}
+        self.near = range(int(share * len(lines)), len(lines))
+
+    def answers(self, kind, result, near=None):
+        """Yields the position and the words of each answer of calls of a kind that begins with this result."""
+        for at in near or self.near:
+            word, *words = self.words[at]
+            if word == "done" and kind in (self.calls[words[0].split(".")[0]][0], self.calls[words[0].split(".")[0]][-1]) and words[1] == result:
+                yield at, words
+
+    def but(self, at, answer, *without):
+        """Returns the lines with another answer at a position, and without the lines that begin so."""
+        lines = [*self.lines[:at], f"done {self.words[at][1]} {answer}", *self.lines[at + 1 :]]
+        return [it for it in lines if not it.startswith(without)]
+
+    def slot(self, words):
+        return self.calls[words[0].split(".")[0]][1]
+
+    def stale(self):
+        """A look answers the file that an earlier look of its slot found."""
+        for at, words in self.answers("look", "0"):
+            for _, earlier in self.answers("look", "0", range(at - 30, 3, -1)):
+                if self.slot(earlier) == self.slot(words) and earlier[2] != words[2]:
+                    yield self.but(at, f"0 {earlier[2]}", f"closed {earlier[2]} ")
+                    break
+
+    def full(self):
+        """An open at any slot answers that all are full. No look finds its file."""
+        found = {it[3] for it in self.words if it[0] == "done" and len(it) == 4}
+        for slot in range(16):
+            for at, words in self.answers("any", str(slot)):
+                if f"{words[0]}.0" not in found:
+                    yield self.but(at, ENFILE, f"closed {words[0]}.0 ")
+
+    def take(self):
+        """A close that found nothing answers that it took a file."""
+        return (self.but(at, "0") for at, _ in self.answers("close", EBADF))
+
+    def take2(self):
+        """The same while another close of the slot is open, which took a file."""
+        for at, words in self.answers("close", EBADF):
+            began = range(self.positions[words[0].split(".")[0]], at)
+            if any(self.slot(other) == self.slot(words) for _, other in self.answers("close", "0", began)):
+                yield self.but(at, "0")
+
+    def untake(self):
+        """A close that took a file answers that it found nothing."""
+        return (self.but(at, EBADF) for at, _ in self.answers("close", "0"))
+
+    def empty(self):
+        """A look that found a file answers that it found nothing."""
+        return (self.but(at, EBADF, f"free {words[0].split('.')[0]}") for at, words in self.answers("look", "0"))
+
+    def early(self):
+        """The answer of a look comes before the call that opens the file that it found."""
+        for at, words in self.answers("look", "0"):
+            opened = self.positions[words[2].split(".")[0]]
+            if self.positions[words[0].split(".")[0]] < opened:
+                yield [*self.lines[:opened], self.lines[at], *self.lines[opened:at], *self.lines[at + 1 :]]
+
+    def bytes(self):
+        """A read answers the bytes of a file that was closed long before, and that no other file has."""
+        closed = {it[1] for it in self.words[: self.near.start // 2] if it[0] == "closed"}
+        call = next(words[0].split(".")[0] for _, words in self.answers("open", "0", range(len(self.lines))) if f"{words[0]}.0" in closed)
+        for look, found in self.answers("look", "0"):
+            if self.slot(found) == self.calls[call][3]:
+                number = found[0].split(".")[0]
+                lines = self.but(look, "3 636363", f"free {number}")
+                yield ["file x 636363"] + [self.opened_as_x(it, call, number) for it in lines]
+
+    def opened_as_x(self, line, call, look):
+        words = line.split()
+        if words[:2] == ["call", call]:
+            return f"call {call} open x {' '.join(words[4:])}"
+        if words[:2] == ["call", look]:
+            return f"call {look} read {words[3]} 0 3"
+        return f"{' '.join(words[:2])} x" if words[:2] == ["closed", f"{call}.1.0"] else line
+
+    def lost(self):
+        """The close of a file is missing."""
+        return (self.lines[:at] + self.lines[at + 1 :] for at in self.near if self.words[at][0] == "closed")
+
+
+FAULTS = "stale", "full", "take", "untake", "take2", "empty", "early", "bytes", "lost"

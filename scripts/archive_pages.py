@@ -89,7 +89,7 @@ def command():
         if is_arm and page == "README.md":
             text = "# Yachtbanyan for ARM64\n" + text.split("## For ARM64\n")[1]
         text = with_links(with_commands(text), source, page, is_arm)
-        # the archive has these folders at its top, and its crate has the library inside
-        text = re.sub(r"\bbindings/(?=(c|recorder|python)\b)|YACHTBANYAN_LIB_DIR=\.\./\.\./lib ", "", text)
+        # the archive has these folders at its top, and no runs; its crate has the library inside
+        text = re.sub(r"\bbindings/(?=(c|recorder|python)\b)|YACHTBANYAN_LIB_DIR=\.\./\.\./lib | \(the run\)|; the run(?=\))", "", text)
         write(os.path.join(os.path.abspath(folder), page), text)
     return 0

@@ -5,6 +5,7 @@ of the pages (bench/write-tables). The seconds of tests are written by hand.
 crates progress LOG: prints on standard error how long the gate is expected to take here, and then once a minute how much of it is done, by
 its LOG. Ends with the gate, or with the process that started this one."""
 import contextlib
+import math
 import os
 import re
 import sys
@@ -79,8 +80,8 @@ class Estimate:
         self.whole, self.begin, self.minutes = expected(seconds, below, lanes), time.monotonic(), 0
 
     def range(self):
-        """Returns as a range of minutes how long all take: if no lane is ever free, and if each crate has one lane."""
-        first, last = max(round(sum(self.seconds.values()) / self.lanes / 60), 1), max(round(self.whole / 60), 1)
+        """Returns as a range of whole minutes, rounded up, how long all take: if no lane is ever free, and if each crate has one lane."""
+        first, last = math.ceil(sum(self.seconds.values()) / self.lanes / 60), math.ceil(self.whole / 60)
         return f"{first} to {last} minutes" if first < last else "a minute" if last == 1 else f"{last} minutes"
 
     def share(self, done):

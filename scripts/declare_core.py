@@ -44,7 +44,7 @@ class Export:
     def for_rust(self):
         """Returns its declaration as rustfmt lays it out."""
         given = [f"{name}: {kind}" for name, _, kind in self.parameters]
-        head, end = f"    pub(crate) fn {self.name}(", f"){' -> i64' if self.result else ''};"
+        head, end = f"    pub fn {self.name}(", f"){' -> i64' if self.result else ''};"
         line = f"{head}{', '.join(given)}{end}"
         return line if len(line) <= WIDTH else "\n".join([head, *(f"        {it}," for it in given), f"    {end}"])
 
@@ -113,15 +113,15 @@ typedef struct yacht_outcome {{
 
 
 def constants():
-    return "\n".join(f"{folded(words, '/// ', '/// ')}\npub(crate) const {name}: i64 = {value};" for words, name, value in codes())
+    return "\n".join(f"{folded(words, '/// ', '/// ')}\npub const {name}: i64 = {value};" for words, name, value in codes())
 
 
 def outcome():
-    members = "\n".join(f"{folded(words, '    /// ', '    /// ')}\n    pub(crate) {name}: u64," for words, name in fields())
+    members = "\n".join(f"{folded(words, '    /// ', '    /// ')}\n    pub {name}: u64," for words, name in fields())
     return f"""/// The numbers that a call returns beside its answer. Each is 0 if there is no such file.
 #[repr(C)]
 #[derive(Clone, Copy, Default)]
-pub(crate) struct Outcome {{
+pub struct Outcome {{
 {members}
 }}"""
 
@@ -210,13 +210,13 @@ def with_version(path, count):
 # what the version follows, and each part of it; the library's name of a function has the major one
 VERSION = re.compile(
     r'(^(?:(?:__version__ =|version =|const VERSION: &str =|#define YACHT\w*VERSION) "|#define YACHT\w*VERSION_(MAJOR|MINOR|PATCH) )|'
-    r'\byacht_(?:open|direct_open|judge|outcomes|judge_events|judge_whole_updates)_)(?=\d)[\d.]*\d', re.M)
+    r'\byacht_(?:open|direct_open|judge|outcomes|judge_events|judge_whole_updates|judge_log)_)(?=\d)[\d.]*\d', re.M)
 # the files with the version, and how often each has it or a part of it
 VERSIONED = {
-    "bindings/python/yachtjudge.py": 9, "bindings/recorder/src/c.rs": 1, "bindings/rust/Cargo.toml": 1, "bindings/rust_judge/Cargo.toml": 1,
-    **{f"bindings/rust_judge/src/{it}.rs": count for it, count in (("core", 4), ("log", 2), ("script", 2))},
+    "bindings/python/yachtjudge.py": 7, "bindings/recorder/src/c.rs": 1, "bindings/rust/Cargo.toml": 1, "bindings/rust_judge/Cargo.toml": 1,
+    **{f"bindings/rust_judge/src/{it}.rs": count for it, count in (("core", 3), ("log", 1), ("script", 2))},
     "crates/fx_arguments/src/fixcheck.rt": 1, "crates/fx_judge_c/src/exports.rt": 4,
-    "include/yachtbanyan.h": 5, "include/yachtdirect.h": 5, "include/yachtjudge.h": 8,
+    "include/yachtbanyan.h": 5, "include/yachtdirect.h": 5, "include/yachtjudge.h": 9,
     "crates/fx_direct_c/src/exports.rt": 1, "bench/life.rs": 3, **{f"bindings/rust/src/direct/{it}.rs": 1 for it in ("core", "machine", "stand_in")},
 }
 DATED = [*sorted(glob.glob("man/*.1", root_dir=ROOT)), "man/yachtrecord.3"]

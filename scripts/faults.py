@@ -96,6 +96,8 @@ def forms_of(command):
 def expected(name, line):
     """Returns what is expected in place of a fault."""
     words = line.split(b" ")
+    if name == "not-text" and column_of(name, line) == len(line) and line.endswith(b"\r"):
+        return r"no carriage return: sed -i 's/\r$//' SCRIPT removes them"
     if name == "word-count":
         more = ", and at its end `link`, `hardlink` or nothing" if words[0] in (b"open", *REQUESTS) else ""
         return forms_of(words[0].decode()) + more + "; single spaces separate words"

@@ -113,6 +113,9 @@ class Checks(Counted):
         sections = {it.split("\n")[0].split(":")[0]: " ".join(it.split()) for it in page.split("\n## ")}
         missing = [words for section, rules in RULES.items() for words, _ in rules.values() if words not in sections.get(section, "")]
         self.want(not missing, f"docs/inside/MODEL.md doesn't say {missing}")
+        ends = re.search(r"enum \{ BAD_SCRIPT = (\d+), NO_IO_URING = (\d+), UNSAID = (\d+)", read("kernel/play.c"))
+        listed_ends = re.findall(r"^\.It (\d+)$", read("man/play-on-kernel.1"), re.MULTILINE)
+        self.want(ends and {*ends.groups()} <= {*listed_ends}, f"man/play-on-kernel.1 has the exit statuses {listed_ends}")
         for count, met in (SLOTS, set()), (SLOTS + 1, {"larger_table"}):
             model = Linux([], {"larger_table"})
             self.want((model.refusal_of_table(count), model.met) == (0, met), f"a table of {count} slots meets {set(model.met)}")

@@ -18,7 +18,7 @@ FILES = {
     "judge": {
         "C": ["include/yachtjudge.h"],
         "Rust": ["bindings/rust_judge/src/core.rs"],
-        "Python": ["bindings/python/yachtjudge.py", "bindings/python/yachtevents.py", "bindings/python/yachtsteps.py"],
+        "Python": ["bindings/python/yachtjudge.py", "bindings/python/yachtsteps.py"],
     },
     "direct": {
         "C": ["include/yachtdirect.h"],
@@ -28,6 +28,10 @@ FILES = {
     # the others are written by scripts/declare-core
     "server": {"C": ["bindings/c/core.h", "include/yachtbanyan.h"]},
 }
+# what the C part of the judge adds to the exports, as its header has it; and what passes a log by
+# its events, which only C does
+ADDED = "yacht_judge_log_6", "struct Reading"
+OF_EVENTS = "yacht_judge_events_6", "yacht_judge_whole_updates_6", "struct File", "struct Event", "struct Request", "struct Judgement"
 # the widths of numbers in each language; any other type is a struct, or a handle
 WIDTHS = {
     "u8": "8", "uint8_t": "8", "c_uint8": "8", "u32": "u32", "uint32_t": "u32", "c_uint32": "u32", "i32": "i32", "int32_t": "i32",
@@ -146,10 +150,11 @@ def differences(texts):
     """Returns a line for each difference of another language from Rattle. Languages but C may leave constants out."""
     found = {language: declared(language, "\n".join(those.values())) for language, those in texts.items()}
     exported, lines = found.pop("Rattle"), []
+    exported |= {it: found["C"][it] for it in ADDED if it in found["C"]}
     for language, those in found.items():
         structs = any(it.startswith("struct") for it in those)
         for name, wanted in exported.items():
-            is_optional = name.startswith("const") and language != "C" or name.startswith("struct") and not structs
+            is_optional = name.startswith("const") and language != "C" or name.startswith("struct") and not structs or language != "C" and name in OF_EVENTS
             if name not in those and not is_optional:
                 lines.append(f"{language} doesn't declare {name}")
             elif name in those and those[name] != wanted:
@@ -181,7 +186,7 @@ def changes(language, text, exported):
 
 def spoiled(texts):
     """Yields each change of one declaration: what is changed, and the texts with it."""
-    exported = declared("Rattle", "\n".join(texts["Rattle"].values()))
+    exported = {*declared("Rattle", "\n".join(texts["Rattle"].values())), *ADDED}
     for language, path, text in ((language, *it) for language, those in texts.items() for it in those.items()):
         others = [(f"{what} in line {text.count(chr(10), 0, begin) + 1}", text[:begin] + new + text[end:]) for what, (begin, end), new in changes(language, text, exported)]
         if language == "Rust" and 'extern "C"' in text:

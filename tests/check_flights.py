@@ -25,11 +25,9 @@ COUNT, SEED = 10_000, 1
 # the least number of tiny logs of updates, in 1,000, that are legal, and not by whole updates
 SPLIT = 8
 # the least share of the tiny logs that are not legal that must have a reason, in percent
-CERTIFIED = 93
+CERTIFIED = 97
 # the number of logs of each rule, and of each wrong recorder but the rarely wrong one
 LOGS, WRONG_LOGS = 1_000, 20
-# the number of logs of a recorder of which fewer than half have calls that overlap
-OVERLAPPING = 60
 # the order of lines with the same time, and of each so many logs one is tried
 AT_ONE_TIME, TIMED = ["call", "done", "free", "closed", "settled"], 10
 # the number of cases that need a kernel with io_uring
@@ -122,9 +120,10 @@ def text_of(lines, last):
 
 
 def without_step(facts, nth):
-    """Returns a reason without one of its steps. What follows from that step follows from none."""
-    return [(rule, lines, access, tuple(it - 1 if it > nth else -1 if it == nth else it for it in premises), *order)
-            for rule, lines, access, premises, *order in facts[:nth] + facts[nth + 1 :]]
+    """Returns a reason without one of its steps and those of the same order. What follows from these follows from none."""
+    gone = [at for at, it in enumerate(facts) if it[4:] == facts[nth][4:]]
+    return [(rule, lines, access, tuple(-1 if it in gone else it - sum(at < it for at in gone) for it in premises), *order)
+            for at, (rule, lines, access, premises, *order) in enumerate(facts) if at not in gone]
 
 
 def complaint_of_reason(lines, line, facts):
@@ -175,7 +174,7 @@ def changed_recorder(room, file, old, new):
 
 
 def overlapping(program):
-    return sum(flights.overlaps(flights.recorded(program, [], seed)[0]) for seed in range(1, OVERLAPPING + 1))
+    return sum(flights.overlaps(flights.recorded(program, [], seed)[0]) for seed in range(1, WRONG_LOGS + 1))
 
 
 def wrong_rows(folder):
@@ -284,8 +283,8 @@ class Checks(Counted):
         for rule in flights.RULES:
             self.want(self.skips(rule), f"{rule} is judged without the library, or isn't skipped by name")
         with tempfile.TemporaryDirectory() as room:
-            self.want(overlapping(changed_recorder(room, "record.c", "\t\tsqe->flags |= IOSQE_ASYNC;\n", "")) * 2 < OVERLAPPING,
-                      "a recorder whose requests start at once is not noticed")
+            one_at_a_time = changed_recorder(room, "record.c", "in_flight < MOST_OPEN", "!in_flight && updater_has_ended")
+            self.want(overlapping(one_at_a_time) * 2 < WRONG_LOGS, "a recorder whose calls don't overlap is not noticed")
             for what, (words, *change) in WRONG_RECORDERS.items():
                 count = LOGS if what == SPOILS_ONE else WRONG_LOGS
                 self.want(self.is_found(changed_recorder(room, *change), words, count), f"a recorder that {what} is not noticed")

@@ -45,7 +45,7 @@ class Checks(Counted):
         """Waits until the last stand-in has ended."""
         with open(self.pid_file, encoding="utf-8") as file:
             path = f"/proc/{file.read()}"
-        for _ in range(100):
+        for _ in range(600):
             if not os.path.exists(path):
                 return True
             time.sleep(0.1)
@@ -91,7 +91,10 @@ def check_stand_ins(checks, fixcheck):
 
 
 def check_missing(checks):
-    """Checks what in-vm says if KERNEL, or a tool, is missing."""
+    """Checks what in-vm says if an argument is invalid, and if KERNEL, or a tool, is missing."""
+    checks.ends("right", ["--help"], 0, "in-vm [--async]: plays a script")
+    for words, part in ((["--record", "1"], "no argument --record"), (["--async", "extra"], "no argument extra"), (["--with"], "no COMMAND follows")):
+        checks.ends("right", words, 2, part)
     checks.ends("right", [], MISSING, "in-vm: skipped: KERNEL must be", {"env": {**checks.how("right")["env"], "KERNEL": "/nonexistent"}})
     os.mkdir(f"{checks.room}/bin")
     for it in ("env", "python3"):

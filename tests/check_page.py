@@ -130,7 +130,7 @@ def first_commands(checks):
     head = "\n".join(text.split("\n")[:HEAD])
     is_short = len(text.encode()) <= MOST_BYTES and all(it in head for it in ("server's author", "kernel's maintainer"))
     checks.want(is_short, f"README.md has {len(text.encode())} bytes, or its first {HEAD} lines don't name both readers")
-    first, (serve, *_) = ([re.split("  +#", line)[0] for line in it] for it in list(blocks(text))[:2])
+    *first, serve = (re.split("  +#", it)[0] for it in next(blocks(text)))
     alone = commands_of(read("docs/use/RUST.md"), "RUSTFLAGS")
     checks.want((first, [serve]) == (["make kernel", "make run"], alone), f"README.md begins with the commands {first} and {serve}")
     serve = "YACHTBANYAN_LIB_DIR=$PWD/lib " + serve.partition("' ")[2]
@@ -221,10 +221,10 @@ def finding(checks):
         checks.want(found[1].split("\n")[:-1] == printed, f"the reproducer of docs/use/BAD_ENTRY.md prints {found!r}")
 
 
-# the programs of docs/use/DIRECT.md: the first words of each, its file, and the name of the program
+# the programs of docs/use/DIRECT.md: the first words that it shows of each, its file, and its name
 DIRECT = (
-    ("enum { SLOTS = 64,", "bindings/c/echo.c", "echo"), ("enum { SLOTS = 4,", "bindings/c/files.c", "files"),
-    ("const SLOTS: u32", "bindings/rust/examples/echo.rs", "debug/examples/echo"),
+    ("enum { SLOTS = 64,", "bindings/c/echo.c", "echo"), ("static int begin", "bindings/c/files.c", "files"),
+    ("fn completed", "bindings/rust/examples/echo.rs", "debug/examples/echo"),
 )
 
 
@@ -252,14 +252,14 @@ def clients_are_served(program):
 
 def files_are_printed(program):
     """Runs the program that prints the first bytes of files. Returns what is wrong, or None if there is no io_uring."""
-    those = [f"{ROOT}/{it}" for it in ("LICENSE", "VERSION", "crates.txt")]
+    those = [f"{ROOT}/{it}" for it in ("README.md", "LICENSE", "VERSION")]
     status, text, said = run([program, those[0], *those[1:], "/no/such/file"])
     right = all(read_bytes(it)[:4096].decode() in text for it in those) and len(text) == sum(min(4096, os.path.getsize(it)) for it in those)
     return None if status == 77 else [] if right and (status, said) == (1, "files: /no/such/file: No such file or directory\n") else [text, said]
 
 
 def direct_programs(checks):
-    """Checks that docs/use/DIRECT.md shows the programs of bindings, which serve their clients and stop, or print files."""
+    """Checks that docs/use/DIRECT.md shows parts of the programs of bindings, which serve their clients and stop, or print files."""
     page = read("docs/use/DIRECT.md")
     has_library = all(os.path.exists(f"{ROOT}/lib/libyacht{it}.a") for it in ("banyan", "direct"))
     for first, path, program in DIRECT:

@@ -5,6 +5,8 @@ import contextlib
 import io
 import os
 import re
+import signal
+import subprocess
 import sys
 import tempfile
 from unittest import mock
@@ -55,11 +57,12 @@ ROWS = [
     ("file a 61\npipe p\n", NOT_A_LOG, "line 2: a catalogue has files or pipes"),
     ("pipe p\nfile a 61\n", NOT_A_LOG, "line 2: a catalogue has files or pipes"),
     # the first call
-    ("call 1 sparse 99999999999\n", NOT_A_LOG, "line 1: the number of slots is a number from 0 to 4294967295"),
-    ("call 1 sparse 1048577\n", NOT_A_LOG, "line 1: a table has 1 to 1048576 slots, not 1048577"),
+    ("call 1 sparse 99999999999\n", NOT_A_LOG, "line 1: a table has 1 to 1048576 slots, not '99999999999'"),
+    ("call 1 sparse 1048577\n", NOT_A_LOG, "line 1: a table has 1 to 1048576 slots, not '1048577'"),
     ("call 1 sparse 1048576\ndone 1.1 0\n", LEGAL, "legal"),
-    ("call 1 sparse 0\ndone 1.1 -22\n", NOT_A_LOG, "line 1: a table has 1 to 1048576 slots, not 0"),
-    ("call 1 sparse\n", NOT_A_LOG, "line 1: the number of slots"),
+    ("call 1 sparse 0\ndone 1.1 -22\n", NOT_A_LOG, "line 1: a table has 1 to 1048576 slots, not '0'"),
+    ("call 1 sparse\n", NOT_A_LOG, "line 1: a table has 1 to 1048576 slots, not ''"),
+    ("call 1 sparse abc\n", NOT_A_LOG, "line 1: a table has 1 to 1048576 slots, not 'abc'"),
     ("call 1 sparse 2\ndone 1.1 -12\n", NOT_A_LOG, "line 2: the first call did not register the table"),
     ("call 1 sparse 2\ncall 2 close 0\n", NOT_A_LOG, "line 2: the registration of the table is not answered yet"),
     ("call 1 sparse 2\nsettled\n", NOT_A_LOG, "line 2: the table is not registered yet"),
@@ -212,9 +215,24 @@ ARGUMENTS = [
 ]
 # calls of the judge that find no memory, with arguments; the status is 5 then
 LACKING = [
-    ("judge_events", ["right"]),
-    ("judge_events", ["--shorten", "stale"]),
+    ("judge_log", ["right"]),
+    ("judge_log", ["--shorten", "stale"]),
 ]
+# a judge that takes minutes, and doesn't return for a signal
+SLOW = """import hashlib, sys, yachtjudge, yachtlog
+def judge_log(*_, **__):
+    print("judging", flush=True)
+    hashlib.pbkdf2_hmac("sha256", b"", b"", 10**9)
+yachtjudge.judge_log = judge_log
+sys.exit(yachtlog.command())"""
+# no library, and a log that takes longer to read than the judge may take
+LATE = """import sys, time, yachtlog
+def content_of(path):
+    print("reading", flush=True)
+    time.sleep(1.5)
+    return open(path, "rb").read()
+sys.modules["yachtjudge"], yachtlog.content_of = None, content_of
+sys.exit(yachtlog.command())"""
 # wrong changes of the modules, of each kind of row
 WRONG = [
     ("yachtreason", '(it.after if it.after.kind == "gone" else it.before).file', "it.after.file"),
@@ -229,12 +247,12 @@ WRONG = [
     ("yachtlines", "if result == ENOMEM and not self.lacking", "if False"),
     ("yachtlog", "if it.line < self.lacking", "if True"),
     ("yachtlog", 'return yachtjudge.LogVerdict("undecided", self.lacking)', 'return yachtjudge.LogVerdict("legal")'),
-    ("yachtlog", "yachtjudge.judge_events(self, before, states, memory, ", "yachtjudge.judge_events(self, before, "),
-    ("yachtlog", "memory, whole_updates=whole_updates)\n        except", "memory)\n        except"),
+    ("yachtlog", "judge_log(content, options.states, options.memory, ", "judge_log(content, "),
+    ("yachtlog", "options.memory, whole_updates=options.whole_updates)\n    lines", "options.memory)\n    lines"),
     ("yachtlog", "Log(text).judge(states, memory, whole_updates=whole_updates)", "Log(text).judge(states, memory)"),
     ("yachtlog", "log.shortened(verdict, options.states, options.memory, whole_updates=options.whole_updates)",
      "log.shortened(verdict, options.states, options.memory)"),
-    ("yachtlog", "whole_updates=options.whole_updates))\n        verdict = log", "whole_updates=options.whole_updates))\n        _ = log"),
+    ("yachtlog", "whole_updates=options.whole_updates))\n            verdict = log", "whole_updates=options.whole_updates))\n            _ = log"),
     ("yachtlog", "    except MemoryError:", "    except ZeroDivisionError:"),
     ("yachtshorten", "yield call, [answer.found[0]]", "return"),
     ("yachtshorten", ", *self._needs_of_last(last)]", "]"),
@@ -242,13 +260,15 @@ WRONG = [
     ("yachtshorten", 'it.kind in ("look", "read", "close") and answer', 'it.kind == "look" and answer'),
     ("yachtshorten", "self._end.get(it, line) > seen", "True"),
     ("yachtshorten", "return calls if self.kept <= calls else None", "return calls | self.kept"),
-    ("yachtshorten", "self.lines = text.split(\"\\n\")[:last]", "self.lines = text.split(\"\\n\")[:-1]"),
+    ("yachtlog", "[*lines[: verdict.line], b", "[*lines[: verdict.line - 1], b"),
     ("yachtshorten", "is_shorter = True\n        while", "is_shorter = False\n        while"),
-    ("yachtlog", "found = {status_of(it, options) for it in options.logs}\n    return next((it for it in ORDER if it in found), 0)",
+    ("yachtlog", "signal.signal(signal.SIGINT, signal.SIG_DFL)", "pass"),
+    ("yachtlog", "ITIMER_REAL, options.seconds", "ITIMER_REAL, 0"),
+    ("yachtlog", "found = {status_within(it, options) for it in options.logs}\n    return next((it for it in ORDER if it in found), 0)",
      "return max(status_of(it, options) for it in options.logs)"),
     ("yachtlog", "NO_MEMORY, MISSING, NOT_A_LOG = 5, 4, 3", "NO_MEMORY, MISSING, NOT_A_LOG = 5, 1, 3"),
     ("yachtlog", "except OSError as fault", "except ZeroDivisionError as fault"),
-    ("yachtlog", "print(shown(log.reason(verdict), options.full_reason)", "print(shown([], options.full_reason)"),
+    ("yachtlog", "shown(log.reason(verdict) if log else []", "shown([]"),
     ("yachtlog", 'nargs="+"', 'nargs="*"'),
     ("yachtlog", "except BadLog as fault:\n        print", "except BadLog as fault:\n        return 0\n        print"),
 ]
@@ -277,6 +297,39 @@ def judged(yachtlog, room, text):
     return status, written.replace(f"{path}: ", "")
 
 
+def read(yachtlog, text):
+    """Has the module read a text, in place of the library. Returns the same."""
+    from yachtjudge import judge_events
+
+    try:
+        log = yachtlog.Log(text)
+    except yachtlog.BadLog as fault:
+        return NOT_A_LOG, f"not a log: {fault}"
+    try:
+        verdict = judge_events(log)
+    except Exception as fault:
+        # the library refuses what the module should have refused
+        return None, repr(fault)
+    line = text.split("\n")[verdict.line - 1]
+    return yachtlog.STATUSES[verdict.word], f"{verdict.word}: line {verdict.line}: {line}" if verdict.line else verdict.word
+
+
+def ended(program, is_stopped, words):
+    """Runs the command with a slow judge or a slow log, and may stop it as Ctrl-C does. Returns its status, and what it prints after that."""
+    env = {**os.environ, "PYTHONPATH": ":".join(sys.path), "PYTHONUNBUFFERED": "1"}
+    how = {"stdout": subprocess.PIPE, "stderr": subprocess.STDOUT, "env": env, "text": True, "start_new_session": True}
+    with subprocess.Popen([sys.executable, "-c", program, *words], **how) as process:
+        process.stdout.readline()
+        if is_stopped:
+            process.send_signal(signal.SIGINT)
+        try:
+            written, _ = process.communicate(timeout=10)
+        except subprocess.TimeoutExpired:
+            os.killpg(process.pid, signal.SIGKILL)
+            return None, ""
+        return process.returncode, written
+
+
 def wrong_rows(yachtlog, room):
     """Yields the rows that are wrong: what they are, the status and what is printed."""
     import yachtjudge
@@ -285,6 +338,9 @@ def wrong_rows(yachtlog, room):
         found, written = judged(yachtlog, room, text)
         if found != wanted or not re.match(f"(not a log: )?{pattern}", written):
             yield text[-80:], found, written
+        found, written = read(yachtlog, text)
+        if wanted != UNDECIDED and (found != wanted or not re.match(f"(not a log: )?{pattern}", written)):
+            yield "by the module", text[-80:], found, written
     for name, text in FILES.items():
         with open(os.path.join(room, name), "w", encoding="ascii") as file:
             file.write(text)
@@ -292,6 +348,17 @@ def wrong_rows(yachtlog, room):
         found, written = ran(yachtlog, [os.path.join(room, it) if it in FILES else it for it in words])
         if found != wanted or not re.search(pattern, written, re.DOTALL):
             yield words, found, written
+    path = os.path.join(room, "right")
+    within = ["--seconds", "1", path]
+    for program, is_stopped, words, wanted in (
+        (SLOW, True, [path], (-signal.SIGINT, "")),
+        (SLOW, False, within, (UNDECIDED, f"{path}: undecided\n")),
+        (LATE, False, ["--draw", "svg", *within],
+         (MISSING, f"{path}: a log, not judged\nyachtlog: import of yachtjudge halted; None in sys.modules\nyachtlog: svg is not drawn\n")),
+    ):
+        found = ended(program, is_stopped, words)
+        if found != wanted:
+            yield words, found
     for name, words in LACKING:
         with mock.patch.object(yachtjudge, name, side_effect=yachtjudge.NoMemory):
             found, written = ran(yachtlog, [os.path.join(room, it) if it in FILES else it for it in words])
@@ -300,7 +367,7 @@ def wrong_rows(yachtlog, room):
 
 
 def count():
-    return len(ROWS) + len(ARGUMENTS) + len(LACKING)
+    return len(ROWS) + len(ARGUMENTS) + len(LACKING) + 3
 
 
 def command():

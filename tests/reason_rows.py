@@ -45,6 +45,16 @@ call 14 close 1 link ; read 1 0 1
 done 14.1 -9
 done 14.2 -125
 closed 3.1.0 a
+call 15 close 0
+done 15.1 0
+call 16 open b at 0
+done 16.1 0
+call 17 read 0 0 1
+done 17.1 1 61
+call 18 read 0 0 1
+done 18.1 1 62
+call 19 read 0 1 1
+done 19.1 0
 """
 A, B = (2, 1, 0), (4, 1, 0)
 OPENED, LOOKED, UPDATED, FOUND, CLOSED, READ = (5, 6), (7, 8), (9, 10), (11, 12), (16, 17), (18, 19)
@@ -123,7 +133,7 @@ NO_LANDING = [step("follows", LOOKED, PUT_A, access(8)), step("calls", (28,), ev
 # steps that come first, the last one, and others in its place, or what of it is another
 ROWS = [
     ([], of_lines(5, 6),
-     [of_lines(6, 5), of_lines(6, 6), of_lines(4, 5), of_lines(1, 5), of_lines(39, 40), of_lines(0, 5),
+     [of_lines(6, 5), of_lines(6, 6), of_lines(4, 5), of_lines(1, 5), of_lines(49, 50), of_lines(0, 5),
       step("events", (5, 6), event(5), event(6), is_strict=False), step("events", (5, 6), event(5), event(7))]),
     ([], begins(OPENED), [begins((5, 8)), begins(OPENED, 1), begins((6, 6)), begins((5, 5)), begins((24, 25)), dict(before=access(6), after=event(5))]),
     ([], ends(UPDATED, 1), [ends(UPDATED, 2), ends((9, 12)), ends((24, 25)), dict(after=event(11))]),
@@ -174,6 +184,9 @@ ROWS = [
     # slot 1 never had a file, and one of slot 0 was replaced; without its access, more may be there
     ([], step("holds", (26, 27), access(27), access(27)),
      [step("holds", lines, access(lines[1]), access(lines[1])) for lines in (CLOSED, READ, (24, 25), (26, 17), OPENED)]),
+    # slot 0 can have had b alone then: a read of a's byte finds no file, reads of b's may find b
+    ([], step("holds", (44, 45), access(45), access(45)), [step("holds", lines, access(lines[1]), access(lines[1])) for lines in ((46, 47), (48, 49))]),
+    ([], step("holds", (46, 47), access(47), (GONE, (16, 1, 0), 0), is_strict=False), [dict(after=GONE_B), dict(is_strict=True)]),
     ([], step("holds", CLOSED, access(17), GONE_B, is_strict=False),
      [dict(after=GONE_A), dict(is_strict=True), dict(after=PUT_B), dict(after=(GONE, B, 1)), dict(lines=LOOKED, before=access(8))]),
     ([], step("holds", CLOSED, PUT_B, access(17)),

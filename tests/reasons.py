@@ -5,6 +5,8 @@ Written from docs/inside/FLIGHT.md and docs/inside/MODEL.md alone; it shares onl
 is the rule, the lines of its events, the number of an access, the numbers of earlier steps, the earlier point, the later point, and
 whether they differ in time. A point is EVENT and its line, ACCESS, the line of the answer and a number, PUT and a mark, or GONE, a mark
 and a slot."""
+import collections
+import functools
 import sys
 
 import yachtlines
@@ -104,13 +106,20 @@ class Log:
 
     def changes(self, before):
         """Yields the accesses that calls before a line may make: call, member, number, slot (None for any) and new file."""
+        return (it for line, *it in self.made if line < before)
+
+    @functools.cached_property
+    def made(self):
+        """The accesses that calls may make: the line of the call, and what `changes` yields of each."""
+        found = []
         for call, line in self.calls.items():
-            for member, it in enumerate(self.chain(call) if line < before else [], 1):
+            for member, it in enumerate(self.chain(call), 1):
                 if it.kind in ("close", "open") and not self.refusal(it):
-                    yield call, member, 0, it.slot, None if it.kind == "close" else (call, member, 0)
+                    found.append((line, call, member, 0, it.slot, None if it.kind == "close" else (call, member, 0)))
                 made = [at for at, entry in enumerate(it.entries) if entry >= -1 and not self.refusal(it)]
                 for number, at in enumerate(made):
-                    yield call, member, number, it.slot + at, (call, member, at) if it.entries[at] >= 0 else None
+                    found.append((line, call, member, number, it.slot + at, (call, member, at) if it.entries[at] >= 0 else None))
+        return found
 
     def installs(self, slot, before):
         """Returns the marks of the files that calls before a line may install at a slot."""
@@ -138,12 +147,26 @@ class Log:
         """Returns the line and the result of the answer of the member that installs a file, or 0 twice."""
         return (self.lines[file[:2]], self.read.answers[file[:2]].result) if file[:2] in self.lines else (0, 0)
 
+    def reads_others(self, line, file):
+        """Returns whether a line answers a read with other bytes than those of a file."""
+        call, member, result, more = self.answer_at(line)
+        it = self.request(call, member)
+        content = self.read.contents[self.read.file_of(file)]
+        return it.kind == "read" and result >= 0 and content[2 * it.first : 2 * (it.first + it.count)] != more
+
     def left_before(self, slot, before):
         """Yields what accesses to a slot leave that were answered before a line, with the line of the call."""
-        for (call, _), line in self.lines.items():
-            for left in self.accesses_of(line) if line < before else ():
-                if left and left[0] == slot:
-                    yield self.calls[call], left[1]
+        return (it for line, *it in self.left[slot] if line < before)
+
+    @functools.cached_property
+    def left(self):
+        """What accesses leave at each slot, from the last answer on: the lines of the answer and of the call, and the file."""
+        found = collections.defaultdict(list)
+        for (call, _), line in reversed(self.lines.items()):
+            for it in self.accesses_of(line):
+                if it:
+                    found[it[0]].append((line, self.calls[call], it[1]))
+        return found
 
     def may_answer(self, request, result, more):
         """Returns whether a request of a chain may have a result, and words after it, whatever it finds."""
@@ -170,7 +193,7 @@ class Reason:
     in time."""
 
     def __init__(self, log):
-        self.log, self.known = log, []
+        self.log, self.known, self.orders = log, [], set()
 
     def order(self, rule, lines, access, premises, points):
         """Returns the order that a step adds."""
@@ -330,7 +353,7 @@ class Reason:
     def _is_absent(self, z, call_line, slot, file):
         """Whether a file isn't at a slot just before the access z, by earlier steps, or by the answer of the member that installs it."""
         gone = GONE, file, slot
-        if any(it[:2] == (z, (PUT, file)) or it == (gone, z, True) for it in self.known):
+        if self.orders & {(z, (PUT, file), False), (z, (PUT, file), True), (gone, z, True)} or self.log.reads_others(z[1], file):
             return True
         line, result = self.log.answer_of(file)
         if line == 0:
@@ -392,9 +415,9 @@ class Reason:
             return True
         times = [(PUT, file)] if file else []
         times += [(ACCESS, line, number)] if line else []
-        if any(it in ((time, gone, True), (gone, time, True)) for it in self.known for time in times):
+        if any((time, gone, True) in self.orders or (gone, time, True) in self.orders for time in times):
             return True
-        return taker in times or (gone, (EVENT, self.log.calls[call]), True) in self.known
+        return taker in times or (gone, (EVENT, self.log.calls[call]), True) in self.orders
 
     def _differs(self, lines, access, premises, points):
         ((before, after, _),) = premises
@@ -424,6 +447,7 @@ def complaint(text, facts, tags=False):
             except (Wrong, ValueError, IndexError, KeyError, TypeError) as why:
                 return f"step {nth}, {rule} of lines {list(lines)}: {why}"
             reason.known.append(order)
+            reason.orders.add(order)
     except (ValueError, IndexError, StopIteration) as fault:
         return f"the log or the facts can't be read: {fault!r}"
     before, after, is_strict = reason.known[-1] if reason.known else ("", "-", False)

@@ -4,8 +4,8 @@ crates/WRONG_BODIES.md that nothing but the prover refuses, as `make test` does.
 applied, also those of must-fail/. With --gate (scripts/proved.py) a crate's edits are tried once the gate has proved the crates below, over
 those libraries and by one job.
 
-A caller knows only the contract of a function, so edits of different functions are tried in one check, in a copy of the crates. One that
-isn't refused in its function is tried again alone, in a check of the whole crate, where a refusal anywhere counts: a body without a
+A caller knows only the contract of a function, so edits of different functions are tried in one check, in a copy of the crates. An edit
+that its function doesn't refuse is tried again alone, in a check of the whole crate, where a refusal anywhere counts: a body without a
 contract is refused at its caller. build/wrong-bodies/ has the prover's output."""
 import argparse
 import collections

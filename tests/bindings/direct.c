@@ -166,13 +166,13 @@ static void failing_allocations(void) {
     yacht_direct none = {&none};
     int failed = 0, answer;
     for (;; failed++) {
-        allowed = failed;
+        allowed = failed, granted = 0;
         answer = yacht_direct_open(&none, 100, 0, 0);
         allowed = -1;
         if (answer == YACHT_DIRECT_DONE) break;
         WANT(answer == YACHT_DIRECT_NO_MEMORY && none.slots == &none);
     }
-    WANT(failed > 0);
+    WANT(failed > 0 && granted == 28 * 100 + 88); /* docs/use/LIMITS.md has the bytes */
     yacht_direct_free(none);
 }
 

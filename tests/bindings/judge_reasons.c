@@ -5,64 +5,43 @@
 #include <yachtjudge.h>
 
 enum { ROOM = 64 };
-/* a file with the name a, and the one byte a: both are the byte that a read returns, too */
-static const yacht_file file = {0, 1, 0, 1};
+#define HEAD "file a 61\ncall 1 sparse 2\ndone 1.1 0\n"
 /* a look finds a file that a close removed before the look was called */
-static const yacht_request stale_requests[] = {{.kind = YACHT_REQUEST_OPEN}, {.kind = YACHT_REQUEST_CLOSE}};
-static const yacht_event stale_events[] = {
-    {.kind = YACHT_EVENT_CALL, .call = 1, .count = 1}, {.kind = YACHT_EVENT_DONE, .call = 1, .member = 1},
-    {.kind = YACHT_EVENT_CALL, .call = 2, .first = 1, .count = 1}, {.kind = YACHT_EVENT_DONE, .call = 2, .member = 1},
-    {.kind = YACHT_EVENT_LOOK, .call = 3}, {.kind = YACHT_EVENT_FOUND, .call = 3, .by_call = 1, .by_member = 1},
-};
+static const char stale_begin[] = HEAD "call 7 open a at 0\ndone 7.1 0\ncall 5 close 0\ndone 5.1 0\ncall 9 look 0\n";
+static const char stale[] = HEAD "call 7 open a at 0\ndone 7.1 0\ncall 5 close 0\ndone 5.1 0\ncall 9 look 0\ndone 9.1 0 7.1.0\n";
 /* during an update of slots 0 and 1 a read finds its file at slot 0, a later one none at slot 1 */
-static const int32_t entries[] = {0, 0};
-static const uint8_t bytes[] = {0x61};
-static const yacht_request between_requests[] = {
-    {.kind = YACHT_REQUEST_UPDATE, .count = 2}, {.kind = YACHT_REQUEST_READ, .count = 1, .flags = 1}, {.kind = YACHT_REQUEST_READ, .slot = 1, .count = 1, .flags = 1}};
-static const yacht_event between_events[] = {
-    {.kind = YACHT_EVENT_CALL, .call = 1, .count = 1}, {.kind = YACHT_EVENT_CALL, .call = 2, .first = 1, .count = 1},
-    {.kind = YACHT_EVENT_DONE, .call = 2, .member = 1, .res = 1, .count = 1}, {.kind = YACHT_EVENT_CALL, .call = 3, .first = 2, .count = 1},
-    {.kind = YACHT_EVENT_DONE, .call = 3, .member = 1, .res = -9, .first = 1}, {.kind = YACHT_EVENT_DONE, .call = 1, .member = 1, .res = 2, .first = 1},
-};
-static const yacht_request *requests = stale_requests;
-static const yacht_event *events = stale_events;
-static size_t requests_length = 2;
+static const char between[] = HEAD "call 2 update 0 0,0\ncall 3 read 0 0 1\ndone 3.1 1 61\ncall 4 read 1 0 1\ndone 4.1 -9\ndone 2.1 2\n";
 static yacht_step steps[ROOM];
-static yacht_judgement judgement;
+static yacht_reading reading;
+static uint8_t note[1];
 
-static uint32_t judge(uint32_t slots, size_t length, size_t room, int is_whole) {
-    memset(steps, '?', sizeof steps), memset(&judgement, '?', sizeof judgement);
-    return (is_whole ? yacht_judge_whole_updates : yacht_judge_events)(
-        &file, 1, slots, requests, requests_length, entries, 2, bytes, 1, events, length, YACHT_STATES, YACHT_MEMORY,
-        steps, room, &judgement);
+static uint32_t judge(const char *text, size_t room, int is_whole) {
+    memset(steps, '?', sizeof steps), memset(&reading, '?', sizeof reading);
+    return yacht_judge_log((const uint8_t *)text, strlen(text), (uint32_t)is_whole, YACHT_STATES, YACHT_MEMORY, note, 0, steps, room, &reading);
 }
 
 static int is_untouched(size_t nth) { return steps[nth].rule == 0x3f3f3f3f; }
 
-static int has_details(uint64_t at, uint64_t all) { return judgement.at == at && judgement.steps == all && !judgement.fault; }
+static int has_details(uint64_t line, uint64_t all) { return reading.line == line && reading.steps == all && !reading.note; }
 
-/* A look finds a file that a close removed before the look was called. */
-static void stale(void) {
-    uint32_t number = judge(1, 6, ROOM, 0);
-    uint64_t all = judgement.steps;
-    WANT(number == YACHT_NOT_LEGAL && all > 5 && all < ROOM && has_details(5, all) && is_untouched(all));
+static void stale_look(void) {
+    uint32_t number = judge(stale, ROOM, 0);
+    uint64_t all = reading.steps;
+    WANT(number == YACHT_NOT_LEGAL && all > 5 && all < ROOM && has_details(9, all) && is_untouched(all));
     const yacht_point *from = &steps[all - 1].from, *to = &steps[all - 1].to;
     WANT(steps[all - 1].is_strict == 1 && !memcmp(from, to, sizeof(uint32_t) * 2) && from->at == to->at && from->by_call == to->by_call);
+    /* the file is that of the call 7, and the look is answered at line 9 */
+    int is_named = 0;
+    for (size_t nth = 0; nth < all; nth++)
+        is_named |= steps[nth].rule == YACHT_RULE_FINDS && steps[nth].first == 8 && steps[nth].from.at == 9 && steps[nth].to.by_call == 7;
+    WANT(is_named);
     /* with less room the first steps are written, and the number of all of them */
-    WANT(judge(1, 6, 1, 0) == YACHT_NOT_LEGAL && has_details(5, all) && !is_untouched(0) && is_untouched(1));
-    WANT(judge(1, 6, 0, 0) == YACHT_NOT_LEGAL && has_details(5, all) && is_untouched(0));
+    WANT(judge(stale, 1, 0) == YACHT_NOT_LEGAL && has_details(9, all) && !is_untouched(0) && is_untouched(1));
+    WANT(judge(stale, 0, 0) == YACHT_NOT_LEGAL && has_details(9, all) && is_untouched(0));
     /* nothing is wrong before */
-    WANT(judge(1, 5, ROOM, 0) == YACHT_LEGAL && has_details(0, 0) && is_untouched(0));
+    WANT(judge(stale_begin, ROOM, 0) == YACHT_LEGAL && has_details(0, 0) && is_untouched(0));
     /* the log is not legal by whole updates, either */
-    WANT(judge(1, 6, ROOM, 1) == YACHT_NOT_LEGAL && has_details(5, all) && !is_untouched(all - 1) && is_untouched(all));
-}
-
-/* By whole updates no read comes between two entries of one. By entries it does: so there is no
- * reason. */
-static void between(void) {
-    requests = between_requests, requests_length = 3, events = between_events;
-    WANT(judge(2, 6, ROOM, 0) == YACHT_LEGAL && has_details(0, 0));
-    WANT(judge(2, 6, ROOM, 1) == YACHT_NOT_LEGAL && has_details(4, 0) && is_untouched(0));
+    WANT(judge(stale, ROOM, 1) == YACHT_NOT_LEGAL && has_details(9, all) && !is_untouched(all - 1) && is_untouched(all));
 }
 
 static void refused_allocations(void) {
@@ -70,17 +49,19 @@ static void refused_allocations(void) {
     uint32_t answer = YACHT_JUDGE_NO_MEMORY;
     for (long number = 0; answer == YACHT_JUDGE_NO_MEMORY; number++) {
         allowed = number;
-        answer = judge(1, 6, ROOM, 0);
+        answer = judge(stale, ROOM, 0);
         allowed = -1;
         refused += answer == YACHT_JUDGE_NO_MEMORY;
     }
-    WANT(answer == YACHT_NOT_LEGAL && refused > 10);
+    WANT(answer == YACHT_NOT_LEGAL && refused > 10 && reading.steps > 5);
 }
 
 int main(void) {
-    stale();
+    stale_look();
     refused_allocations();
-    WANT(judgement.steps > 5);
-    between();
+    /* by whole updates no read comes between two entries of one; by entries it does, so there is no
+     * reason */
+    WANT(judge(between, ROOM, 0) == YACHT_LEGAL && has_details(0, 0));
+    WANT(judge(between, ROOM, 1) == YACHT_NOT_LEGAL && has_details(8, 0) && is_untouched(0));
     return report("judge reasons");
 }

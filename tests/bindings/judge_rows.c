@@ -12,6 +12,8 @@ static yacht_verdict verdict;
 static yacht_texts found;
 static yacht_judgement judgement;
 static yacht_step steps[MOST_STEPS];
+static yacht_reading reading;
+static uint8_t *copy; /* of a text, without a byte more */
 
 /* Calls the library with the arguments of a row, and room for as many bytes and texts. */
 static uint32_t call(size_t room, size_t count) {
@@ -21,6 +23,7 @@ static uint32_t call(size_t room, size_t count) {
     switch (it->kind) {
     case JUDGE: return yacht_judge(it->script, it->script_length, it->text, it->text_length, states, memory, words, room, &verdict);
     case LIST: return yacht_outcomes(it->script, it->script_length, states, memory, words, room, lengths, count, &found);
+    case TEXT: return yacht_judge_log(copy, it->text_length, 0, states, memory, words, room, steps, MOST_STEPS, &reading);
     default:
         return yacht_judge_events(it->files, it->files_length, (uint32_t)it->slots, it->requests, it->requests_length, it->entries, it->entries_length,
                                   it->bytes, it->bytes_length, it->events, it->events_length, states, memory, steps, MOST_STEPS, &judgement);
@@ -72,6 +75,17 @@ static void judges_log(void) {
     WANT(row->number == YACHT_NOT_LEGAL || !judgement.steps);
 }
 
+/* Reads the text of a log: what it says, and the fault of what isn't a log. */
+static void reads(void) {
+    size_t whole = row->note_length, rooms[] = {whole + 1, whole, whole / 2, 0};
+    for (size_t nth = 0; nth < sizeof rooms / sizeof *rooms; nth++) {
+        size_t written = rooms[nth] < whole ? rooms[nth] : whole;
+        memset(&reading, '?', sizeof reading);
+        WANT(call(rooms[nth], 0) == row->number && reading.line == row->line);
+        WANT(reading.note == whole && !memcmp(words, row->note, written) && words[written] == '?');
+    }
+}
+
 /* Each allocation of the library fails in turn. */
 static void refused(void) {
     int is_refused = 0;
@@ -91,8 +105,14 @@ int main(void) {
     for (size_t nth = 0; nth < judge_rows_length; nth++) {
         row = &judge_rows[nth];
         if (row->is_refused && !is_stand_in) continue;
-        row->kind == JUDGE ? judges() : row->kind == LIST ? lists() : judges_log();
-        if (!is_stand_in) refused();
+        if (row->kind != TEXT) row->kind == JUDGE ? judges() : row->kind == LIST ? lists() : judges_log();
+        if (row->kind != TEXT && !is_stand_in) refused();
+        if (row->kind < LOG || !row->text_length) continue;
+        judge_rows[nth].kind = TEXT, copy = malloc(row->text_length);
+        memcpy(copy, row->text, row->text_length);
+        reads(), is_alone = 1;
+        if (row->number != YACHT_JUDGE_NO_MEMORY) refused();
+        free(copy), is_alone = 0;
     }
     return report("rows of the judge");
 }

@@ -7,7 +7,7 @@
 #include <string.h>
 #include <yachtjudge.h>
 
-enum { MOST_BYTES = 8 << 20 };
+enum { MOST_BYTES = 64 << 20 };
 
 /* a part: where it is, which the file has as its place there, and its length */
 #define PART(type, name) \
@@ -30,7 +30,7 @@ typedef struct judge_row {
     PART(yacht_event, events);
 } judge_row;
 
-enum { JUDGE, LIST, LOG };
+enum { JUDGE, LIST, LOG, TEXT };
 
 static judge_row *judge_rows;
 static uint64_t judge_rows_length;

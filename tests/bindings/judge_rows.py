@@ -15,14 +15,11 @@ import yachtlog
 from judge_tables import ROWS, expanded
 from judge_tables import rows as all_rows
 from rows import end, raised, raises, want
-from yachtjudge import BadEvent, BadScript, LogVerdict, NoMemory, Outcomes, Verdict, judge, judge_events, outcomes
+from yachtjudge import BadScript, LogVerdict, NoMemory, Outcomes, Verdict, judge, judge_events, judge_log, outcomes
 
 ROOT = Path(__file__).resolve().parents[2]
 
 WORDS = ["legal", "not legal", "undecided"]
-# the names of the faults and flaws by number, as docs/inside/FLIGHT.md and the header have them
-FAULTS = "wrong-number", "not-one-chain", "not-called", "out-of-turn", "answered-twice", "not-held", "still-open"
-FLAWS = "unknown-event", "unknown-request", "unknown-flags", "unknown-file", "past-the-end"
 is_stand_in = "JUDGE_ROWS" in os.environ
 
 
@@ -70,7 +67,7 @@ def listed(_, script, limits, number, line, texts):
 def judged_log(is_refused, script, limits, number, fields, lines):
     """Judges a log by the module and by the command. What the module doesn't read as a log isn't one, at the same line."""
     slots, *limits = limits
-    at, fault = map(int, fields.split())
+    at, _ = map(int, fields.split())
     files = script.count(b"\n")
     line = files + 3 + at
     text = script.decode() + f"call 1 sparse {slots}\ndone 1.1 0\n" + expanded(lines).decode()
@@ -79,19 +76,17 @@ def judged_log(is_refused, script, limits, number, fields, lines):
         fault = raised(lambda: yachtlog.Log(text))
         want(type(fault) is yachtlog.BadLog and fault.line == bad_line, f"{fault!r} of what is not a log at line {bad_line}: {lines}")
         return
+    # a text that is read has no fault for the judge
     log = yachtlog.Log(text)
-    found = result(lambda: judge_events(log, None, *limits))
-    name = (FAULTS if number == 5 else FLAWS)[fault - 1] if fault else ""
+    if number > 4 or is_stand_in and log.lacking:
+        return
     wanted = {0: LogVerdict("legal"), 1: LogVerdict("not legal", line), 2: LogVerdict("undecided"), 4: NONE}.get(number)
-    if number in (5, 6):
-        wanted = BadEvent, f"line {line}: {name}"
-    if number == 7:
-        wanted = ValueError, f"the table has too many slots: {slots}"
-    if number == 8:
-        wanted = ValueError, f"no catalogue has the file {list(log.names)[at]}"
-    want(found == wanted, f"{found} in place of {wanted}: {lines}")
-    if number < 7 and not log.lacking:
-        want(command(text, limits) == said(text, number, line, name), f"the command prints something else: {command(text, limits)}, {lines}")
+    if log.lacking and number == 2:
+        wanted = LogVerdict("undecided", log.lacking)
+    for call in (lambda: judge_events(log, None, *limits), lambda: judge_log(text, *limits), lambda: log.judge(*limits)):
+        want(result(call) == wanted, f"{result(call)} in place of {wanted}: {lines}")
+    if not log.lacking:
+        want(command(text, limits) == said(text, number, line), f"the command prints something else: {command(text, limits)}, {lines}")
 
 
 def command(text, limits):
@@ -104,10 +99,10 @@ def command(text, limits):
         return re.sub(r"^ {4}.*\n", "", printed.getvalue().replace(f"{room}/", ""), flags=re.MULTILINE), status
 
 
-def said(text, number, line, fault):
+def said(text, number, line):
     """Returns what the command should print of a log, and its status."""
     status, words = next(it.split("\t")[2:] for it in ROWS if it.startswith(f"status\t{number}\t"))
-    return words.replace("LINE", str(line)).replace("TEXT", text.splitlines()[line - 1] if number == 1 else "").replace("FAULT", fault) + "\n", int(status)
+    return words.replace("LINE", str(line)).replace("TEXT", text.splitlines()[line - 1] if number == 1 else "") + "\n", int(status)
 
 
 for kind, *row, more in rows():

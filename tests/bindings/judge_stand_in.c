@@ -13,7 +13,7 @@ static pthread_once_t once = PTHREAD_ONCE_INIT; /* tests in Rust have threads */
 static const judge_row *row_of(uint64_t kind, const uint8_t *script, size_t script_length, uint32_t states, uint32_t memory, int (*holds)(const judge_row *)) {
     pthread_once(&once, read_judge_rows);
     for (const judge_row *it = judge_rows; it < judge_rows + judge_rows_length; it++)
-        if (it->kind == kind && is_same(it->script, it->script_length, script, script_length) && it->states == states && it->memory == memory && holds(it)) return it;
+        if ((it->kind == kind || (kind == LOG && it->kind == TEXT)) && is_same(it->script, it->script_length, script, script_length) && it->states == states && it->memory == memory && holds(it)) return it;
     fprintf(stderr, "judge_stand_in.c: no row has these arguments: kind %u, states %u, memory %u\n", (unsigned)kind, states, memory);
     abort();
 }
@@ -75,7 +75,7 @@ uint32_t yacht_judge_events(LOG_PASSED, uint32_t states, uint32_t memory, yacht_
                         .bytes = bytes, .bytes_length = bytes_length, .events = events, .events_length = events_length};
     const judge_row *it = row_of(LOG, bytes, 0, states, memory, has_log);
     *judgement = (yacht_judgement){it->at, 0, (uint32_t)it->fault};
-    return (uint32_t)it->number;
+    return (uint32_t)(it->kind == TEXT ? it->commands : it->number);
 }
 
 static yacht_point point_of(uint32_t nth) {

@@ -33,18 +33,22 @@ def rows():
 
 
 class Log:
-    """The structs of the lines of a log."""
+    """The structs of the lines of a log. Its calls are numbered from the registration on, 1; or as `numbers` has them, and then files."""
 
-    def __init__(self, script, lines):
+    def __init__(self, script, lines, numbers=None):
         files = re.findall(r"^file (\S+) (\S+)$", script.decode(), re.MULTILINE)
         self.names, self.files, self.bytes = [name for name, _ in files], b"", b""
-        self.requests, self.entries, self.events, self.calls, self.looks = [], [], [], {}, set()
+        self.requests, self.entries, self.calls, self.looks, self.numbers = [], [], {}, set(), numbers
         for name, content in files:
             data = bytes.fromhex(content.replace("-", ""))
             self.files += FILE.pack(len(self.bytes), len(name), len(self.bytes) + len(name), len(data))
             self.bytes += name.encode() + data
-        for line in lines.decode().splitlines():
-            self.events.append(EVENT.pack(*self.event(*line.split(" "), line=line)))
+        events = [self.event(*line.split(" "), line=line) for line in lines.decode().splitlines()]
+        # a look may find the file of a later call
+        self.events = [EVENT.pack(*(it if it[0] != FOUND else (*it[:7], *self.mark(it[7]), self.file(it[7]) or 0))) for it in events]
+
+    def number(self, call):
+        return call - 1 if self.numbers is None else self.numbers.setdefault(call, len(self.numbers))
 
     def request(self, kind, slot, *words):
         flags = {"link": 4, "hardlink": 8}.get(words[-1] if words else "", 0)
@@ -61,36 +65,39 @@ class Log:
         return CLOSE, int(slot), 0, 0, flags, 0
 
     def file(self, mark):
-        """Returns the numbers of a mark, and the file, or None if its request installs none."""
+        """Returns the file of a mark, or None if its request installs none."""
         call, member, entry = map(int, mark.split("."))
         its = self.calls.get(call, [])
         kind, _, first, count, _, file = its[member - 1] if 1 <= member <= len(its) else (0,) * 6
         if kind == UPDATE:
             file = self.entries[first + entry] if entry < count else -1
-        return (call - 1, member, entry), file if kind in (OPEN, OPEN_ANY) and not entry or kind == UPDATE and file >= 0 else None
+        return file if kind in (OPEN, OPEN_ANY) and not entry or kind == UPDATE and 0 <= file < len(self.names) else None
+
+    def mark(self, mark):
+        call, *more = map(int, mark.split("."))
+        return self.number(call), *more
 
     def event(self, word, number="0", *words, line):
         call = int(number.split(".")[0])
         if word == "call" and words[0] == "look":
             self.looks.add(call)
-            return LOOK, call - 1, 0, 0, int(words[1]), *(0,) * 6
+            return LOOK, self.number(call), 0, 0, int(words[1]), *(0,) * 6
         if word == "call":
             first = len(self.requests)
             self.calls[call] = [self.request(*it.split(" ")) for it in line.split(" ", 2)[2].split(" ; ")]
             self.requests += self.calls[call]
-            return CALL, call - 1, 0, 0, 0, first, len(self.calls[call]), *(0,) * 4
+            return CALL, self.number(call), 0, 0, 0, first, len(self.calls[call]), *(0,) * 4
         if word == "done" and call in self.looks:
-            mark, file = self.file(words[1]) if words[0] == "0" else ((0,) * 3, 0)
-            return FOUND if words[0] == "0" else EMPTY, call - 1, *(0,) * 5, *mark, file or 0
+            return FOUND if words[0] == "0" else EMPTY, self.number(call), *(0,) * 5, *(words[1:] or (0,) * 4)
         if word == "done":
             first, got = len(self.bytes), bytes.fromhex(words[1] if len(words) > 1 else "")
             self.bytes += got
-            return DONE, call - 1, int(number.split(".")[1]), int(words[0]), 0, first, len(got), *(0,) * 4
+            return DONE, self.number(call), int(number.split(".")[1]), int(words[0]), 0, first, len(got), *(0,) * 4
         if word == "closed":
-            mark, file = self.file(number)
+            file = self.file(number)
             is_there = file is not None and self.names[file] == words[0]
-            return CLOSED, *(0,) * 6, *(mark if is_there else (0,) * 3), file if is_there else 0
-        return {"free": FREE, "settled": SETTLED}[word], max(call - 1, 0), *(0,) * 9
+            return CLOSED, *(0,) * 6, *(self.mark(number) if is_there else (0,) * 3), file if is_there else 0
+        return {"free": FREE, "settled": SETTLED}[word], self.number(call) if word == "free" else 0, *(0,) * 9
 
     def parts(self):
         requests = b"".join(REQUEST.pack(*it) for it in self.requests)
@@ -110,15 +117,19 @@ def packed(kind, is_refused, script, numbers, number, fields):
         texts = expanded(fields[1]).split(b"^")[:-1]
         lengths, text = list(map(len, texts)), b"".join(texts)
     else:
-        (at, fault), line, text = values, 0, expanded(fields[1])
-        log, script = Log(script, text).parts(), b""
+        (at, fault), lines = values, expanded(fields[1])
+        log = Log(script, lines).parts()
+        # a text is read where the module yachtlog reads it, and judged as its events are
+        is_log = is_refused or number < 3 and b" -12\n" not in lines and 0 < slots <= 1_048_576
+        text = b"%scall 1 sparse %d\ndone 1.1 0\n%s" % (script, slots, lines) if is_log else b""
+        line, script = script.count(b"\n") + 3 + at if number == 1 else 0, b""
     head = [("judge", "list", "log").index(kind), is_refused, slots, states, memory, number, commands, at, submission, line, fault]
     return head, [(script, len(script)), (text, len(text)), (note, len(note)), (struct.pack(f"<{len(lengths)}Q", *lengths), len(lengths)), *log]
 
 
-def main(path):
-    those = [packed(*it) for it in rows()]
-    table, data, at = b"", b"", 8 + ROW.size * len(those)
+def write(path, those):
+    """Writes rows, each of its numbers and its parts."""
+    table, data, at = bytearray(), bytearray(), 8 + ROW.size * len(those)
     for head, parts in those:
         places = []
         for content, length in parts:
@@ -129,4 +140,4 @@ def main(path):
 
 
 if __name__ == "__main__":
-    main(sys.argv[1])
+    write(sys.argv[1], [packed(*it) for it in rows()])

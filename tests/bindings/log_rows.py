@@ -1,8 +1,7 @@
-"""Rows for yachtjudge.judge_events and yachtevents that only Python has (judge_rows.py has the others), each derived by hand:
-numbers of calls, tags, the caller's own events, the reason of a log, what is raised, and the structs that an event and a request become."""
+"""Rows for yachtjudge.judge_events that only Python has (judge_rows.py has the others), each derived by hand: numbers of calls, tags, the
+caller's own events, the reason of a log, what is raised, and the text that events become."""
 from unittest import mock
 
-import yachtevents
 import yachtjudge
 import yachtlog
 import yachtreason
@@ -89,10 +88,6 @@ foreign = log("call 2 look 0", "done 2.1 0 7.1.0")
 want(reason_of(foreign) == ["line 6 says that 7.1.0 was installed, and no call before it can have installed that file"],
      f"the reason of a foreign file is {reason_of(foreign)}")
 want(reasons.complaint(foreign.source, reasons.facts_of(foreign.judge().reason)) == "", "the reason of a foreign file doesn't follow")
-both = log("call 2 look 0", "call 3 look 0", "done 2.1 0 7.1.0", "done 3.1 0 8.1.0")
-structs = yachtevents.Events(both, both.events).events
-marks = [yachtevents.EVENT.unpack_from(structs, at * yachtevents.EVENT.size)[7:10] for at in (2, 3)]
-want(marks == [(3, 1, 0), (4, 1, 0)], f"two foreign files have the marks {marks}")
 twice = log(*opened, "call 3 close 0", "done 3.1 0", "closed 2.1.0 a", "tag 2.1.0", "tag 2.1.0")
 want(reason_of(twice) == ["2.1.0 was closed by line 10, and again by line 11"], f"the reason of a second tag is {reason_of(twice)}")
 want(reasons.complaint(twice.source, reasons.facts_of(twice.judge().reason), True) == "", "the reason of a tag is wrong")
@@ -111,36 +106,31 @@ def changed(**fields):
 
 raises(yachtlog.BadLog, "line 5: a read has at most 4096 bytes, not 4097", lambda: log("call 2 read 0 0 4097", "done 2.1 -9"))
 events = changed().events
-raises(yachtjudge.BadEvent, "line 6: not-called", lambda: judge_events(changed(), [events[1], events[0]]))
-raises(yachtjudge.BadEvent, "line 8: not-called", lambda: judge_events(changed(), [events[0], events[3]]))
-raises(yachtjudge.BadEvent, "line 8: answered-twice", lambda: judge_events(changed(), [*events, events[3]]))
+raises(yachtlog.BadLog, "line 6: no call has the number 2", lambda: judge_events(changed(), [events[1], events[0]]))
+raises(yachtlog.BadLog, "line 8: no call has the number 3", lambda: judge_events(changed(), [events[0], events[3]]))
+raises(yachtlog.BadLog, "line 8: call 3 is answered already", lambda: judge_events(changed(), [*events, events[3]]))
 freed = yachtlog.Event(9, "free", 2)
-raises(yachtjudge.BadEvent, "line 9: not-held", lambda: judge_events(changed(), [*events, freed]))
-raises(yachtlog.BadLog, "line 9: not-held", lambda: changed(events=[*events, freed]).judge())
+raises(yachtlog.BadLog, "line 9: call 2 holds no file", lambda: judge_events(changed(), [*events, freed]))
 long = {**changed().chains, 3: [yachtlog.Request("read", 0, count=4097)]}
-raises(yachtjudge.BadEvent, "line 7: not-one-chain", lambda: judge_events(changed(chains=long)))
-raises(yachtjudge.BadEvent, "line 6: a look finds a file, or answers -9", lambda: judge_events(changed(answers={(2, 1): yachtlog.Answer(1, "61")})))
-raises(yachtjudge.BadEvent, "line 6: ", lambda: judge_events(changed(answers={(2, 1): yachtlog.Answer(0, (2, 2**32, 0))})))
-raises(yachtjudge.BadEvent, "line 7: a look is not a request of a chain", lambda: judge_events(changed(chains={**long, 3: [*long[3], long[2][0]]})))
-closed = yachtlog.Event(9, "closed", mark=(3, 1, 0))
-raises(yachtjudge.BadEvent, "line 9: unknown-file", lambda: judge_events(changed(names={}, contents=[]), [*events, closed]))
-raises(ValueError, "no catalogue has the file b/b", lambda: judge_events(changed(names={"a": 0, "b/b": 1}, contents=["61", "62"])))
-raises(ValueError, "two files have one name", lambda: judge_events(changed(contents=["61", "62", "63"])))
-raises(ValueError, "too many slots: 1048577", lambda: judge_events(changed(slots=1_048_577)))
-raises(ValueError, "too many slots: 4294967297", lambda: judge_events(changed(slots=2**32 + 1)))
+raises(yachtlog.BadLog, "line 7: a read has at most 4096 bytes, not 4097", lambda: judge_events(changed(chains=long)))
+raises(yachtlog.BadLog, "a table has 1 to 1048576 slots, not '1048577'", lambda: judge_events(changed(slots=1_048_577)))
+raises(yachtlog.BadLog, "line 5: no line of a log begins with 'x'", lambda: yachtjudge.judge_log(f"{HEAD}x\n"))
+raises(TypeError, "text must be str or bytes, not int", lambda: yachtjudge.judge_log(5))
+lacking = yachtjudge.judge_log(f"{HEAD}call 2 read 0 0 1\ndone 2.1 -12\n")
+want(lacking == LogVerdict("undecided", 6), f"a log with an answer -12 is judged otherwise: {lacking}")
 
-# the structs of a look, by their fields
-said = log("call 2 update 1 -1,1", "call 3 look 1", "done 3.1 0 2.1.1", "free 3", "call 4 look 0", "done 4.1 -9", "done 2.1 2", "settled")
-events = yachtevents.Events(said, said.events)
-rows = [yachtevents.EVENT.unpack_from(events.events, at) for at in range(0, len(events.events), yachtevents.EVENT.size)]
-want(rows[0][:7] == (yachtevents.EVENT_CALL, 1, 0, 0, 0, 0, 1), f"an update is called by {rows[0]}")
-want(rows[1] == (yachtevents.EVENT_LOOK, 2, 0, 0, 1, 0, 0, 0, 0, 0, 0), f"a look is called by {rows[1]}")
-want(rows[2] == (yachtevents.EVENT_FOUND, 2, 0, 0, 0, 0, 0, 1, 1, 1, 1), f"a look is answered by {rows[2]}")
-want(rows[3][:2] == (yachtevents.EVENT_FREE, 2), f"a hold is ended by {rows[3]}")
-want(rows[5][:2] == (yachtevents.EVENT_EMPTY, 3), f"a look of an empty slot is answered by {rows[5]}")
-want(rows[6][:4] == (yachtevents.EVENT_DONE, 1, 1, 2), f"an update is answered by {rows[6]}")
-want(rows[7][0] == yachtevents.EVENT_SETTLED and len(rows) == 8, f"a log is settled by {rows[7]}")
-want(yachtevents.REQUEST.unpack(events.requests) == (yachtevents.REQUEST_UPDATE, 1, 0, 2, 0, 0), "an update is another request")
+# the text of events, and the line of each; and a log of the kernel
+said = log("call 2 update 1 -1,1 link ; read 0 1 2 hardlink ; open c any", "call 3 look 1", "done 3.1 0 2.1.1", "free 3", "call 4 open b at 0",
+           "done 4.1 -9 61", "done 2.1 2", "done 2.2 -9", "done 2.3 -2", "closed 4.1.0 b", "settled")
+want(said.plain(said.events) == (said.source, [0, 0, 0, 0, *range(5, 16)]), f"events become another text: {said.plain(said.events)}")
+closed = log(*opened, "closed 2.1.0 b", "closed 3.1.0 a").plain(said.events[:0])
+want(closed == (HEAD, [0] * 4), f"no event becomes another text: {closed}")
+foreign = log(*opened, "closed 2.1.0 b")
+want(foreign.plain(foreign.events[2:])[0] == f"{HEAD}closed 0.0.0 a\n", "a file under another name becomes another text")
+piped = log("call 2 regupdate 0 0", "done 2.1 1", "call 3 read 0 0 1", "fed p 41", "done 3.1 1 41", head="pipe p\ncall 1 sparse 2\ndone 1.1 0\n")
+text = "file p -\ncall 1 sparse 2\ndone 1.1 0\ncall 2 update 0 0\ndone 2.1 1\ncall 3 look 0\ndone 3.1 0 2.1.0\nfree 3\n"
+want(piped.plain(piped.events) == (text, [0, 0, 0, 4, 5, 6, 8, 8]), f"a read of a pipe becomes another text: {piped.plain(piped.events)}")
+want(yachtjudge.judge_log(piped.source) == piped.judge() == LogVerdict("legal"), "a log of the kernel isn't judged by the module")
 
 # the words of each rule, as include/yachtjudge.h describes it, by its lines and its two points
 told = log("call 2 open a at 0", "done 2.1 0", "call 3 look 0", "done 3.1 0 2.1.0", "free 3", "call 4 open b at 1 link ; close 0", "done 4.1 0",
@@ -182,4 +172,20 @@ for rule, lines, before, after, words in RULES:
 existed, unknown = Step("existed", (13,), 0, (), put, event, True), Step("unknown", (), 0, (0,), put, put, True)
 sentences = yachtreason.Words(told, told.events, [existed, unknown]).sentences()
 want(sentences == ["line 13 says that 2.1.0 was installed, and no call before it can have installed that file"], f"the words of unknown are {sentences}")
+# why a file is the only one, or an access: the orders that exclude the others
+answered, before = Point("access", 8), Point("event", 9)
+orders = [Step("ends", (7, 8), 0, (), answered, Point("event", 8), True), Step("calls", (9,), 0, (), before, other, True),
+          Step("events", (8, 9), 0, (), Point("event", 8), before, True), Step("then", (), 0, (0, 2), answered, before, True),
+          Step("then", (), 0, (3, 1), answered, other, True)]
+later = "look 3 was answered at line 8 and the call that installs 4.1.0 began at line 9"
+for slot, words in (1, f"look 3 found a file at slot 1 by line 8, where no file can have been, since {later}"), (0, f"{found}, where no file can have been"):
+    sentences = yachtreason.Words(told, told.events, [*orders, Step("holds", (7, 8), 0, (), answered, answered, True, slot)]).sentences()
+    want(sentences == [words], f"the words of a file at slot {slot} are {sentences}")
+passing, stays = Step("precedes", (10, 12), 0, (), access, gone, True), Step("stays", (13,), 0, (), event, gone, True)
+sentences = yachtreason.Words(told, told.events, [passing, stays, existed]).sentences()
+want(sentences[:-1] == ["no call before line 13 can have taken 2.1.0 from slot 0, since 2.1.0 was installed after close 4.2"], f"a taker is excluded by {sentences}")
+read = log("call 2 open a at 0", "done 2.1 0", "call 3 read 0 0 1", "done 3.1 1 62")
+holds = Step("holds", (7, 8), 0, (), answered, answered, True)
+want(yachtreason.Words(read, read.events, [holds]).sentences() == ["read 3 got 62 from slot 0 by line 8, where no file with these bytes can have been"],
+     "a read of other bytes is told otherwise")
 end()

@@ -64,9 +64,9 @@ wrong_module() {
 }
 
 in_python() {
-    want 'the judge from Python is wrong' judges_rows judge_rows 171
+    want 'the judge from Python is wrong' judges_rows judge_rows 267
     want 'the judge from Python is wrong over the stand-in' over_the_stand_in_of_rows
-    want 'the judge of logs from Python is wrong' judges_rows log_rows 81
+    want 'the judge of logs from Python is wrong' judges_rows log_rows 76
     want 'the verified judge of yachtlog is wrong' proved_logs
     want 'a missing library is not explained' without_library "$room" "$room/libyachtjudge.so.6 was not found."
     echo > "$room/libyachtjudge.so.6"
@@ -101,38 +101,36 @@ yachtjudge s/    numbers = operator.index(states), operator.index(memory)/    nu
 yachtjudge s/        if not 0 <= number <= MOST:/        if number < 0:/
 yachtjudge s/        if verdict.note <= room:/        if room:/
 yachtjudge s/        at += length/        at += 1/
-yachtjudge s/    if code == NO_MEMORY:/    if code == MALFORMED:/
+yachtjudge s/    if code == NO_MEMORY:/    if code == LONG_LOG:/
 END
 }
 
 # wrong changes of how a log is passed to the verified judge, and of how its verdict is read
 wrong_logs() {
     wrong_modules << 'END'
-yachtjudge s/LogVerdict("not legal", passed.events\[at\].line/LogVerdict("not legal", passed.events[at - 1].line/
-yachtjudge s/LogVerdict("legal" if code == LEGAL else "undecided")/LogVerdict("legal")/
-yachtjudge s/(FAULTS if code == FAULTY else FLAWS)/FAULTS/
-yachtjudge s/\[it for it in log.events if it.word != "tag"\] if events is None else list(events)/[it for it in log.events if it.word != "tag"]/
-yachtjudge s/min(log.slots, MOST)/log.slots/
-yachtjudge s/if judgement.steps <= room/if room/
-yachtjudge s/steps\[: judgement.steps\]/steps[: judgement.steps - 1]/
-yachtsteps s/self._calls\[it.by_call\]/it.by_call/
-yachtsteps s/self._events\[at\].line for at/at for at/
+yachtjudge s/return LogVerdict("not legal", line_of(reading.line)/return LogVerdict("not legal", line_of(reading.line - 1)/
+yachtjudge s/LogVerdict(_WORDS\[code\], line_of(reading.line))/LogVerdict(_WORDS[code])/
+yachtjudge s/LEGAL: "legal", UNDECIDED: "undecided"/LEGAL: "legal", UNDECIDED: "legal"/
+yachtjudge s/(it for it in log.events if it.word != "tag") if events is None else events/(it for it in log.events if it.word != "tag")/
+yachtjudge s/if reading.steps <= room/if room/
+yachtjudge s/steps\[: reading.steps\]/steps[: reading.steps - 1]/
+yachtjudge s/return lines\[number - 1\] if number and lines else number/return number/
+yachtjudge s/_judge_log_6(\*given, whole_updates, /_judge_log_6(*given, 0, /
+yachtjudge s/bytes(note\[: reading.note\])/bytes(note[: reading.note - 1])/
+yachtjudge s/read_log(text, states, memory, whole_updates, lines)/read_log(text, whole_updates=whole_updates, lines=lines)/
+yachtsteps s/lines = tuple(line_of(at) for at/lines = tuple(at for at/
 yachtsteps s/"finds": (2, False, 0)/"finds": (2, False, 1)/
 yachtsteps s/bool(it.is_strict)/not it.is_strict/
+yachtlines s/if it.slot is None else f"at {it.slot}"/if it.kind else ""/
+yachtlines s/\[\*words, it.link\]/words/
+yachtlines s/names\[max(self.file_of(it.mark), 0)\]/names[0]/
+yachtlines s/            numbers.append(it.line)/            numbers.append(0)/
 yachtreason s/todo += reversed(step.premises)/todo += step.premises/
-yachtreason s/if it.premises and it.rule/if it.rule/
+yachtreason s/ and (it.premises or self._why(it))\]/]/
 yachtlog s/if verdict.reason else \[\]$/if verdict.reason else ["none"]/
 yachtlog s/len(sentences) - SENTENCES, 0/len(sentences) - SENTENCES, 1/
 yachtlog s/left = 0 if is_full/left = 1 if is_full/
-yachtevents s/calls = \[it.call for it in events if it.word == "call"\]/calls = sorted(it.call for it in events if it.word == "call")/
-yachtevents s/return \[0, .*$/return [0, *calls]/
-yachtevents s/"hardlink": 8/"hardlink": 4/
-yachtevents s/FILE.pack(\*self._keep(name.encode())/FILE.pack(*self._keep(b"a")/
-yachtevents s/self._keep(bytes.fromhex(log.contents\[at\]))/self._keep(b"")/
-yachtevents s/return self._numbers.get(by, 0), member/return by, member/
-yachtevents s/elif answer.result == EBADF:/elif True:/
 yachtlog s/        return NO_MEMORY$/        return MISSING/
-yachtlog s/judge_events(self, before, states, memory, /judge_events(self, before, memory, states, /
-yachtjudge s/yacht_judge_whole_updates_\([0-9]*\) if whole_updates/yacht_judge_events_\1 if whole_updates/
+yachtlog s/judge_log(content, options.states, options.memory, /judge_log(content, options.memory, options.states, /
 END
 }

@@ -56,7 +56,7 @@ in_turns() {
     local seed
     gcc -O2 -shared -fPIC tests/step.c -o "$room/step.so" -ldl || return 1
     for seed in 1 2 3 4 5 6; do
-        SEED=$seed TURN=30 LD_PRELOAD=$room/step.so limit=60 records "$1" "$seed" 3 2 20 "$2" || continue
+        SEED=$seed TURN=30 LD_PRELOAD=$room/step.so limit=150 records "$1" "$seed" 3 2 20 "$2" || continue
         judged legal && return
         return 1
     done
@@ -165,11 +165,11 @@ ends_example() {
     [ $? -eq 1 ] && grep -qF "recorder: $2; the log ends there" "$room/found" && [ "$(wc -l < "$room/log")" -lt 12000 ] && judged legal
 }
 
-# refuses_slots: a plan of no slots plays nothing
-refuses_slots() {
-    makes_example C 's/SLOTS, 20}/0, 20}/' || return 1
-    plays_example 1
-    [ $? -eq 2 ] && [ ! -s "$room/log" ]
+# refuses_plan LANGUAGE SED SEED MESSAGE: nothing is played, for this reason
+refuses_plan() {
+    makes_example "$1" "$2" || return 1
+    plays_example "$3"
+    [ $? -eq 2 ] && [ ! -s "$room/log" ] && [[ $(< "$room/found") = *"$4" ]]
 }
 
 recorded_in_c() {
@@ -180,7 +180,8 @@ recorded_in_c() {
     want 'a call in C that uses memory wrongly leaves no log' ends_example C "$crashed" "s/$take/    if (++looks == 500) *(volatile int *)8 = 1;\n&/"
     want 'calls in C that crash in all threads leave no log' ends_example C "$crashed" \
         's/^static int take.*/&\n    if (__atomic_add_fetch(\&looks, 1, __ATOMIC_SEQ_CST) > 400) *(volatile int *)8 = 1;/'
-    want 'a plan in C without a slot is not refused' refuses_slots
+    want 'a plan in C without a slot is not refused' refuses_plan C 's/SLOTS, 20}/0, 20}/' 1 'recorder: the plan has no slot'
+    want 'a seed in C that is none is not refused' refuses_plan C '' abc "recorded: 'abc' is not a number"
     want 'a call in C++ that throws leaves no log' ends_example C++ "$crashed" "s/$take/    if (++looks == 500) throw 1;\n&/"
     want 'a call in C that never returns leaves no log' ends_example C 'no call began or ended in time' \
         "s/$take/    if (++looks == 500) for (;;) poll(NULL, 0, -1);\n&/; s/SLOTS, 20}/SLOTS, 2}/"
@@ -197,6 +198,8 @@ recorded_in_python() {
     local take='^            return self.swap(slot, None)' again='            self.looks += 1\n'
     want 'a log of a right table in Python is not legal' legal_example Python
     want 'a stale look of 10,000 in Python is not noticed' found_example Python 10000
+    want 'a plan in Python without a slot is not refused' refuses_plan Python 's/slots=SLOTS/slots=0/' 1 'recorder: the plan has no slot'
+    want 'a seed in Python that is none is not refused' refuses_plan Python '' abc "argument SEED: invalid int value: 'abc'"
     want 'a call in Python that raises an exception leaves no log' ends_example Python "KeyError('lost')" \
         "s/$take/$again            if self.looks > 500: raise KeyError('lost')\n&/"
     want 'a call in Python that never returns leaves no log' ends_example Python "TimeoutError('no call began or returned for 2 s')" \

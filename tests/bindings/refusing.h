@@ -7,13 +7,14 @@
 
 static long allowed = -1; /* without limit */
 static int looked, wrong, is_alone;
+static size_t granted; /* the bytes of malloc */
 
 void *__real_malloc(size_t size);
 void *__real_calloc(size_t count, size_t size);
 void *__real_realloc(void *block, size_t size);
 
 static int refuses(void) { return allowed >= 0 && allowed-- == 0 ? (allowed = is_alone ? -1 : 0, 1) : 0; }
-void *__wrap_malloc(size_t size) { return refuses() ? NULL : __real_malloc(size); }
+void *__wrap_malloc(size_t size) { return refuses() ? NULL : (granted += size, __real_malloc(size)); }
 void *__wrap_calloc(size_t count, size_t size) { return refuses() ? NULL : __real_calloc(count, size); }
 void *__wrap_realloc(void *block, size_t size) { return refuses() ? NULL : __real_realloc(block, size); }
 

@@ -2,7 +2,6 @@
  * of a key, and the opening of a table with each allocation failing in turn. balance.c has each
  * answer. */
 #include "refusing.h"
-#include <stdlib.h>
 #include <string.h>
 #include <yachtbanyan.h>
 
@@ -185,33 +184,6 @@ static void bits(void) {
     WANT(key.slot == 4096 && key.number == 7);
 }
 
-static void leave(void *value, void *with) { (void)value, (void)with; }
-
-/* nobody else changes the table: each handle finds the only empty slot, by groups of four slots at
- * each distance from the one that it filled last */
-static int misses(yacht_table *table, yacht_handle *last, uint32_t groups, uint32_t number) {
-    int missed = 0;
-    for (uint32_t group = 0, far = 0; far < groups; far++) {
-        group = (group + far) % groups;
-        yacht_remove_at(last, 4 * group);
-        missed += yacht_try_insert(yacht_handle_of(table, number), &dropped[0]) != (int)(4 * group);
-    }
-    return missed;
-}
-
-static void an_empty_slot_is_found(void) {
-    int missed = 0;
-    for (uint32_t groups = 1; groups <= 64; groups++) {
-        yacht_table *table;
-        if (yacht_open(&table, 4 * groups, 9, 0, leave, NULL) != YACHT_DONE) abort();
-        yacht_handle *last = yacht_handle_of(table, 8);
-        for (uint32_t slot = 0; slot < 4 * groups; slot++) yacht_replace_at(last, slot, &dropped[0]);
-        for (uint32_t number = 0; number < 8; number++) missed += misses(table, last, groups, number);
-        yacht_free(table);
-    }
-    WANT(missed == 0);
-}
-
 static void words(void) {
     static const struct { int number; const char *words; } said[] = {
         {YACHT_DONE, "done"}, {YACHT_DROPPED, "the old value was dropped"}, {YACHT_IN_USE, "the old value is in use"},
@@ -248,7 +220,6 @@ int main(void) {
     bits();
     made_from_keys();
     made_within();
-    an_empty_slot_is_found();
     words();
     for (; is_alone < 2; is_alone++) refused_openings();
     return report("table");
