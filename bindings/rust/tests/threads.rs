@@ -7,7 +7,6 @@ mod support;
 use std::cell::Cell;
 use std::collections::HashSet;
 use std::sync::atomic::{AtomicBool, AtomicU64, AtomicUsize, Ordering::Relaxed, Ordering::SeqCst};
-use std::sync::Mutex;
 use std::time::{Duration, Instant};
 use support::{begin, join, together, Job};
 use yachtbanyan::{GetError, Guard, Handle, Key, NoSeat, Old, Options, OwnedGuard, Reason, Table};
@@ -237,16 +236,14 @@ fn end_keys(
 /// Has four threads end each other's keys.
 fn end_each_key_once(slots: u32, rounds: u64) {
     let table = Options::new(slots).handles(4).open::<u64>().unwrap();
-    let (known, found): ([AtomicU64; 8], _) = (Default::default(), Mutex::new(Vec::new()));
-    let job = |seed| -> Job<'_> {
-        let (table, known, found) = (&table, &known, &found);
-        Box::new(move || {
-            let mine = end_keys(table, known, seed, rounds);
-            found.lock().unwrap().push(mine);
-        })
-    };
-    together((1..5).map(job).collect());
-    let found = found.into_inner().unwrap();
+    let known: [AtomicU64; 8] = Default::default();
+    // a place for each thread, not a mutex: ThreadSanitizer doesn't see that std's orders its uses
+    let mut found: [(usize, Vec<Key>); 4] = Default::default();
+    let jobs = found.iter_mut().zip(1..5).map(|(mine, seed)| -> Job<'_> {
+        let (table, known) = (&table, &known);
+        Box::new(move || *mine = end_keys(table, known, seed, rounds))
+    });
+    together(jobs.collect());
     let issued: usize = found.iter().map(|it| it.0).sum();
     let ended: Vec<Key> = found.into_iter().flat_map(|it| it.1).collect();
     let different: HashSet<Key> = ended.iter().copied().collect();
