@@ -261,12 +261,18 @@ enum {
                                    * before an event: first, and the member's answer second */
     YACHT_RULE_UNKNOWN = 29,      /* a file was installed (premise), and no call before that may
                                    * install it */
-    YACHT_RULE_CUT = 30           /* a member is canceled although the answer of the member before it
+    YACHT_RULE_CUT = 30,          /* a member is canceled although the answer of the member before it
                                    * severs nothing, or isn't although it does: first, second */
+    YACHT_RULE_SUPPOSE = 31,      /* an order is supposed: the steps from here on speak of flights
+                                   * that keep it */
+    YACHT_RULE_OTHERWISE = 32     /* the step before has a point before itself, so the order that was
+                                   * supposed is wrong, and this one is the opposite one: numbers of
+                                   * the steps since then are numbers of it, too */
 };
 
-/* A step of a reason: by its rule, the point `from` comes before the point `to` in each flight. The
- * last step of a reason has a point before itself. */
+/* A step of a reason: by its rule, the point `from` comes before the point `to` in each flight, or
+ * in each that keeps the order that is supposed. The last step of a reason has a point before
+ * itself, and no order is supposed there. */
 typedef struct yacht_step {
     uint32_t rule;      /* one of the rules */
     uint32_t is_strict; /* 1: at another time; 0: perhaps at the same time */

@@ -130,6 +130,9 @@ B_IS_GONE = [*B_IS_THERE, closes_b, of_lines(20, 30), step("then", (), GONE_B, e
 B_IS_GONE_SOONER = [*B_IS_GONE, of_lines(20, 28), step("then", (), GONE_B, event(28), premises=(3, 6))]
 # an order that doesn't end at an event, and an open at any slot
 NO_LANDING = [step("follows", LOOKED, PUT_A, access(8)), step("calls", (28,), event(28), (PUT, (10, 2, 0)))]
+# line 6 is supposed to come before line 5
+SUPPOSED = [step("suppose", (), event(6), event(5)), of_lines(5, 6), step("then", (), event(6), event(6), premises=(0, 1))]
+OTHERWISE = step("otherwise", (), event(5), event(6), is_strict=False)
 # steps that come first, the last one, and others in its place, or what of it is another
 ROWS = [
     ([], of_lines(5, 6),
@@ -213,6 +216,11 @@ ROWS = [
     # the close of call 10 may have taken B before line 30, unless B was gone before that call
     (B_IS_GONE, step("takes", (), access(17), GONE_B, premises=(2, 3), is_strict=False), [dict(premises=(2, 5))]),
     (B_IS_GONE_SOONER, step("takes", (), access(17), GONE_B, premises=(2, 5), is_strict=False), [dict(before=access(29)), dict(before=PUT_A)]),
+    # an order is supposed once; against the log's it is refuted, and what followed from it is gone
+    ([], SUPPOSED[0], [dict(is_strict=False), OTHERWISE]),
+    (SUPPOSED[:1], of_lines(5, 6), [SUPPOSED[0], OTHERWISE]),
+    (SUPPOSED, OTHERWISE, [dict(is_strict=True), dict(before=event(6), after=event(5)), SUPPOSED[0]]),
+    ([*SUPPOSED, OTHERWISE], of_lines(5, 6), [OTHERWISE, step("then", (), event(6), event(6), premises=(0, 1))]),
     ([], of_lines(5, 6), [step("knows", (5, 6), event(5), event(6))]),
 ]
 

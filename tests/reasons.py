@@ -193,7 +193,7 @@ class Reason:
     in time."""
 
     def __init__(self, log):
-        self.log, self.known, self.orders = log, [], set()
+        self.log, self.known, self.orders, self.before = log, [], set(), None
 
     def order(self, rule, lines, access, premises, points):
         """Returns the order that a step adds."""
@@ -419,6 +419,22 @@ class Reason:
             return True
         return taker in times or (gone, (EVENT, self.log.calls[call]), True) in self.orders
 
+    def _suppose(self, lines, access, premises, points):
+        want(self.before is None, "an order is supposed already")
+        self.before = list(self.known), set(self.orders)
+        return *points, True
+
+    def _otherwise(self, lines, access, premises, points):
+        want(self.before is not None and self.is_contradicted(), "no order is refuted")
+        (known, self.orders), self.before = self.before, None
+        before, after, _ = self.known[len(known)]
+        self.known = known + [(after, before, False)] * (len(self.known) - len(known))
+        return after, before, False
+
+    def is_contradicted(self):
+        before, after, is_strict = self.known[-1] if self.known else ("", "-", False)
+        return is_strict and before == after
+
     def _differs(self, lines, access, premises, points):
         ((before, after, _),) = premises
         want(before[0] == after[0] == ACCESS and self.log.call_at(lines[0]) != self.log.call_at(lines[1]), "they are no accesses of two calls")
@@ -450,8 +466,7 @@ def complaint(text, facts, tags=False):
             reason.orders.add(order)
     except (ValueError, IndexError, StopIteration) as fault:
         return f"the log or the facts can't be read: {fault!r}"
-    before, after, is_strict = reason.known[-1] if reason.known else ("", "-", False)
-    return "" if is_strict and before == after else "the last step has no point before itself"
+    return "" if reason.is_contradicted() and reason.before is None else "the last step has no point before itself"
 
 
 def command():

@@ -38,14 +38,21 @@ class Words:
 
     def sentences(self) -> list[str]:
         """Returns the sentences of the reason. The last one is the contradiction."""
-        return [*(f"{self._link(it)}{self._evidence(it)}, since {self._why(it)}" for it in self._derived()), self._contradiction()]
+        return [*map(self._sentence, self._derived()), self._contradiction(len(self._steps) - 1)]
 
     def orders(self) -> list[Step]:
         """Returns for each sentence the step with its order. That of the contradiction is what the last line shows."""
-        return [*self._derived(), self._cycle()[0]]
+        return [*self._derived(), self._cycle(len(self._steps) - 1)[0]]
 
     def _derived(self) -> list[Step]:
-        return [it for it in self._steps[:-1] if it.rule != "then" and (it.premises or self._why(it))]
+        return [it for it in self._steps[:-1] if it.rule != "then" and (it.premises or it.rule in ("suppose", "otherwise") or self._why(it))]
+
+    def _sentence(self, it: Step) -> str:
+        if it.rule == "suppose":
+            return f"suppose that {self._link(it)}"
+        if it.rule == "otherwise":
+            return f"{self._contradiction(self._steps.index(it) - 1)}; so {self._link(it)}"
+        return f"{self._link(it)}{self._evidence(it)}, since {self._why(it)}"
 
     def _why(self, step: Step) -> str:
         """Returns the orders that a step follows from, and those by which other files and accesses are excluded."""
@@ -97,14 +104,14 @@ class Words:
             return f", which answered {answer.result}"
         return f", which found {name_of(answer.found)}"
 
-    def _cycle(self) -> list[Step]:
-        """Returns the steps whose orders contradict each other. The first one is what the last line shows."""
-        parts = list(self._parts(len(self._steps) - 1))
+    def _cycle(self, last: int) -> list[Step]:
+        """Returns the steps up to a last one whose orders contradict each other. The first one is what the last line shows."""
+        parts = list(self._parts(last))
         begin = max(range(len(parts)), key=lambda at: (max(parts[at].lines, default=0), parts[at].rule in ("finds", "closes")))
         return parts[begin:] + parts[:begin]
 
-    def _contradiction(self) -> str:
-        cycle = self._cycle()
+    def _contradiction(self, last: int) -> str:
+        cycle = self._cycle(last)
         first, *rest = filter(None, map(self._link, cycle))
         why = self._why(cycle[0]) if cycle[0].rule == "holds" and not rest else ""
         return f"{first}; but {listed(rest)}" if rest else f"{first}, since {why}" if why else first
@@ -234,6 +241,20 @@ class Words:
 
     def _taken_by(self, it: Step) -> str:
         return f"{name_of(it.before.file)} was gone from slot {it.before.slot} after {self._taker(it.after)}"
+
+    def _time(self, point: Point) -> str:
+        """Returns a point in time."""
+        if point.kind == "event":
+            return f"line {point.line}"
+        if point.kind == "access":
+            return f"the access of {self._who(point.line)}"
+        return f"the installation of {name_of(point.file)}" if point.kind == "put" else f"the removal of {name_of(point.file)} from slot {point.slot}"
+
+    def _suppose(self, it: Step) -> str:
+        return f"{self._time(it.before)} came {'before' if it.is_strict else 'before or with'} {self._time(it.after)}"
+
+    def _otherwise(self, it: Step) -> str:
+        return self._suppose(it)
 
     def _differs(self, it: Step) -> str:
         return "accesses of two calls are not at the same time"

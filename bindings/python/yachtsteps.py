@@ -11,7 +11,7 @@ from yachtlines import NO_FILE, Mark
 # the rules and the kinds of points, in the order of their numbers from 1
 RULES = ["events", "begins", "ends", "calls", "installs", "places", "follows", "finds", "closes", "settles", "empties", "precedes", "displaces",
          "outlives", "then", "finds-closed", "closes-twice", "closes-held", "cant-answer", "holds", "differs", "stays", "takes",
-         "taken-by", "lands", "misses", "existed", "fails", "unknown", "cut"]
+         "taken-by", "lands", "misses", "existed", "fails", "unknown", "cut", "suppose", "otherwise"]
 POINTS = ["event", "access", "put", "gone"]
 # for each rule the number of its events, whether it names an access, and the number of its premises
 SHAPES = {
@@ -22,6 +22,7 @@ SHAPES = {
     "cant-answer": (2, False, 0), "holds": (2, True, 0), "differs": (2, False, 1),
     "stays": (1, False, 1), "takes": (0, False, 2), "taken-by": (0, False, 2), "lands": (0, False, 1),
     "misses": (0, False, 1), "existed": (1, False, 0), "fails": (2, False, 0), "unknown": (0, False, 1), "cut": (2, False, 0),
+    "suppose": (0, False, 0), "otherwise": (0, False, 0),
 }
 
 

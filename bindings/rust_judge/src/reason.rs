@@ -100,6 +100,11 @@ rules! {
     Unknown,
     /// A contradiction: a member is canceled, or isn't, against the answer of the member before it.
     Cut,
+    /// An order is supposed: the steps from here on speak of flights that keep it.
+    Suppose,
+    /// The step before has a point before itself, so the order that was supposed is wrong, and this
+    /// one is the opposite one. The numbers of the steps since then are numbers of it, too.
+    Otherwise,
 }
 
 /// A step of a reason: a point comes before another one in each flight. Which of `first`, `second`,

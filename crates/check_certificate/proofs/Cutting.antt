@@ -6,11 +6,11 @@ use Rattle.check_certificate.proofs.Words.{Bool, true, false, refusal, ECANCELED
 use Rattle.check_certificate.proofs.Words.{cases_Bool, by_equality, Happening, LookCalled, LookAnswered, FileClosed, AllSettled, asked_by, is_next}
 use Rattle.check_certificate.proofs.Words.{is_cut_wrongly, IsEventAt, IsForced, LogBeginning, Event, Errno, table_may_answer, is_error, may_answer}
 use Rattle.check_certificate.proofs.Words.{Operation, refusal_of, false≢true, IsDoneAtTable, IsRefused, Decides-and, Decides-ltb, MatchOption, ◌||◌}
-use Rattle.check_certificate.proofs.Words.{if◌then◌else◌}
+use Rattle.check_certificate.proofs.Words.{if◌then◌else◌, first_of_call}
 use Rattle.check_certificate.proofs.Called.{answer_is}
 use Rattle.check_certificate.proofs.Forcing.{strict_from}
 use Rattle.check_certificate.proofs.Impossible.{error_Decides, or_left, or_right}
-use Rattle.check_certificate.proofs.Orders.{here, may_at}
+use Rattle.check_certificate.proofs.Orders.{here, may_at, ring}
 
 -- no request is refused as canceled
 refused_so : (catalogue : List FileEntry) (size : ℕ) (operation : Operation) → refusal_of catalogue size operation ≡ Some ECANCELED → ⊥
@@ -61,7 +61,11 @@ pub cut_forced : (b : LogBeginning) (call id first answer : ℕ) (requests : Lis
     → IsEventAt b first (Answered id c) → IsEventAt b answer (Answered id d) → slice_get requests (c.place.member - 1) ≡ Some r
     → slice_get requests (d.place.member - 1) ≡ Some s → 0 < c.place.member → d.place.member ≡ c.place.member + 1 → is_cut_wrongly r c d ≡ true
     → IsForced b (strict_from (Event answer) (Event answer))
-cut_forced b call id first answer requests r s c d called one two asked next low after wrong f = grind (arith, may_at, here, answers_agree, answer_is, may_at f (here f called))
+cut_forced b call id first answer requests r s c d called one two asked next low after wrong f =
+    let begun = may_at f (here f called) in
+    let number : suc (c.place.member - 1) ≡ d.place.member - 1 = omega arith in
+    absurd (answers_agree (ring f).catalogue (ring f).size (first_of_call id) requests begun.0 (f.legal.answers id) begun.1 (c.place.member - 1) r s c d asked
+    (rw number next) (answer_is f first id c one) (rw number (answer_is f answer id d two)) wrong)
 
 -- the call of an answer, and the request that it answers
 pub asked_so : (e : Happening) (c : Completed) (r : Asked) → Some r ≡ asked_by e c

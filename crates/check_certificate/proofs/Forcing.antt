@@ -9,7 +9,6 @@ use Rattle.check_certificate.proofs.Words.{PointOrder, Evidence, Empties, Finds,
 use Rattle.check_certificate.proofs.Words.{IsCallOf, Asked, all_asked, asked_of, Request, all_happenings, happening_of, LogEvent, at_itself, front_is}
 use Rattle.check_certificate.proofs.Words.{nat_tests, length-map, slice_get-get_or, slice_get-map, slice_get_past, slice_get_read, list_any, All, map}
 use Rattle.check_certificate.proofs.Words.{IfSome, option_map, slice_index_or, Bool}
-use Rattle.check_certificate.proofs.Existing.{times_of_flight}
 use Rattle.check_certificate.proofs.Leaving.{same_moment, taken_gone, there_after, there_or_taken}
 use Rattle.check_certificate.proofs.Life.{IsPutAt, is_gone, put_before, put_here}
 use Rattle.check_certificate.proofs.Marks.{mark_at}
@@ -262,20 +261,6 @@ module _ (b : LogBeginning) where
 
   pub cant_answer : (call answer : ℕ) → IsAccessMade b call answer 0 Never → IsForced b (strict_from (Event answer) (Event answer))
   cant_answer call answer made f = let x = said f made in absurd x.is
-
--- a point that comes before itself refutes the beginning
-pub refuted : (b : LogBeginning) (o : PointOrder) → o.strict ≡ true → o.from ≡ o.to → IsForced b o → IsContradicted b
-refuted b o strict same forced submissions registrations sound legal =
-    let times = times_of_flight (ring_of_beginning b submissions registrations) legal.answers legal.flight legal.is in
-    let f : TimedFlight b = record {
-      submissions = submissions;
-      registrations = registrations;
-      sound = sound;
-      legal = legal;
-      at = times.0;
-      times = times.1;
-    } in
-    let low : f.at o.from + gap_of true ≤ f.at o.to = rw strict at (forced f) in let one = ap f.at same in omega arith
 
 -- an event of a list, by its place
 pub event_is : (events : List LogEvent) (k : ℕ) (event : LogEvent) → k < length events → event ≡ slice_index_or events k event

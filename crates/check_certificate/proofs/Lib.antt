@@ -7,6 +7,7 @@ pub mod Existing
 pub mod Leaving
 pub mod Orders
 pub mod Forcing
+pub mod Supposing
 pub mod Showing
 pub mod Impossible
 pub mod Intended

@@ -24,8 +24,9 @@ pub use Rattle.check_certificate.specs.Forced.{ring_of_beginning, is_registered}
 pub use Rattle.check_certificate.specs.Holds.{first_answer, is_answered_at, is_some_so, shows_absent}
 pub use Rattle.check_certificate.specs.Leaves.{is_apart, says}
 pub use Rattle.check_certificate.specs.Made.{intended}
-pub use Rattle.check_certificate.specs.Right.{is_contradiction, leads_on, order_added}
+pub use Rattle.check_certificate.specs.Right.{known_of, leads_on, nothing, opposite}
 pub use Rattle.check_certificate.specs.Said.{Given, given_of, slots_of, event_at, closes_file, frees_look}
+pub use Rattle.check_certificate.specs.Supposed.{AreKnown, IsRefuted, under}
 pub use Rattle.check_certificate.specs.Taken.{IsNoOther, IsTakenThen, IsTaking, TakesNone, slot_taken}
 pub use Rattle.check_certificate.specs.Walked.{IsWalked, AreAllRuledOut, AreRuledOut, AreRuledOutTo, IsCallRuledOut, IsRuledOut, end_of, member_of}
 pub use Rattle.check_certificate.specs.Walks.{all_below, is_asked_ruled_out, is_ruled_out, is_call_ruled_out}
@@ -73,4 +74,4 @@ pub use Rattle.std.proofs.lemmas.List.{map_push, length-map, drop_all}
 pub use Rattle.std.proofs.lemmas.List.Elements.{All-get_or}
 pub use Rattle.std.proofs.lemmas.Option.{slice_get-map, slice_get_read, slice_get-get_or, slice_get_past}
 pub use Rattle.std.specs.List.{list_any, list_all}
-pub use Rattle.std.specs.Prelude.{MatchOption, drop, not, option_map, ◌||◌, All, IfSome, IsSome, option_and_then, ◌&&◌, nat_lt}
+pub use Rattle.std.specs.Prelude.{replicate, MatchOption, drop, not, option_map, ◌||◌, All, IfSome, IsSome, option_and_then, ◌&&◌, nat_lt}

@@ -1,5 +1,6 @@
 -- The orders of points that every flight of a beginning keeps.
-use Rattle.std.specs.Prelude.{◌≡◌, ℕ, ◌+◌, ◌≤◌, Bool, true, false, List, Option, Some, None, IsTrue}
+use Rattle.std.specs.Prelude.{◌≡◌, ℕ, ◌+◌, ◌≤◌, Bool, true, false, List, Option, Some, None, IfSome}
+use Rattle.std.specs.Prelude.{IsTrue}
 use Rattle.std.specs.List.{list_all}
 use Rattle.fx_base.specs.Catalogue.{IsCatalogue}
 use Rattle.fx_base.specs.Identity.{Identity}
@@ -52,7 +53,7 @@ gap_of false = 0
 abbrev pub IsInOrder : (Point → ℕ) → PointOrder → Type 0
 IsInOrder at order = at order.from + gap_of order.strict ≤ at order.to
 
--- a flight of the beginning, with the times of its points
+-- a flight of the beginning, with the times of its points, which keep the order that is supposed
 pub record TimedFlight (b : LogBeginning) : Type 0 where
   pub submissions : ℕ
   pub registrations : ℕ
@@ -64,6 +65,7 @@ pub record TimedFlight (b : LogBeginning) : Type 0 where
     first = first_of_call;
     answers = legal.answers;
   }) legal.flight at
+  pub kept : IfSome b.supposed (IsInOrder at)
 
 -- each flight of the beginning keeps the order
 abbrev pub IsForced : LogBeginning → PointOrder → Type 0

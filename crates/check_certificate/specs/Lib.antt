@@ -1,5 +1,6 @@
 pub mod Times
 pub mod Forced
+pub mod Supposed
 pub mod Evidence
 pub mod Answers
 pub mod Said

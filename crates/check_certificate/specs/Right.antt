@@ -1,6 +1,7 @@
 -- Right certificates: each step adds an order by its rule, until a point comes before itself.
-use Rattle.std.specs.Prelude.{ℕ, ◌^◌, nat_le, nat_lt, Bool, false, ◌&&◌, ◌||◌, List, [], ◌∷◌, ◌++◌}
-use Rattle.std.specs.Prelude.{length, slice_get, take, Option, option_map, IsTrue}
+use Rattle.std.specs.Prelude.{ℕ, ◌^◌, ◌+◌, ◌-◌, nat_le, nat_lt, Bool, true, false, not, ◌&&◌, ◌||◌}
+use Rattle.std.specs.Prelude.{List, [], ◌∷◌, ◌++◌, length, slice_get, take, replicate, IsTrue}
+use Rattle.std.specs.Prelude.{Option, Some, None, option_map, is_none, if◌then◌else◌}
 use Rattle.std.specs.List.{list_all}
 use Rattle.fx_base.specs.Catalogue.{FileEntry}
 use Rattle.fx_flight.specs.Events.{all_happenings}
@@ -12,11 +13,12 @@ use Rattle.check_certificate.specs.Cut.{cut}
 use Rattle.check_certificate.specs.Holds as hold
 use Rattle.check_certificate.specs.Holds.{is_some_so}
 use Rattle.check_certificate.specs.Rules as rule
-use Rattle.check_certificate.specs.Said.{◌>>=◌, Given}
+use Rattle.check_certificate.specs.Said.{◌>>=◌, Given, only_if}
 use Rattle.check_certificate.specs.Walks as walk
 use Rattle.check_certificate.specs.declared.certificate.PointOrder.{PointOrder}
 use Rattle.check_certificate.specs.declared.certificate.Step.{Step}
 use Rattle.check_certificate.specs.declared.certificate.Step.TheVariants as kind
+use Rattle.check_certificate.specs.declared.supposed.KnownOrders.{KnownOrders}
 
 -- the order that a step adds to the known ones, if its premises hold
 abbrev pub order_added : Given → List PointOrder → Step → Option PointOrder
@@ -77,17 +79,86 @@ order_added g known (kind.CantAnswer call answer) = rule.cant_answer g call answ
 order_added g known (kind.Fails event answer file) = hold.fails g event answer file
 order_added g known (kind.Unknown installed) = slice_get known installed >>= walk.unknown g known
 order_added g known (kind.Cut call first answer) = cut g call first answer
+order_added g known (kind.Suppose order) = None
+order_added g known kind.Otherwise = None
 
 -- the order says that a point comes before itself
 abbrev pub is_contradiction : PointOrder → Bool
 is_contradiction order = order.strict && rule.same_point order.from order.to
 
--- the steps add orders to the known ones, one after another, up to a contradiction
-abbrev pub leads_on : Given → List PointOrder → List Step → Bool
-leads_on g known [] = false
-leads_on g known (step ∷ steps) =
-    is_some_so (order_added g known step)
-    (λ order. is_contradiction order || leads_on g (known ++ order ∷ []) steps)
+-- the last order does
+abbrev pub are_contradicted : List PointOrder → Bool
+are_contradicted orders = is_some_so (slice_get orders (length orders - 1)) is_contradiction
+
+-- the orders that are known after some steps, the one that is supposed, and the orders that were
+-- known before it was
+pub record Known : Type 0 where
+  pub orders : List PointOrder
+  pub supposed : Option PointOrder
+  pub before : List PointOrder
+
+abbrev pub known_of : KnownOrders → Known
+known_of known = record {
+  orders = known.orders.items;
+  supposed = known.supposed;
+  before = known.before.items;
+}
+
+abbrev pub nothing : Known
+nothing = record { orders = []; supposed = None; before = [] }
+
+-- the steps led to a contradiction
+abbrev pub is_end : Known → Bool
+is_end k = is_none k.supposed && are_contradicted k.orders
+
+-- the order that a step supposes
+abbrev pub supposition : Step → Option PointOrder
+supposition (kind.Suppose order) = Some order
+supposition step = None
+
+-- the step ends a supposition
+abbrev pub is_otherwise : Step → Bool
+is_otherwise kind.Otherwise = true
+is_otherwise step = false
+
+-- the order that all other flights keep
+abbrev pub opposite : PointOrder → PointOrder
+opposite order = record { from = order.to; to = order.from; strict = not order.strict }
+
+-- an order is supposed
+abbrev pub suppose : Known → PointOrder → Option Known
+suppose k order = only_if (is_none k.supposed)
+    (record { orders = k.orders ++ order ∷ []; supposed = Some order; before = k.orders })
+
+-- it is refuted: the opposite order is known, by the numbers of the steps since then too
+abbrev pub otherwise : Known → Option Known
+otherwise k = do
+  order ← k.supposed
+  only_if (are_contradicted k.orders) (record {
+    orders = take (length k.orders + 1) k.before
+        ++ replicate (length k.orders + 1 - length k.before) (opposite order);
+    supposed = None;
+    before = [];
+  })
+
+-- a rule adds an order
+abbrev pub added : Given → Known → Step → Option Known
+added g k step =
+    option_map (λ order. record k { orders = k.orders ++ order ∷ [] }) (order_added g k.orders step)
+
+-- what is known after a step, by the order that it supposes
+abbrev pub after_by : Given → Known → Step → Option PointOrder → Option Known
+after_by g k step (Some order) = suppose k order
+after_by g k step None = if is_otherwise step then otherwise k else added g k step
+
+abbrev pub after : Given → Known → Step → Option Known
+after g k step = after_by g k step (supposition step)
+
+-- the steps add to what is known, one after another, up to a contradiction
+abbrev pub leads_on : Given → Known → List Step → Bool
+leads_on g k [] = false
+leads_on g k (step ∷ steps) =
+    is_some_so (after g k step) (λ next. is_end next || leads_on g next steps)
 
 -- the first `count` events are a log, no file at a slot before it has the mark of a call, and the
 -- steps lead from no orders to a contradiction
@@ -98,4 +169,5 @@ pub record IsRightCertificate (catalogue : List FileEntry) (slots : Slots) (even
   pub marks : IsTrue (list_all is_of_no_call slots.at.items)
   pub faultless : IsFaultless (all_happenings (take count events))
   pub leads : IsTrue (leads_on
-      (record { catalogue = catalogue; slots = slots; events = take count events }) [] certificate)
+      (record { catalogue = catalogue; slots = slots; events = take count events }) nothing
+      certificate)

@@ -2,12 +2,13 @@
 ghost use Rattle.std.specs.Prelude.{◌≡◌, length, map};
 ghost use Rattle.fx_base.specs.Catalogue.{IsCatalogue};
 
+use crate::certificate::PointOrder;
 use fx_base::Catalogue;
 use fx_flight::LogEvent;
 use fx_order::Slots;
 
 /// The beginning of a log, and what was before it.
-#[derive(Drop)]
+#[derive(Clone, Copy)]
 pub(crate) struct LogBeginning<'a> {
     /// The catalogue.
     pub(crate) catalogue: &'a Catalogue,
@@ -19,6 +20,8 @@ pub(crate) struct LogBeginning<'a> {
     pub(crate) events: &'a [LogEvent],
     /// The bytes of each entry of the catalogue.
     pub(crate) contents: &'a [Vec<u8>],
+    /// The order that is supposed of its flights, if one is.
+    pub(crate) supposed: Option<PointOrder>,
     ghost is_catalogue: { IsCatalogue catalogue.now },
     ghost is_size: { size ≡ length slots.now.at.items },
     ghost are_contents: { map (λ own. own.items) contents.now

@@ -306,4 +306,11 @@ pub enum Step {
         /// The position of the member's answer.
         answer: usize,
     },
+    /// An order is supposed: until it is refuted, steps add the orders that follow from it. There
+    /// is one at a time.
+    Suppose(PointOrder),
+    /// The last step says that a point comes before itself: the order that is supposed is refuted,
+    /// which adds the opposite one. What followed from it is known no more: the numbers of those
+    /// steps are numbers of the opposite order.
+    Otherwise,
 }

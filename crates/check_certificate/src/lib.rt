@@ -20,6 +20,7 @@ mod landing;
 mod premises;
 mod refuted;
 mod rules;
+mod supposed;
 mod taking;
 mod walk;
 

@@ -1,5 +1,5 @@
-//! The check of a certificate: its steps, one after another.
-ghost use Rattle.std.specs.Prelude.{◌≡◌, ◌↔◌, ℕ, [], All, IfOk, IfSome, IsTrue, option_map};
+//! The check of a certificate: the order that each step adds, and what the log is to be.
+ghost use Rattle.std.specs.Prelude.{◌≡◌, ◌↔◌, ℕ, All, IfOk, IfSome, IsTrue, option_map};
 ghost use Rattle.std.specs.Prelude.{slice_get, take};
 ghost use Rattle.std.specs.List.{list_all};
 ghost use Rattle.fx_base.specs.Catalogue.{IsCatalogue};
@@ -7,9 +7,8 @@ ghost use Rattle.fx_order.specs.Slots.{ring_of_slots};
 ghost use Rattle.fx_flight.specs.Events.{all_happenings};
 ghost use Rattle.fx_flight.specs.Faults.{IsFaultless};
 ghost use Rattle.fx_flight.specs.Flight.{IsLegalLog};
-ghost use Rattle.check_certificate.specs.Forced.{IsForced, IsContradicted};
-ghost use Rattle.check_certificate.specs.Forced.{is_of_no_call, is_registered};
-ghost use Rattle.check_certificate.specs.Right.{IsRightCertificate, leads_on, order_added};
+ghost use Rattle.check_certificate.specs.Forced.{IsForced, is_of_no_call, is_registered};
+ghost use Rattle.check_certificate.specs.Right.{IsRightCertificate, order_added};
 ghost use Rattle.check_certificate.specs.Said.{given_of};
 ghost use Rattle.check_certificate.specs.declared.beginning.LogBeginning.{LogBeginning as In};
 
@@ -63,8 +62,9 @@ fn is_log(alloc: Global, events: &[LogEvent]) -> Result<bool, NoMemory>
 }
 
 impl LogBeginning<'_> {
-    // Returns the order that a step adds to the known orders. Returns `None` for a wrong step.
-    fn order_of(&self, step: &Step, known: &[PointOrder]) -> Option<PointOrder>
+    /// Returns the order that a step adds to the known orders by its rule. Returns `None` for a
+    /// wrong step.
+    pub(crate) fn order_of(&self, step: &Step, known: &[PointOrder]) -> Option<PointOrder>
         requires { All (IsForced self.now) known.now }
         ensures sound { IfSome result (IsForced self.now) }
         ensures exact { result ≡ order_added (given_of self.now) known.now step.now }
@@ -173,26 +173,9 @@ impl LogBeginning<'_> {
                 before,
                 answer,
             } => self.cut(call, before, answer),
+            Step::Suppose(_) => None,
+            Step::Otherwise => None,
         }
-    }
-
-    // Checks whether the steps lead to a point that comes before itself.
-    fn refutes(&self, alloc: Global, certificate: &[Step]) -> Result<bool, NoMemory>
-        ensures sound { IfOk result (λ yes. IsTrue yes → IsContradicted self.now) }
-        ensures exact { IfOk result (λ yes. yes
-            ≡ leads_on (given_of self.now) [] certificate.now) }
-    {
-        let mut known = Vec::new(alloc);
-        for step in certificate {
-            let Some(order) = self.order_of(step, known.as_slice()) else {
-                return Ok(false);
-            };
-            if order.strict && order.from == order.to {
-                return Ok(true);
-            }
-            known.push(order)?;
-        }
-        Ok(false)
     }
 }
 
@@ -234,6 +217,7 @@ pub fn is_refuted(
         size,
         events: &events[..count],
         contents: &contents,
+        supposed: None,
     };
     let yes = beginning.refutes(alloc, certificate)?;
     Ok(yes)

@@ -262,7 +262,8 @@ fn explained_first(
     if is_refuted_alone(log, slots, count, FEW_STATES)? {
         return explained(log, slots, count, true);
     }
-    if high < log.events.len() {
+    let is_settled = matches!(log.events.last(), Some(LogEvent::Settled));
+    if high < log.events.len() || is_settled {
         return explained(log, slots, high, false);
     }
     Ok(verdict)

@@ -1,7 +1,7 @@
 //! The certificate of a graph with a point that comes before itself: the steps of the edges that
 //! this needs, and no others.
 
-use crate::graph::{Edge, Graph, Pair};
+use crate::graph::{Case, Edge, Graph, Needs, Pair, Saved, in_order};
 use check_certificate::{Point, PointOrder, Step};
 use fx_base::NoMemory;
 use std::alloc::Global;
@@ -13,16 +13,6 @@ pub struct ReasonStep {
     pub step: Step,
     /// The order that it adds, as the search says.
     pub order: PointOrder,
-}
-
-/// The edges that a certificate needs, and by which edges their premises hold.
-#[derive(Drop)]
-struct Needs {
-    is_needed: Vec<bool>,
-    // The paths of the two premises of each edge.
-    paths: Vec<(Vec<usize>, Vec<usize>)>,
-    // And those of the further premises of each list.
-    lists: Vec<Vec<Vec<usize>>>,
 }
 
 /// The steps of a certificate so far, and the number of the step of each edge.
@@ -93,30 +83,52 @@ impl Needs {
         }
         Ok(path)
     }
+
+    // Notes what an edge needs besides its premises.
+    fn mark_further(
+        &mut self,
+        alloc: Global,
+        graph: &Graph,
+        edge: &Edge,
+        number: usize,
+    ) -> Result<(), NoMemory> {
+        if matches!(edge.step, Step::Otherwise) {
+            if let Some(case) = graph.cases.get(edge.absent) {
+                for (own, is_needed) in case.needs.is_needed.iter().enumerate() {
+                    if *is_needed && own < case.base {
+                        self.mark(&[own]);
+                    }
+                }
+            }
+            return Ok(());
+        }
+        if let Some(pairs) = graph.lists.get(edge.absent) {
+            let mut further = Vec::new(alloc);
+            for pair in pairs {
+                further.push(self.path_of(alloc, graph, Some(*pair), number)?)?;
+            }
+            if let Some(own) = self.lists.get_mut(edge.absent) {
+                *own = further;
+            }
+        }
+        Ok(())
+    }
 }
 
-// Returns what is needed of the edges for those of a path.
-fn needs_of(alloc: Global, graph: &Graph, path: &[usize]) -> Result<Needs, NoMemory> {
+// Returns what is needed of the edges from a number on for those of a path.
+fn needs_of(alloc: Global, graph: &Graph, path: &[usize], from: usize) -> Result<Needs, NoMemory> {
     let mut needs = Needs {
         is_needed: vec![in alloc; false; graph.edges.len()]?,
         paths: Vec::new(alloc),
         lists: graph.lists.iter().map(|_| Vec::new(alloc)).collect(alloc)?,
     };
     needs.mark(path);
-    for (number, edge) in graph.edges.iter().enumerate().rev() {
+    for (number, edge) in graph.edges.iter().enumerate().skip(from).rev() {
         let mut paths = (Vec::new(alloc), Vec::new(alloc));
         if needs.has(number) {
             paths.0 = needs.path_of(alloc, graph, edge.premises.0, number)?;
             paths.1 = needs.path_of(alloc, graph, edge.premises.1, number)?;
-            if let Some(pairs) = graph.lists.get(edge.absent) {
-                let mut further = Vec::new(alloc);
-                for pair in pairs {
-                    further.push(needs.path_of(alloc, graph, Some(*pair), number)?)?;
-                }
-                if let Some(own) = needs.lists.get_mut(edge.absent) {
-                    *own = further;
-                }
-            }
+            needs.mark_further(alloc, graph, edge, number)?;
         }
         needs.paths.push(paths)?;
     }
@@ -124,8 +136,28 @@ fn needs_of(alloc: Global, graph: &Graph, path: &[usize]) -> Result<Needs, NoMem
     Ok(needs)
 }
 
-// Returns the order of two points of a graph.
-fn order_of(graph: &Graph, pair: Pair) -> PointOrder {
+/// Returns the case of an order that was supposed when a graph was saved: it leads to a point that
+/// comes before itself.
+pub(crate) fn case_of(
+    alloc: Global,
+    graph: &mut Graph,
+    saved: Saved,
+    point: usize,
+) -> Result<Case, NoMemory> {
+    let path = graph.path(alloc, in_order(point, point, true), graph.edges.len())?;
+    let base = saved.edges;
+    let needs = needs_of(alloc, graph, &path, base)?;
+    let edges = graph.restore(alloc, saved)?;
+    Ok(Case {
+        base,
+        edges,
+        needs,
+        path,
+    })
+}
+
+/// Returns the order of two points of a graph.
+pub(crate) fn order_of(graph: &Graph, pair: Pair) -> PointOrder {
     let end = Point::Event(0);
     PointOrder {
         from: graph.points.get(pair.from).copied().unwrap_or(end),
@@ -172,12 +204,13 @@ impl Assembly {
     }
 
     // Appends the steps that join the edges of a path, and returns the number of the last step.
-    // Edges of events that follow each other are one step.
-    fn join(&mut self, graph: &Graph, path: &[usize]) -> Result<usize, NoMemory> {
+    // Edges of events that follow each other are one step. Edges from `base` on are a case's.
+    fn join(&mut self, graph: &Graph, path: &[usize], base: usize) -> Result<usize, NoMemory> {
         let mut last = usize::MAX;
         let mut run = None;
         for edge in path {
-            if let Some(events) = graph.edges.get(*edge).and_then(events_of) {
+            let own = graph.edges.get(*edge).filter(|_| *edge < base);
+            if let Some(events) = own.and_then(events_of) {
                 run = Some((run.unwrap_or(events).0, events.1));
                 continue;
             }
@@ -194,19 +227,46 @@ impl Assembly {
         Ok(last)
     }
 
-    // Appends the step of an edge, and returns its number.
+    // Appends the steps of an edge, the one with number `nth` from `base` on. Returns the number of
+    // the last one.
     fn push(
         &mut self,
         graph: &Graph,
+        needs: &Needs,
         edge: &Edge,
-        first: &[usize],
-        second: &[usize],
+        nth: usize,
+        base: usize,
     ) -> Result<usize, NoMemory> {
-        let first = self.join(graph, first)?;
-        let second = self.join(graph, second)?;
+        if let Some(list) = needs.lists.get(edge.absent) {
+            for further in list {
+                self.join(graph, further, base)?;
+            }
+        }
         let mut step = edge.step;
-        set_premises(&mut step, first, second);
+        if let Some((first, second)) = needs.paths.get(nth) {
+            let first = self.join(graph, first, base)?;
+            let second = self.join(graph, second, base)?;
+            set_premises(&mut step, first, second);
+        }
         let order = order_of(graph, edge.pair);
+        self.steps.push(ReasonStep { step, order })?;
+        Ok(self.steps.len().saturating_sub(1))
+    }
+
+    // Appends the steps of an order that is supposed, up to the one that refutes it.
+    fn push_case(&mut self, graph: &Graph, edge: &Edge, case: &Case) -> Result<usize, NoMemory> {
+        let base = case.base;
+        self.numbers.truncate(base);
+        for (nth, own) in case.edges.iter().enumerate() {
+            let mut number = usize::MAX;
+            if nth == 0 || case.needs.has(base.saturating_add(nth)) {
+                number = self.push(graph, &case.needs, own, nth, base)?;
+            }
+            self.numbers.push(number)?;
+        }
+        self.join(graph, &case.path, base)?;
+        self.numbers.truncate(base);
+        let (step, order) = (edge.step, order_of(graph, edge.pair));
         self.steps.push(ReasonStep { step, order })?;
         Ok(self.steps.len().saturating_sub(1))
     }
@@ -218,32 +278,26 @@ pub(crate) fn certificate_of(
     graph: &Graph,
     point: usize,
 ) -> Result<Vec<ReasonStep>, NoMemory> {
-    let cycle = Pair {
-        from: point,
-        to: point,
-        strict: true,
-    };
-    let path = graph.path(alloc, cycle, graph.edges.len())?;
-    let needs = needs_of(alloc, graph, &path)?;
+    let whole = graph.edges.len();
+    let path = graph.path(alloc, in_order(point, point, true), whole)?;
+    let needs = needs_of(alloc, graph, &path, 0)?;
     let mut assembly = Assembly {
         steps: Vec::new(alloc),
         numbers: Vec::new(alloc),
     };
     for (number, edge) in graph.edges.iter().enumerate() {
         let mut own = usize::MAX;
-        if events_of(edge).is_none()
-            && needs.has(number)
-            && let Some((first, second)) = needs.paths.get(number)
-        {
-            if let Some(list) = needs.lists.get(edge.absent) {
-                for further in list {
-                    assembly.join(graph, further)?;
+        if events_of(edge).is_none() && needs.has(number) {
+            let case = graph.cases.get(edge.absent);
+            own = match case {
+                Some(case) if matches!(edge.step, Step::Otherwise) => {
+                    assembly.push_case(graph, edge, case)?
                 }
-            }
-            own = assembly.push(graph, edge, first, second)?;
+                _ => assembly.push(graph, &needs, edge, number, whole)?,
+            };
         }
         assembly.numbers.push(own)?;
     }
-    assembly.join(graph, &path)?;
+    assembly.join(graph, &path, whole)?;
     Ok(assembly.steps)
 }

@@ -25,8 +25,42 @@ pub(crate) struct Edge {
     pub(crate) step: Step,
     /// Its premises, in the order of the step's fields.
     pub(crate) premises: (Option<Pair>, Option<Pair>),
-    /// The number of its list of further premises, if it has one.
+    /// The number of its list of further premises, or of its case, if it has one.
     pub(crate) absent: usize,
+}
+
+/// What follows from an order that is supposed, up to a point that comes before itself.
+#[derive(Drop)]
+pub(crate) struct Case {
+    /// The number of the edge of the supposed order. Edges from there on are those of the case.
+    pub(crate) base: usize,
+    /// The edges of the case.
+    pub(crate) edges: Vec<Edge>,
+    /// The edges that the contradiction needs.
+    pub(crate) needs: Needs,
+    /// The edges of the path from the point to itself.
+    pub(crate) path: Vec<usize>,
+}
+
+/// The edges that a certificate needs, and by which edges their premises hold.
+#[derive(Drop)]
+pub(crate) struct Needs {
+    /// For each edge whether it is needed.
+    pub(crate) is_needed: Vec<bool>,
+    /// The paths of the two premises of each edge from some number on.
+    pub(crate) paths: Vec<(Vec<usize>, Vec<usize>)>,
+    /// And those of the further premises of each list.
+    pub(crate) lists: Vec<Vec<Vec<usize>>>,
+}
+
+/// What a graph was before an order was supposed.
+#[derive(Drop)]
+pub(crate) struct Saved {
+    /// The number of edges.
+    pub(crate) edges: usize,
+    lists: usize,
+    last: Vec<usize>,
+    bits: Vec<(u64, u64)>,
 }
 
 /// A graph of orders, and which points they put in order.
@@ -38,6 +72,8 @@ pub(crate) struct Graph {
     pub(crate) edges: Vec<Edge>,
     /// Lists of premises: orders by which files aren't at a slot.
     pub(crate) lists: Vec<Vec<Pair>>,
+    /// Suppositions that were refuted, each by the edges that it needs.
+    pub(crate) cases: Vec<Case>,
     /// A point that comes before itself.
     pub(crate) loops: Option<usize>,
     // The last edge from each point, and for each edge the one before it from the same point.
@@ -103,6 +139,7 @@ impl Graph {
             points: Vec::new(alloc),
             edges: Vec::new(alloc),
             lists: Vec::new(alloc),
+            cases: Vec::new(alloc),
             loops: None,
             last: Vec::new(alloc),
             before: Vec::new(alloc),
@@ -124,6 +161,29 @@ impl Graph {
         let size = self.words.saturating_mul(self.points.len());
         self.bits = vec![in alloc; (0, 0); size]?;
         Ok(())
+    }
+
+    /// Returns what is needed to forget what is added from here on.
+    pub(crate) fn save(&self, alloc: Global) -> Result<Saved, NoMemory> {
+        Ok(Saved {
+            edges: self.edges.len(),
+            lists: self.lists.len(),
+            last: Vec::from_slice(alloc, self.last.as_slice())?,
+            bits: Vec::from_slice(alloc, self.bits.as_slice())?,
+        })
+    }
+
+    /// Forgets what was added since, and returns the edges of it.
+    pub(crate) fn restore(&mut self, alloc: Global, saved: Saved) -> Result<Vec<Edge>, NoMemory> {
+        let since = self.edges.get(saved.edges..).unwrap_or(&[]);
+        let edges = Vec::from_slice(alloc, since)?;
+        self.edges.truncate(saved.edges);
+        self.before.truncate(saved.edges);
+        self.lists.truncate(saved.lists);
+        self.last = saved.last;
+        self.bits = saved.bits;
+        self.loops = None;
+        Ok(edges)
     }
 
     // Returns the position of a word of a point.

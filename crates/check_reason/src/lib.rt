@@ -15,6 +15,7 @@ mod reason;
 mod removals;
 mod settled;
 mod shown;
+mod supposing;
 mod taking;
 mod window;
 

@@ -296,11 +296,12 @@ impl Problem {
     }
 }
 
-/// Proposes a certificate from the window of some ranges of positions. It is empty if the search
-/// finds none.
+/// Proposes a certificate from the window of some ranges of positions, with suppositions or not. It
+/// is empty if the search finds none.
 pub(crate) fn propose(
     log: &Reading<'_>,
     ranges: &[(usize, usize)],
+    supposes: bool,
 ) -> Result<Vec<ReasonStep>, NoMemory> {
     let window = Window::of(log, ranges)?;
     let points = window.positions.len().saturating_add(window.accesses.len());
@@ -309,6 +310,9 @@ pub(crate) fn propose(
     }
     let mut problem = Problem::of(&window)?;
     problem.saturate(&window)?;
+    if supposes {
+        problem.suppose_all(&window)?;
+    }
     match problem.graph.loops {
         Some(point) => certificate_of(log.alloc, &problem.graph, point),
         None => Ok(Vec::new(log.alloc)),

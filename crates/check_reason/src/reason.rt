@@ -29,21 +29,28 @@ pub struct LogReason {
 // The numbers of events of the windows that are tried.
 const WIDTHS: [usize; 6] = [16, 32, 64, 128, 256, 512];
 
+// The windows of which orders are supposed.
+const SUPPOSING: [usize; 5] = [16, 32, 64, 128, 256];
+
 // Proposes a certificate of the beginning: first the contradiction of its last event, then one from
 // each window, until a window is the whole log. It is empty if the search finds none.
 fn search(log: &Reading<'_>, attempt: usize) -> Result<Vec<ReasonStep>, NoMemory> {
     let Some(last) = attempt.checked_sub(1) else {
         return direct(log);
     };
+    let end = log.events.len();
+    if let Some(width) = last
+        .checked_sub(WIDTHS.len())
+        .and_then(|nth| SUPPOSING.get(nth))
+    {
+        return propose(log, &[(end.saturating_sub(*width), end)], true);
+    }
     let is_whole = WIDTHS
         .iter()
         .take(last)
         .any(|width| *width >= log.events.len());
     match WIDTHS.get(last) {
-        Some(width) if !is_whole => {
-            let end = log.events.len();
-            propose(log, &[(end.saturating_sub(*width), end)])
-        }
+        Some(width) if !is_whole => propose(log, &[(end.saturating_sub(*width), end)], false),
         _ => Ok(Vec::new(log.alloc)),
     }
 }
@@ -90,7 +97,7 @@ pub fn explain(
         return Ok(None);
     }
     let log = Reading::of(alloc, catalogue, size, &events[..count])?;
-    for attempt in 0..WIDTHS.len() + 1 {
+    for attempt in 0..WIDTHS.len() + SUPPOSING.len() + 1 {
         let steps = search(&log, attempt)?;
         let certificate = steps_alone(alloc, steps.as_slice())?;
         if !steps.is_empty() && is_refuted(alloc, catalogue, slots, events, count, &certificate)? {

@@ -61,7 +61,8 @@ impl Reading<'_> {
                     else {
                         continue;
                     };
-                    let steps = propose(self, &[first, second, (end.saturating_sub(1), end)])?;
+                    let ranges = [first, second, (end.saturating_sub(1), end)];
+                    let steps = propose(self, &ranges, false)?;
                     tried = tried.saturating_add(1);
                     if !steps.is_empty() || tried >= MOST_FILES {
                         return Ok(steps);

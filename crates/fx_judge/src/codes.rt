@@ -217,3 +217,9 @@ pub const RULE_UNKNOWN: u32 = 29;
 
 /// A contradiction: a member is canceled, or isn't, against the answer of the member before it.
 pub const RULE_CUT: u32 = 30;
+
+/// An order is supposed, until it is refuted.
+pub const RULE_SUPPOSE: u32 = 31;
+
+/// The order that is supposed leads to a contradiction: the opposite one is so.
+pub const RULE_OTHERWISE: u32 = 32;

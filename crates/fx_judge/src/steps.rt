@@ -5,8 +5,9 @@ use crate::codes::{
     POINT_ACCESS, POINT_EVENT, POINT_GONE, POINT_PUT, RULE_BEGINS, RULE_CALLS, RULE_CANT_ANSWER,
     RULE_CLOSES, RULE_CLOSES_HELD, RULE_CLOSES_TWICE, RULE_CUT, RULE_DIFFERS, RULE_DISPLACES,
     RULE_EMPTIES, RULE_ENDS, RULE_EVENTS, RULE_EXISTED, RULE_FAILS, RULE_FINDS, RULE_FINDS_CLOSED,
-    RULE_FOLLOWS, RULE_HOLDS, RULE_INSTALLS, RULE_LANDS, RULE_MISSES, RULE_OUTLIVES, RULE_PLACES,
-    RULE_PRECEDES, RULE_SETTLES, RULE_STAYS, RULE_TAKEN_BY, RULE_TAKES, RULE_THEN, RULE_UNKNOWN,
+    RULE_FOLLOWS, RULE_HOLDS, RULE_INSTALLS, RULE_LANDS, RULE_MISSES, RULE_OTHERWISE,
+    RULE_OUTLIVES, RULE_PLACES, RULE_PRECEDES, RULE_SETTLES, RULE_STAYS, RULE_SUPPOSE,
+    RULE_TAKEN_BY, RULE_TAKES, RULE_THEN, RULE_UNKNOWN,
 };
 use check_certificate::{Holding, Point, Step};
 use check_reason::ReasonStep;
@@ -39,7 +40,7 @@ pub struct YachtPoint {
 #[repr(C)]
 #[derive(Drop)]
 pub struct YachtStep {
-    /// One of `RULE_EVENTS` to `RULE_CUT`.
+    /// One of `RULE_EVENTS` to `RULE_OTHERWISE`.
     pub rule: u32,
     /// 1 if `from` comes before `to`; 0 if it comes before or at the same time.
     pub is_strict: u32,
@@ -247,6 +248,8 @@ fn applied_by(step: &Step) -> Applied {
             there,
             gone,
         } => of_steps(RULE_TAKEN_BY, 0, there, gone),
+        Step::Suppose(_) => of_steps(RULE_SUPPOSE, 0, 0, 0),
+        Step::Otherwise => of_steps(RULE_OTHERWISE, 0, 0, 0),
     }
 }
 

@@ -1,0 +1,20 @@
+-- Orders that are supposed of the flights of a beginning.
+use Rattle.std.specs.Prelude.{Option, None, All}
+use Rattle.check_certificate.specs.Forced.{IsForced, TimedFlight}
+use Rattle.check_certificate.specs.declared.beginning.LogBeginning.{LogBeginning}
+use Rattle.check_certificate.specs.declared.certificate.PointOrder.{PointOrder}
+use Rattle.check_certificate.specs.declared.supposed.KnownOrders.{KnownOrders}
+
+-- the beginning, of which an order is supposed or none
+abbrev pub under : LogBeginning → Option PointOrder → LogBeginning
+under b supposed = record b { supposed = supposed }
+
+-- no flight keeps the order that is supposed
+abbrev pub IsRefuted : LogBeginning → Type 0
+IsRefuted b = TimedFlight b → ⊥
+
+-- each flight that keeps the order that is supposed keeps the known ones, and each flight those of
+-- before
+pub record AreKnown (b : LogBeginning) (known : KnownOrders) : Type 0 where
+  pub orders : All (IsForced (under b known.supposed)) known.orders.items
+  pub before : All (IsForced (under b None)) known.before.items
