@@ -1,12 +1,11 @@
 -- Answers that a request can't have.
-use Rattle.check_certificate.proofs.Words.{arith, ◌≡◌, ℕ, List, length, refl, sym, ap, ◌∙◌, inl, inr, subst, Some, None, Option, Access, Place, Bool}
-use Rattle.check_certificate.proofs.Words.{Completed, FileEntry, refusal, true, false, Decides, Asked, IsImpossible, fits_refusal, is_severed, Errno}
-use Rattle.check_certificate.proofs.Words.{ECANCELED, ENOMEM, table_may_answer, is_error, negated, answer_at_table, Operation, Opens, Reads, Closes}
-use Rattle.check_certificate.proofs.Words.{Updates, Free, Any, Slot, Decides-eqb, Decides-like, false≢true, nil_from_length, IsDoneAtTable, IsRefused}
-use Rattle.check_certificate.proofs.Words.{Decides-and, Decides-int_eq, Decides-ltb, MatchOption, not, ◌||◌}
+use Rattle.check_certificate.proofs.Words.{arith, ◌≡◌, ℕ, List, sym, ap, ◌∙◌, inl, inr, None, Option, Access, Place, Bool}
+use Rattle.check_certificate.proofs.Words.{Completed, FileEntry, refusal, true, Decides, Asked, IsImpossible, fits_refusal, is_severed, Errno}
+use Rattle.check_certificate.proofs.Words.{ECANCELED, ENOMEM, table_may_answer, is_error, answer_at_table, Operation}
+use Rattle.check_certificate.proofs.Words.{Decides-like, false≢true, nil_from_length, IsDoneAtTable, IsRefused}
+use Rattle.check_certificate.proofs.Words.{Decides-and, Decides-ltb, MatchOption, not, ◌||◌}
 use Rattle.check_certificate.specs.Answers.{is_impossible}
 use Rattle.fx_chain.specs.declared.intent.Finding.{Finding}
-use Rattle.fx_chain.specs.declared.intent.Finding.TheVariants.{At, Full}
 
 pub error_Decides : (c : Completed) (errno : Errno) → Decides (is_error c errno) (c ≡ refusal c.place errno)
 error_Decides c errno = grind (arith, Decides-like, nil_from_length, Decides-and)

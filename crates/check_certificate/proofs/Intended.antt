@@ -1,13 +1,12 @@
 -- An access of a chain is one that a member of it intends; a member that fails installs no file.
-use Rattle.check_certificate.proofs.Words.{◌≡◌, length, ⊎_elim, Option, Access, Identity, IsIntent, IsOpened, none_if, opened_by, Operation, Allocate}
-use Rattle.check_certificate.proofs.Words.{◌⊎◌, suc, ◌+◌, ◌∷◌, ◌++◌, refl, sym, ap, ◌∙◌, inl, inr, Some, None, Has, Look, Clear, Take, IsOf, pos}
+use Rattle.check_certificate.proofs.Words.{◌≡◌, length, ⊎_elim, Option, Access, Identity, IsIntent, IsOpened, none_if, opened_by, Operation}
+use Rattle.check_certificate.proofs.Words.{◌⊎◌, suc, ◌+◌, ◌∷◌, ◌++◌, refl, sym, ap, ◌∙◌, inl, inr, Some, None, Has, IsOf, pos}
 use Rattle.check_certificate.proofs.Words.{ℕ, IsRequestDone, placed-append, either_option, both_options, entry_opened, option_and_then, IsDoneAtTable}
 use Rattle.check_certificate.proofs.Words.{zero, IsChainDone, either_way, next_member, MayInstall, IsCatalogue, same_opened, each_placed, MatchOption}
-use Rattle.check_certificate.proofs.Words.{List, slice_get, Completed, FileEntry, Submitted, Allocates, FindsFull, intents_of, refusal_of, has_either}
-use Rattle.check_certificate.proofs.Words.{[], arith, subst, Asked, Place, placed, Closed, severs, IsPut, Looks, Clears, Takes, Errno, Intent, zip_at}
+use Rattle.check_certificate.proofs.Words.{List, slice_get, Completed, FileEntry, Submitted, intents_of, refusal_of, has_either}
+use Rattle.check_certificate.proofs.Words.{[], arith, subst, Asked, Place, placed, Closed, severs, IsPut, Errno, Intent, zip_at}
 use Rattle.check_certificate.proofs.Marks.{IsOfChain, chain_own}
 use Rattle.check_certificate.proofs.Parts.{none_of}
-use Rattle.fx_chain.specs.declared.intent.Intent.TheVariants.{Put}
 use Rattle.check_certificate.specs.Made.{intended as found_intent}
 
 -- an element of a list of two parts is in one of them

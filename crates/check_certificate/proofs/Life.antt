@@ -1,6 +1,6 @@
 -- The life of a file at a slot: from the access that installs it on, until it is gone.
-use Rattle.check_certificate.proofs.Words.{◌≡◌, ◌⊎◌, ℕ, ◌<◌, ◌≤◌, [], ◌∷◌, ◌++◌, refl, arith, inl, inr, Some, IsPut, Table, Has, Puts, Takes, Looks}
-use Rattle.check_certificate.proofs.Words.{List, ⊎_elim, cases_lt, Moment, Logged, Accesses, Access, IsLeftAt, Allocates, Clears, FindsFull, Identity}
+use Rattle.check_certificate.proofs.Words.{◌≡◌, ◌⊎◌, ℕ, ◌<◌, ◌≤◌, [], ◌∷◌, ◌++◌, refl, arith, inl, inr, Some, IsPut, Table, Has}
+use Rattle.check_certificate.proofs.Words.{List, ⊎_elim, cases_lt, Moment, Logged, Accesses, Access, IsLeftAt, Identity}
 use Rattle.check_certificate.proofs.Words.{length, length-append, IsOlderPart, IsAccessAt, IsPutTime, IsGoneTime, table_left_by, step_from, placed_by}
 use Rattle.check_certificate.proofs.Parts.{access_of_part, before_end, one_more, shorter, whole}
 

@@ -1,5 +1,5 @@
 -- No two accesses of a flight install files with the same mark.
-use Rattle.check_certificate.proofs.Words.{◌≡◌, ℕ, ◌<◌, ◌≤◌, List, [], ◌∷◌, ◌++◌, refl, sym, ap, ◌∙◌, arith, inl, inr, append_assoc, Moment, Accesses}
+use Rattle.check_certificate.proofs.Words.{◌≡◌, ℕ, ◌<◌, ◌≤◌, List, [], ◌∷◌, ◌++◌, refl, sym, ap, ◌∙◌, arith, append_assoc, Moment, Accesses}
 use Rattle.check_certificate.proofs.Words.{IsOlderPart, Access, IsPut, IsAccessAt, Has, placed, placed-append, has_left, has_right, Looks, Identity}
 use Rattle.check_certificate.proofs.Words.{Closed, Submitted, Asked, Place, Completed, IsChainDone, IsFlight, FlightSetting, MayAccess, FileEntry}
 use Rattle.check_certificate.proofs.Words.{Option, RingState, either_way, if◌then◌else◌, severs, next_member, made_by, by_equality, made_by-parts}

@@ -1,7 +1,7 @@
 -- Parts of a flight: its oldest moments.
-use Rattle.check_certificate.proofs.Words.{◌≡◌, ◌⊎◌, ◌<◌, ◌≤◌, List, [], ◌∷◌, ◌++◌, refl, sym, ap, ◌∙◌, inl, inr, Some, Puts, Looks, Takes, zero, suc}
-use Rattle.check_certificate.proofs.Words.{ℕ, append_assoc, length-append, IsOlderPart, IsAccessAt, FlightSetting, Allocates, FindsFull, file_Decides}
-use Rattle.check_certificate.proofs.Words.{length, arith, Moment, Access, Accesses, IsFlight, Option, Identity, IsPut, Clears, slice_get, same_file}
+use Rattle.check_certificate.proofs.Words.{◌≡◌, ◌⊎◌, ◌<◌, ◌≤◌, List, [], ◌∷◌, ◌++◌, refl, sym, ap, ◌∙◌, inl, inr, Some, Puts, zero, suc}
+use Rattle.check_certificate.proofs.Words.{ℕ, append_assoc, length-append, IsOlderPart, IsAccessAt, FlightSetting, Allocates, file_Decides}
+use Rattle.check_certificate.proofs.Words.{length, arith, Moment, Access, Accesses, IsFlight, Option, Identity, IsPut, slice_get, same_file}
 
 pub whole : (flight : List Moment) → IsOlderPart flight flight
 whole flight = ([], refl)

@@ -1,12 +1,12 @@
 -- A file that leaves its slot is taken by an access: which one it can be.
-use Rattle.check_certificate.proofs.Words.{◌≡◌, ℕ, ◌+◌, ◌-◌, ◌<◌, ◌≤◌, List, [], ◌∷◌, ◌++◌, length, refl, sym, ap, ◌∙◌, arith, inl, inr, subst, Some}
+use Rattle.check_certificate.proofs.Words.{◌≡◌, ℕ, ◌+◌, ◌-◌, ◌<◌, ◌≤◌, List, [], ◌∷◌, ◌++◌, length, refl, sym, ap, ◌∙◌, arith, subst, Some}
 use Rattle.check_certificate.proofs.Words.{⊎_elim, cases_lt, length-append, Option, None, slice_get, Moment, Logged, Accesses, IsOlderPart, Access}
 use Rattle.check_certificate.proofs.Words.{IsAccessAt, IsPut, IsLeftAt, Identity, Table, table_with, table_left_by, Happening, Completed, FileEntry}
-use Rattle.check_certificate.proofs.Words.{Answered, made_by, by_equality, Permits, Place, IsRequestDone, true, Looks, Takes, FindsFull, Puts, Clears}
-use Rattle.check_certificate.proofs.Words.{Allocates, either_option, IsInEach, MayInstall, is_negative, IsAccessMade, IsEventAt, IsForced, IsOfCall}
-use Rattle.check_certificate.proofs.Words.{TimedFlight, IsNoOther, IsTakenThen, IsTaking, TakesNone, slot_taken, IsWalked, LogBeginning, Point, Event}
+use Rattle.check_certificate.proofs.Words.{Answered, made_by, by_equality, Permits, Place, IsRequestDone, true, Looks, Takes, Puts}
+use Rattle.check_certificate.proofs.Words.{either_option, IsInEach, MayInstall, is_negative, IsAccessMade, IsEventAt, IsForced, IsOfCall}
+use Rattle.check_certificate.proofs.Words.{TimedFlight, IsNoOther, IsTakenThen, IsTaking, TakesNone, IsWalked, LogBeginning, Point, Event}
 use Rattle.check_certificate.proofs.Words.{PointOrder, Gone, Put, At, Evidence, Leaves, Lands, Misses, IsCatalogue, answer_at_table, close_answer}
-use Rattle.check_certificate.proofs.Words.{Operation, Found, Intent, Install, Clear, Take, Look, Allocate, made_by-parts, IsCallOf, by_intents, IsOf}
+use Rattle.check_certificate.proofs.Words.{Operation, Found, Intent, Install, Clear, Take, Look, Allocate, made_by-parts, IsCallOf, by_intents}
 use Rattle.check_certificate.proofs.Words.{false≢true, last_finding, AreIntended}
 use Rattle.check_certificate.proofs.Called.{IsOfLog, answer_is, of_log}
 use Rattle.check_certificate.proofs.Forcing.{apart, call_id, event_at, loose_order, not_after, strict_from, strict_order, unless_after, weaker}

@@ -26,7 +26,7 @@ pub use Rattle.check_certificate.specs.Leaves.{is_apart, says}
 pub use Rattle.check_certificate.specs.Made.{intended}
 pub use Rattle.check_certificate.specs.Right.{known_of, leads_on, nothing, opposite}
 pub use Rattle.check_certificate.specs.Said.{Given, given_of, slots_of, event_at, closes_file, frees_look}
-pub use Rattle.check_certificate.specs.Supposed.{AreKnown, IsRefuted, under}
+pub use Rattle.check_certificate.specs.Supposed.{AreKnownOrders, IsKeptByNone, under}
 pub use Rattle.check_certificate.specs.Taken.{IsNoOther, IsTakenThen, IsTaking, TakesNone, slot_taken}
 pub use Rattle.check_certificate.specs.Walked.{IsWalked, AreAllRuledOut, AreRuledOut, AreRuledOutTo, IsCallRuledOut, IsRuledOut, end_of, member_of}
 pub use Rattle.check_certificate.specs.Walks.{all_below, is_asked_ruled_out, is_ruled_out, is_call_ruled_out}

@@ -142,23 +142,23 @@ otherwise k = do
   })
 
 -- a rule adds an order
-abbrev pub added : Given → Known → Step → Option Known
-added g k step =
+abbrev pub known_with : Given → Known → Step → Option Known
+known_with g k step =
     option_map (λ order. record k { orders = k.orders ++ order ∷ [] }) (order_added g k.orders step)
 
 -- what is known after a step, by the order that it supposes
-abbrev pub after_by : Given → Known → Step → Option PointOrder → Option Known
-after_by g k step (Some order) = suppose k order
-after_by g k step None = if is_otherwise step then otherwise k else added g k step
+abbrev pub known_after_by : Given → Known → Step → Option PointOrder → Option Known
+known_after_by g k step (Some order) = suppose k order
+known_after_by g k step None = if is_otherwise step then otherwise k else known_with g k step
 
-abbrev pub after : Given → Known → Step → Option Known
-after g k step = after_by g k step (supposition step)
+abbrev pub known_after : Given → Known → Step → Option Known
+known_after g k step = known_after_by g k step (supposition step)
 
 -- the steps add to what is known, one after another, up to a contradiction
 abbrev pub leads_on : Given → Known → List Step → Bool
 leads_on g k [] = false
 leads_on g k (step ∷ steps) =
-    is_some_so (after g k step) (λ next. is_end next || leads_on g next steps)
+    is_some_so (known_after g k step) (λ next. is_end next || leads_on g next steps)
 
 -- the first `count` events are a log, no file at a slot before it has the mark of a call, and the
 -- steps lead from no orders to a contradiction

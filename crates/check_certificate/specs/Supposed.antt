@@ -10,11 +10,11 @@ abbrev pub under : LogBeginning → Option PointOrder → LogBeginning
 under b supposed = record b { supposed = supposed }
 
 -- no flight keeps the order that is supposed
-abbrev pub IsRefuted : LogBeginning → Type 0
-IsRefuted b = TimedFlight b → ⊥
+abbrev pub IsKeptByNone : LogBeginning → Type 0
+IsKeptByNone b = TimedFlight b → ⊥
 
 -- each flight that keeps the order that is supposed keeps the known ones, and each flight those of
 -- before
-pub record AreKnown (b : LogBeginning) (known : KnownOrders) : Type 0 where
+pub record AreKnownOrders (b : LogBeginning) (known : KnownOrders) : Type 0 where
   pub orders : All (IsForced (under b known.supposed)) known.orders.items
   pub before : All (IsForced (under b None)) known.before.items

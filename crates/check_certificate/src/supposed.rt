@@ -3,7 +3,7 @@ ghost use Rattle.std.specs.Prelude.{◌≡◌, All, IfOk, IfSome, IsTrue, None, 
 ghost use Rattle.check_certificate.specs.Forced.{IsContradicted, IsForced};
 ghost use Rattle.check_certificate.specs.Right as right;
 ghost use Rattle.check_certificate.specs.Said.{given_of};
-ghost use Rattle.check_certificate.specs.Supposed.{AreKnown, IsRefuted, under};
+ghost use Rattle.check_certificate.specs.Supposed.{AreKnownOrders, IsKeptByNone, under};
 ghost use Rattle.check_certificate.specs.declared.beginning.LogBeginning.{LogBeginning as In};
 ghost use Rattle.check_certificate.specs.declared.certificate.PointOrder.{PointOrder as Order};
 
@@ -54,7 +54,7 @@ fn opposite(order: PointOrder) -> PointOrder
 
 // Checks whether an order says that a point comes before itself.
 fn is_contradiction(order: &PointOrder) -> bool
-    ensures sound { IsTrue result → (b : In) → IsForced b order.now → IsRefuted b }
+    ensures sound { IsTrue result → (b : In) → IsForced b order.now → IsKeptByNone b }
     ensures exact { result ≡ right.is_contradiction order.now }
 {
     order.strict && order.from == order.to
@@ -62,7 +62,7 @@ fn is_contradiction(order: &PointOrder) -> bool
 
 // Checks whether the last order does.
 fn are_contradicted(orders: &[PointOrder]) -> bool
-    ensures sound { IsTrue result → (b : In) → All (IsForced b) orders.now → IsRefuted b }
+    ensures sound { IsTrue result → (b : In) → All (IsForced b) orders.now → IsKeptByNone b }
     ensures exact { result ≡ right.are_contradicted orders.now }
 {
     match orders.last() {
@@ -74,7 +74,7 @@ fn are_contradicted(orders: &[PointOrder]) -> bool
 impl KnownOrders {
     // Checks whether the steps led to a contradiction.
     fn is_end(&self) -> bool
-        ensures sound { IsTrue result → (b : In) → AreKnown b self.now → IsRefuted (under b None) }
+        ensures sound { IsTrue result → (b : In) → AreKnownOrders b self.now → IsKeptByNone (under b None) }
         ensures exact { result ≡ right.is_end (right.known_of self.now) }
     {
         self.supposed.is_none() && are_contradicted(self.orders.as_slice())
@@ -102,8 +102,8 @@ impl LogBeginning<'_> {
         known: KnownOrders,
         order: PointOrder,
     ) -> Result<Option<KnownOrders>, NoMemory>
-        requires { AreKnown self.now known }
-        ensures sound { IfOk result (λ found. IfSome found (AreKnown self.now)) }
+        requires { AreKnownOrders self.now known }
+        ensures sound { IfOk result (λ found. IfSome found (AreKnownOrders self.now)) }
         ensures exact { IfOk result (λ found. option_map right.known_of found
             ≡ right.suppose (right.known_of known) order) }
     {
@@ -122,8 +122,8 @@ impl LogBeginning<'_> {
     // Returns what is known after the order that is supposed is refuted. Returns `None` if the last
     // step doesn't refute it.
     fn otherwise(&self, alloc: Global, known: KnownOrders) -> Result<Option<KnownOrders>, NoMemory>
-        requires { AreKnown self.now known }
-        ensures sound { IfOk result (λ found. IfSome found (AreKnown self.now)) }
+        requires { AreKnownOrders self.now known }
+        ensures sound { IfOk result (λ found. IfSome found (AreKnownOrders self.now)) }
         ensures exact { IfOk result (λ found. option_map right.known_of found
             ≡ right.otherwise (right.known_of known)) }
     {
@@ -146,10 +146,10 @@ impl LogBeginning<'_> {
     // Returns what is known after a step that adds an order by a rule. Returns `None` for a wrong
     // step.
     fn added(&self, known: KnownOrders, step: &Step) -> Result<Option<KnownOrders>, NoMemory>
-        requires { AreKnown self.now known }
-        ensures sound { IfOk result (λ found. IfSome found (AreKnown self.now)) }
+        requires { AreKnownOrders self.now known }
+        ensures sound { IfOk result (λ found. IfSome found (AreKnownOrders self.now)) }
         ensures exact { IfOk result (λ found. option_map right.known_of found
-            ≡ right.added (given_of self.now) (right.known_of known) step.now) }
+            ≡ right.known_with (given_of self.now) (right.known_of known) step.now) }
     {
         let own = self.under(known.supposed);
         let Some(order) = own.order_of(step, known.orders.as_slice()) else {
@@ -171,10 +171,10 @@ impl LogBeginning<'_> {
         known: KnownOrders,
         step: &Step,
     ) -> Result<Option<KnownOrders>, NoMemory>
-        requires { AreKnown self.now known }
-        ensures sound { IfOk result (λ found. IfSome found (AreKnown self.now)) }
+        requires { AreKnownOrders self.now known }
+        ensures sound { IfOk result (λ found. IfSome found (AreKnownOrders self.now)) }
         ensures exact { IfOk result (λ found. option_map right.known_of found
-            ≡ right.after (given_of self.now) (right.known_of known) step.now) }
+            ≡ right.known_after (given_of self.now) (right.known_of known) step.now) }
     {
         if let Some(order) = supposition(step) {
             return self.suppose(alloc, known, order);

@@ -1,7 +1,7 @@
 //! The certificate of a graph with a point that comes before itself: the steps of the edges that
 //! this needs, and no others.
 
-use crate::graph::{Case, Edge, Graph, Needs, Pair, Saved, in_order};
+use crate::graph::{Edge, Graph, Needs, Pair, RefutedCase, Saved, in_order};
 use check_certificate::{Point, PointOrder, Step};
 use fx_base::NoMemory;
 use std::alloc::Global;
@@ -143,12 +143,12 @@ pub(crate) fn case_of(
     graph: &mut Graph,
     saved: Saved,
     point: usize,
-) -> Result<Case, NoMemory> {
+) -> Result<RefutedCase, NoMemory> {
     let path = graph.path(alloc, in_order(point, point, true), graph.edges.len())?;
     let base = saved.edges;
     let needs = needs_of(alloc, graph, &path, base)?;
     let edges = graph.restore(alloc, saved)?;
-    Ok(Case {
+    Ok(RefutedCase {
         base,
         edges,
         needs,
@@ -254,7 +254,12 @@ impl Assembly {
     }
 
     // Appends the steps of an order that is supposed, up to the one that refutes it.
-    fn push_case(&mut self, graph: &Graph, edge: &Edge, case: &Case) -> Result<usize, NoMemory> {
+    fn push_case(
+        &mut self,
+        graph: &Graph,
+        edge: &Edge,
+        case: &RefutedCase,
+    ) -> Result<usize, NoMemory> {
         let base = case.base;
         self.numbers.truncate(base);
         for (nth, own) in case.edges.iter().enumerate() {

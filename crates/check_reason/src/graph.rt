@@ -29,9 +29,9 @@ pub(crate) struct Edge {
     pub(crate) absent: usize,
 }
 
-/// What follows from an order that is supposed, up to a point that comes before itself.
+/// A refuted supposition: the edges that follow from it, up to a point that comes before itself.
 #[derive(Drop)]
-pub(crate) struct Case {
+pub(crate) struct RefutedCase {
     /// The number of the edge of the supposed order. Edges from there on are those of the case.
     pub(crate) base: usize,
     /// The edges of the case.
@@ -53,7 +53,7 @@ pub(crate) struct Needs {
     pub(crate) lists: Vec<Vec<Vec<usize>>>,
 }
 
-/// What a graph was before an order was supposed.
+/// A graph's state before an order was supposed.
 #[derive(Drop)]
 pub(crate) struct Saved {
     /// The number of edges.
@@ -73,7 +73,7 @@ pub(crate) struct Graph {
     /// Lists of premises: orders by which files aren't at a slot.
     pub(crate) lists: Vec<Vec<Pair>>,
     /// Suppositions that were refuted, each by the edges that it needs.
-    pub(crate) cases: Vec<Case>,
+    pub(crate) cases: Vec<RefutedCase>,
     /// A point that comes before itself.
     pub(crate) loops: Option<usize>,
     // The last edge from each point, and for each edge the one before it from the same point.
