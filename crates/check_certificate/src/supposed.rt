@@ -74,7 +74,8 @@ fn are_contradicted(orders: &[PointOrder]) -> bool
 impl KnownOrders {
     // Checks whether the steps led to a contradiction.
     fn is_end(&self) -> bool
-        ensures sound { IsTrue result → (b : In) → AreKnownOrders b self.now → IsKeptByNone (under b None) }
+        ensures sound { IsTrue result → (b : In) → AreKnownOrders b self.now
+            → IsKeptByNone (under b None) }
         ensures exact { result ≡ right.is_end (right.known_of self.now) }
     {
         self.supposed.is_none() && are_contradicted(self.orders.as_slice())
