@@ -92,6 +92,6 @@ uint32_t yacht_judge_whole_updates(LOG_PASSED, uint32_t states, uint32_t memory,
     }
     *judgement = (yacht_judgement){.at = 7, .steps = slots};
     for (uint32_t nth = 0; nth < slots && nth < steps_length; nth++)
-        steps[nth] = (yacht_step){nth % 30 + 1, nth % 2, nth, nth + 1, nth + 2, nth + 3, nth + 4, nth + 5, point_of(nth + 6), point_of(nth + 60)};
+        steps[nth] = (yacht_step){nth % 32 + 1, nth % 2, nth, nth + 1, nth + 2, nth + 3, nth + 4, nth + 5, point_of(nth + 6), point_of(nth + 60)};
     return YACHT_NOT_LEGAL;
 }

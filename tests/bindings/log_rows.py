@@ -165,6 +165,8 @@ RULES = [
     ("existed", (13,), put, event, "2.1.0 was installed before it was closed by line 13"),
     ("fails", (13, 12), event, other, "close 4.2 answered 0 at line 12, so it installed nothing"),
     ("cut", (11, 12), event, event, "close 4.2 answered 0 at line 12, although open 4.1 answered 0 at line 11, which cancels the next request"),
+    ("suppose", (), put, other, "the installation of 2.1.0 came before the installation of 4.1.0"),
+    ("otherwise", (), event, access, "line 7 came before the access of close 4.2"),
 ]
 for rule, lines, before, after, words in RULES:
     sentences = yachtreason.Words(told, told.events, [Step(rule, lines, 0, (), before, after, True)]).sentences()
@@ -172,8 +174,16 @@ for rule, lines, before, after, words in RULES:
 existed, unknown = Step("existed", (13,), 0, (), put, event, True), Step("unknown", (), 0, (0,), put, put, True)
 sentences = yachtreason.Words(told, told.events, [existed, unknown]).sentences()
 want(sentences == ["line 13 says that 2.1.0 was installed, and no call before it can have installed that file"], f"the words of unknown are {sentences}")
-# why a file is the only one, or an access: the orders that exclude the others
+# an order is supposed, the contradiction that ends the case, and the opposite order
 answered, before = Point("access", 8), Point("event", 9)
+case = [Step("suppose", (), 0, (), gone, answered, True), Step("finds", (7, 8), 0, (), answered, gone, False),
+        Step("then", (), 0, (0, 1), gone, gone, True), Step("otherwise", (), 0, (), answered, gone, False), existed]
+sentences, removal = yachtreason.Words(told, told.events, case).sentences(), "the removal of 2.1.0 from slot 0"
+supposed = f"{removal} came before the access of look 3"
+want(sentences[:2] == [f"suppose that {supposed}",
+                       f"look 3 found 2.1.0 at slot 0; but {supposed}; so the access of look 3 came before or with {removal}"],
+     f"the words of a case are {sentences}")
+# why a file is the only one, or an access: the orders that exclude the others
 orders = [Step("ends", (7, 8), 0, (), answered, Point("event", 8), True), Step("calls", (9,), 0, (), before, other, True),
           Step("events", (8, 9), 0, (), Point("event", 8), before, True), Step("then", (), 0, (0, 2), answered, before, True),
           Step("then", (), 0, (3, 1), answered, other, True)]

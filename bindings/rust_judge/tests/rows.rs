@@ -169,7 +169,7 @@ fn each_step_has_the_numbers_of_the_library() {
         return;
     }
     let mut rules = HashMap::new();
-    for count in [1, 30, 4_096, 5_000] {
+    for count in [1, 32, 4_096, 5_000] {
         let text = format!("call 1 sparse {count}\ndone 1.1 0\n");
         let found = judge_log_by_whole_updates(text.as_bytes(), Limits::default());
         let Ok(LogVerdict::NotLegal { line: 10, reason: steps }) = found else {
@@ -183,10 +183,10 @@ fn each_step_has_the_numbers_of_the_library() {
             let points = [point(nth as u32 + 6), point(nth as u32 + 60)];
             assert_eq!([it.before, it.after], points);
             let rule = format!("{:?}", it.rule);
-            assert_eq!(*rules.entry(nth % 30).or_insert(rule.clone()), rule);
+            assert_eq!(*rules.entry(nth % 32).or_insert(rule.clone()), rule);
         }
     }
-    assert_eq!((&rules[&0][..], &rules[&29][..]), ("Events", "Cut"));
+    assert_eq!((&rules[&29][..], &rules[&31][..]), ("Cut", "Otherwise"));
     let table = table();
     let verdict = rows(&table)
         .iter()

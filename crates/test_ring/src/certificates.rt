@@ -102,7 +102,8 @@ pub fn ends(call: usize, answer: usize) -> Step {
     }
 }
 
-fn installs(call: usize, answer: usize) -> Step {
+/// Returns the step of an open that is answered, and its first access.
+pub fn installs(call: usize, answer: usize) -> Step {
     Step::Installs {
         call,
         answer,
@@ -110,7 +111,8 @@ fn installs(call: usize, answer: usize) -> Step {
     }
 }
 
-fn empties(call: usize, answer: usize, installed: usize) -> Step {
+/// Returns the step of a close that removes a file, whose installation before it has a number.
+pub fn empties(call: usize, answer: usize, installed: usize) -> Step {
     Step::Empties {
         call,
         answer,

@@ -7,6 +7,8 @@
 #[cfg(test)]
 mod beside;
 #[cfg(test)]
+mod cases;
+#[cfg(test)]
 mod certificates;
 #[cfg(test)]
 mod gates;
