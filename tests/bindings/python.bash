@@ -66,7 +66,7 @@ wrong_module() {
 in_python() {
     want 'the judge from Python is wrong' judges_rows judge_rows 267
     want 'the judge from Python is wrong over the stand-in' over_the_stand_in_of_rows
-    want 'the judge of logs from Python is wrong' judges_rows log_rows 76
+    want 'the judge of logs from Python is wrong' judges_rows log_rows 79
     want 'the verified judge of yachtlog is wrong' proved_logs
     want 'a missing library is not explained' without_library "$room" "$room/libyachtjudge.so.6 was not found."
     echo > "$room/libyachtjudge.so.6"
