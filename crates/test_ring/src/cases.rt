@@ -1,5 +1,5 @@
-//! Certificates by cases: an order is supposed and refuted, and then the opposite one is known. What
-//! followed from the supposition is no longer known, and nothing ends a certificate before that.
+//! Certificates by cases: an order is supposed and refuted, and then the opposite one is known.
+//! What followed from the supposition is no longer known, and nothing ends a certificate before that.
 use crate::certificates::{begins, empties, ends, events, installs, refutes, stale_log, then};
 use crate::setting::Host;
 use check_certificate::{Point, PointOrder, Step};
