@@ -1,21 +1,19 @@
 -- The states that were looked through show all reports of a submission.
-use Rattle.check_outcomes.proofs.Words.{◌≡◌, refl, ℕ, ◌+◌, ◌-◌, ◌<◌, List, [], length, map, sym, ap, ◌∙◌, arith, slice_index_or, All, Bool, IsTrue}
-use Rattle.check_outcomes.proofs.Words.{Completed, length-map, Asked, runs_of, first_member, table_of_slots, All-contains, AllByRecursion, true}
-use Rattle.check_outcomes.proofs.Words.{false, false≢true, Chain, members_of, ⊎_elim, ◌≤◌, subst, Contains, Some, Completion, Place, all_completed}
-use Rattle.check_outcomes.proofs.Words.{completed_of, ring_of_slots, IsOneOrder, RingState, ring_of, Reported, recursion_from_All, IsAccepted}
-use Rattle.check_outcomes.proofs.Words.{IsOrderOf, RingContents, ring_left, suc, ◌∷◌, ◌++◌, Closed, Vec, all_asked, Slots, contains_map, Rest}
-use Rattle.check_outcomes.proofs.Words.{settled_at, Parts, StaysIn, AreAtStart, AreAllBy, IsAtStart, IsFirstState, IsStateExploredBy, said_by, states_of, recorded_by}
-use Rattle.check_outcomes.proofs.Words.{recorded_states, settled_in, AreRecordedClosed, is_state_idle, parts_by_numbers, rules_in, runs_in, view_in, Claimed}
-use Rattle.check_outcomes.proofs.Words.{PlayState, has_none, is_idle_at, PlayedSubmission, cases_Bool, AreParts, AreClosed, ArePartsIn}
-use Rattle.check_outcomes.proofs.Words.{HasReadsAloneIn, IsTurnOfPart, IsTurnOfReader, ChainAccess, each_history_is_an_order, HasMemory, AreAllStates}
-use Rattle.check_outcomes.proofs.Words.{StateView, IsReportBy, MayReport, IsPossibleIn, IsPossible, IsRecordedAt, OfEach, says, PossibleAnswer}
-use Rattle.check_outcomes.proofs.Words.{PossibleReport, contains_mapped, HasEnd, ring_at, IsAnswer, HasEachAnswer, HasEachEnd, ring_following, recorded_from}
-use Rattle.check_outcomes.proofs.Words.{IsConfirmedPlay, RecordedState, recorded_state_of, all_recorded, answers_of, HasEachReport, IsOverIn, HasReport, IsRecordedOf}
-use Rattle.check_outcomes.proofs.Words.{ReportsOf, IsOver, All-from_recursion, All-map, get_or_from_slice_get, slice_get-get_or}
+use Rattle.check_outcomes.proofs.{◌≡◌, refl, ℕ, ◌+◌, ◌-◌, ◌<◌, List, [], length, map, sym, ap, ◌∙◌, arith, slice_index_or, All, Bool, IsTrue}
+use Rattle.check_outcomes.proofs.{Completed, length-map, Asked, runs_of, first_member, table_of_slots, All-contains, AllByRecursion, true, false}
+use Rattle.check_outcomes.proofs.{false≢true, Chain, members_of, ⊎_elim, ◌≤◌, subst, Contains, Some, Completion, Place, all_completed, completed_of}
+use Rattle.check_outcomes.proofs.{ring_of_slots, IsOneOrder, RingState, ring_of, Reported, recursion_from_All, IsAccepted, IsOrderOf, RingContents}
+use Rattle.check_outcomes.proofs.{ring_left, suc, ◌∷◌, ◌++◌, Closed, Vec, all_asked, Slots, contains_map, Rest, settled_at, Parts, StaysIn}
+use Rattle.check_outcomes.proofs.{AreAtStart, AreAllBy, IsAtStart, IsFirstState, IsStateExploredBy, said_by, states_of, recorded_by, recorded_states}
+use Rattle.check_outcomes.proofs.{settled_in, AreRecordedClosed, is_state_idle, parts_by_numbers, rules_in, runs_in, view_in, Claimed, PlayState}
+use Rattle.check_outcomes.proofs.{has_none, is_idle_at, PlayedSubmission, cases_Bool, AreParts, AreClosed, ArePartsIn, HasReadsAloneIn, IsTurnOfPart}
+use Rattle.check_outcomes.proofs.{IsTurnOfReader, ChainAccess, each_history_is_an_order, HasMemory, AreAllStates, StateView, IsReportBy, MayReport}
+use Rattle.check_outcomes.proofs.{IsPossibleIn, IsPossible, IsRecordedAt, OfEach, says, PossibleAnswer, PossibleReport, contains_mapped, HasEnd}
+use Rattle.check_outcomes.proofs.{ring_at, IsAnswer, HasEachAnswer, HasEachEnd, ring_following, recorded_from, IsConfirmedPlay, RecordedState}
+use Rattle.check_outcomes.proofs.{recorded_state_of, all_recorded, answers_of, HasEachReport, IsOverIn, HasReport, IsRecordedOf, ReportsOf, IsOver}
+use Rattle.check_outcomes.proofs.{All-from_recursion, All-map, get_or_from_slice_get, slice_get-get_or, are_idle, none_for, none_left, over_idle}
+use Rattle.check_outcomes.proofs.{each_run, less_one}
 use Rattle.check_outcomes.specs.declared.parts.PartNumbers.{PartNumbers}
-use Rattle.check_outcomes.proofs.Idle.{are_idle, none_for, none_left, over_idle}
-use Rattle.check_outcomes.proofs.Lists.{each_run}
-use Rattle.check_outcomes.proofs.Viewing.{less_one}
 use Rattle.fx_ring.specs.Submission.{reported}
 use Rattle.check_outcomes.proofs.First.{all_said}
 use Rattle.check_outcomes.proofs.RecordedStates.{each_report_is_listed}

@@ -1,11 +1,9 @@
 -- The first states of a submission, where each order begins.
-use Rattle.check_outcomes.proofs.Words.{◌≡◌, ℕ, ◌+◌, ◌<◌, ◌≤◌, ◌==◌, List, [], ◌∷◌, ◌++◌, length, refl, sym, ap, ◌∙◌, arith, if◌then◌else◌, Bool}
-use Rattle.check_outcomes.proofs.Words.{⊎_elim, inr, FileEntry, Completed, Asked, runs_of, first_member, Table, accesses_of, accesses_of_chain}
-use Rattle.check_outcomes.proofs.Words.{AreChainsDone, IsOneOrder, table_after, AllByRecursion, RingState, Reported, eq-eqb, ChainAccess, cases_eq}
-use Rattle.check_outcomes.proofs.Words.{ne_eqb, at_itself, HasMemory, Rest, rules_of, settled_at, AreAllStates, AreAtStart, HasEnd, IsListed}
-use Rattle.check_outcomes.proofs.Words.{StateView, EachOutcomeIsListed, recorded_from, both_parts}
-use Rattle.check_outcomes.proofs.Requests.{are_right}
-use Rattle.check_outcomes.proofs.ChainAccesses.{settles}
+use Rattle.check_outcomes.proofs.{◌≡◌, ℕ, ◌+◌, ◌<◌, ◌≤◌, ◌==◌, List, [], ◌∷◌, ◌++◌, length, refl, sym, ap, ◌∙◌, arith, if◌then◌else◌, Bool, ⊎_elim}
+use Rattle.check_outcomes.proofs.{inr, FileEntry, Completed, Asked, runs_of, first_member, Table, accesses_of, accesses_of_chain, AreChainsDone}
+use Rattle.check_outcomes.proofs.{IsOneOrder, table_after, AllByRecursion, RingState, Reported, eq-eqb, ChainAccess, cases_eq, ne_eqb, at_itself}
+use Rattle.check_outcomes.proofs.{HasMemory, Rest, rules_of, settled_at, AreAllStates, AreAtStart, HasEnd, IsListed, StateView, EachOutcomeIsListed}
+use Rattle.check_outcomes.proofs.{recorded_from, both_parts, are_right, settles}
 use Rattle.check_outcomes.proofs.TurnByTurn.{order_in_turn}
 use Rattle.check_outcomes.proofs.Playing.{OfChain, Comes, both_said, runs_on}
 

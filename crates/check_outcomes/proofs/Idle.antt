@@ -1,13 +1,11 @@
 -- Idle chains, which have only reads left.
-use Rattle.check_outcomes.proofs.Words.{◌≡◌, inl, inr, ◌&&◌, not, Bool, true, false, if◌then◌else◌, List, [], ◌∷◌, length, refl, sym, ◌∙◌}
-use Rattle.check_outcomes.proofs.Words.{arith, Some, false≢true, Asked, Place, asked_of, Request, all_asked, ℕ, ◌⊎◌, ⊎_elim, nil_from_length}
-use Rattle.check_outcomes.proofs.Words.{Option, All, All-nil, All-cons, All-append, FileEntry, Completed, Operation, Reads, ECANCELED, refusal}
-use Rattle.check_outcomes.proofs.Words.{AllByRecursion, next_member, canceled, severs, IsRequestDone, IsChainDone, either_way, list_all, are_reads}
-use Rattle.check_outcomes.proofs.Words.{has_none, is_read, Rest, said_by, asks_from, rest_for, is_state_idle, Claimed, PlayedSubmission, and_from}
-use Rattle.check_outcomes.proofs.Words.{and_parts, eqb-true, ne_eqb, AreIdle, IsLeft, Access, Looks, Identity, rest_at}
-use Rattle.check_outcomes.proofs.Words.{IsDoneAtTable, request_place, unless_refused}
-use Rattle.fx_chain.specs.declared.intent.Intent.TheVariants.{Look}
-use Rattle.fx_order.proofs.Intents.{single}
+use Rattle.check_outcomes.proofs.Words.{◌≡◌, inl, inr, ◌&&◌, not, Bool, true, false, if◌then◌else◌, List, [], ◌∷◌, length, refl, sym, ◌∙◌, arith}
+use Rattle.check_outcomes.proofs.Words.{Some, false≢true, Asked, Place, asked_of, Request, all_asked, ℕ, ◌⊎◌, ⊎_elim, nil_from_length, Option, All}
+use Rattle.check_outcomes.proofs.Words.{All-nil, All-cons, All-append, FileEntry, Completed, Operation, Reads, ECANCELED, refusal, AllByRecursion}
+use Rattle.check_outcomes.proofs.Words.{next_member, canceled, severs, IsRequestDone, IsChainDone, either_way, list_all, are_reads, has_none, is_read}
+use Rattle.check_outcomes.proofs.Words.{Rest, said_by, asks_from, rest_for, is_state_idle, Claimed, PlayedSubmission, and_from, and_parts, eqb-true}
+use Rattle.check_outcomes.proofs.Words.{ne_eqb, AreIdle, IsLeft, Access, Looks, Identity, rest_at, IsDoneAtTable, request_place, unless_refused, Look}
+use Rattle.check_outcomes.proofs.Words.{single}
 
 pub over_idle : (submission : PlayedSubmission) (rest : Rest) → rest.requests ≡ [] → is_state_idle submission rest ≡ true
 over_idle submission rest none = rw none

@@ -1,13 +1,11 @@
 -- Orders that can be made in turn, one part and one chain after another.
-use Rattle.check_outcomes.proofs.Words.{◌≡◌, ℕ, ◌≤◌, suc, List, [], ◌∷◌, ⊎_elim, arith, All, All-cons, All-head, All-nil, All-tail, Table, PermitsAll}
-use Rattle.check_outcomes.proofs.Words.{table_with, accesses_of, accesses_of_chain, ◌⊎◌, inl, inr, ◌<◌, ◌==◌, Bool, true, false, ◌++◌, filter, cond}
-use Rattle.check_outcomes.proofs.Words.{refl, sym, ap, ◌∙◌, Option, cases_lt, false≢true, append_assoc, file_removed_by, files_removed_in, Closed}
-use Rattle.check_outcomes.proofs.Words.{IsPermutation, IsPermutation-refl, IsPermutation-cons, IsPermutation-sym, IsPermutation-trans}
-use Rattle.check_outcomes.proofs.Words.{IsPermutation-middle, option_to_list, Access, ChainAccess, not_own, of_chain, own_first, cases_eq, Looks}
-use Rattle.check_outcomes.proofs.Words.{ne_eqb, Identity, HasTurn, Parts, Rest, StateView, are_reads, All-permutation, IsPermutation-append_comm}
-use Rattle.check_outcomes.proofs.Words.{IsPermutation-append_left, IsPermutation-append_right}
-use Rattle.check_outcomes.proofs.Commuting.{AreApart, ComesTo, Leaves, first_of, in_front, looks_swapped, swapped, table}
-use Rattle.check_outcomes.proofs.Idle.{IsLook}
+use Rattle.check_outcomes.proofs.{◌≡◌, ℕ, ◌≤◌, suc, List, [], ◌∷◌, ⊎_elim, arith, All, All-cons, All-head, All-nil, All-tail, Table, PermitsAll}
+use Rattle.check_outcomes.proofs.{table_with, accesses_of, accesses_of_chain, ◌⊎◌, inl, inr, ◌<◌, ◌==◌, Bool, true, false, ◌++◌, filter, cond, refl}
+use Rattle.check_outcomes.proofs.{sym, ap, ◌∙◌, Option, cases_lt, false≢true, append_assoc, file_removed_by, files_removed_in, Closed, IsPermutation}
+use Rattle.check_outcomes.proofs.{IsPermutation-refl, IsPermutation-cons, IsPermutation-sym, IsPermutation-trans, IsPermutation-middle}
+use Rattle.check_outcomes.proofs.{option_to_list, Access, ChainAccess, not_own, of_chain, own_first, cases_eq, Looks, ne_eqb, Identity, HasTurn}
+use Rattle.check_outcomes.proofs.{Parts, Rest, StateView, are_reads, All-permutation, IsPermutation-append_comm, IsPermutation-append_left}
+use Rattle.check_outcomes.proofs.{IsPermutation-append_right, AreApart, ComesTo, Leaves, first_of, in_front, looks_swapped, swapped, table, IsLook}
 
 -- what holds of each chain's accesses holds of the order's
 pub of_each : (Keeps : ℕ → Access → Type 0) {chains : ℕ} (order : List ChainAccess) → All (λ x. (1 ≤ x.chain) × (x.chain ≤ chains)) order

@@ -11,3 +11,11 @@ pub mod Idle
 pub mod RecordedStates
 pub mod First
 pub mod AllReports
+-- The names that many of these proofs cite, passed on from one place.
+pub use Words.*
+pub use ChainAccesses.*
+pub use Commuting.*
+pub use Idle.*
+pub use Lists.*
+pub use Requests.*
+pub use Viewing.*

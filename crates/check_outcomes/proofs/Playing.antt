@@ -1,12 +1,10 @@
 -- An order goes from state to state of a closed list, up to one where no chain has an access left.
-use Rattle.check_outcomes.proofs.Words.{◌≡◌, arith, ◌⊎◌, Bool, inl, inr, ℕ, ◌≤◌, List, [], ◌∷◌, ◌++◌, refl, sym, ap, ◌∙◌, FileEntry, append-nil, All}
-use Rattle.check_outcomes.proofs.Words.{All-tail, true, false, false≢true, Completed, Table, table_after, AllByRecursion, Contains, ⊎_elim}
-use Rattle.check_outcomes.proofs.Words.{table_with, accesses_of, accesses_of_chain, Access, ChainAccess, cases_Bool, IsNext, Rest, rules_of, step}
-use Rattle.check_outcomes.proofs.Words.{Parts, AreClosed, IsOver, StateView, AreIdle, are_reads}
+use Rattle.check_outcomes.proofs.{◌≡◌, arith, ◌⊎◌, Bool, inl, inr, ℕ, ◌≤◌, List, [], ◌∷◌, ◌++◌, refl, sym, ap, ◌∙◌, FileEntry, append-nil, All}
+use Rattle.check_outcomes.proofs.{All-tail, true, false, false≢true, Completed, Table, table_after, AllByRecursion, Contains, ⊎_elim, table_with}
+use Rattle.check_outcomes.proofs.{accesses_of, accesses_of_chain, Access, ChainAccess, cases_Bool, IsNext, Rest, rules_of, Parts, AreClosed, IsOver}
+use Rattle.check_outcomes.proofs.{StateView, AreIdle, are_reads, IsLook, reads_done, are_right, Goes, ends, steps, recorded_first}
+use Rattle.check_outcomes.proofs.Words.{step}
 use Rattle.check_outcomes.proofs.InTurn.{IsInTurn, OrderGoesOn, first_within, its_first, past_first, has_turn}
-use Rattle.check_outcomes.proofs.Idle.{IsLook, reads_done}
-use Rattle.check_outcomes.proofs.Requests.{are_right}
-use Rattle.check_outcomes.proofs.ChainAccesses.{Goes, ends, steps, recorded_first}
 
 pub both_said : {X : Type 0} (P : X → Type 0) (xs ys : List X) → AllByRecursion P xs → AllByRecursion P ys → AllByRecursion P (xs ++ ys)
 both_said P [] ys one other = other

@@ -1,10 +1,10 @@
 -- An order goes through the states of a closed list with what is recorded, up to one where no chain
 -- has an access left.
-use Rattle.check_outcomes.proofs.Words.{◌≡◌, ℕ, ◌≤◌, List, [], ◌∷◌, ◌++◌, refl, ap, append_assoc, FileEntry, append-nil, ◌==◌, length, Asked}
-use Rattle.check_outcomes.proofs.Words.{Completed, Table, table_after, files_removed_in, Closed, accesses_of, IsPermutation, Contains, true}
-use Rattle.check_outcomes.proofs.Words.{IsPermutation-trans, IsPermutation-sym, ChainAccess, Access, rules_of, IsOver, has_none, Parts, AreRecordedClosed}
-use Rattle.check_outcomes.proofs.Words.{LeadsOn, RecordedState, IsPermutation-append_left, ◌+◌, sym, ◌∙◌, arith, runs_of, recursion_from_All, HasMemory}
-use Rattle.check_outcomes.proofs.Words.{EachReportIsListed}
+use Rattle.check_outcomes.proofs.{◌≡◌, ℕ, ◌≤◌, List, [], ◌∷◌, ◌++◌, refl, ap, append_assoc, FileEntry, append-nil, ◌==◌, length, Asked, Completed}
+use Rattle.check_outcomes.proofs.{Table, table_after, files_removed_in, Closed, accesses_of, IsPermutation, Contains, true, IsPermutation-trans}
+use Rattle.check_outcomes.proofs.{IsPermutation-sym, ChainAccess, Access, rules_of, IsOver, has_none, Parts, AreRecordedClosed, LeadsOn}
+use Rattle.check_outcomes.proofs.{RecordedState, IsPermutation-append_left, ◌+◌, sym, ◌∙◌, arith, runs_of, recursion_from_All, HasMemory}
+use Rattle.check_outcomes.proofs.{EachReportIsListed}
 use Rattle.check_outcomes.proofs.Playing.{OfChain, as_reader, steps_on, recorded_whole}
 use Rattle.check_outcomes.proofs.InTurn.{IsInTurn, OrderGoesOn, first_within, its_first, past_first, has_turn}
 use Rattle.check_outcomes.proofs.First.{find, recorded_same}

@@ -1,20 +1,17 @@
 -- The acts of each request at the table: how many accesses it makes, and its answer if no
 -- allocation fails; what each access was to be; and the slots that it reaches.
-use Rattle.check_outcomes.proofs.Words.{◌≡◌, ℕ, zero, suc, ◌+◌, ◌≤◌, ℤ, pos, negsuc, List, [], ◌∷◌, ◌++◌, length, refl, ap, Option, Some, None}
-use Rattle.check_outcomes.proofs.Words.{arith, inl, inr, All, IsCatalogue, slice_get, All-nil, All-cons, FileEntry, Errno, MatchOption}
-use Rattle.check_outcomes.proofs.Words.{Completed, Operation, Opens, Updates, Place, Any, Table, refusal_of, IsRefused}
-use Rattle.check_outcomes.proofs.Words.{IsRequestDone, IsDoneAtTable, Access, HasMemory, Identity, rules_of, Intends, IsNextAccess}
+use Rattle.check_outcomes.proofs.Words.{◌≡◌, ℕ, zero, suc, ◌+◌, ◌≤◌, ℤ, pos, negsuc, List, [], ◌∷◌, ◌++◌, length, refl, ap, Option, Some, None, arith}
+use Rattle.check_outcomes.proofs.Words.{inl, inr, All, IsCatalogue, slice_get, All-nil, All-cons, FileEntry, Errno, MatchOption, Completed, Operation}
+use Rattle.check_outcomes.proofs.Words.{Opens, Updates, Place, Any, Table, refusal_of, IsRefused, IsRequestDone, IsDoneAtTable, Access, HasMemory}
+use Rattle.check_outcomes.proofs.Words.{Identity, rules_of, Intends, IsNextAccess, IsIntent, IsOpened, MayReach, answer_at_table, answer_of, count_of}
+use Rattle.check_outcomes.proofs.Words.{count_or_none, intents_of, list_intents, positions_of, refusal_or, Allocate, same_opened, single, zip_at}
+use Rattle.check_outcomes.proofs.Words.{AllZip, option_map}
 use Rattle.check_outcomes.proofs.ChainAccesses.{AreRight, last_of}
 use Rattle.check_outcomes.proofs.Commuting.{ComesTo}
 use Rattle.fx_chain.proofs.Cases.{both_options}
-use Rattle.fx_chain.specs.Intents.{IsIntent, IsOpened, MayReach, answer_at_table, answer_of, count_of, count_or_none, intents_of, list_intents}
-use Rattle.fx_chain.specs.Intents.{positions_of, refusal_or}
 use Rattle.fx_chain.specs.declared.intent.Intent.{Intent}
-use Rattle.fx_chain.specs.declared.intent.Intent.TheVariants.{Allocate}
-use Rattle.fx_order.proofs.Intents.{as_many, same_opened, single, zip_at}
+use Rattle.fx_order.proofs.Intents.{as_many}
 use Rattle.fx_order.specs.Access.{IsOf, finding_of, last_finding}
-use Rattle.std.specs.List.{AllZip}
-use Rattle.std.specs.Prelude.{option_map}
 
 -- this number of accesses, and this answer
 abbrev Says : List Access → Completed → ℕ → Completed → Type 0

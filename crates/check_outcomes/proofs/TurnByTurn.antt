@@ -1,12 +1,10 @@
 -- Chains stay in their parts, and each order has the results of one that is made in turn.
-use Rattle.check_outcomes.proofs.Words.{◌≡◌, ℕ, suc, ◌+◌, ◌<◌, ◌≤◌, List, [], ◌∷◌, length, arith, All, All-nil, All-append, All-weaker, ⊎_elim}
-use Rattle.check_outcomes.proofs.Words.{FileEntry, Completed, Operation, Asked, Place, Table, next_member, severs, first_member, IsRequestDone}
-use Rattle.check_outcomes.proofs.Words.{IsChainDone, AreChainsDone, accesses_of_chain, either_case, refl, sym, ◌∙◌, IsPermutation-trans, RingState}
-use Rattle.check_outcomes.proofs.Words.{Reported, runs_of, ap, accesses_of, IsOneOrder, IsOrderOf, ring_left, table_of, Access, ChainAccess, AreParts}
-use Rattle.check_outcomes.proofs.Words.{Parts, StaysIn, unless_refused, cases_eq, All-permutation}
-use Rattle.check_outcomes.proofs.Commuting.{ComesTo}
+use Rattle.check_outcomes.proofs.{◌≡◌, ℕ, suc, ◌+◌, ◌<◌, ◌≤◌, List, [], ◌∷◌, length, arith, All, All-nil, All-append, All-weaker, ⊎_elim, FileEntry}
+use Rattle.check_outcomes.proofs.{Completed, Operation, Asked, Place, Table, next_member, severs, first_member, IsRequestDone, IsChainDone}
+use Rattle.check_outcomes.proofs.{AreChainsDone, accesses_of_chain, either_case, refl, sym, ◌∙◌, IsPermutation-trans, RingState, Reported, runs_of}
+use Rattle.check_outcomes.proofs.{ap, accesses_of, IsOneOrder, IsOrderOf, ring_left, table_of, Access, ChainAccess, AreParts, Parts, StaysIn}
+use Rattle.check_outcomes.proofs.{unless_refused, cases_eq, All-permutation, ComesTo, Comes, all_come}
 use Rattle.check_outcomes.proofs.InTurn.{IsInPart, of_each, IsInTurn, in_turn}
-use Rattle.check_outcomes.proofs.Requests.{Comes, all_come}
 
 module _ (catalogue : List FileEntry) (table : Table) (of_slot : ℕ → ℕ) (part : ℕ) where
   -- an access reaches slots of the part alone

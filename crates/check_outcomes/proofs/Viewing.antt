@@ -5,12 +5,11 @@ use Rattle.check_outcomes.proofs.Words.{get_or-map, take-append-drop, suc, ◌+�
 use Rattle.check_outcomes.proofs.Words.{Asked, Place, next_member, eq-eqb, All, length-map, not, ◌&&◌, Contains, IsTrue, table_of_slots, first_member}
 use Rattle.check_outcomes.proofs.Words.{Request, all_asked, asked_of, get_or_from_slice_get, recursion_from_All, slice_get, slice_get_within, All-map}
 use Rattle.check_outcomes.proofs.Words.{slice_set, length-drop, map-set, all_recorded, answers_of, Access, Rules, Settles, gone_on, moved, rest_for}
-use Rattle.check_outcomes.proofs.Words.{settled_at, Progress, ne_eqb, drop-drop, StepsChain, list_all, asks_from, LeadsOn, IsStepTo}
-use Rattle.check_outcomes.proofs.Words.{are_reads, has_reads_at, is_idle_at, not_begun, rules_in, runs_in, recorded_state_of, view_in, IsExploredBy}
-use Rattle.check_outcomes.proofs.Words.{said_by, states_of, recorded_by, recorded_states, PlayedSubmission, Claimed, PlayState, is_read, IsRecordedOn, run_at}
+use Rattle.check_outcomes.proofs.Words.{settled_at, Progress, ne_eqb, drop-drop, StepsChain, list_all, asks_from, LeadsOn, IsStepTo, are_reads}
+use Rattle.check_outcomes.proofs.Words.{has_reads_at, is_idle_at, not_begun, rules_in, runs_in, recorded_state_of, view_in, IsExploredBy, said_by}
+use Rattle.check_outcomes.proofs.Words.{states_of, recorded_by, recorded_states, PlayedSubmission, Claimed, PlayState, is_read, IsRecordedOn, run_at}
 use Rattle.check_outcomes.proofs.Words.{view_of_state, get_or-set_other, get_or-set_same, and_parts, IsAtStart, below_more, get_or_append_left}
-use Rattle.check_outcomes.proofs.Words.{get_or_at, length-append, settled_in}
-use Rattle.std.proofs.Common.{Bool, true, rules}
+use Rattle.check_outcomes.proofs.Words.{get_or_at, length-append, settled_in, Bool, true, rules}
 use Rattle.std.specs.Cmp.Lexicographic.{pointwise}
 use Rattle.fx_chain.specs.contracts.completion.CompletionPartialEq.TheImpl.{eq-value as eq_of_completion}
 use Rattle.std.specs.Bool.{Decides}

@@ -1,12 +1,8 @@
 -- The accesses that a request may make next.
-use Rattle.std.specs.Prelude.{◌≡◌, ℕ, List, ◌∷◌, ◌++◌, length, Contains, Option, Some, None}
-use Rattle.fx_base.specs.Catalogue.{FileEntry}
-use Rattle.fx_chain.specs.Completed.{Completed}
-use Rattle.fx_chain.specs.Operation.{Operation}
-use Rattle.fx_chain.specs.declared.completion.Place.{Place}
+use Rattle.check_outcomes.specs.Words.{◌≡◌, ℕ, List, ◌∷◌, ◌++◌, length, Contains, Option, Some}
+use Rattle.check_outcomes.specs.Words.{None, FileEntry, Completed, Operation, Place, IsOf, Table}
+use Rattle.check_outcomes.specs.Words.{Permits, Access}
 use Rattle.fx_chain.specs.declared.intent.Intent.{Intent}
-use Rattle.fx_order.specs.Access.{IsOf, Table, Permits}
-use Rattle.fx_order.specs.declared.access.Access.{Access}
 use Rattle.fx_order.specs.Requests.{IsRequestDone}
 
 -- after `made` accesses the request may make this one

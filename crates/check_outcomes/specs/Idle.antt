@@ -1,10 +1,6 @@
 -- Chains of which no access matters any more.
-use Rattle.std.specs.Prelude.{◌≡◌, ◌+◌, ◌<◌, ◌≤◌, ◌==◌, Bool, true, List, [], length}
-use Rattle.std.specs.List.{list_all}
-use Rattle.fx_chain.specs.Completed.{Completed}
-use Rattle.fx_chain.specs.Intents.{is_read}
-use Rattle.fx_chain.specs.Operation.{Asked}
-use Rattle.fx_chain.specs.declared.completion.Place.{Place}
+use Rattle.check_outcomes.specs.Words.{◌≡◌, ◌+◌, ◌<◌, ◌≤◌, ◌==◌, Bool, true, List, [], length}
+use Rattle.check_outcomes.specs.Words.{list_all, Completed, is_read, Asked, Place}
 use Rattle.check_outcomes.specs.Rests.{Rest}
 
 abbrev pub are_reads : List Asked → Bool

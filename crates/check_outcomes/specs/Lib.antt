@@ -9,3 +9,4 @@ pub mod Views
 pub mod Outcomes
 pub mod Listed
 pub mod Reports
+pub mod Words

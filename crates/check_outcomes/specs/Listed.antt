@@ -1,16 +1,9 @@
 -- The states that a search met, and those of them that it has examined.
-use Rattle.std.specs.Prelude.{◌≡◌, ℕ, ◌+◌, ◌<◌, List, [], length, map, slice_index_or, false}
-use Rattle.std.specs.Prelude.{Contains, IsTrue, Option, Some}
-use Rattle.std.specs.Global.{Vec}
-use Rattle.fx_chain.specs.Completed.{Completed, all_completed}
-use Rattle.fx_chain.specs.Explains.{first_member}
-use Rattle.fx_chain.specs.Operation.{Asked, all_asked}
-use Rattle.fx_chain.specs.declared.completion.Completion.{Completion}
-use Rattle.fx_chain.specs.declared.completion.Place.{Place}
-use Rattle.fx_order.specs.Slots.{ring_of_slots, table_of_slots}
-use Rattle.fx_order.specs.declared.access.Access.{Access}
-use Rattle.fx_order.specs.declared.slots.Slots.{Slots}
-use Rattle.fx_order.specs.Access.{Permits}
+use Rattle.check_outcomes.specs.Words.{◌≡◌, ℕ, ◌+◌, ◌<◌, List, [], length, map, slice_index_or}
+use Rattle.check_outcomes.specs.Words.{false, Contains, IsTrue, Option, Some, Vec, Completed}
+use Rattle.check_outcomes.specs.Words.{all_completed, first_member, Asked, all_asked, Completion}
+use Rattle.check_outcomes.specs.Words.{Place, ring_of_slots, table_of_slots, Access, Slots, Permits}
+use Rattle.check_outcomes.specs.Words.{RingContents, RingState, ring_of, Reported, ChainAccess}
 use Rattle.check_outcomes.specs.Rests.{Rest, settled_at}
 use Rattle.check_outcomes.specs.Nodes.{AreAllStates, IsExplored, StateView}
 use Rattle.check_outcomes.specs.Reports.{AreAllRecorded, LeadsOn, RecordedState}
@@ -18,10 +11,7 @@ use Rattle.check_outcomes.specs.Stands.{rest_in}
 use Rattle.check_outcomes.specs.Tellings.{all_recorded, answers_of}
 use Rattle.check_outcomes.specs.Views.{HasTurnIn, IsNextIn, IsOverIn, is_state_idle, is_idle_at}
 use Rattle.check_outcomes.specs.Views.{not_begun, rules_in, runs_in, recorded_state_of, view_in}
-use Rattle.fx_ring.specs.Ring.{RingContents, RingState, ring_of}
-use Rattle.fx_ring.specs.Submission.{Reported}
 use Rattle.fx_ring.specs.declared.report.Report.{Report}
-use Rattle.fx_order.specs.declared.access.ChainAccess.{ChainAccess}
 use Rattle.check_outcomes.specs.Outcomes.{IsAnswer, IsPossible, IsReportBy, MayReport, answered}
 use Rattle.check_outcomes.specs.Outcomes.{ring_following}
 use Rattle.check_outcomes.specs.declared.closed.Claimed.{Claimed}

@@ -1,18 +1,8 @@
 -- The states of a submission that is played by an order: the table, and where each chain is.
-use Rattle.std.specs.Prelude.{◌≡◌, ℕ, ◌+◌, ◌<◌, ◌≤◌, Bool, true, false, List, [], ◌∷◌, ◌++◌, length}
-use Rattle.std.specs.Prelude.{Contains}
-use Rattle.std.specs.List.{AllByRecursion}
-use Rattle.fx_base.specs.Catalogue.{FileEntry}
-use Rattle.fx_chain.specs.Completed.{Completed}
-use Rattle.fx_chain.specs.Explains.{first_member}
-use Rattle.fx_chain.specs.Operation.{Asked}
-use Rattle.fx_chain.specs.Runs.{runs_of}
-use Rattle.fx_chain.specs.declared.completion.Place.{Place}
-use Rattle.fx_ring.specs.Ring.{RingState}
-use Rattle.fx_ring.specs.Submission.{Reported}
-use Rattle.fx_order.specs.Access.{Table, Permits, table_with}
-use Rattle.fx_order.specs.declared.access.Access.{Access}
-use Rattle.fx_order.specs.Order.{IsOneOrder, table_of}
+use Rattle.check_outcomes.specs.Words.{◌≡◌, ℕ, ◌+◌, ◌<◌, ◌≤◌, Bool, true, false, List, [], ◌∷◌}
+use Rattle.check_outcomes.specs.Words.{◌++◌, length, Contains, AllByRecursion, FileEntry, Completed}
+use Rattle.check_outcomes.specs.Words.{first_member, Asked, runs_of, Place, RingState, Reported}
+use Rattle.check_outcomes.specs.Words.{Table, Permits, table_with, Access, IsOneOrder, table_of}
 use Rattle.check_outcomes.specs.Idle.{AreIdle, are_reads}
 use Rattle.check_outcomes.specs.Parts.{AreParts, Parts}
 use Rattle.check_outcomes.specs.Rests.{HasMemory, IsNext, Rest, Rules, rules_of, settled_at, step}

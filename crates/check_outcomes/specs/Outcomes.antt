@@ -1,14 +1,9 @@
 -- The reports that a submission may produce if no allocation fails.
-use Rattle.std.specs.Prelude.{◌≡◌, ◌+◌, ◌<◌, List, All, Contains, length, map, IsPermutation}
-use Rattle.fx_chain.specs.Completed.{Completed, all_completed, completed_of}
-use Rattle.fx_chain.specs.Operation.{Asked}
-use Rattle.fx_chain.specs.declared.completion.Place.{Place}
-use Rattle.fx_order.specs.Order.{IsOrderOf, ring_left}
-use Rattle.fx_order.specs.Slots.{ring_of_slots}
-use Rattle.fx_order.specs.declared.access.ChainAccess.{ChainAccess}
-use Rattle.fx_order.specs.declared.slots.Slots.{Slots}
-use Rattle.fx_ring.specs.Ring.{RingContents, RingState, ring_of}
-use Rattle.fx_ring.specs.Submission.{IsOneHistory, Reported, reported}
+use Rattle.check_outcomes.specs.Words.{◌≡◌, ◌+◌, ◌<◌, List, All, Contains, length, map}
+use Rattle.check_outcomes.specs.Words.{IsPermutation, Completed, all_completed, completed_of, Asked}
+use Rattle.check_outcomes.specs.Words.{Place, IsOrderOf, ring_left, ring_of_slots, ChainAccess}
+use Rattle.check_outcomes.specs.Words.{Slots, RingContents, RingState, ring_of, IsOneHistory}
+use Rattle.check_outcomes.specs.Words.{Reported, reported}
 use Rattle.check_outcomes.specs.Rests.{HasMemory}
 use Rattle.check_outcomes.specs.declared.outcomes.PossibleAnswer.{PossibleAnswer}
 use Rattle.check_outcomes.specs.declared.outcomes.PossibleReport.{PossibleReport}

@@ -1,18 +1,9 @@
 -- The states of a submission with what was recorded on the way to them, so that their ends are
 -- reports.
-use Rattle.std.specs.Prelude.{◌≡◌, ℕ, ◌+◌, ◌≤◌, List, [], ◌++◌, length, All, Contains}
-use Rattle.std.specs.Prelude.{IsPermutation}
-use Rattle.std.specs.Option.{option_to_list}
-use Rattle.fx_base.specs.Catalogue.{FileEntry}
-use Rattle.fx_base.specs.declared.open_file.Closed.{Closed}
-use Rattle.fx_chain.specs.Completed.{Completed}
-use Rattle.fx_chain.specs.Operation.{Asked}
-use Rattle.fx_chain.specs.Runs.{runs_of}
-use Rattle.fx_ring.specs.Ring.{RingState}
-use Rattle.fx_ring.specs.Submission.{Reported}
-use Rattle.fx_order.specs.Access.{Permits, file_removed_by}
-use Rattle.fx_order.specs.declared.access.Access.{Access}
-use Rattle.fx_order.specs.Order.{IsOneOrder, table_of}
+use Rattle.check_outcomes.specs.Words.{◌≡◌, ℕ, ◌+◌, ◌≤◌, List, [], ◌++◌, length, All, Contains}
+use Rattle.check_outcomes.specs.Words.{IsPermutation, option_to_list, FileEntry, Closed, Completed}
+use Rattle.check_outcomes.specs.Words.{Asked, runs_of, RingState, Reported, Permits}
+use Rattle.check_outcomes.specs.Words.{file_removed_by, Access, IsOneOrder, table_of}
 use Rattle.check_outcomes.specs.Rests.{HasMemory, IsNext, Rules, rules_of, step}
 use Rattle.check_outcomes.specs.Idle.{has_none}
 use Rattle.check_outcomes.specs.Parts.{AreParts, Parts}

@@ -1,15 +1,9 @@
 -- Where a chain is between two of its accesses, and where its next access leads it.
-use Rattle.std.specs.Prelude.{◌≡◌, ℕ, ◌+◌, ◌==◌, List, [], ◌∷◌, Option, Some, None}
-use Rattle.std.specs.Prelude.{if◌then◌else◌, option_map}
-use Rattle.fx_base.specs.Catalogue.{FileEntry}
+use Rattle.check_outcomes.specs.Words.{◌≡◌, ℕ, ◌+◌, ◌==◌, List, [], ◌∷◌, Option, Some, None}
+use Rattle.check_outcomes.specs.Words.{if◌then◌else◌, option_map, FileEntry, Completed, negated}
+use Rattle.check_outcomes.specs.Words.{next_member, canceled, first_member, severs, answer_of}
+use Rattle.check_outcomes.specs.Words.{count_of, Asked, Place, finding_of, Access}
 use Rattle.fx_base.specs.declared.errno.Errno.TheVariants.{ENOMEM}
-use Rattle.fx_chain.specs.Completed.{Completed, negated, next_member}
-use Rattle.fx_chain.specs.Explains.{canceled, first_member, severs}
-use Rattle.fx_chain.specs.Intents.{answer_of, count_of}
-use Rattle.fx_chain.specs.Operation.{Asked}
-use Rattle.fx_chain.specs.declared.completion.Place.{Place}
-use Rattle.fx_order.specs.Access.{finding_of}
-use Rattle.fx_order.specs.declared.access.Access.{Access}
 use Rattle.check_outcomes.specs.Choices.{IsNextAccess}
 
 -- the request found memory

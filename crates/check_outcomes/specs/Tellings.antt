@@ -1,15 +1,10 @@
 -- The record of the way to the states of the program, and the numbers of a state's files.
-use Rattle.std.specs.Prelude.{◌≡◌, ℕ, ◌<◌, List, [], ◌∷◌, ◌++◌, length, map, slice_index_or}
-use Rattle.std.specs.Prelude.{slice_set, IsPermutation, Option, None, Some}
-use Rattle.std.specs.Option.{option_to_list}
-use Rattle.std.specs.Global.{Vec}
+use Rattle.check_outcomes.specs.Words.{◌≡◌, ℕ, ◌<◌, List, [], ◌∷◌, ◌++◌, length, map}
+use Rattle.check_outcomes.specs.Words.{slice_index_or, slice_set, IsPermutation, Option, None, Some}
+use Rattle.check_outcomes.specs.Words.{option_to_list, Vec, Closed, Completed, all_completed}
+use Rattle.check_outcomes.specs.Words.{Completion, file_removed_by, Access}
 use Rattle.fx_base.specs.declared.mark.Mark.{Mark}
 use Rattle.fx_base.specs.declared.mark.Mark.TheVariants.{Registered, Submitted}
-use Rattle.fx_base.specs.declared.open_file.Closed.{Closed}
-use Rattle.fx_chain.specs.Completed.{Completed, all_completed}
-use Rattle.fx_chain.specs.declared.completion.Completion.{Completion}
-use Rattle.fx_order.specs.Access.{file_removed_by}
-use Rattle.fx_order.specs.declared.access.Access.{Access}
 use Rattle.check_outcomes.specs.declared.way_report.WayReport.{WayReport}
 
 -- what each chain answered

@@ -1,16 +1,9 @@
 -- The states of the program, read as states of a submission.
-use Rattle.std.specs.Prelude.{◌≡◌, ℕ, ◌+◌, ◌-◌, ◌<◌, ◌==◌, ◌&&◌, not, Bool, true, false, List, []}
-use Rattle.std.specs.Prelude.{length, slice_index_or, All, Contains, IfSome, if◌then◌else◌}
-use Rattle.std.specs.Global.{Vec}
-use Rattle.fx_chain.specs.Completed.{Completed}
-use Rattle.fx_chain.specs.Explains.{first_member}
-use Rattle.fx_chain.specs.Operation.{Asked, all_asked}
-use Rattle.fx_chain.specs.Runs.{runs_of}
-use Rattle.fx_order.specs.Slots.{table_of_slots}
-use Rattle.fx_order.specs.declared.access.Access.{Access}
-use Rattle.fx_order.specs.Access.{Permits}
+use Rattle.check_outcomes.specs.Words.{◌≡◌, ℕ, ◌+◌, ◌-◌, ◌<◌, ◌==◌, ◌&&◌, not, Bool, true, false}
+use Rattle.check_outcomes.specs.Words.{List, [], length, slice_index_or, All, Contains, IfSome}
+use Rattle.check_outcomes.specs.Words.{if◌then◌else◌, Vec, Completed, first_member, Asked}
+use Rattle.check_outcomes.specs.Words.{all_asked, runs_of, table_of_slots, Access, Permits, Slots}
 use Rattle.check_outcomes.specs.Rests.{IsNext, Rest, Rules, rules_of, step}
-use Rattle.fx_order.specs.declared.slots.Slots.{Slots}
 use Rattle.check_outcomes.specs.Parts.{Parts, StaysIn}
 use Rattle.check_outcomes.specs.Idle.{are_reads}
 use Rattle.check_outcomes.specs.Nodes.{HasReadsAlone, HasTurn, IsOver, StateView, LeadsByAccess}

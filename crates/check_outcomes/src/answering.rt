@@ -1,9 +1,6 @@
 //! The accesses that a request may make next, if no allocation fails.
-ghost use Rattle.std.specs.Prelude.{◌≡◌, ◌<◌, ◌^◌, [], ◌∷◌, IfOk, length};
-ghost use Rattle.fx_base.specs.Catalogue.{IsCatalogue};
-ghost use Rattle.fx_chain.specs.Operation.{operation_of};
+ghost use Rattle.check_outcomes.specs.Words.{◌≡◌, ◌<◌, ◌^◌, [], ◌∷◌, IfOk, length, IsCatalogue, operation_of, table_of_slots};
 ghost use Rattle.fx_chain.specs.declared.intent.Intent.TheVariants.{Allocate};
-ghost use Rattle.fx_order.specs.Slots.{table_of_slots};
 ghost use Rattle.check_outcomes.specs.Choices.{HasEach, HasEachOf};
 
 use fx_base::{Catalogue, Closed, NoMemory};

@@ -1,11 +1,7 @@
 //! The check that a search met all states of a submission.
-ghost use Rattle.std.specs.Prelude.{◌<◌, IfOk, IfSome, IsTrue, All, Contains, length};
-ghost use Rattle.fx_chain.specs.Completed.{completed_of};
-ghost use Rattle.fx_order.specs.Access.{Permits};
-ghost use Rattle.fx_order.specs.Slots.{table_of_slots};
+ghost use Rattle.check_outcomes.specs.Words.{◌<◌, IfOk, IfSome, IsTrue, All, Contains, length, completed_of, Permits, table_of_slots};
 ghost use Rattle.check_outcomes.specs.Outcomes.{answered};
-ghost use Rattle.check_outcomes.specs.Listed.{AreAllBy, IsExploredBy, IsExploredInTurn};
-ghost use Rattle.check_outcomes.specs.Listed.{IsStateExploredBy, says};
+ghost use Rattle.check_outcomes.specs.Listed.{AreAllBy, IsExploredBy, IsExploredInTurn, IsStateExploredBy, says};
 ghost use Rattle.check_outcomes.specs.Views.{IsTurnAt};
 
 use crate::found::FoundStates;

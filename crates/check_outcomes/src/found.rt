@@ -1,6 +1,5 @@
 //! The states that a search met.
-ghost use Rattle.std.specs.Prelude.{◌≡◌, ◌++◌, ℕ, IfOk, IsTrue, OnOk, Contains, List, map};
-ghost use Rattle.fx_chain.specs.Operation.{Asked};
+ghost use Rattle.check_outcomes.specs.Words.{◌≡◌, ◌++◌, ℕ, IfOk, IsTrue, OnOk, Contains, List, map, Asked};
 ghost use Rattle.check_outcomes.specs.Tellings.{file_numbers};
 ghost use Rattle.check_outcomes.specs.Views.{recorded_state_of, view_of_state};
 

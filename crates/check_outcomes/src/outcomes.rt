@@ -1,17 +1,9 @@
 //! The reports that a submission can produce, and the answers that a request of it can give, each
 //! with an order.
-ghost use Rattle.std.specs.Prelude.{◌≡◌, ◌+◌, ◌<◌, ◌≤◌, ◌^◌, ℕ, All, Contains, IfOk, IfSome};
-ghost use Rattle.std.specs.Prelude.{IsTrue, Some, length};
-ghost use Rattle.fx_base.specs.Catalogue.{IsCatalogue};
-ghost use Rattle.fx_chain.specs.Accepted.{IsAccepted};
-ghost use Rattle.fx_chain.specs.Completed.{all_completed, completed_of};
-ghost use Rattle.fx_chain.specs.Operation.{all_asked};
-ghost use Rattle.fx_order.specs.Slots.{ring_of_slots};
-ghost use Rattle.fx_plain.specs.declared.table.TheConstants.{MOST_SLOTS};
-ghost use Rattle.check_outcomes.specs.Listed.{IsAnswerIn, IsPossibleIn, IsReportOf, IsRecordedAt};
-ghost use Rattle.check_outcomes.specs.Listed.{IsRecordedOf, OfEach};
-ghost use Rattle.check_outcomes.specs.Outcomes.{HasEachAnswer, HasEachEnd, HasEachReport, IsAnswer};
-ghost use Rattle.check_outcomes.specs.Outcomes.{IsPossible};
+ghost use Rattle.check_outcomes.specs.Words.{◌≡◌, ◌+◌, ◌<◌, ◌≤◌, ◌^◌, ℕ, All, Contains, IfOk, IfSome, IsTrue, Some, length, IsCatalogue, IsAccepted};
+ghost use Rattle.check_outcomes.specs.Words.{all_completed, completed_of, all_asked, ring_of_slots, MOST_SLOTS};
+ghost use Rattle.check_outcomes.specs.Listed.{IsAnswerIn, IsPossibleIn, IsReportOf, IsRecordedAt, IsRecordedOf, OfEach};
+ghost use Rattle.check_outcomes.specs.Outcomes.{HasEachAnswer, HasEachEnd, HasEachReport, IsAnswer, IsPossible};
 ghost use Rattle.check_outcomes.specs.Tellings.{all_recorded, answers_of};
 
 use crate::closed::{Claimed, are_all_states};

@@ -1,8 +1,6 @@
 //! The parts of a submission: chains that may access one slot are in one part. The parts are played
 //! one after another, so that the states of one aren't met again beside each state of another.
-ghost use Rattle.std.specs.Prelude.{◌≡◌, ◌<◌, ◌≤◌, ℕ, All, IsTrue, length, slice_index_or};
-ghost use Rattle.fx_chain.specs.Operation.{asked_of};
-ghost use Rattle.fx_order.specs.Slots.{table_of_slots};
+ghost use Rattle.check_outcomes.specs.Words.{◌≡◌, ◌<◌, ◌≤◌, ℕ, All, IsTrue, length, slice_index_or, asked_of, table_of_slots};
 ghost use Rattle.check_outcomes.specs.Parts.{StaysIn};
 ghost use Rattle.check_outcomes.specs.Views.{ArePartsIn, parts_by_numbers};
 

@@ -1,7 +1,6 @@
 //! A play of a submission, access by access, and the check that its order has its results. Nothing
 //! is proved of the play.
-ghost use Rattle.std.specs.Prelude.{All, IfOk, IfSome, IsTrue};
-ghost use Rattle.fx_chain.specs.Completed.{completed_of};
+ghost use Rattle.check_outcomes.specs.Words.{All, IfOk, IfSome, IsTrue, completed_of};
 ghost use Rattle.check_outcomes.specs.Rests.{HasMemory};
 ghost use Rattle.check_outcomes.specs.Listed.{IsPlayIn};
 

@@ -1,14 +1,9 @@
 //! A state of a submission that is played by an order, and where an access leads from it.
-ghost use Rattle.std.specs.Prelude.{◌≡◌, ◌<◌, [], IfOk, IfSome, IsTrue, length, slice_index_or};
-ghost use Rattle.fx_chain.specs.Completed.{all_completed};
-ghost use Rattle.fx_chain.specs.Intents.{is_read};
-ghost use Rattle.fx_chain.specs.Operation.{asked_of};
-ghost use Rattle.std.specs.List.{list_all};
-ghost use Rattle.fx_order.specs.Slots.{table_of_slots};
+ghost use Rattle.check_outcomes.specs.Words.{◌≡◌, ◌<◌, [], IfOk, IfSome, IsTrue, length, slice_index_or, all_completed, is_read, asked_of, list_all};
+ghost use Rattle.check_outcomes.specs.Words.{table_of_slots};
 ghost use Rattle.check_outcomes.specs.Listed.{IsFirstState};
 ghost use Rattle.check_outcomes.specs.Tellings.{IsRecordedOn, answers_of};
-ghost use Rattle.check_outcomes.specs.Views.{HasEachNextIn, IsOverIn, IsStepTo, has_reads_at};
-ghost use Rattle.check_outcomes.specs.Views.{is_idle_at, not_begun};
+ghost use Rattle.check_outcomes.specs.Views.{HasEachNextIn, IsOverIn, IsStepTo, has_reads_at, is_idle_at, not_begun};
 
 use crate::submission::{PlayedSubmission, Progress, chain_accesses, left, settle, step};
 use crate::way_report::{WayReport, are_all_same, push_lists};

@@ -1,23 +1,13 @@
 //! A submission that is played: where each of its chains is between two of its accesses, and where
 //! its next one leads it.
-ghost use Rattle.std.specs.Prelude.{◌≡◌, ℕ, ◌+◌, ◌-◌, ◌<◌, ◌≤◌, ◌^◌, ◌++◌, [], All};
-ghost use Rattle.std.specs.Prelude.{IfOk, Some, drop, length, map};
-ghost use Rattle.std.specs.Prelude.{option_map, slice_index_or};
-ghost use Rattle.fx_base.specs.Catalogue.{IsCatalogue};
-ghost use Rattle.fx_base.specs.declared.open_file.Closed.{Closed as File};
-ghost use Rattle.fx_chain.specs.Accepted.{IsAccepted, IsChain, IsWithinLimits, members_of};
-ghost use Rattle.fx_chain.specs.Completed.{all_completed, next_member};
-ghost use Rattle.fx_chain.specs.Explains.{canceled, first_member};
-ghost use Rattle.fx_chain.specs.Operation.{all_asked, asked_of};
-ghost use Rattle.fx_chain.specs.Runs.{runs_of};
-ghost use Rattle.fx_order.specs.Access.{finding_of};
-ghost use Rattle.fx_order.specs.Slots.{table_of_slots};
+ghost use Rattle.check_outcomes.specs.Words.{◌≡◌, ℕ, ◌+◌, ◌-◌, ◌<◌, ◌≤◌, ◌^◌, ◌++◌, [], All, IfOk, Some, drop, length, map, option_map};
+ghost use Rattle.check_outcomes.specs.Words.{slice_index_or, IsCatalogue, Closed as File, IsAccepted, IsChain, IsWithinLimits, members_of};
+ghost use Rattle.check_outcomes.specs.Words.{all_completed, next_member, canceled, first_member, all_asked, asked_of, runs_of, finding_of};
+ghost use Rattle.check_outcomes.specs.Words.{table_of_slots, MOST_SLOTS};
 ghost use Rattle.fx_order.specs.declared.access.Access.TheVariants.{Allocates};
-ghost use Rattle.fx_plain.specs.declared.table.TheConstants.{MOST_SLOTS};
 ghost use Rattle.fx_table.specs.declared.limits.TheConstants.{MAX_CHAINS};
 ghost use Rattle.check_outcomes.specs.Rests.{rules_of, settled_at};
-ghost use Rattle.check_outcomes.specs.Stands.{HasEachNext, Settles, StepsChain, asks_from, gone_on};
-ghost use Rattle.check_outcomes.specs.Stands.{moved, rest_in};
+ghost use Rattle.check_outcomes.specs.Stands.{HasEachNext, Settles, StepsChain, asks_from, gone_on, moved, rest_in};
 
 use crate::answering::next_accesses;
 use fx_base::{Catalogue, Errno, NoMemory};

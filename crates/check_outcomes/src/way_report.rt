@@ -1,8 +1,5 @@
 //! The answers and removed files on the way to a state of a submission.
-ghost use Rattle.std.specs.Prelude.{◌≡◌, ◌++◌, ◌<◌, [], IfOk, IsPermutation, IsTrue, length};
-ghost use Rattle.std.specs.Option.{option_to_list};
-ghost use Rattle.fx_chain.specs.Completed.{all_completed};
-ghost use Rattle.fx_order.specs.Access.{file_removed_by};
+ghost use Rattle.check_outcomes.specs.Words.{◌≡◌, ◌++◌, ◌<◌, [], IfOk, IsPermutation, IsTrue, length, option_to_list, all_completed, file_removed_by};
 ghost use Rattle.check_outcomes.specs.Tellings.{IsRecordedOn, answers_of};
 
 use fx_base::{Closed, NoMemory};

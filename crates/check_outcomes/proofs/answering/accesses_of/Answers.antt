@@ -1,5 +1,4 @@
-use Rattle.check_outcomes.proofs.Words.{IfOk-weaker, Clears, Looks, Puts, Takes}
-use Rattle.check_outcomes.proofs.ChainAccesses.{the_one}
+use Rattle.check_outcomes.proofs.{IfOk-weaker, Clears, Looks, Puts, Takes, the_one}
 use Rattle.check_outcomes.proofs.answering.accesses_of.Goals as goal
 
 pub returns-in-Look : goal.returns-in-Look

@@ -1,5 +1,4 @@
-use Rattle.check_outcomes.proofs.Words.{arith}
-use Rattle.check_outcomes.proofs.ChainAccesses.{each_allocation, one_slot_more}
+use Rattle.check_outcomes.proofs.{arith, each_allocation, one_slot_more}
 use Rattle.check_outcomes.proofs.answering.allocations.Goals as goal
 
 pub loop-slot-preserved : goal.loop-slot-preserved

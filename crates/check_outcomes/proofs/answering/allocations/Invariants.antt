@@ -1,4 +1,4 @@
-use Rattle.check_outcomes.proofs.Words.{ℕ, ◌<◌, Contains, Allocates, FindsFull}
+use Rattle.check_outcomes.proofs.{ℕ, ◌<◌, Contains, Allocates, FindsFull}
 use Rattle.check_outcomes.proofs.answering.allocations.Given as goal
 
 abbrev pub invariant-loop-slot : goal.invariant-loop-slot

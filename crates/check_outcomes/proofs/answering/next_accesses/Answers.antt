@@ -1,7 +1,5 @@
-use Rattle.check_outcomes.proofs.Words.{◌≡◌, IfOk-weaker, Some, None, arith, length, operation_of}
-use Rattle.check_outcomes.proofs.Requests.{meant}
+use Rattle.check_outcomes.proofs.{◌≡◌, IfOk-weaker, Some, None, arith, length, operation_of, meant, IsIntent}
 use Rattle.check_outcomes.proofs.answering.next_accesses.Goals as goal
-use Rattle.fx_chain.specs.Intents.{IsIntent}
 
 pub returns-in-Some : goal.returns-in-Some
 returns-in-Some c =

@@ -1,4 +1,4 @@
-use Rattle.check_outcomes.proofs.Words.{◌≡◌, length, arith, all_asked, runs_in, IfOk-weaker}
+use Rattle.check_outcomes.proofs.{◌≡◌, length, arith, all_asked, runs_in, IfOk-weaker}
 use Rattle.check_outcomes.proofs.AllReports.{all_by, as_many}
 use Rattle.check_outcomes.proofs.closed.are_all_states.Goals as goal
 

@@ -1,5 +1,4 @@
-use Rattle.check_outcomes.proofs.Words.{Permits, None, table_of_slots, IsExploredBy, Looks}
-use Rattle.check_outcomes.proofs.Lists.{one_more_at}
+use Rattle.check_outcomes.proofs.{Permits, None, table_of_slots, IsExploredBy, Looks, one_more_at}
 use Rattle.check_outcomes.proofs.closed.are_explored.Goals as goal
 
 pub loop-access-preserved : goal.loop-access-preserved

@@ -1,4 +1,4 @@
-use Rattle.check_outcomes.proofs.Words.{ℕ, ◌<◌, slice_index_or, Permits, table_of_slots, Access, IsExploredBy}
+use Rattle.check_outcomes.proofs.{ℕ, ◌<◌, slice_index_or, Permits, table_of_slots, Access, IsExploredBy}
 use Rattle.check_outcomes.proofs.closed.are_explored.Given as goal
 
 abbrev pub invariant-loop-access : goal.invariant-loop-access

@@ -1,4 +1,4 @@
-use Rattle.check_outcomes.proofs.Words.{◌<◌, ℕ, slice_index_or, IsStateExploredBy, PlayState}
+use Rattle.check_outcomes.proofs.{◌<◌, ℕ, slice_index_or, IsStateExploredBy, PlayState}
 use Rattle.check_outcomes.proofs.closed.are_states_explored.Given as goal
 
 abbrev pub invariant-loop-state : goal.invariant-loop-state

@@ -1,6 +1,4 @@
-use Rattle.check_outcomes.proofs.Words.{◌∙◌, sym, completed_of, PossibleAnswer}
-use Rattle.check_outcomes.proofs.Lists.{inside_at}
-use Rattle.check_outcomes.proofs.Viewing.{completion_same}
+use Rattle.check_outcomes.proofs.{◌∙◌, sym, completed_of, PossibleAnswer, inside_at, completion_same}
 use Rattle.check_outcomes.proofs.closed.is_answered.Goals as goal
 
 pub returns-then-eq : goal.returns-then-eq

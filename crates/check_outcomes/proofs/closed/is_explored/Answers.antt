@@ -1,6 +1,4 @@
-use Rattle.check_outcomes.proofs.Words.{runs_in}
-use Rattle.check_outcomes.proofs.Lists.{ok_two}
-use Rattle.check_outcomes.proofs.Viewing.{explored}
+use Rattle.check_outcomes.proofs.{runs_in, ok_two, explored}
 use Rattle.check_outcomes.proofs.closed.is_explored.Goals as goal
 
 pub returns : goal.returns

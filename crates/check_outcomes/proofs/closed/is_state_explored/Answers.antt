@@ -1,4 +1,4 @@
-use Rattle.check_outcomes.proofs.Words.{IsExploredInTurn, below_more}
+use Rattle.check_outcomes.proofs.{IsExploredInTurn, below_more}
 use Rattle.check_outcomes.proofs.closed.is_state_explored.Goals as goal
 
 pub loop-i-preserved : goal.loop-i-preserved

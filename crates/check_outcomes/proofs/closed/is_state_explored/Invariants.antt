@@ -1,4 +1,4 @@
-use Rattle.check_outcomes.proofs.Words.{◌<◌, ℕ, IsExploredInTurn}
+use Rattle.check_outcomes.proofs.{◌<◌, ℕ, IsExploredInTurn}
 use Rattle.check_outcomes.proofs.closed.is_state_explored.Given as goal
 
 abbrev pub invariant-loop-i : goal.invariant-loop-i

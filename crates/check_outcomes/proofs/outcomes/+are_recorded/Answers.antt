@@ -1,5 +1,4 @@
-use Rattle.check_outcomes.proofs.Words.{◌∙◌, sym, ap, refl, all_completed, first_is}
-use Rattle.check_outcomes.proofs.Viewing.{cut_recorded}
+use Rattle.check_outcomes.proofs.{◌∙◌, sym, ap, refl, all_completed, first_is, cut_recorded}
 use Rattle.check_outcomes.proofs.outcomes.+are_recorded.Goals as goal
 
 pub returns-then-are_same : goal.returns-then-are_same

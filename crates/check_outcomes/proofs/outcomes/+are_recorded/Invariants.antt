@@ -1,4 +1,4 @@
-use Rattle.check_outcomes.proofs.Words.{length}
+use Rattle.check_outcomes.proofs.{length}
 use Rattle.check_outcomes.proofs.outcomes.+are_recorded.Given as goal
 
 abbrev pub decreases-are_recorded : goal.decreases-are_recorded

@@ -1,4 +1,4 @@
-use Rattle.check_outcomes.proofs.Words.{◌∙◌, ap, All-push, Completed, IsAnswerIn}
+use Rattle.check_outcomes.proofs.{◌∙◌, ap, All-push, Completed, IsAnswerIn}
 use Rattle.check_outcomes.proofs.AllReports.{is_answer}
 use Rattle.check_outcomes.proofs.outcomes.all_answers.Goals as goal
 

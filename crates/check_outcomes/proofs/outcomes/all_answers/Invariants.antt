@@ -1,4 +1,4 @@
-use Rattle.check_outcomes.proofs.Words.{All, IsAnswerIn}
+use Rattle.check_outcomes.proofs.{All, IsAnswerIn}
 use Rattle.check_outcomes.proofs.outcomes.all_answers.Given as goal
 
 abbrev pub invariant-loop-by : goal.invariant-loop-by

@@ -1,4 +1,4 @@
-use Rattle.check_outcomes.proofs.Words.{All-push, IsPossibleIn}
+use Rattle.check_outcomes.proofs.{All-push, IsPossibleIn}
 use Rattle.check_outcomes.proofs.outcomes.all_confirmed.Goals as goal
 
 pub loop-by-preserved : goal.loop-by-preserved

@@ -1,4 +1,4 @@
-use Rattle.check_outcomes.proofs.Words.{All, IsPossibleIn}
+use Rattle.check_outcomes.proofs.{All, IsPossibleIn}
 use Rattle.check_outcomes.proofs.outcomes.all_confirmed.Given as goal
 
 abbrev pub invariant-loop-by : goal.invariant-loop-by

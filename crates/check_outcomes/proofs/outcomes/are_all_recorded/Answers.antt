@@ -1,5 +1,4 @@
-use Rattle.check_outcomes.proofs.Words.{IsRecordedAt, sym, false≢true, ◌∙◌}
-use Rattle.check_outcomes.proofs.Lists.{one_more_of}
+use Rattle.check_outcomes.proofs.{IsRecordedAt, sym, false≢true, ◌∙◌, one_more_of}
 use Rattle.check_outcomes.proofs.outcomes.are_all_recorded.Goals as goal
 
 pub loop-state-preserved-then-not-is_over : goal.loop-state-preserved-then-not-is_over

@@ -1,4 +1,4 @@
-use Rattle.check_outcomes.proofs.Words.{ℕ, ◌<◌, slice_index_or, IsRecordedAt, PlayState}
+use Rattle.check_outcomes.proofs.{ℕ, ◌<◌, slice_index_or, IsRecordedAt, PlayState}
 use Rattle.check_outcomes.proofs.outcomes.are_all_recorded.Given as goal
 
 abbrev pub invariant-loop-state : goal.invariant-loop-state

@@ -1,4 +1,4 @@
-use Rattle.check_outcomes.proofs.Words.{◌≡◌, ◌+◌, ◌<◌, length, take, All}
+use Rattle.check_outcomes.proofs.{◌≡◌, ◌+◌, ◌<◌, length, take, All}
 use Rattle.check_outcomes.proofs.outcomes.closes_of.Given as goal
 
 abbrev pub invariant-loop-file : goal.invariant-loop-file

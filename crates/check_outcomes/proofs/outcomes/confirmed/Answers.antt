@@ -1,4 +1,4 @@
-use Rattle.check_outcomes.proofs.Words.{◌∙◌}
+use Rattle.check_outcomes.proofs.{◌∙◌}
 use Rattle.check_outcomes.proofs.AllReports.{is_possible, same_report}
 use Rattle.check_outcomes.proofs.outcomes.confirmed.Goals as goal
 

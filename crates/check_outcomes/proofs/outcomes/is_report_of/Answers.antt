@@ -1,5 +1,4 @@
-use Rattle.check_outcomes.proofs.Words.{◌≡◌, ◌∙◌, sym, slice_eq-Decides, file_Decides}
-use Rattle.std.proofs.Common.{rules}
+use Rattle.check_outcomes.proofs.{◌≡◌, ◌∙◌, sym, slice_eq-Decides, file_Decides, rules}
 use Rattle.check_outcomes.proofs.outcomes.is_report_of.Goals as goal
 
 pub returns-then-are_recorded : goal.returns-then-are_recorded

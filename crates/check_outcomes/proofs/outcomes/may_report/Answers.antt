@@ -1,4 +1,4 @@
-use Rattle.check_outcomes.proofs.Words.{IfOk-weaker, refl}
+use Rattle.check_outcomes.proofs.{IfOk-weaker, refl}
 use Rattle.check_outcomes.proofs.outcomes.may_report.Goals as goal
 
 pub returns-clause-each : goal.returns-clause-each

@@ -1,4 +1,4 @@
-use Rattle.check_outcomes.proofs.Words.{◌∙◌, false≢true, sym}
+use Rattle.check_outcomes.proofs.{◌∙◌, false≢true, sym}
 use Rattle.check_outcomes.proofs.AllReports.{reports_by, ends_by}
 use Rattle.check_outcomes.proofs.outcomes.reports_in.Goals.{then-are_recorded+in_ok-are_all, else-are_recorded}
 use Rattle.check_outcomes.proofs.outcomes.reports_in.Goals as goal

@@ -1,4 +1,4 @@
-use Rattle.check_outcomes.proofs.Words.{All-map, slice_index_or, asked_of, Asked, table_of_slots, IsInPart, StaysIn, below_more, parts_by_numbers}
+use Rattle.check_outcomes.proofs.{All-map, slice_index_or, asked_of, Asked, table_of_slots, IsInPart, StaysIn, below_more, parts_by_numbers}
 use Rattle.check_outcomes.proofs.parts.are_parts.Goals as goal
 
 pub loop-i-preserved : goal.loop-i-preserved

@@ -1,4 +1,4 @@
-use Rattle.check_outcomes.proofs.Words.{◌<◌, ℕ, IsInPart}
+use Rattle.check_outcomes.proofs.{◌<◌, ℕ, IsInPart}
 use Rattle.check_outcomes.proofs.parts.are_parts.Given as goal
 
 abbrev pub invariant-loop-i : goal.invariant-loop-i

@@ -1,4 +1,4 @@
-use Rattle.check_outcomes.proofs.Words.{◌≡◌, ◌<◌, ◌≤◌, ℕ, slice_index_or}
+use Rattle.check_outcomes.proofs.{◌≡◌, ◌<◌, ◌≤◌, ℕ, slice_index_or}
 use Rattle.check_outcomes.proofs.parts.belong_to.Given as goal
 
 abbrev pub invariant-loop-slot : goal.invariant-loop-slot

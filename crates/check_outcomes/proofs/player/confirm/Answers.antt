@@ -1,6 +1,5 @@
-use Rattle.check_outcomes.proofs.Words.{All-map, all_asked, completed_of, ring_of_slots, ◌≡◌, ◌↔◌, ◌-◌, IfOk, IsSome, Option, Result, Some, None}
-use Rattle.check_outcomes.proofs.Words.{arith, length, refl, sym, Slots, HasMemory, report_of_play, IsReportBy}
-use Rattle.std.proofs.Common.{IfSome, Ok, Err}
+use Rattle.check_outcomes.proofs.{All-map, all_asked, completed_of, ring_of_slots, ◌≡◌, ◌↔◌, ◌-◌, IfOk, IsSome, Option, Result, Some, None, arith}
+use Rattle.check_outcomes.proofs.{length, refl, sym, Slots, HasMemory, report_of_play, IsReportBy, IfSome, Ok, Err}
 use Rattle.check_outcomes.proofs.AllReports.{may_of}
 use Rattle.check_outcomes.proofs.player.confirm.Goals as goal
 

@@ -1,5 +1,4 @@
-use Rattle.check_outcomes.proofs.Words.{refl, arith, sym, ◌∙◌, false≢true, length-append, ◌∷◌, []}
-use Rattle.check_outcomes.proofs.Viewing.{start_more}
+use Rattle.check_outcomes.proofs.{refl, arith, sym, ◌∙◌, false≢true, length-append, ◌∷◌, [], start_more}
 use Rattle.check_outcomes.proofs.state.start.Goals.{then-submission+in_ok-push_lists, else-submission}
 use Rattle.check_outcomes.proofs.state.start.Goals as goal
 

@@ -1,4 +1,4 @@
-use Rattle.check_outcomes.proofs.Words.{ℕ, ◌<◌, ◌≡◌, length, IsAtStart}
+use Rattle.check_outcomes.proofs.{ℕ, ◌<◌, ◌≡◌, length, IsAtStart}
 use Rattle.check_outcomes.proofs.state.start.Given as goal
 
 abbrev pub invariant-loop-i : goal.invariant-loop-i

@@ -1,4 +1,4 @@
-use Rattle.check_outcomes.proofs.Words.{length}
+use Rattle.check_outcomes.proofs.{length}
 use Rattle.check_outcomes.proofs.submission.+cancel.Given as goal
 
 abbrev pub decreases-cancel : goal.decreases-cancel

@@ -1,5 +1,4 @@
-use Rattle.check_outcomes.proofs.Words.{◌∙◌, sym, refl, asked_of, eq-eqb, IfOk-weaker, first_is, rules_of}
-use Rattle.check_outcomes.proofs.Viewing.{gone_past, pushed, settled_on}
+use Rattle.check_outcomes.proofs.{◌∙◌, sym, refl, asked_of, eq-eqb, IfOk-weaker, first_is, rules_of, gone_past, pushed, settled_on}
 use Rattle.check_outcomes.proofs.submission.+settling.Goals as goal
 
 pub settle-returns : goal.settle-returns

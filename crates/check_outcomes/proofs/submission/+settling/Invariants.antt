@@ -1,4 +1,4 @@
-use Rattle.check_outcomes.proofs.Words.{◌+◌, ◌*◌, length}
+use Rattle.check_outcomes.proofs.{◌+◌, ◌*◌, length}
 use Rattle.check_outcomes.proofs.submission.+settling.Given as goal
 
 abbrev pub decreases-settle : goal.decreases-settle

@@ -1,7 +1,5 @@
-use Rattle.check_outcomes.proofs.Words.{◌≡◌, ℕ, List, [], ◌∷◌, IfOk-weaker, Some, slice_get, sym, Access, FileEntry, Place, Request, Table, all_asked}
-use Rattle.check_outcomes.proofs.Words.{operation_of, rest_for, table_of_slots}
-use Rattle.check_outcomes.specs.Choices.{HasEach}
-use Rattle.check_outcomes.specs.Stands.{HasEachNext, moved}
+use Rattle.check_outcomes.proofs.{◌≡◌, ℕ, List, [], ◌∷◌, IfOk-weaker, Some, slice_get, sym, Access, FileEntry, Place, Request, Table, all_asked}
+use Rattle.check_outcomes.proofs.{operation_of, rest_for, table_of_slots, HasEach, HasEachNext, moved}
 use Rattle.check_outcomes.proofs.submission.chain_accesses.Goals as goal
 
 each_next : (catalogue : List FileEntry) (table : Table) (place : Place) (requests : List Request) (request : Request) (made : ℕ)

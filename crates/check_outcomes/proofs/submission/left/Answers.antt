@@ -1,4 +1,4 @@
-use Rattle.check_outcomes.proofs.Words.{◌-◌, length, drop, sym, ap, ◌∙◌, arith, drop-map, take_all, all_asked, asked_of, length-drop}
+use Rattle.check_outcomes.proofs.{◌-◌, length, drop, sym, ap, ◌∙◌, arith, drop-map, take_all, all_asked, asked_of, length-drop}
 use Rattle.check_outcomes.proofs.submission.left.Goals as goal
 
 pub returns-clause-left : goal.returns-clause-left

@@ -1,5 +1,5 @@
-use Rattle.check_outcomes.proofs.Words.{◌∙◌, sym, ap, refl, all_asked, arith, nil_from_length, first_is}
-use Rattle.check_outcomes.proofs.Viewing.{steps_more, steps_on, steps_over}
+use Rattle.check_outcomes.proofs.{◌∙◌, sym, ap, refl, all_asked, arith, nil_from_length, first_is, steps_more, steps_over}
+use Rattle.check_outcomes.proofs.Viewing.{steps_on}
 use Rattle.check_outcomes.proofs.submission.step.Goals as goal
 
 pub returns-in_default : goal.returns-in_default

@@ -1,4 +1,4 @@
-use Rattle.check_outcomes.proofs.Words.{◌≡◌, ◌∙◌, ◌+◌, ◌-◌, true, sym, arith, slice_index_or, all_asked, has_reads_at, below_more}
+use Rattle.check_outcomes.proofs.{◌≡◌, ◌∙◌, ◌+◌, ◌-◌, true, sym, arith, slice_index_or, all_asked, has_reads_at, below_more}
 use Rattle.check_outcomes.proofs.AllReports.{as_many}
 use Rattle.check_outcomes.proofs.turns.has_reads_alone.Goals.{else-part_of-part-via-then-part_of-part+else-not-has_reads_left}
 use Rattle.check_outcomes.proofs.turns.has_reads_alone.Goals.{else-part_of-part-via-else-part_of-part}

@@ -1,4 +1,4 @@
-use Rattle.check_outcomes.proofs.Words.{◌≡◌, ◌<◌, ℕ, true, slice_index_or, has_reads_at}
+use Rattle.check_outcomes.proofs.{◌≡◌, ◌<◌, ℕ, true, slice_index_or, has_reads_at}
 use Rattle.check_outcomes.proofs.turns.has_reads_alone.Given as goal
 
 abbrev pub invariant-loop-i : goal.invariant-loop-i

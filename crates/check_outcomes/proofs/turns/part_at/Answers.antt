@@ -1,4 +1,4 @@
-use Rattle.check_outcomes.proofs.Words.{◌∙◌, sym, arith, all_asked}
+use Rattle.check_outcomes.proofs.{◌∙◌, sym, arith, all_asked}
 use Rattle.check_outcomes.proofs.AllReports.{as_many, is_turn}
 use Rattle.check_outcomes.proofs.turns.part_at.Goals as goal
 

@@ -1,4 +1,4 @@
-use Rattle.check_outcomes.proofs.Words.{IfSome, IsTurnOfPart}
+use Rattle.check_outcomes.proofs.{IfSome, IsTurnOfPart}
 use Rattle.check_outcomes.proofs.turns.part_at.Given as goal
 
 abbrev pub invariant-loop-i : goal.invariant-loop-i

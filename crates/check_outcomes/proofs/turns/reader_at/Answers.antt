@@ -1,4 +1,4 @@
-use Rattle.check_outcomes.proofs.Words.{sym, ◌∙◌}
+use Rattle.check_outcomes.proofs.{sym, ◌∙◌}
 use Rattle.check_outcomes.proofs.AllReports.{is_reader}
 use Rattle.check_outcomes.proofs.turns.reader_at.Goals as goal
 

@@ -1,5 +1,4 @@
-use Rattle.check_outcomes.proofs.Words.{sym, ◌∙◌, all_completed, completed_of, Vec, Completion}
-use Rattle.check_outcomes.proofs.Viewing.{completion_same, same_each}
+use Rattle.check_outcomes.proofs.{sym, ◌∙◌, all_completed, completed_of, Vec, Completion, completion_same, same_each}
 use Rattle.check_outcomes.proofs.way_report.are_all_same.Goals as goal
 
 pub returns : goal.returns

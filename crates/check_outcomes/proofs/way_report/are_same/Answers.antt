@@ -1,5 +1,4 @@
-use Rattle.check_outcomes.proofs.Viewing.{completion_same, same_each}
-use Rattle.check_outcomes.proofs.Words.{sym, ◌∙◌, completed_of}
+use Rattle.check_outcomes.proofs.{completion_same, same_each, sym, ◌∙◌, completed_of}
 use Rattle.check_outcomes.proofs.way_report.are_same.Goals as goal
 
 pub returns : goal.returns

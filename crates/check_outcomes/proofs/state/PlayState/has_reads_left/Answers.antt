@@ -1,5 +1,4 @@
-use Rattle.check_outcomes.proofs.Words.{sym}
-use Rattle.check_outcomes.proofs.Viewing.{reads_here}
+use Rattle.check_outcomes.proofs.{sym, reads_here}
 use Rattle.check_outcomes.proofs.state.PlayState.has_reads_left.Goals as goal
 
 pub returns : goal.returns

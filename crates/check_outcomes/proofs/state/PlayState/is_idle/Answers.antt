@@ -1,5 +1,4 @@
-use Rattle.check_outcomes.proofs.Words.{◌∙◌, false≢true, refl, sym, eq-eqb}
-use Rattle.check_outcomes.proofs.Viewing.{idle_some_here}
+use Rattle.check_outcomes.proofs.{◌∙◌, false≢true, refl, sym, eq-eqb, idle_some_here}
 use Rattle.check_outcomes.proofs.state.PlayState.is_idle.Goals as goal
 
 pub returns-then-are_reads : goal.returns-then-are_reads

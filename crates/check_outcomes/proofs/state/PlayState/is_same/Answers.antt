@@ -1,5 +1,4 @@
-use Rattle.check_outcomes.proofs.Words.{◌∙◌, sym, refl, not-false, slice_eq-Decides, file_Decides}
-use Rattle.check_outcomes.proofs.Viewing.{progress_Decides}
+use Rattle.check_outcomes.proofs.{◌∙◌, sym, refl, not-false, slice_eq-Decides, file_Decides, progress_Decides}
 use Rattle.check_outcomes.proofs.state.PlayState.is_same.Goals as goal
 
 pub returns-then-are_all_same-clause-chains : goal.returns-then-are_all_same-clause-chains

@@ -1,5 +1,4 @@
-use Rattle.check_outcomes.proofs.Words.{◌≡◌, ◌∙◌, ◌++◌, ◌<◌, all_completed, answers_of, ap, arith, length, length-map, refl, sym}
-use Rattle.check_outcomes.proofs.Viewing.{set_answers}
+use Rattle.check_outcomes.proofs.{◌≡◌, ◌∙◌, ◌++◌, ◌<◌, all_completed, answers_of, ap, arith, length, length-map, refl, sym, set_answers}
 use Rattle.check_outcomes.proofs.way_report.WayReport.after.Goals as goal
 
 pub returns : goal.returns
