@@ -1,9 +1,8 @@
 -- Scripts: which bytes are a script, what it says, and on which line its first fault is (this
 -- project's own).
 use Rattle.std.specs.Prelude.{◌≡◌, ℕ, ◌+◌, ◌==◌, nat_lt, Bool, ◌&&◌, not, List, [], ◌∷◌, ◌++◌}
-use Rattle.std.specs.Prelude.{length, All}
-use Rattle.std.specs.Prelude.{Option, Some, None, option_and_then, Result, Ok, Err, ok_or}
-use Rattle.std.specs.Prelude.{if◌then◌else◌}
+use Rattle.std.specs.Prelude.{length, All, Option, Some, None, option_and_then, Result, Ok, Err}
+use Rattle.std.specs.Prelude.{ok_or, if◌then◌else◌}
 use Rattle.hex.specs.Hex.{IsBytes}
 use Rattle.fx_base.specs.Catalogue.{FileEntry, IsCatalogue}
 use Rattle.fx_base.specs.AddFault.{add_fault_of}

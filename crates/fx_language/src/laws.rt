@@ -4,8 +4,7 @@
 
 ghost use Rattle.std.specs.Prelude.{◌≡◌, ℕ, List};
 ghost use Rattle.fx_language.specs.Laws.{EachScriptHasFiles, IsScriptOrFaulty};
-ghost use Rattle.fx_language.specs.declared.limits.TheConstants.{LONGEST_SCRIPT, LONGEST_LINE};
-ghost use Rattle.fx_language.specs.declared.limits.TheConstants.{LARGEST_NUMBER, LARGEST_TAG};
+ghost use Rattle.fx_language.specs.declared.limits.TheConstants.{LONGEST_SCRIPT, LONGEST_LINE, LARGEST_NUMBER, LARGEST_TAG};
 
 /// States that a script has at most 4,194,304 bytes, each line at most 10,000, no number above
 /// 2,147,483,647, and no tag above 18,446,744,073,709,551,615.

@@ -1,8 +1,7 @@
 //! One line of a script.
 ghost use Rattle.std.specs.Prelude.{◌≡◌, ◌∷◌, true};
 ghost use Rattle.std.specs.List.{list_all};
-ghost use Rattle.fx_language.specs.Line.{file_of, sparse_of, register_of, unregister_of};
-ghost use Rattle.fx_language.specs.Line.{range_line_of, regupdate_of, submit_of, line_of};
+ghost use Rattle.fx_language.specs.Line.{file_of, sparse_of, register_of, unregister_of, range_line_of, regupdate_of, submit_of, line_of};
 ghost use Rattle.fx_language.specs.LineView.{line_in};
 ghost use Rattle.fx_language.specs.Lines.{is_printable, words};
 ghost use Rattle.fx_language.specs.Parts.{parts_left};

@@ -1,8 +1,7 @@
 //! The lines of requests.
 ghost use Rattle.std.specs.Prelude.{◌≡◌, true};
 ghost use Rattle.std.specs.List.{list_all};
-ghost use Rattle.fx_language.specs.Line.{open_at, open_any, open_of, read_of, close_line_of};
-ghost use Rattle.fx_language.specs.Line.{update_of, request_of};
+ghost use Rattle.fx_language.specs.Line.{open_at, open_any, open_of, read_of, close_line_of, update_of, request_of};
 ghost use Rattle.fx_language.specs.LineView.{request_in};
 ghost use Rattle.fx_language.specs.Lines.{is_printable};
 ghost use Rattle.fx_language.specs.Parts.{parts_left};

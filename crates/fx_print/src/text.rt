@@ -1,14 +1,11 @@
 //! The printed lines, each appended to a text whose room was reserved before.
-ghost use Rattle.std.specs.Prelude.{◌≡◌, ◌<◌, ◌++◌, IfOk, OnOk, All, codes, length, slice_index};
-ghost use Rattle.std.specs.Prelude.{string_bytes};
+ghost use Rattle.std.specs.Prelude.{◌≡◌, ◌<◌, ◌++◌, IfOk, OnOk, All, codes, length, slice_index, string_bytes};
 ghost use Rattle.hex.specs.Hex.{encode_lower};
 ghost use Rattle.std.specs.Fmt.{signed_decimal};
 ghost use Rattle.fx_chain.specs.Completed.{completed_of, all_completed};
 ghost use Rattle.fx_base.specs.Tags.{tags_of};
-ghost use Rattle.fx_print.specs.Text.{result_line, got_text, kind_name, mark_text, place_text};
-ghost use Rattle.fx_print.specs.Text.{refused_line, too_many_line, completion_line};
-ghost use Rattle.fx_print.specs.Text.{completion_lines, closed_line, closed_lines, closes_text};
-ghost use Rattle.fx_print.specs.Text.{submission_text, tag_line, tag_lines, teardown_text};
+ghost use Rattle.fx_print.specs.Text.{result_line, got_text, kind_name, mark_text, place_text, refused_line, too_many_line, completion_line};
+ghost use Rattle.fx_print.specs.Text.{completion_lines, closed_line, closed_lines, closes_text, submission_text, tag_line, tag_lines, teardown_text};
 
 use crate::digits::{push_hex, push_number, push_signed};
 use fx_base::{Catalogue, CloseList, Closed, Mark, NoMemory, TagCompletion};

@@ -1,8 +1,7 @@
 -- The kept bytes of an input, read turn by turn, and its meaning.
 use Rattle.fx_script.proofs.Words.{◌≡◌, ℕ, ◌+◌, ◌<◌, true, nat_lt, List, length, take, refl, sym, ap, ◌∙◌, inl, inr, arith, Option, Some, None}
 use Rattle.fx_script.proofs.Words.{IfSome, Err, length-take, take_all, IsInput, IsInputFault, LONGEST_SCRIPT, zero, suc, ◌-◌, ◌≤◌, [], ◌∷◌, ◌++◌}
-use Rattle.fx_script.proofs.Words.{length-append, Consumes, IsAtEnd, append-nil}
-use Rattle.std.proofs.KnownBytes.{Consumes-trans}
+use Rattle.fx_script.proofs.Words.{length-append, Consumes, IsAtEnd, append-nil, Consumes-trans}
 use Rattle.std.proofs.lemmas.Bool.{cases_lt}
 use Rattle.std.proofs.lemmas.Bool.Decides.{nat_tests}
 use Rattle.fx_script.specs.RunView.{play_fault}

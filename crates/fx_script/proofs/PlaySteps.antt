@@ -1,18 +1,15 @@
 -- A play goes on by some commands.
-use Rattle.fx_script.proofs.Words.{◌≡◌, ℕ, List, length, sym, subst, Option, Bool, Asked, RingContents}
-use Rattle.fx_script.proofs.Words.{RingState, ring_of, Instruction, MakesSparse, RegistersList, Unregisters, SetsRange}
-use Rattle.fx_script.proofs.Words.{UpdatesRing, SubmitsAll, Prints, PrintsReport, ◌+◌, ◌<◌, ◌≤◌, [], ◌∷◌}
-use Rattle.fx_script.proofs.Words.{◌++◌, refl, ap, ◌∙◌, append_assoc, drop, take, slice_index_or, inl, inr, arith, append-nil, map-append}
-use Rattle.fx_script.proofs.Words.{take-append-drop, take_all, IfErr-weaker, Appends, IfErr, Result, ring_files_in_order, instruction_of}
-use Rattle.fx_script.proofs.Words.{instructions_of, PrintsAll, PrintsEnd, PrintsFirst, IsPlayFault, Writes, PlayFault, IfOk}
-use Rattle.std.proofs.KnownBytes.{Appends-nil, Appends-trans}
+use Rattle.fx_script.proofs.Words.{◌≡◌, ℕ, List, length, sym, subst, Option, Bool, Asked, RingContents, RingState, ring_of, Instruction, MakesSparse}
+use Rattle.fx_script.proofs.Words.{RegistersList, Unregisters, SetsRange, UpdatesRing, SubmitsAll, Prints, PrintsReport, ◌+◌, ◌<◌, ◌≤◌, [], ◌∷◌, ◌++◌}
+use Rattle.fx_script.proofs.Words.{refl, ap, ◌∙◌, append_assoc, drop, take, slice_index_or, inl, inr, arith, append-nil, map-append, take-append-drop}
+use Rattle.fx_script.proofs.Words.{take_all, IfErr-weaker, Appends, IfErr, Result, ring_files_in_order, instruction_of, instructions_of, PrintsAll}
+use Rattle.fx_script.proofs.Words.{PrintsEnd, PrintsFirst, IsPlayFault, Writes, PlayFault, IfOk, Appends-nil, Appends-trans, IsOkAnd, OnOk}
 use Rattle.std.specs.Bool.{MatchBool}
 use Rattle.std.specs.Option.{MatchOption}
 use Rattle.fx_chain.specs.declared.fault.CutFault.{CutFault}
 use Rattle.fx_ring.proofs.Rings.{same_history}
 use Rattle.fx_ring.specs.Registration.{removed_from}
 use Rattle.fx_print.specs.Text.{refused_line, too_many_line}
-use Rattle.std.specs.Prelude.{IsOkAnd, OnOk}
 use Rattle.std.proofs.lemmas.List.Sorted.{IsPermutation-refl}
 use Rattle.std.proofs.Math.Seq.{drop-cons, take-add}
 use Rattle.std.specs.List.Sorted.{IsPermutation}

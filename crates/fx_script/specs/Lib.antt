@@ -3,3 +3,4 @@ pub mod Play
 pub mod RunView
 pub mod Run
 pub mod PlayedRing
+pub mod Words

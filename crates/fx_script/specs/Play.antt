@@ -1,30 +1,23 @@
 -- The texts that a script may print: the answers of a ring to its commands, one after another (this
 -- project's own).
-use Rattle.std.specs.Prelude.{◌≡◌, ◌⊎◌, ℕ, pos, nat_le, List, [], ◌∷◌, ◌++◌, codes, length, Option}
-use Rattle.std.specs.Prelude.{Some, None}
+use Rattle.fx_script.specs.Words.{◌≡◌, ◌⊎◌, ℕ, pos, nat_le, List, [], ◌∷◌, ◌++◌, codes, length}
+use Rattle.fx_script.specs.Words.{Option, Some, None, MatchOption, negated, Asked, HasClosed}
+use Rattle.fx_script.specs.Words.{RingContents, RingState, files_of_ring, new_ring, ring_of}
+use Rattle.fx_script.specs.Words.{without_table, IsOneHistory, Reported, Instruction, MakesSparse}
+use Rattle.fx_script.specs.Words.{RegistersList, Unregisters, SetsRange, UpdatesRing, SubmitsAll}
+use Rattle.fx_script.specs.Words.{Meaning, result_line, closes_text, refused_line, teardown_text}
+use Rattle.fx_script.specs.Words.{too_many_line}
 use Rattle.std.specs.Bool.{MatchBool}
-use Rattle.std.specs.Option.{MatchOption}
 use Rattle.fx_base.specs.CloseListView.{CloseListView}
 use Rattle.fx_base.specs.declared.errno.Errno.{Errno}
 use Rattle.fx_base.specs.declared.errno.Errno.TheVariants.{ENOMEM}
 use Rattle.fx_base.specs.declared.open_file.Closed.{Closed}
-use Rattle.fx_chain.specs.Completed.{negated}
 use Rattle.fx_chain.specs.Faults.{fault_of}
-use Rattle.fx_chain.specs.Operation.{Asked}
 use Rattle.fx_ring.specs.Registration.{range_refusal, register_refusal, registered}
-use Rattle.fx_ring.specs.Registration.{registered_sparse}
-use Rattle.fx_ring.specs.Registration.{removed_from, sparse_refusal, unregister_refusal}
-use Rattle.fx_ring.specs.Registration.{update_refusal, updated}
-use Rattle.fx_ring.specs.Ring.{HasClosed, RingContents, RingState, files_of_ring, new_ring, ring_of}
-use Rattle.fx_ring.specs.Ring.{without_table}
-use Rattle.fx_ring.specs.Submission.{IsOneHistory, Reported}
+use Rattle.fx_ring.specs.Registration.{registered_sparse, removed_from, sparse_refusal}
+use Rattle.fx_ring.specs.Registration.{unregister_refusal, update_refusal, updated}
 use Rattle.fx_ring.specs.Tags.{tags_given}
 use Rattle.fx_ring.specs.declared.ring.TheConstants.{MOST_SUBMISSIONS}
-use Rattle.fx_language.specs.Instruction.{Instruction, MakesSparse, RegistersList, Unregisters}
-use Rattle.fx_language.specs.Instruction.{SetsRange, UpdatesRing, SubmitsAll}
-use Rattle.fx_language.specs.Script.{Meaning}
-use Rattle.fx_print.specs.Text.{result_line, closes_text, refused_line, teardown_text}
-use Rattle.fx_print.specs.Text.{too_many_line}
 use Rattle.fx_script.specs.Text.{report_text}
 
 -- the answer of a call that allocates: its refusal, if there is one, otherwise success or an

@@ -1,13 +1,9 @@
 -- The ring of a play, and the answer of its submissions.
-use Rattle.std.specs.Prelude.{◌≡◌, ℕ, List, Result, Ok, Err}
-use Rattle.fx_base.specs.Catalogue.{FileEntry}
-use Rattle.fx_print.specs.Text.{refused_line, too_many_line}
+use Rattle.fx_script.specs.Words.{◌≡◌, ℕ, List, Result, Ok, Err, FileEntry, refused_line}
+use Rattle.fx_script.specs.Words.{too_many_line, RingContents, reported, Cut, TooMany}
 use Rattle.fx_ring.specs.OpenRings.{OpenRingContents}
-use Rattle.fx_ring.specs.Ring.{RingContents}
-use Rattle.fx_ring.specs.Submission.{reported}
 use Rattle.fx_ring.specs.declared.report.Report.{Report}
 use Rattle.fx_ring.specs.declared.report.SubmitFault.{SubmitFault}
-use Rattle.fx_ring.specs.declared.report.SubmitFault.TheVariants.{Cut, TooMany}
 use Rattle.fx_script.specs.Text.{report_text}
 use Rattle.fx_script.specs.declared.played_ring.PlayedRing.{PlayedRing}
 use Rattle.fx_script.specs.declared.played_ring.PlayedRing.TheVariants.{Closed, Open}

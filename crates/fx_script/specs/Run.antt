@@ -1,8 +1,7 @@
 -- The input and output of a run.
-use Rattle.std.specs.Prelude.{◌≡◌, ◌⊎◌, ℕ, List, Option, IfSome}
-use Rattle.std.specs.Io.KnownBytes.{Appends}
+use Rattle.fx_script.specs.Words.{◌≡◌, ◌⊎◌, ℕ, List, Option, IfSome, Appends, Meaning, IsScript}
+use Rattle.fx_script.specs.Words.{HasFault}
 use Rattle.fx_script.specs.Play.{IsText, IsTextOfFirst}
-use Rattle.fx_language.specs.Script.{Meaning, IsScript, HasFault}
 use Rattle.fx_script.specs.declared.runner.PlayFault.{PlayFault}
 use Rattle.fx_script.specs.declared.runner.PlayFault.TheVariants.{Read, Script, Write, NoMemory}
 

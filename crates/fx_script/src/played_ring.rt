@@ -1,10 +1,6 @@
 //! The ring of a play: the table may stay open between submissions that one worker plays one after
 //! another.
-ghost use Rattle.std.specs.Prelude.{◌≡◌, ◌≤◌, IfOk, string_bytes};
-ghost use Rattle.std.specs.Option.{MatchOption};
-ghost use Rattle.fx_table.specs.declared.limits.TheConstants.{CHAIN_NUMBERS, MAX_CHAINS};
-ghost use Rattle.fx_ring.specs.Ring.{ring_of};
-ghost use Rattle.fx_language.specs.Instruction.{instruction_of};
+ghost use Rattle.fx_script.specs.Words.{◌≡◌, ◌≤◌, IfOk, string_bytes, MatchOption, CHAIN_NUMBERS, MAX_CHAINS, ring_of, instruction_of};
 ghost use Rattle.fx_script.specs.Play.{Prints};
 ghost use Rattle.fx_script.specs.PlayedRing.{ring_played};
 

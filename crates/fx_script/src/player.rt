@@ -1,10 +1,6 @@
 //! Playing a script: the ring executes its commands, one after another, and the text of each is
 //! written.
-ghost use Rattle.std.specs.Prelude.{◌≡◌, ◌≤◌, IfErr, IsOkAnd, OnOk, string_bytes};
-ghost use Rattle.std.specs.Io.KnownBytes.{Appends};
-ghost use Rattle.fx_table.specs.declared.limits.TheConstants.{MAX_PASSES};
-ghost use Rattle.fx_ring.specs.Ring.{ring_of};
-ghost use Rattle.fx_language.specs.Instruction.{instructions_of};
+ghost use Rattle.fx_script.specs.Words.{◌≡◌, ◌≤◌, IfErr, IsOkAnd, OnOk, string_bytes, Appends, MAX_PASSES, ring_of, instructions_of};
 ghost use Rattle.fx_script.specs.Play.{IsText, IsTextOfFirst, PrintsAll, PrintsFirst};
 ghost use Rattle.fx_script.specs.Run.{IsPlayFault, Writes};
 

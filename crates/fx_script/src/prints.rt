@@ -1,14 +1,7 @@
 //! The text of each command: the ring's answer to it.
-ghost use Rattle.std.specs.Prelude.{◌≡◌, ◌≢◌, ◌<◌, ◌≤◌, All, Err, IfOk, OnOk, Some, None, length};
-ghost use Rattle.std.specs.Prelude.{pos, string_bytes};
-ghost use Rattle.fx_chain.specs.Completed.{negated};
-ghost use Rattle.fx_chain.specs.Operation.{all_asked};
-ghost use Rattle.fx_ring.specs.Ring.{ring_of};
-ghost use Rattle.fx_ring.specs.Submission.{reported};
-ghost use Rattle.fx_ring.specs.declared.report.SubmitFault.TheVariants.{Workers};
-ghost use Rattle.fx_language.specs.Instruction.{MakesSparse, RegistersList, Unregisters, SetsRange};
-ghost use Rattle.fx_language.specs.Instruction.{UpdatesRing, SubmitsAll, instruction_of};
-ghost use Rattle.fx_print.specs.Text.{result_line};
+ghost use Rattle.fx_script.specs.Words.{◌≡◌, ◌≢◌, ◌<◌, All, Err, IfOk, OnOk, Some, None, length, string_bytes, negated, all_asked, ring_of, reported};
+ghost use Rattle.fx_script.specs.Words.{Workers, MakesSparse, RegistersList, Unregisters, SetsRange, UpdatesRing, SubmitsAll, instruction_of};
+ghost use Rattle.fx_script.specs.Words.{result_line};
 ghost use Rattle.fx_script.specs.Play.{Prints, PrintsEnd};
 ghost use Rattle.fx_script.specs.PlayedRing.{IsAnswerText};
 ghost use Rattle.fx_script.specs.Text.{report_text};

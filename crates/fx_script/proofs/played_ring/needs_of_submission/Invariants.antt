@@ -1,4 +1,4 @@
-use Rattle.fx_script.proofs.Words.{◌≤◌, CHAIN_NUMBERS, MAX_CHAINS}
+use Rattle.fx_script.proofs.{◌≤◌, CHAIN_NUMBERS, MAX_CHAINS}
 use Rattle.fx_script.proofs.played_ring.needs_of_submission.Given as goal
 
 abbrev pub invariant-loop-i : goal.invariant-loop-i

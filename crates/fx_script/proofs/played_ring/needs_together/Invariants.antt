@@ -1,4 +1,4 @@
-use Rattle.fx_script.proofs.Words.{◌≤◌, CHAIN_NUMBERS, MAX_CHAINS}
+use Rattle.fx_script.proofs.{◌≤◌, CHAIN_NUMBERS, MAX_CHAINS}
 use Rattle.fx_script.proofs.played_ring.needs_together.Given as goal
 
 abbrev pub invariant-loop-command : goal.invariant-loop-command

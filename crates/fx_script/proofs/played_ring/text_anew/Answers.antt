@@ -1,7 +1,4 @@
-use Rattle.fx_script.proofs.Words.{◌∙◌, ap, sym, string_bytes, ring_of, instruction_of, ring_played, IfOk-weaker}
-use Rattle.fx_script.proofs.PlaySteps.{prints_same}
-use Rattle.fx_ring.specs.OpenRings.{OpenRingContents}
-use Rattle.fx_script.specs.declared.played_ring.PlayedRing.{PlayedRing}
+use Rattle.fx_script.proofs.{◌∙◌, ap, sym, string_bytes, ring_of, instruction_of, ring_played, IfOk-weaker, prints_same, OpenRingContents, PlayedRing}
 use Rattle.fx_script.proofs.played_ring.text_anew.Goals as goal
 
 pub returns-in-Some : goal.returns-in-Some

@@ -1,5 +1,4 @@
-use Rattle.fx_script.proofs.Words.{◌∙◌, ap, on_ok_weaker, new_ring, instructions_of}
-use Rattle.fx_script.proofs.PlaySteps.{written_as, fails_as}
+use Rattle.fx_script.proofs.{◌∙◌, ap, on_ok_weaker, new_ring, instructions_of, written_as, fails_as}
 use Rattle.fx_script.proofs.player.play.Goals as goal
 
 pub returns-clause-ok : goal.returns-clause-ok

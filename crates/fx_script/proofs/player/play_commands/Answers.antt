@@ -1,8 +1,5 @@
-use Rattle.fx_script.proofs.Words.{rules, ap, sym, string_bytes, ring_of, instruction_of, ring_played, Prints, PrintsEnd}
-use Rattle.fx_script.proofs.Words.{IfErr-weaker, IfOk-weaker, on_ok_weaker}
-use Rattle.fx_script.proofs.PlaySteps.{one_more, ends, fails, text_written, known_ok, prints_same}
-use Rattle.fx_ring.specs.OpenRings.{OpenRingContents}
-use Rattle.fx_script.specs.declared.played_ring.PlayedRing.{PlayedRing}
+use Rattle.fx_script.proofs.{rules, ap, sym, string_bytes, ring_of, instruction_of, ring_played, Prints, PrintsEnd, IfErr-weaker, IfOk-weaker}
+use Rattle.fx_script.proofs.{on_ok_weaker, one_more, ends, fails, text_written, known_ok, prints_same, OpenRingContents, PlayedRing}
 use Rattle.fx_script.proofs.player.play_commands.Goals as goal
 
 pub loop-i-preserved : goal.loop-i-preserved

@@ -1,5 +1,4 @@
-use Rattle.fx_script.proofs.Words.{ring_played}
-use Rattle.fx_script.proofs.PlaySteps.{HasPlayed}
+use Rattle.fx_script.proofs.{ring_played, HasPlayed}
 use Rattle.fx_script.proofs.player.play_commands.Given as goal
 
 -- the first `i` commands were played

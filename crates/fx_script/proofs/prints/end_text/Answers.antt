@@ -1,5 +1,4 @@
-use Rattle.fx_script.proofs.Words.{rules, ◌≡◌, [], string_bytes, subst, sym, ring_of, PrintsEnd}
-use Rattle.fx_script.proofs.PlaySteps.{nothing_left}
+use Rattle.fx_script.proofs.{rules, ◌≡◌, [], string_bytes, subst, sym, ring_of, PrintsEnd, nothing_left}
 use Rattle.fx_script.proofs.prints.end_text.Goals as goal
 
 pub returns-then-size-eq0-clause-end : goal.returns-then-size-eq0-clause-end

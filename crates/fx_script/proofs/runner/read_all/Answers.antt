@@ -1,5 +1,4 @@
-use Rattle.fx_script.proofs.Words.{rules, ◌≡◌, ◌++◌, ◌+◌, ◌-◌, length, take, LONGEST_SCRIPT}
-use Rattle.fx_script.proofs.KeptBytes.{one_read, at_end, few_kept}
+use Rattle.fx_script.proofs.{rules, ◌≡◌, ◌++◌, ◌+◌, ◌-◌, length, take, LONGEST_SCRIPT, one_read, at_end, few_kept}
 use Rattle.fx_script.proofs.runner.read_all.Goals as goal
 
 pub returns-then-n-eq0-clause-kept : goal.returns-then-n-eq0-clause-kept

@@ -1,5 +1,4 @@
-use Rattle.fx_script.proofs.Words.{◌+◌, ◌≤◌, length, LONGEST_SCRIPT}
-use Rattle.fx_script.proofs.KeptBytes.{Kept}
+use Rattle.fx_script.proofs.{◌+◌, ◌≤◌, length, LONGEST_SCRIPT, Kept}
 use Rattle.fx_script.proofs.runner.read_all.Given as goal
 
 -- the first bytes that the reader has returned are kept

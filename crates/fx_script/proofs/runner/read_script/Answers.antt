@@ -1,5 +1,4 @@
-use Rattle.fx_script.proofs.Words.{subst, sym, err_from_is_err_and, IsInputFault}
-use Rattle.fx_script.proofs.KeptBytes.{IsKept, script_kept, fault_kept}
+use Rattle.fx_script.proofs.{subst, sym, err_from_is_err_and, IsInputFault, IsKept, script_kept, fault_kept}
 use Rattle.fx_script.proofs.runner.read_script.Goals as goal
 
 pub returns-in_err-script-clause-fault : goal.returns-in_err-script-clause-fault
