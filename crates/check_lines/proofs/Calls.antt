@@ -1,14 +1,13 @@
 -- The calls between submissions: the rings that they leave, and their lines.
-use Rattle.check_lines.proofs.Words.{Instruction, SetsRange, SubmitsAll, RingSlots, Slots, after_call, call_of, unless_refused, IsCall}
-use Rattle.check_lines.proofs.Words.{memory_word, append_assoc, both_options, List, None, Option, Some, [], ap, arith, subst, sym, ℕ, ◌∙◌, ◌≡◌, ◌≤◌}
-use Rattle.check_lines.proofs.Words.{FileEntry, inl, inr, Errno, registered_rings, updated_rings, counted_still, none_rings, Table, ring_with_slots}
-use Rattle.check_lines.proofs.Words.{table_of_slots, IsRing, RingState, HasClosed, RingContents, ring_of, MOST_REGISTRATIONS, AreInRange, ◌<◌, ◌^◌}
-use Rattle.check_lines.proofs.Words.{pos, ◌++◌, All, IfSome, unwrap_or, ⊎_elim, ◌↔◌, ◌⊎◌, append-nil, nil_from_length, length_permutation}
-use Rattle.check_lines.proofs.Words.{CloseListView, ENOMEM, Closed, negated, closes_text, result_line, MatchOption, fault_of, MOST_SLOTS}
-use Rattle.check_lines.proofs.Words.{IsCallRefused, Prints}
-use Rattle.check_lines.proofs.Entries.{none_holds, inside_of, IsAtOne, all_in_order, all_removed, closes_printed}
+use Rattle.check_lines.proofs.{Instruction, SetsRange, SubmitsAll, RingSlots, Slots, after_call, call_of, unless_refused, IsCall, append_assoc}
+use Rattle.check_lines.proofs.{both_options, List, None, Option, Some, [], ap, arith, subst, sym, ℕ, ◌∙◌, ◌≡◌, ◌≤◌, FileEntry, inl, inr, Errno}
+use Rattle.check_lines.proofs.{registered_rings, updated_rings, counted_still, none_rings, Table, ring_with_slots, table_of_slots, IsRing, RingState}
+use Rattle.check_lines.proofs.{HasClosed, RingContents, ring_of, MOST_REGISTRATIONS, AreInRange, ◌<◌, ◌^◌, pos, ◌++◌, All, IfSome, unwrap_or, ⊎_elim}
+use Rattle.check_lines.proofs.{◌↔◌, ◌⊎◌, append-nil, nil_from_length, length_permutation, CloseListView, ENOMEM, Closed, negated, closes_text}
+use Rattle.check_lines.proofs.{result_line, MatchOption, fault_of, MOST_SLOTS, IsCallRefused, Prints, none_holds, inside_of, IsAtOne, all_in_order}
+use Rattle.check_lines.proofs.{all_removed, closes_printed, one_result}
+use Rattle.check_lines.proofs.Words.{memory_word}
 pub use Rattle.check_lines.specs.Calls.{AnswersFound, Call, IsLineOf, IsNoSubmission, YieldsCall as Tells, YieldsClosed}
-use Rattle.check_lines.proofs.Decimals.{one_result}
 
 -- so it holds of it if it holds of the ring before the call, and of what the call leaves that isn't
 -- refused

@@ -1,6 +1,6 @@
 -- The number of completions of a submission.
-use Rattle.check_lines.proofs.Words.{Asked, Event, FileEntry, explained_count, ExplainsParts, List, ℕ, ◌≡◌, ◌+◌, ap}
-use Rattle.check_lines.proofs.Words.{length, [], arith, ◌∷◌, length-append, flat_map, ReportsHaveEachRequest, are_runs, Completed, IsBytes}
+use Rattle.check_lines.proofs.Words.{Asked, Event, FileEntry, explained_count, ExplainsParts, List, ℕ, ◌≡◌, ◌+◌, ap, length, [], arith, ◌∷◌}
+use Rattle.check_lines.proofs.Words.{length-append, flat_map, ReportsHaveEachRequest, are_runs, Completed, IsBytes}
 
 pub no_bytes : IsBytes []
 no_bytes i = omega arith

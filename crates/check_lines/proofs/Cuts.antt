@@ -1,9 +1,9 @@
 -- Texts that are cut at a byte, and the bytes of a read.
 use Rattle.check_lines.proofs.Words.{◌≡◌, ℕ, ◌+◌, ◌<◌, List, length, drop, sym, ap, ◌∙◌, slice_index_or, Ok, drop_more, ◌∷◌, Bool, list_all, ne_eqb}
 use Rattle.check_lines.proofs.Words.{◌==◌, true, false, not, [], ◌++◌, get_or, refl, arith, nat_tests, and_from, and_parts, is_without, true≢false}
-use Rattle.check_lines.proofs.Words.{IsBytes, encode_lower, got_text, IsCut, take, take-append-drop, Err}
+use Rattle.check_lines.proofs.Words.{IsBytes, encode_lower, got_text, IsCut, take, take-append-drop, Err, decode_of, is_hex_digit}
 use Rattle.std.proofs.lemmas.List.Sums.{list_all-from_AllPass}
-use Rattle.hex.specs.Hex.{decode_of, encode_with, is_hex_digit}
+use Rattle.hex.specs.Hex.{encode_with}
 use Rattle.hex.specs.declared.error.FromHexError.{FromHexError}
 use Rattle.hex.proofs.HexLemmas.{decode_of-encode_lower, decode_of-ok}
 

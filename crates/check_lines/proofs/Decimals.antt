@@ -1,8 +1,7 @@
 -- Decimal numbers and results as they are printed.
-use Rattle.check_lines.proofs.Words.{nat_tests, false, List, suc, ℕ, ◌≡◌, ◌++◌, ◌≤◌, ap, length, Some, not, arith, zero, refl, ◌∷◌, true}
-use Rattle.check_lines.proofs.Words.{nat_le, ◌<◌, get_or, ◌==◌, ◌^◌, unwrap_or, append_assoc, ℤ, ◌||◌, codes, decimal, ◌&&◌, BeginsWithOneResult}
-use Rattle.check_lines.proofs.Words.{IsResultInRange, is_without, is_digit, is_decimal, number_up_to, and_from, append_cancel_left}
-use Rattle.check_lines.proofs.Words.{signed_decimal, list_all}
+use Rattle.check_lines.proofs.Words.{nat_tests, false, List, suc, ℕ, ◌≡◌, ◌++◌, ◌≤◌, ap, length, Some, not, arith, zero, refl, ◌∷◌, true, nat_le, ◌<◌}
+use Rattle.check_lines.proofs.Words.{get_or, ◌==◌, ◌^◌, unwrap_or, append_assoc, ℤ, ◌||◌, codes, decimal, ◌&&◌, BeginsWithOneResult, IsResultInRange}
+use Rattle.check_lines.proofs.Words.{is_without, is_digit, is_decimal, number_up_to, and_from, append_cancel_left, signed_decimal, list_all}
 use Rattle.std.specs.Str.Parse.{digits_value}
 use Rattle.std.proofs.lemmas.Fmt.{decimal_digit, decimal_nonempty, first_decimal, digits_decimal, digits_value-decimal, signed_decimal_injective}
 use Rattle.std.proofs.lemmas.Str.Parse.{IsNumeralModel, numerals_by_value}

@@ -7,3 +7,10 @@ pub mod Marks
 pub mod Calls
 pub mod Entries
 pub mod Cuts
+-- The names that many of these proofs cite, passed on from one place.
+pub use Words.*
+pub use CompletionTexts.*
+pub use Cuts.*
+pub use Decimals.*
+pub use Entries.*
+pub use ReportTexts.*

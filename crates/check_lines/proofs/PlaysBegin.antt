@@ -1,13 +1,11 @@
 -- The output of a play begins with no line of a closed file or of a tag.
-use Rattle.check_lines.proofs.Words.{Instruction, SubmitsAll, either_case, either_option, ◌≡◌, ℕ, zero, suc, ◌/◌, ◌%◌, ◌==◌}
-use Rattle.check_lines.proofs.Words.{true, false, List, [], ◌∷◌, ◌++◌, refl, sym, ap, ◌∙◌, arith, if◌then◌else◌, codes, decimal, nat_tests, is_digit}
-use Rattle.check_lines.proofs.Words.{HasNoCloses, ◌≤◌, nat_le, length, drop, subst, ℤ, append_assoc, FileEntry, Closed, Event}
-use Rattle.check_lines.proofs.Words.{Completed, Asked, Reported, completion_lines, result_line, Contains, nil_from_length}
-use Rattle.check_lines.proofs.Words.{length_permutation, fault_of, RingContents, IsOneHistory, MOST_SUBMISSIONS, Prints, PrintsReport}
-use Rattle.check_lines.proofs.Words.{PlaysBeginWithNoClose, closes_text, too_many_line}
-use Rattle.std.specs.Fmt.{digit_glyph, digits, digits_onto}
+use Rattle.check_lines.proofs.{Instruction, SubmitsAll, either_case, either_option, ◌≡◌, ℕ, zero, suc, ◌/◌, ◌%◌, ◌==◌, true, false, List, [], ◌∷◌}
+use Rattle.check_lines.proofs.{◌++◌, refl, sym, ap, ◌∙◌, arith, if◌then◌else◌, codes, decimal, nat_tests, is_digit, HasNoCloses, ◌≤◌, nat_le, length}
+use Rattle.check_lines.proofs.{drop, subst, ℤ, append_assoc, FileEntry, Closed, Event, Completed, Asked, Reported, completion_lines, result_line}
+use Rattle.check_lines.proofs.{Contains, nil_from_length, length_permutation, fault_of, RingContents, IsOneHistory, MOST_SUBMISSIONS, Prints}
+use Rattle.check_lines.proofs.{PrintsReport, PlaysBeginWithNoClose, closes_text, too_many_line, digit_glyph, digits_onto, each_request}
+use Rattle.std.specs.Fmt.{digits}
 use Rattle.check_lines.proofs.Calls.{answers, tail_of}
-use Rattle.check_lines.proofs.CompletionTexts.{each_request}
 
 -- a text with another first byte
 pub by_first : {b : ℕ} (rest : List ℕ) → (b == 99) ≡ false → (b == 116) ≡ false → HasNoCloses (b ∷ rest)

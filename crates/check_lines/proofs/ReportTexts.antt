@@ -1,10 +1,9 @@
 -- The lines of a report: completions, closed files and tags.
-use Rattle.check_lines.proofs.Words.{◌≤◌, arith, Mark, IsCut, IsMarkInRange, Reported, FileEntry, List, None, ℕ, ◌∙◌, ◌≡◌, take, ◌++◌, ap}
-use Rattle.check_lines.proofs.Words.{length, sym, All, Some, [], refl, ◌∷◌, true, subst, ◌<◌, get_or, ◌^◌, take_at, append-nil, append_assoc}
-use Rattle.check_lines.proofs.Words.{flat_map, codes, decimal, AreAll, AreFirst, HasLength, HasNoCloses, IsCloseInRange, IsCompletionInRange}
-use Rattle.check_lines.proofs.Words.{NamedClose, is_without, line_of_tag, named_line, IsReportBefore, Lines, ReadsReport, lines_of, lines_text}
-use Rattle.check_lines.proofs.Words.{Completed, completion_line, mark_text, append_cancel_left, flat_map_more, All-tail}
-use Rattle.check_lines.proofs.Words.{All-head, All-push, flat_map-map, StartsWith}
+use Rattle.check_lines.proofs.Words.{◌≤◌, arith, Mark, IsCut, IsMarkInRange, Reported, FileEntry, List, None, ℕ, ◌∙◌, ◌≡◌, take, ◌++◌, ap, length}
+use Rattle.check_lines.proofs.Words.{sym, All, Some, [], refl, ◌∷◌, true, subst, ◌<◌, get_or, ◌^◌, take_at, append-nil, append_assoc, flat_map, codes}
+use Rattle.check_lines.proofs.Words.{decimal, AreAll, AreFirst, HasLength, HasNoCloses, IsCloseInRange, IsCompletionInRange, NamedClose, is_without}
+use Rattle.check_lines.proofs.Words.{line_of_tag, named_line, IsReportBefore, Lines, ReadsReport, lines_of, lines_text, Completed, completion_line}
+use Rattle.check_lines.proofs.Words.{mark_text, append_cancel_left, flat_map_more, All-tail, All-head, All-push, flat_map-map, StartsWith}
 use Rattle.check_lines.proofs.Cuts.{parts_are, without_failing}
 use Rattle.check_lines.proofs.Decimals.{decimal_without}
 use Rattle.fx_base.specs.Name.{is_name}

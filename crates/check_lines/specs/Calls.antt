@@ -1,26 +1,17 @@
 -- The calls between submissions, and refused submissions, where they find memory (this project's
 -- own).
-use Rattle.std.specs.Prelude.{◌≡◌, ℕ, ◌+◌, pos, nat_le, false, List, [], codes, length, Option}
-use Rattle.std.specs.Prelude.{Some, None, if◌then◌else◌}
-use Rattle.std.specs.List.{list_any}
-use Rattle.std.specs.Option.{MatchOption}
-use Rattle.fx_base.specs.declared.catalogue.TheConstants.{MOST_ENTRIES}
+use Rattle.check_lines.specs.Words.{◌≡◌, ℕ, ◌+◌, pos, nat_le, false, List, [], codes, length}
+use Rattle.check_lines.specs.Words.{Option, Some, None, if◌then◌else◌, list_any, MatchOption}
+use Rattle.check_lines.specs.Words.{MOST_ENTRIES, Closed, is_bad_entry, negated, fault_of}
+use Rattle.check_lines.specs.Words.{range_refusal, register_refusal, registered, removed_from}
+use Rattle.check_lines.specs.Words.{registered_sparse, sparse_refusal, unregister_refusal}
+use Rattle.check_lines.specs.Words.{update_refusal, updated, RingState, files_of_ring}
+use Rattle.check_lines.specs.Words.{without_table, tags_given, MOST_SUBMISSIONS, Instruction}
+use Rattle.check_lines.specs.Words.{MakesSparse, RegistersList, Unregisters, SetsRange, UpdatesRing}
+use Rattle.check_lines.specs.Words.{SubmitsAll, refused_line, result_line, too_many_line}
+use Rattle.check_lines.specs.Words.{PrintsClosed}
 use Rattle.fx_base.specs.declared.errno.Errno.{Errno}
-use Rattle.fx_base.specs.declared.open_file.Closed.{Closed}
-use Rattle.fx_chain.specs.Answers.{is_bad_entry}
-use Rattle.fx_chain.specs.Completed.{negated}
-use Rattle.fx_chain.specs.Faults.{fault_of}
 use Rattle.fx_chain.specs.declared.fault.CutFault.{CutFault}
-use Rattle.fx_ring.specs.Registration.{range_refusal, register_refusal, registered, removed_from}
-use Rattle.fx_ring.specs.Registration.{registered_sparse, sparse_refusal, unregister_refusal}
-use Rattle.fx_ring.specs.Registration.{update_refusal, updated}
-use Rattle.fx_ring.specs.Ring.{RingState, files_of_ring, without_table}
-use Rattle.fx_ring.specs.Tags.{tags_given}
-use Rattle.fx_ring.specs.declared.ring.TheConstants.{MOST_SUBMISSIONS}
-use Rattle.fx_language.specs.Instruction.{Instruction, MakesSparse, RegistersList, Unregisters}
-use Rattle.fx_language.specs.Instruction.{SetsRange, UpdatesRing, SubmitsAll}
-use Rattle.fx_print.specs.Text.{refused_line, result_line, too_many_line}
-use Rattle.fx_script.specs.Play.{PrintsClosed}
 
 -- a call at a ring: its word, and its refusal, if any; otherwise the ring that it leaves, its
 -- result, and the files that it lists as closed. A submission isn't such a call: its ring stays

@@ -1,6 +1,5 @@
 -- Files whose numbers are within the ranges of their types.
-use Rattle.std.specs.Prelude.{◌≡◌, ◌<◌, ◌^◌, ℕ, Option, Some}
-use Rattle.fx_base.specs.declared.open_file.Closed.{Closed}
+use Rattle.check_lines.specs.Words.{◌≡◌, ◌<◌, ◌^◌, ℕ, Option, Some, Closed}
 use Rattle.check_lines.specs.Lines.{IsMarkInRange}
 
 -- the numbers of a file's mark, and its tag, are within the ranges of their types

@@ -1,13 +1,8 @@
 -- Laws of printed lines.
-use Rattle.std.specs.Prelude.{◌≡◌, ℕ, ℤ, List, ◌++◌, length, IsTrue}
-use Rattle.fx_chain.specs.Operation.{Asked}
-use Rattle.fx_ring.specs.Ring.{RingContents}
-use Rattle.fx_ring.specs.Submission.{IsOneHistory, Reported}
-use Rattle.fx_language.specs.Instruction.{Instruction}
-use Rattle.fx_script.specs.Play.{PrintsAll}
+use Rattle.check_lines.specs.Words.{◌≡◌, ℕ, ℤ, List, ◌++◌, length, IsTrue, Asked, RingContents}
+use Rattle.check_lines.specs.Words.{IsOneHistory, Reported, Instruction, PrintsAll, result_line}
 use Rattle.fx_base.specs.Name.{is_name}
 use Rattle.check_lines.specs.Lines.{HasNoCloses, IsResultInRange, is_without}
-use Rattle.fx_print.specs.Text.{result_line}
 
 -- a text begins with at most one line of a word and a result
 abbrev pub BeginsWithOneResult : Type 0

@@ -6,3 +6,4 @@ pub mod LinesView
 pub mod Laws
 pub mod InRange
 pub mod Calls
+pub mod Words

@@ -1,19 +1,11 @@
 -- The lines of a submission's report.
-use Rattle.std.specs.Prelude.{◌≡◌, ℕ, ◌<◌, ◌^◌, ◌==◌, Bool, not, ℤ, pos, negsuc, List, ◌++◌, length}
-use Rattle.std.specs.Prelude.{map, codes, All, IsTrue, Option}
-use Rattle.std.specs.Io.{StartsWith}
-use Rattle.std.specs.List.{flat_map, list_all}
-use Rattle.hex.specs.Hex.{IsBytes}
-use Rattle.fx_base.specs.Catalogue.{FileEntry}
+use Rattle.check_lines.specs.Words.{◌≡◌, ℕ, ◌<◌, ◌^◌, ◌==◌, Bool, not, ℤ, pos, negsuc, List, ◌++◌}
+use Rattle.check_lines.specs.Words.{length, map, codes, All, IsTrue, Option, StartsWith, flat_map}
+use Rattle.check_lines.specs.Words.{list_all, IsBytes, FileEntry, Mark, Closed, Completed, Place}
+use Rattle.check_lines.specs.Words.{Reported, closed_line, completion_lines, name_of, tag_line}
 use Rattle.fx_base.specs.Tags.{tag_completion, tags_of}
-use Rattle.fx_base.specs.declared.mark.Mark.{Mark}
 use Rattle.fx_base.specs.declared.mark.Mark.TheVariants.{Registered, Submitted}
-use Rattle.fx_base.specs.declared.open_file.Closed.{Closed}
-use Rattle.fx_chain.specs.Completed.{Completed}
-use Rattle.fx_chain.specs.declared.completion.Place.{Place}
-use Rattle.fx_ring.specs.Submission.{Reported}
 use Rattle.check_lines.specs.Reads.{ReadsPrinted}
-use Rattle.fx_print.specs.Text.{closed_line, completion_lines, name_of, tag_line}
 
 -- the content of a closed file's line
 pub record NamedClose : Type 0 where

@@ -1,7 +1,6 @@
 -- The lines that were read, as contracts see them.
-use Rattle.std.specs.Prelude.{ℕ, List, map}
+use Rattle.check_lines.specs.Words.{ℕ, List, map, all_completed}
 use Rattle.std.specs.Borrow.{Bor}
-use Rattle.fx_chain.specs.Completed.{all_completed}
 use Rattle.check_lines.specs.ClosedView.{named_close_of}
 use Rattle.check_lines.specs.Lines.{Lines}
 use Rattle.check_lines.specs.declared.report_lines.ReportLines.{ReportLines}

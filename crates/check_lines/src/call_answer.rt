@@ -1,24 +1,12 @@
 //! Calls between submissions: the ring that each leaves and the line that it prints if no
 //! allocation fails; and the line of a refused submission.
-ghost use Rattle.std.specs.Prelude.{◌≡◌, ◌+◌, ◌^◌, ◌<◌, ◌≤◌, false, IfOk, OnOk, length, None};
-ghost use Rattle.std.specs.Prelude.{All, [], List, string_bytes, unwrap_or};
-ghost use Rattle.std.specs.List.{list_any};
-ghost use Rattle.std.specs.Option.{option_to_list, MatchOption};
-ghost use Rattle.fx_base.specs.declared.catalogue.TheConstants.{MOST_ENTRIES};
+ghost use Rattle.check_lines.specs.Words.{◌≡◌, ◌+◌, ◌^◌, ◌<◌, ◌≤◌, false, IfOk, OnOk, length, None, All, [], List, string_bytes, unwrap_or, list_any};
+ghost use Rattle.check_lines.specs.Words.{option_to_list, MatchOption, MOST_ENTRIES, is_bad_entry, file_after, files_after, removed_by_number};
+ghost use Rattle.check_lines.specs.Words.{removed_from, tag_at, tags_for, table_of_slots, ring_of_slots, ring_with_slots, HasClosed};
+ghost use Rattle.check_lines.specs.Words.{ring_files_in_order, IsRing, FileEntry, fault_of, all_asked, instruction_of, refused_line, too_many_line};
 ghost use Rattle.check_lines.specs.InRange.{AreInRange};
-ghost use Rattle.fx_chain.specs.Answers.{is_bad_entry};
-ghost use Rattle.fx_ring.specs.Registration.{file_after, files_after, removed_by_number};
-ghost use Rattle.fx_ring.specs.Registration.{removed_from};
-ghost use Rattle.fx_ring.specs.Tags.{tag_at, tags_for};
 ghost use Rattle.fx_order.specs.Access.{with_file};
-ghost use Rattle.fx_order.specs.Slots.{table_of_slots, ring_of_slots, ring_with_slots};
-ghost use Rattle.fx_ring.specs.Ring.{HasClosed, ring_files_in_order, IsRing};
-ghost use Rattle.fx_base.specs.Catalogue.{FileEntry};
-ghost use Rattle.fx_chain.specs.Faults.{fault_of};
-ghost use Rattle.fx_chain.specs.Operation.{all_asked};
-ghost use Rattle.fx_language.specs.Instruction.{instruction_of};
 ghost use Rattle.fx_plain.specs.declared.table.TheConstants.{MOST_SLOTS};
-ghost use Rattle.fx_print.specs.Text.{refused_line, too_many_line};
 ghost use Rattle.check_lines.specs.Calls.{HasEntries, IsLineOf, after_call, call_of};
 
 use crate::call_head::{given, head_of};

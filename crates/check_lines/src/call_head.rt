@@ -1,17 +1,11 @@
 //! Accepted submissions, and the calls between them: the word of each, and the error with which it
 //! is refused.
-ghost use Rattle.std.specs.Prelude.{◌≡◌, ◌<◌, ◌≤◌, IfNone, IfSome, IsTrue, None, false, length};
-ghost use Rattle.std.specs.Prelude.{option_map};
+ghost use Rattle.check_lines.specs.Words.{◌≡◌, ◌<◌, ◌≤◌, IfNone, IfSome, IsTrue, None, false, length, option_map, fault_of, all_asked, SubmitsAll};
+ghost use Rattle.check_lines.specs.Words.{instruction_of, MOST_SUBMISSIONS, ring_with_slots};
 ghost use Rattle.fx_chain.specs.Accepted.{IsAccepted};
-ghost use Rattle.fx_chain.specs.Faults.{fault_of};
-ghost use Rattle.fx_chain.specs.Operation.{all_asked};
 ghost use Rattle.fx_chain.specs.Runs.{runs_of};
-ghost use Rattle.fx_language.specs.Instruction.{SubmitsAll, instruction_of};
-ghost use Rattle.fx_ring.specs.declared.ring.TheConstants.{MOST_SUBMISSIONS};
 ghost use Rattle.fx_table.specs.declared.limits.TheConstants.{MAX_CHAINS};
-ghost use Rattle.check_lines.specs.Calls.{IsCall, accepted_following, HasEntries, call_of};
-ghost use Rattle.check_lines.specs.Calls.{memory_word};
-ghost use Rattle.fx_order.specs.Slots.{ring_with_slots};
+ghost use Rattle.check_lines.specs.Calls.{IsCall, accepted_following, HasEntries, call_of, memory_word};
 
 use fx_base::{Catalogue, Errno};
 use fx_chain::{Request, check};

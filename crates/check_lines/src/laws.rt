@@ -1,10 +1,7 @@
 //! Laws of printed lines. Each is the contract of a function that does nothing.
-ghost use Rattle.std.specs.Prelude.{◌≡◌, ℕ, List};
-ghost use Rattle.fx_base.specs.Catalogue.{FileEntry};
-ghost use Rattle.fx_ring.specs.Submission.{Reported};
+ghost use Rattle.check_lines.specs.Words.{◌≡◌, List, FileEntry, Reported};
 ghost use Rattle.fx_script.specs.Text.{report_text};
-ghost use Rattle.check_lines.specs.Laws.{BeginsWithOneResult, NamesHaveNoLineEnd};
-ghost use Rattle.check_lines.specs.Laws.{PlaysBeginWithNoClose, ReportsHaveEachRequest};
+ghost use Rattle.check_lines.specs.Laws.{BeginsWithOneResult, NamesHaveNoLineEnd, PlaysBeginWithNoClose, ReportsHaveEachRequest};
 ghost use Rattle.check_lines.specs.Lines.{lines_of, lines_text};
 
 /// States that the text of a report is that of its lines.

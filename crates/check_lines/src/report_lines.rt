@@ -1,20 +1,15 @@
 //! Parses the printed lines of a submission's report: words and numbers, lines, and all lines of a
 //! report. What a text reads as is printed again and compared, so that of a text that isn't printed
 //! so any value may be parsed.
-ghost use Rattle.std.specs.Prelude.{◌≡◌, ◌++◌, ◌≤◌, ◌<◌, ◌^◌, ℕ, ℤ, List, decimal, IfOk, IfNone, IfSome};
-ghost use Rattle.std.specs.Prelude.{codes, map, drop, get_or, false, option_map};
+ghost use Rattle.check_lines.specs.Words.{◌≡◌, ◌++◌, ◌≤◌, ◌<◌, ◌^◌, ℕ, ℤ, List, decimal, IfOk, IfNone, IfSome, codes, map, drop, get_or, false};
+ghost use Rattle.check_lines.specs.Words.{option_map, encode_lower, IsBytes, Mark as FileMark, Completed, all_completed, completed_of};
+ghost use Rattle.check_lines.specs.Words.{Place as RequestPlace, completion_line, mark_text, place_text};
 ghost use Rattle.check_lines.specs.Front.{AreAll, AreFirst, HasLength, IsCut};
 ghost use Rattle.check_lines.specs.Reads.{ReadsPrinted};
 ghost use Rattle.std.specs.Fmt.{signed_decimal};
-ghost use Rattle.check_lines.specs.Lines.{IsResultInRange, IsCompletionInRange, IsPlaceInRange};
-ghost use Rattle.check_lines.specs.Lines.{IsCloseInRange, IsMarkInRange, line_of_tag, named_line};
-ghost use Rattle.check_lines.specs.Lines.{ReadsReport};
-ghost use Rattle.hex.specs.Hex.{encode_lower, IsBytes};
-ghost use Rattle.fx_base.specs.declared.mark.Mark.{Mark as FileMark};
-ghost use Rattle.fx_chain.specs.Completed.{Completed, all_completed, completed_of};
-ghost use Rattle.fx_chain.specs.declared.completion.Place.{Place as RequestPlace};
+ghost use Rattle.check_lines.specs.Lines.{IsResultInRange, IsCompletionInRange, IsPlaceInRange, IsCloseInRange, IsMarkInRange, line_of_tag};
+ghost use Rattle.check_lines.specs.Lines.{named_line, ReadsReport};
 ghost use Rattle.fx_language.specs.Words.{is_digit};
-ghost use Rattle.fx_print.specs.Text.{completion_line, mark_text, place_text};
 ghost use Rattle.check_lines.specs.ClosedView.{named_close_of};
 ghost use Rattle.check_lines.specs.LinesView.{front_of};
 

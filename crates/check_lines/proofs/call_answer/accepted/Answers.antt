@@ -1,4 +1,4 @@
-use Rattle.check_lines.proofs.Words.{ℕ, ap, Table, ring_with_slots}
+use Rattle.check_lines.proofs.{ℕ, ap, Table, ring_with_slots}
 use Rattle.check_lines.proofs.Calls.{none_in_range, same_in_range}
 use Rattle.check_lines.proofs.call_answer.accepted.Goals as goal
 

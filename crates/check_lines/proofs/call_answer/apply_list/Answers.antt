@@ -1,8 +1,7 @@
-use Rattle.check_lines.proofs.Words.{append-nil, drop-length, ◌≡◌, ◌+◌, ℕ, [], ◌∷◌, pos, to_z, of_z, w32, slice_index_or, ap}
-use Rattle.check_lines.proofs.Words.{subst, sym, ◌∙◌, rules, arith, length, upto_none, upto_all, option_to_list, Registered, Table, with_file}
-use Rattle.check_lines.proofs.Words.{table_of_slots, file_after, tags_for, AreInRange}
+use Rattle.check_lines.proofs.{append-nil, drop-length, ◌≡◌, ◌+◌, ℕ, [], ◌∷◌, pos, to_z, of_z, w32, slice_index_or, ap, subst, sym, ◌∙◌, rules, arith}
+use Rattle.check_lines.proofs.{length, upto_none, upto_all, option_to_list, Registered, Table, with_file, table_of_slots, file_after, tags_for}
+use Rattle.check_lines.proofs.{AreInRange, in_range_after, one_more, more_removed}
 use Rattle.std.proofs.Math.Nat.{add-zero}
-use Rattle.check_lines.proofs.Entries.{in_range_after, one_more, more_removed}
 use Rattle.check_lines.proofs.call_answer.apply_list.Goals.{in-Some+in_ok-push, in_default}
 use Rattle.check_lines.proofs.call_answer.apply_list.Goals as goal
 

@@ -1,4 +1,4 @@
-use Rattle.check_lines.proofs.Words.{◌≡◌, ◌+◌, ◌++◌, drop, table_of_slots, removed_from, tags_for, files_upto, AreInRange}
+use Rattle.check_lines.proofs.{◌≡◌, ◌+◌, ◌++◌, drop, table_of_slots, removed_from, tags_for, files_upto, AreInRange}
 use Rattle.check_lines.proofs.call_answer.apply_list.Given as goal
 
 abbrev pub invariant-loop-i : goal.invariant-loop-i

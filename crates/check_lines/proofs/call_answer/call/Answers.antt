@@ -1,7 +1,6 @@
-use Rattle.check_lines.proofs.Words.{instruction_of, IsNoSubmission, ◌≡◌, ◌<◌, ◌^◌, ◌∙◌, ap, sym, pos, to_z, w64, arith, length, string_bytes, ℤ}
-use Rattle.check_lines.proofs.Words.{ints, ring_with_slots, result_line, rules, RingState, None, Some}
+use Rattle.check_lines.proofs.{instruction_of, IsNoSubmission, ◌≡◌, ◌<◌, ◌^◌, ◌∙◌, ap, sym, pos, to_z, w64, arith, length, string_bytes, ℤ, ints}
+use Rattle.check_lines.proofs.{ring_with_slots, result_line, rules, RingState, None, Some, AreOf, all_closed, closed_files}
 use Rattle.check_lines.proofs.Calls.{few_told, copy_in_range, still, accepted_line}
-use Rattle.check_lines.proofs.Entries.{AreOf, all_closed, closed_files}
 use Rattle.check_lines.proofs.call_answer.call.Goals.{After-deref-2}
 use Rattle.check_lines.proofs.call_answer.call.Goals as goal
 

@@ -1,4 +1,4 @@
-use Rattle.check_lines.proofs.Words.{◌≡◌, ◌+◌, length, take}
+use Rattle.check_lines.proofs.{◌≡◌, ◌+◌, length, take}
 use Rattle.check_lines.proofs.call_answer.close_in_order.Given as goal
 
 abbrev pub invariant-loop-file : goal.invariant-loop-file

@@ -1,6 +1,4 @@
-use Rattle.check_lines.proofs.Words.{inl, inr, rules}
-use Rattle.check_lines.proofs.Cuts.{bytes_fit, none_other, same_bytes}
-use Rattle.check_lines.proofs.CompletionTexts.{no_bytes}
+use Rattle.check_lines.proofs.{inl, inr, rules, bytes_fit, none_other, same_bytes, no_bytes}
 use Rattle.check_lines.proofs.report_lines.bytes_of.Goals as goal
 
 pub returns-in-Ok : goal.returns-in-Ok

@@ -1,7 +1,5 @@
-use Rattle.check_lines.proofs.Words.{FitsSigned, w32, to_z-of_z, rules, drop, List, ℕ, ◌∙◌, ◌++◌, ap, sym, not, refl, ◌∷◌, ◌==◌, append_assoc, got_text, and_from}
-use Rattle.check_lines.proofs.Words.{list_all-append, signed_decimal}
-use Rattle.check_lines.proofs.Cuts.{got_behind, got_begins, got_without, parts_are}
-use Rattle.check_lines.proofs.Decimals.{result_without}
+use Rattle.check_lines.proofs.{FitsSigned, w32, to_z-of_z, rules, drop, List, ℕ, ◌∙◌, ◌++◌, ap, sym, not, refl, ◌∷◌, ◌==◌, append_assoc, got_text}
+use Rattle.check_lines.proofs.{and_from, list_all-append, signed_decimal, got_behind, got_begins, got_without, parts_are, result_without}
 use Rattle.check_lines.proofs.report_lines.completion_of.Goals as goal
 
 pub returns-clause-parsed : goal.returns-clause-parsed

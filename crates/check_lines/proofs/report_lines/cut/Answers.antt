@@ -1,5 +1,4 @@
-use Rattle.check_lines.proofs.Words.{take_rest}
-use Rattle.check_lines.proofs.Cuts.{cut_here}
+use Rattle.check_lines.proofs.{take_rest, cut_here}
 use Rattle.check_lines.proofs.report_lines.cut.Goals as goal
 
 pub returns-then-b-at : goal.returns-then-b-at

@@ -1,4 +1,4 @@
-use Rattle.check_lines.proofs.Words.{◌≡◌, take, true, is_without}
+use Rattle.check_lines.proofs.{◌≡◌, take, true, is_without}
 use Rattle.check_lines.proofs.report_lines.cut.Given as goal
 
 -- no byte so far is the one at which the text is cut

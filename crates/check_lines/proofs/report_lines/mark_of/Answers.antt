@@ -1,4 +1,5 @@
-use Rattle.check_lines.proofs.Words.{List, ℕ, ◌∷◌, ◌++◌, ◌∙◌, sym, refl, append_assoc, append_cancel_left, codes, decimal, place_text, Place, Registered, Submitted}
+use Rattle.check_lines.proofs.{List, ℕ, ◌∷◌, ◌++◌, ◌∙◌, sym, refl, append_assoc, append_cancel_left, codes, decimal, place_text, Place, Registered}
+use Rattle.check_lines.proofs.{Submitted}
 use Rattle.check_lines.proofs.PlaysBegin.{digit_first}
 use Rattle.check_lines.proofs.report_lines.mark_of.Goals as goal
 

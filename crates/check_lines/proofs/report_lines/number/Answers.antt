@@ -1,5 +1,4 @@
-use Rattle.check_lines.proofs.Words.{arith, ◌∙◌, ap, unwrap_or}
-use Rattle.check_lines.proofs.Decimals.{at_most, number_is}
+use Rattle.check_lines.proofs.{arith, ◌∙◌, ap, unwrap_or, at_most, number_is}
 use Rattle.check_lines.proofs.report_lines.number.Goals as goal
 
 pub returns : goal.returns

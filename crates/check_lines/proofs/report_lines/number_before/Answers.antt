@@ -1,6 +1,4 @@
-use Rattle.check_lines.proofs.Words.{drop, ◌∙◌, ap, sym, arith, decimal}
-use Rattle.check_lines.proofs.Cuts.{parts_are}
-use Rattle.check_lines.proofs.Decimals.{decimal_without}
+use Rattle.check_lines.proofs.{drop, ◌∙◌, ap, sym, arith, decimal, parts_are, decimal_without}
 use Rattle.check_lines.proofs.report_lines.number_before.Goals as goal
 
 pub returns : goal.returns

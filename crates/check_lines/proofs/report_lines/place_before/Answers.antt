@@ -1,4 +1,4 @@
-use Rattle.check_lines.proofs.Words.{List, ℕ, ◌∙◌, ◌++◌, sym, refl, ◌∷◌, append_assoc, decimal}
+use Rattle.check_lines.proofs.{List, ℕ, ◌∙◌, ◌++◌, sym, refl, ◌∷◌, append_assoc, decimal}
 use Rattle.check_lines.proofs.report_lines.place_before.Goals as goal
 
 pub returns-clause-parsed : goal.returns-clause-parsed

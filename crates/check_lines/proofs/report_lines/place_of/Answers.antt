@@ -1,4 +1,4 @@
-use Rattle.check_lines.proofs.Words.{◌∙◌, ◌++◌, [], List, ℕ, sym, ap, refl, append-nil, place_text, Decides-eqb, slice_eq-Decides, true≢false}
+use Rattle.check_lines.proofs.{◌∙◌, ◌++◌, [], List, ℕ, sym, ap, refl, append-nil, place_text, Decides-eqb, slice_eq-Decides, true≢false}
 use Rattle.check_lines.proofs.report_lines.place_of.Goals as goal
 
 pub returns : goal.returns

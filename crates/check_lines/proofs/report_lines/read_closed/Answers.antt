@@ -1,5 +1,5 @@
-use Rattle.check_lines.proofs.Words.{◌≡◌, ◌++◌, ◌∷◌, [], ℕ, List, sym, rules, codes, mark_text, flat_map, named_line, map-append}
-use Rattle.check_lines.proofs.ReportTexts.{close_is, goes_on, next_line, no_next, one_close, one_mark}
+use Rattle.check_lines.proofs.{◌≡◌, ◌++◌, ◌∷◌, [], ℕ, List, sym, rules, codes, mark_text, flat_map, named_line, map-append, close_is, goes_on}
+use Rattle.check_lines.proofs.{next_line, no_next, one_close, one_mark}
 use Rattle.check_lines.proofs.report_lines.read_closed.Goals as goal
 
 pub returns-in_default-rest_after : goal.returns-in_default-rest_after

@@ -1,5 +1,4 @@
-use Rattle.check_lines.proofs.Words.{length, map, codes, named_close_of, AreAll, IsCloseInRange, named_line}
-use Rattle.check_lines.proofs.ReportTexts.{HasFirst}
+use Rattle.check_lines.proofs.{length, map, codes, named_close_of, AreAll, IsCloseInRange, named_line, HasFirst}
 use Rattle.check_lines.proofs.report_lines.read_closed.Given as goal
 
 abbrev pub decreases-loop-tail : goal.decreases-loop-tail

@@ -1,6 +1,5 @@
-use Rattle.check_lines.proofs.Words.{◌≡◌, ◌∙◌, ◌++◌, ℕ, List, ◌≤◌, [], ◌∷◌, length, sym, ap, arith, length-append, map-append}
-use Rattle.check_lines.proofs.Words.{all_completed, completion_line, flat_map, length-map, completed_of}
-use Rattle.check_lines.proofs.ReportTexts.{next_line, no_next}
+use Rattle.check_lines.proofs.{◌≡◌, ◌∙◌, ◌++◌, ℕ, List, ◌≤◌, [], ◌∷◌, length, sym, ap, arith, length-append, map-append, all_completed}
+use Rattle.check_lines.proofs.{completion_line, flat_map, length-map, completed_of, next_line, no_next}
 use Rattle.check_lines.proofs.report_lines.read_completions.Goals as goal
 
 pub returns-in_default : goal.returns-in_default

@@ -1,5 +1,4 @@
-use Rattle.check_lines.proofs.Words.{◌≡◌, length, HasLength, IsCompletionInRange, all_completed, completion_line}
-use Rattle.check_lines.proofs.ReportTexts.{HasFirst}
+use Rattle.check_lines.proofs.{◌≡◌, length, HasLength, IsCompletionInRange, all_completed, completion_line, HasFirst}
 use Rattle.check_lines.proofs.report_lines.read_completions.Given as goal
 
 -- the completions so far are those of the first lines

@@ -1,7 +1,6 @@
-use Rattle.check_lines.proofs.Words.{◌∙◌, codes, sym, take, arith, length-map, completed_of, true≢false, Decides-eqb, slice_eq-Decides}
-use Rattle.check_lines.proofs.ReportTexts.{no_report, one_report}
-use Rattle.check_lines.proofs.report_lines.read_report.Goals.{then-len-count-via-then-len-count}
-use Rattle.check_lines.proofs.report_lines.read_report.Goals.{then-len-count-via-else-len-count+then-starts_with}
+use Rattle.check_lines.proofs.{◌∙◌, codes, sym, take, arith, length-map, completed_of, true≢false, Decides-eqb, slice_eq-Decides, no_report}
+use Rattle.check_lines.proofs.{one_report}
+use Rattle.check_lines.proofs.report_lines.read_report.Goals.{then-len-count-via-then-len-count, then-len-count-via-else-len-count+then-starts_with}
 use Rattle.check_lines.proofs.report_lines.read_report.Goals.{then-len-count-via-else-len-count+else-starts_with+then-starts_with-2}
 use Rattle.check_lines.proofs.report_lines.read_report.Goals as goal
 

@@ -1,5 +1,5 @@
-use Rattle.check_lines.proofs.Words.{◌≡◌, ◌∙◌, ◌++◌, ◌∷◌, [], ℕ, List, sym, ap, arith, rules, codes, decimal, flat_map, line_of_tag}
-use Rattle.check_lines.proofs.ReportTexts.{goes_on, next_line, no_next, one_tag}
+use Rattle.check_lines.proofs.{◌≡◌, ◌∙◌, ◌++◌, ◌∷◌, [], ℕ, List, sym, ap, arith, rules, codes, decimal, flat_map, line_of_tag, goes_on, next_line}
+use Rattle.check_lines.proofs.{no_next, one_tag}
 use Rattle.check_lines.proofs.report_lines.read_tags.Goals as goal
 
 pub returns-in_default-rest_after : goal.returns-in_default-rest_after

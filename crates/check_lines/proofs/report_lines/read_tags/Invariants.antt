@@ -1,5 +1,4 @@
-use Rattle.check_lines.proofs.Words.{length, ◌<◌, ◌^◌, codes, AreAll, line_of_tag}
-use Rattle.check_lines.proofs.ReportTexts.{HasFirst}
+use Rattle.check_lines.proofs.{length, ◌<◌, ◌^◌, codes, AreAll, line_of_tag, HasFirst}
 use Rattle.check_lines.proofs.report_lines.read_tags.Given as goal
 
 abbrev pub decreases-loop-tail : goal.decreases-loop-tail

@@ -1,6 +1,4 @@
-use Rattle.check_lines.proofs.Words.{suc, ◌∙◌, ◌≡◌, ap, sym, [], arith, refl, ◌∷◌, pos, decimal, negsuc, is_without, ints}
-use Rattle.check_lines.proofs.Cuts.{cut_has}
-use Rattle.check_lines.proofs.Decimals.{decimal_without}
+use Rattle.check_lines.proofs.{suc, ◌∙◌, ◌≡◌, ap, sym, [], arith, refl, ◌∷◌, pos, decimal, negsuc, is_without, ints, cut_has, decimal_without}
 use Rattle.check_lines.proofs.report_lines.res_of.Goals as goal
 
 pub returns-in-Some-clause-parsed : goal.returns-in-Some-clause-parsed

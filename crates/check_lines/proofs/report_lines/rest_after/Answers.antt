@@ -1,4 +1,4 @@
-use Rattle.check_lines.proofs.Words.{Decides-eqb, rules, strip_prefix_is}
+use Rattle.check_lines.proofs.{Decides-eqb, rules, strip_prefix_is}
 use Rattle.check_lines.proofs.report_lines.rest_after.Goals as goal
 
 pub returns : goal.returns
