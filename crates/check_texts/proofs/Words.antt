@@ -1,23 +1,22 @@
 -- The names that most proofs of this crate use.
-pub use Rattle.check_lines.proofs.Words.{IsResultInRange, CloseListView, ENOMEM, negated, fault_of, CutFault, MOST_SLOTS, closes_text, refused_line}
-pub use Rattle.check_lines.proofs.Words.{too_many_line, teardown_text, completion_lines, none_rings, MOST_SUBMISSIONS, lt-leb, Slots, ring_with_slots}
+pub use Rattle.check_lines.proofs.Words.{IsResultInRange, CloseListView, ENOMEM, negated, fault_of, MOST_SLOTS, closes_text, teardown_text}
+pub use Rattle.check_lines.proofs.Words.{completion_lines, none_rings, MOST_SUBMISSIONS, lt-leb, Slots, ring_with_slots}
 pub use Rattle.check_outcomes.proofs.Words.{All-push, All-permutation, HasEachEnd, HasEachReport, IsAnswer, IsPossible, ring_following, IsReportBy}
 pub use Rattle.check_outcomes.proofs.Words.{MayReport, ReportsOf, Table, Contains-append_left, Errno, all_asked, ChainAccess, IsAccepted}
 pub use Rattle.fx_order.proofs.Words.{Completed, completed_of, cases_Bool, FileEntry, All-nil, IsPermutation-sym, Place, bytes_decides, either_way}
 pub use Rattle.fx_order.proofs.Words.{contains_head, All-cons, Contains-append_right, IsPermutation-refl, IsPermutation-middle, Closed, Asked}
 pub use Rattle.fx_order.proofs.Words.{AreKnown, ring_left, All-contains, IsPermutation-trans, IsPermutation-cons}
-pub use Rattle.std.proofs.Common.{None, arith, drop, inl, length, nat_le, string_bytes, suc, take, zero, ◌++◌, ◌^◌, false, inr, ◌+◌, ◌<◌, ◌∙◌, ◌≡◌}
-pub use Rattle.std.proofs.Common.{ap, refl, ⊎_elim, ◌∷◌, ◌⊎◌, Bool, Option, if◌then◌else◌, slice_get, true, ◌≤◌, [], subst, map, ℕ, slice_index_or}
-pub use Rattle.std.proofs.Common.{List, Some, sym, Global, String, ltb-true, add-one, length-append, append_assoc, take_all, append-nil}
-pub use Rattle.std.proofs.Common.{take-append-drop, MatchBool, Bor, IsPermutation, MatchOption, option_to_list, All, IfSome, ◌-◌, Contains, IsTrue}
-pub use Rattle.std.proofs.Common.{min, string_eq, not, true≢false, rules, option_map, reverse}
+pub use Rattle.std.proofs.Common.{None, arith, drop, inl, length, string_bytes, suc, take, zero, ◌++◌, ◌^◌, false, inr, ◌+◌, ◌<◌, ◌∙◌, ◌≡◌, ap, refl}
+pub use Rattle.std.proofs.Common.{⊎_elim, ◌∷◌, ◌⊎◌, Bool, Option, slice_get, true, ◌≤◌, [], subst, map, ℕ, slice_index_or, List, Some, sym, Global}
+pub use Rattle.std.proofs.Common.{String, ltb-true, add-one, length-append, append_assoc, take_all, append-nil, take-append-drop, Bor, IsPermutation}
+pub use Rattle.std.proofs.Common.{option_to_list, All, IfSome, ◌-◌, Contains, IsTrue, min, string_eq, not, true≢false, rules, option_map, reverse}
 pub use Rattle.check_lines.proofs.Cuts.{from_here}
 pub use Rattle.check_lines.proofs.Entries.{AreOf, all_closed, all_of_ring, few_of_ring, shown, refusal_other, end_printed}
 pub use Rattle.check_lines.specs.Calls.{call_of, after_call, IsCall, IsLineOf, accepted_following, AnswersFound}
 pub use Rattle.check_outcomes.specs.declared.outcomes.PossibleAnswer.{PossibleAnswer}
 pub use Rattle.check_outcomes.specs.declared.outcomes.PossibleReport.{PossibleReport}
 pub use Rattle.check_texts.specs.Layers.{AreAllCounted, AreCounted, AreExits, AreRests, AreWaysBy, AreWaysOf, IsLayer, IsRest, bare, commands_in}
-pub use Rattle.check_texts.specs.Layers.{rests_in, ways_at, ways_by, ways_of}
+pub use Rattle.check_texts.specs.Layers.{rests_in, ways_at, ways_by}
 pub use Rattle.check_texts.specs.Rings.{AreStagesFrom, Grows, HasEachFrom, HasEachLast, HasEachNextStage, HasEachSaidFrom, LeadsRing, LeadsAll}
 pub use Rattle.check_texts.specs.Rings.{MayEnd, MayLeadAllTo, MayLeadTo, MaySay, Stage, count_after, count_after_all, kept_text, said_in, stage}
 pub use Rattle.check_texts.specs.Rings.{stage_of, stage_reported, stages_of, AreSaidFrom, IsAskedIn, AreRings}

@@ -1,14 +1,11 @@
 -- The exits of rings, and what is kept of their ways.
-use Rattle.std.specs.Prelude.{◌≡◌, ℕ, List, [], ◌∷◌, Option, Some, None, true, Contains}
-use Rattle.std.specs.Prelude.{IsTrue, All, length, map, slice_get, string_bytes, take}
+use Rattle.check_texts.specs.Words.{◌≡◌, ℕ, List, [], ◌∷◌, Option, Some, None, true, Contains}
+use Rattle.check_texts.specs.Words.{IsTrue, All, length, map, slice_get, string_bytes, take}
+use Rattle.check_texts.specs.Words.{flat_map, FileEntry, Instruction, instruction_of}
+use Rattle.check_texts.specs.Words.{ring_with_slots, RingContents, ring_of}
 use Rattle.std.specs.Global.{Vec}
-use Rattle.std.specs.List.{flat_map}
-use Rattle.fx_base.specs.Catalogue.{FileEntry}
-use Rattle.fx_language.specs.Instruction.{Instruction, instruction_of}
-use Rattle.fx_order.specs.Slots.{ring_with_slots}
 use Rattle.fx_order.specs.declared.ring_slots.RingSlots.{RingSlots}
 use Rattle.check_texts.specs.Rings.{HasEachNextStage, MayLeadTo, Stage, stages_of}
-use Rattle.fx_ring.specs.Ring.{RingContents, ring_of}
 use Rattle.check_texts.specs.Ways.{AreDistinct, AreWays, CountsUpTo, GoesBy, ways_after}
 use Rattle.check_texts.specs.declared.layers.Exits.{Exits}
 use Rattle.check_texts.specs.declared.layers.Layer.{Layer}

@@ -1,20 +1,11 @@
 -- The rings that commands may lead to if no allocation fails.
-use Rattle.std.specs.Prelude.{◌≡◌, ◌⊎◌, ℕ, ◌+◌, List, [], ◌∷◌, ◌++◌, map, string_bytes}
-use Rattle.std.specs.Prelude.{Bool, true, false, Option, Contains, IsTrue}
-use Rattle.fx_base.specs.Catalogue.{FileEntry}
-use Rattle.fx_chain.specs.Completed.{Completed, completed_of}
-use Rattle.fx_chain.specs.Faults.{fault_of}
-use Rattle.fx_chain.specs.Operation.{Asked, all_asked}
-use Rattle.fx_chain.specs.declared.completion.Place.{Place}
-use Rattle.check_outcomes.specs.Outcomes.{ring_following}
+use Rattle.check_texts.specs.Words.{◌≡◌, ◌⊎◌, ℕ, ◌+◌, List, [], ◌∷◌, ◌++◌, map, string_bytes, Bool}
+use Rattle.check_texts.specs.Words.{true, false, Option, Contains, IsTrue, FileEntry, Completed}
+use Rattle.check_texts.specs.Words.{completed_of, fault_of, Asked, all_asked, Place, ring_following}
+use Rattle.check_texts.specs.Words.{IsRing, RingContents, RingState, ring_of, Reported, reported}
+use Rattle.check_texts.specs.Words.{Instruction, SubmitsAll, instructions_of, ring_with_slots}
+use Rattle.check_texts.specs.Words.{Prints, report_text, accepted_following}
 use Rattle.check_outcomes.specs.declared.outcomes.PossibleReport.{PossibleReport}
-use Rattle.fx_ring.specs.Ring.{IsRing, RingContents, RingState, ring_of}
-use Rattle.fx_ring.specs.Submission.{Reported, reported}
-use Rattle.fx_language.specs.Instruction.{Instruction, SubmitsAll, instructions_of}
-use Rattle.fx_order.specs.Slots.{ring_with_slots}
-use Rattle.fx_script.specs.Play.{Prints}
-use Rattle.fx_script.specs.Text.{report_text}
-use Rattle.check_lines.specs.Calls.{accepted_following}
 use Rattle.check_texts.specs.Texts.{FoundMemory, IsReportFound, PrintsAllFound}
 use Rattle.check_texts.specs.declared.walk.Inquiry.{Inquiry}
 use Rattle.check_texts.specs.declared.request_answers.Said.{Said}

@@ -1,20 +1,13 @@
 -- The texts of a script in which memory was found, and what its requests may answer in them (this
 -- project's own).
-use Rattle.std.specs.Prelude.{◌≡◌, ℕ, List, [], ◌∷◌, ◌++◌, codes, Option, Some, None, Contains}
+use Rattle.check_texts.specs.Words.{◌≡◌, ℕ, List, [], ◌∷◌, ◌++◌, codes, Option, Some, None}
+use Rattle.check_texts.specs.Words.{Contains, Completed, negated, Asked, Place, RingContents}
+use Rattle.check_texts.specs.Words.{ring_of, Reported, MayReport, Instruction, MakesSparse}
+use Rattle.check_texts.specs.Words.{RegistersList, Unregisters, SetsRange, UpdatesRing, SubmitsAll}
+use Rattle.check_texts.specs.Words.{Meaning, IsNewRing, IsText, Prints, PrintsEnd, report_text}
 use Rattle.std.specs.Option.{option_to_list}
 use Rattle.fx_base.specs.declared.errno.Errno.TheVariants.{ENOMEM}
-use Rattle.fx_chain.specs.Completed.{Completed, negated}
-use Rattle.fx_chain.specs.Operation.{Asked}
-use Rattle.fx_chain.specs.declared.completion.Place.{Place}
-use Rattle.fx_ring.specs.Ring.{RingContents, ring_of}
-use Rattle.fx_ring.specs.Submission.{Reported}
-use Rattle.check_outcomes.specs.Outcomes.{MayReport}
-use Rattle.fx_language.specs.Instruction.{Instruction, MakesSparse, RegistersList, Unregisters}
-use Rattle.fx_language.specs.Instruction.{SetsRange, UpdatesRing, SubmitsAll}
-use Rattle.fx_language.specs.Script.{Meaning}
 use Rattle.fx_print.specs.Text.{result_line}
-use Rattle.fx_script.specs.Play.{IsNewRing, IsText, Prints, PrintsEnd}
-use Rattle.fx_script.specs.Text.{report_text}
 
 -- a call between submissions found memory: its line isn't its word and -12
 abbrev pub HasFound : List ℕ → List ℕ → Type 0

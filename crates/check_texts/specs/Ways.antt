@@ -1,11 +1,8 @@
 -- The ways by which the plays of a script go if no allocation fails: the lines that each command
 -- prints, and those of the end.
-use Rattle.std.specs.Prelude.{◌≡◌, ℕ, ◌≤◌, ◌<◌, ◌^◌, ◌-◌, List, [], ◌∷◌, Bool, Contains}
-use Rattle.std.specs.Prelude.{IsTrue, length, map}
-use Rattle.fx_language.specs.Instruction.{Instruction}
-use Rattle.fx_language.specs.Script.{Meaning}
-use Rattle.fx_ring.specs.Ring.{IsRing, RingContents, RingState, ring_of}
-use Rattle.fx_script.specs.Play.{IsNewRing, PrintsEnd}
+use Rattle.check_texts.specs.Words.{◌≡◌, ℕ, ◌≤◌, ◌<◌, ◌^◌, ◌-◌, List, [], ◌∷◌, Bool, Contains}
+use Rattle.check_texts.specs.Words.{IsTrue, length, map, Instruction, Meaning, IsRing, RingContents}
+use Rattle.check_texts.specs.Words.{RingState, ring_of, IsNewRing, PrintsEnd}
 use Rattle.check_texts.specs.Rings.{LeadsRing, Stage}
 
 -- the commands print these, one after another, and then the end of the script prints the last

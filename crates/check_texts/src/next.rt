@@ -1,18 +1,8 @@
 //! The rings that one command may lead to.
-ghost use Rattle.std.specs.Prelude.{◌≡◌, ◌++◌, ◌<◌, ◌≤◌, All, IfOk, IsTrue, List};
-ghost use Rattle.std.specs.Prelude.{Contains, None, OnOk, length, string_bytes};
-ghost use Rattle.fx_base.specs.Catalogue.{FileEntry};
-ghost use Rattle.fx_chain.specs.Accepted.{IsAccepted};
-ghost use Rattle.fx_chain.specs.Faults.{fault_of};
-ghost use Rattle.fx_chain.specs.Operation.{all_asked};
-ghost use Rattle.fx_language.specs.Instruction.{SubmitsAll, instruction_of};
-ghost use Rattle.fx_order.specs.Slots.{ring_with_slots};
-ghost use Rattle.fx_plain.specs.declared.table.TheConstants.{MOST_SLOTS};
-ghost use Rattle.fx_ring.specs.Ring.{IsRing};
-ghost use Rattle.fx_ring.specs.declared.ring.TheConstants.{MOST_SUBMISSIONS};
-ghost use Rattle.check_lines.specs.Calls.{IsCall};
-ghost use Rattle.check_texts.specs.Rings.{Grows, AppendsNext, kept_text, stage_of, stage_reported};
-ghost use Rattle.check_texts.specs.Rings.{stages_of};
+ghost use Rattle.check_texts.specs.Words.{◌≡◌, ◌++◌, ◌<◌, ◌≤◌, All, IfOk, IsTrue, List, Contains, None, OnOk, length, string_bytes, FileEntry};
+ghost use Rattle.check_texts.specs.Words.{IsAccepted, fault_of, all_asked, SubmitsAll, instruction_of, ring_with_slots, MOST_SLOTS, IsRing};
+ghost use Rattle.check_texts.specs.Words.{MOST_SUBMISSIONS, IsCall};
+ghost use Rattle.check_texts.specs.Rings.{Grows, AppendsNext, kept_text, stage_of, stage_reported, stages_of};
 
 use crate::walk::{Reached, Spent, WalkSetting};
 use check_lines::{accepted_in, call};

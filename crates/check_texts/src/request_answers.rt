@@ -1,16 +1,8 @@
 //! The answers that a request of a script can give, each in a play to the end of the script.
-ghost use Rattle.std.specs.Prelude.{◌≡◌, ◌⊎◌, ◌+◌, ◌<◌, ◌≤◌, All, Contains};
-ghost use Rattle.std.specs.Prelude.{IfNone, IfOk, IfSome, IsTrue, length};
-ghost use Rattle.fx_chain.specs.Completed.{Completed, completed_of};
-ghost use Rattle.fx_chain.specs.Operation.{all_asked};
-ghost use Rattle.fx_language.specs.Instruction.{instructions_of};
-ghost use Rattle.fx_order.specs.Slots.{ring_of_slots, ring_with_slots};
-ghost use Rattle.fx_plain.specs.declared.table.TheConstants.{MOST_SLOTS};
-ghost use Rattle.fx_ring.specs.declared.ring.TheConstants.{MOST_SUBMISSIONS};
-ghost use Rattle.fx_ring.specs.Ring.{IsRing};
-ghost use Rattle.check_texts.specs.Rings.{AreRings, AreSaidFrom, Grows, HasEachSaid};
-ghost use Rattle.check_texts.specs.Rings.{HasEachSaidFrom, IsAskedIn, MayEnd, MaySay};
-ghost use Rattle.check_texts.specs.Rings.{count_after_all, said_in, stages_of};
+ghost use Rattle.check_texts.specs.Words.{◌≡◌, ◌⊎◌, ◌+◌, ◌<◌, ◌≤◌, All, Contains, IfNone, IfOk, IfSome, IsTrue, length, Completed, completed_of};
+ghost use Rattle.check_texts.specs.Words.{all_asked, instructions_of, ring_of_slots, ring_with_slots, MOST_SLOTS, MOST_SUBMISSIONS, IsRing};
+ghost use Rattle.check_texts.specs.Rings.{AreRings, AreSaidFrom, Grows, HasEachSaid, HasEachSaidFrom, IsAskedIn, MayEnd, MaySay, count_after_all};
+ghost use Rattle.check_texts.specs.Rings.{said_in, stages_of};
 ghost use Rattle.check_texts.specs.Texts.{MayAnswerIn};
 
 use crate::next::{both, push_next};

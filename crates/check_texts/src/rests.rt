@@ -1,12 +1,8 @@
 //! The ways of rings to the end of a script, and their number.
-ghost use Rattle.std.specs.Prelude.{◌≡◌, ◌++◌, [], ◌∷◌, All, IfOk, IfSome, IsTrue, List, OnOk};
-ghost use Rattle.std.specs.Prelude.{Some, map, slice_get, string_bytes, true};
-ghost use Rattle.fx_base.specs.Catalogue.{FileEntry};
-ghost use Rattle.fx_language.specs.Instruction.{Instruction};
-ghost use Rattle.fx_order.specs.Slots.{ring_with_slots};
+ghost use Rattle.check_texts.specs.Words.{◌≡◌, ◌++◌, [], ◌∷◌, All, IfOk, IfSome, IsTrue, List, OnOk, Some, map, slice_get, string_bytes, true};
+ghost use Rattle.check_texts.specs.Words.{FileEntry, Instruction, ring_with_slots};
 ghost use Rattle.check_texts.specs.Rings.{MayLeadTo, Stage, stage_of, stages_of};
-ghost use Rattle.check_texts.specs.Layers.{AreExits, AreRests, AreWaysBy, AreWaysOf, IsLayer};
-ghost use Rattle.check_texts.specs.Layers.{IsRest, bare, commands_in, rests_in, ways_at};
+ghost use Rattle.check_texts.specs.Layers.{AreExits, AreRests, AreWaysBy, AreWaysOf, IsLayer, IsRest, bare, commands_in, rests_in, ways_at};
 ghost use Rattle.check_texts.specs.Ways.{AreBare, IsBare};
 
 use crate::layers::{Exits, Layers};

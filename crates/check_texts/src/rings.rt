@@ -1,12 +1,7 @@
 //! The rings that commands may lead to, one after another.
-ghost use Rattle.std.specs.Prelude.{◌≡◌, [], ◌∷◌, IfOk, IsTrue, Contains, List, length};
-ghost use Rattle.fx_base.specs.Catalogue.{FileEntry};
-ghost use Rattle.fx_language.specs.Instruction.{instruction_of, instructions_of};
-ghost use Rattle.fx_order.specs.Slots.{ring_with_slots};
-ghost use Rattle.fx_ring.specs.Ring.{new_ring};
-ghost use Rattle.check_texts.specs.Rings.{AreStagesFrom, AreRings, HasEachFrom, HasEachLast};
-ghost use Rattle.check_texts.specs.Rings.{MayLeadAllTo};
-ghost use Rattle.check_texts.specs.Rings.{Stage, stages_of};
+ghost use Rattle.check_texts.specs.Words.{◌≡◌, [], ◌∷◌, IfOk, IsTrue, Contains, List, length, FileEntry, instruction_of, instructions_of};
+ghost use Rattle.check_texts.specs.Words.{ring_with_slots, new_ring};
+ghost use Rattle.check_texts.specs.Rings.{AreStagesFrom, AreRings, HasEachFrom, HasEachLast, MayLeadAllTo, Stage, stages_of};
 
 use crate::next::{both, push_next};
 use crate::walk::{Reached, Spent, WalkSetting};

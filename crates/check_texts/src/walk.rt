@@ -1,14 +1,8 @@
 //! A walk through a script: its setting, the request that is asked for, the rings that it reaches,
 //! the orders that it keeps, and how much of its limits it has used. Nothing is proved of these
 //! numbers, which only bound the walk.
-ghost use Rattle.std.specs.Prelude.{◌≡◌, ◌+◌, ◌<◌, ◌≤◌, IfOk, List, None, length};
-ghost use Rattle.fx_base.specs.Catalogue.{FileEntry, IsCatalogue};
-ghost use Rattle.fx_chain.specs.Accepted.{IsAccepted};
-ghost use Rattle.fx_chain.specs.Faults.{fault_of};
-ghost use Rattle.fx_chain.specs.Operation.{all_asked};
-ghost use Rattle.fx_order.specs.Slots.{ring_of_slots, ring_with_slots};
-ghost use Rattle.fx_plain.specs.declared.table.TheConstants.{MOST_SLOTS};
-ghost use Rattle.fx_ring.specs.declared.ring.TheConstants.{MOST_SUBMISSIONS};
+ghost use Rattle.check_texts.specs.Words.{◌≡◌, ◌+◌, ◌<◌, ◌≤◌, IfOk, List, None, length, FileEntry, IsCatalogue, IsAccepted, fault_of, all_asked};
+ghost use Rattle.check_texts.specs.Words.{ring_of_slots, ring_with_slots, MOST_SLOTS, MOST_SUBMISSIONS};
 
 use check_search::Limits;
 use fx_base::{Catalogue, NoMemory};
