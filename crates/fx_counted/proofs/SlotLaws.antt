@@ -1,10 +1,9 @@
 -- Swaps, loads and exchanges keep the rule.
-use Rattle.fx_counted.proofs.Words.{◌≡◌, ◌≢◌, ℕ, ◌-◌, ◌<◌, ◌^◌, Bool, List, [], ◌∷◌, false, refl, subst, arith, eqb, Option, Some, None}
-use Rattle.fx_counted.proofs.Words.{inl, none, keeps, gives, rest, stepped, step, Closed, changed_at, numbered, File, Action, Put, Clear, Take}
-use Rattle.fx_counted.proofs.Words.{Allocate, name_in, slot_word_of, Agrees, HasPass, MayChange, place_of, slot_place, Sat}
-use Rattle.fx_counted.proofs.Words.{slots_of, state_after_all, Exchanges, GoesOn, turned, Change, Same, Log, Start, View, Idle, Placing}
-use Rattle.fx_counted.proofs.Words.{event_of, shown, set-get_or, ClearsKeep, TakesKeep, InstallsKeep, LoadsKeep, ExchangesKeep, Installs}
-use Rattle.fx_counted.proofs.Words.{Removes, Between, Allows, IsInRange, rules}
+use Rattle.fx_counted.proofs.Words.{◌≡◌, ◌≢◌, ℕ, ◌-◌, ◌<◌, ◌^◌, Bool, List, [], ◌∷◌, false, refl, subst, arith, eqb, Option, Some, None, inl, none}
+use Rattle.fx_counted.proofs.Words.{keeps, gives, rest, stepped, step, Closed, changed_at, numbered, File, Action, Put, Clear, Take, Allocate}
+use Rattle.fx_counted.proofs.Words.{name_in, slot_word_of, Agrees, HasPass, MayChange, place_of, slot_place, Sat, slots_of, state_after_all}
+use Rattle.fx_counted.proofs.Words.{Exchanges, GoesOn, turned, Change, Same, Log, Start, View, Idle, Placing, event_of, shown, set-get_or, ClearsKeep}
+use Rattle.fx_counted.proofs.Words.{TakesKeep, InstallsKeep, LoadsKeep, ExchangesKeep, Installs, Removes, Between, Allows, IsInRange, rules}
 use Rattle.fx_counted.proofs.Steps.{in_phase, legal_more, same_shape, Turn, turn_of, word_at, now, logged, its_work, by_turn, went, Made, far}
 use Rattle.fx_counted.proofs.Steps.{control_same}
 use prog.Atomic.{either}

@@ -1,22 +1,13 @@
 -- The rule of the lock-free table: words, places and views agree with the state that one legal
 -- history leads to.
-use Rattle.std.specs.Prelude.{◌≡◌, ℕ, ◌+◌, ◌*◌, ◌<◌, ◌≤◌, true, List, length, slice_index}
-use Rattle.std.specs.Prelude.{Option, Some, None, ◌==◌, Contains, count_by, sum_by}
-use mathlib.Core.Option.{some, none}
-use mathlib.Core.Option as maybe
-use lib.ListN.{get_elem?}
-use Rattle.fx_base.specs.Identity.{Identity}
-use Rattle.fx_plain.specs.History.{held_by}
+use Rattle.fx_counted.specs.Words.{◌≡◌, ℕ, ◌+◌, ◌*◌, ◌<◌, ◌≤◌, true, List, length, slice_index}
+use Rattle.fx_counted.specs.Words.{Option, Some, None, ◌==◌, Contains, count_by, sum_by, Identity}
+use Rattle.fx_counted.specs.Words.{held_by, numbered, File, Event, MOST_SLOTS, CHAIN_NUMBERS}
+use Rattle.fx_counted.specs.Words.{MAX_CHAINS, MAX_PASSES, PASS_LOOKS, range_of, name_in, entry_in}
+use Rattle.fx_counted.specs.Words.{takes_in, born, Log, Start, View, Work, Between, Placing}
+use Rattle.fx_counted.specs.Words.{Emptying, Idle, Holding, Retiring}
 use Rattle.fx_plain.specs.State.{State}
-use Rattle.fx_plain.specs.Table.{numbered}
-use Rattle.fx_plain.specs.declared.event.File.{File}
-use Rattle.fx_plain.specs.declared.event.Event.{Event}
-use Rattle.fx_plain.specs.declared.table.TheConstants.{MOST_SLOTS}
-use Rattle.fx_table.specs.declared.limits.TheConstants.{CHAIN_NUMBERS, MAX_CHAINS, MAX_PASSES}
-use Rattle.fx_table.specs.declared.limits.TheConstants.{PASS_LOOKS}
-use Rattle.fx_table.specs.Opening.{range_of}
 use Rattle.table_seats.specs.Together.{Together}
-use Rattle.fx_words.specs.Words.{name_in, entry_in, takes_in, born}
 use Rattle.fx_counted.specs.Control.{ControlCounts}
 use Rattle.fx_counted.specs.Counts.{looks, all_looks}
 use Rattle.fx_counted.specs.Cuts.{seats}
@@ -24,16 +15,13 @@ use Rattle.fx_counted.specs.Draws.{DrawsCount}
 use Rattle.fx_counted.specs.Layout.{control_place, draw_place, slot_place, node_place, words_for}
 use Rattle.fx_counted.specs.Layout.{home_place, homes_for}
 use Rattle.fx_counted.specs.Passes.{Shared, opening_of, slots_of, chain_numbers, IsNumber}
-use Rattle.fx_counted.specs.Passes.{state_after_all, chain_in}
-use Rattle.fx_counted.specs.Passes.{end_in, next_in, held_in, placing, looks_of, held_of}
+use Rattle.fx_counted.specs.Passes.{state_after_all, chain_in, end_in, next_in, held_in, placing}
+use Rattle.fx_counted.specs.Passes.{looks_of, held_of}
 use Rattle.fx_counted.specs.Phases.{Phase, unborn, spare, placed, seated, leaving, retired, emptied}
 use Rattle.fx_counted.specs.Phases.{closed, file_in}
-use Rattle.fx_counted.specs.declared.view.Log.{Log}
-use Rattle.fx_counted.specs.declared.view.Start.{Start}
-use Rattle.fx_counted.specs.declared.view.View.{View}
-use Rattle.fx_counted.specs.declared.view.Work.{Work}
-use Rattle.fx_counted.specs.declared.view.Work.TheVariants.{Between, Placing, Emptying}
-use Rattle.fx_table.specs.declared.values.Task.TheVariants.{Idle, Holding, Retiring}
+use mathlib.Core.Option.{some, none}
+use mathlib.Core.Option as maybe
+use lib.ListN.{get_elem?}
 
 -- the slot's word names the file at the slot, or no file
 abbrev pub Names : ℕ → Option File → Type 0

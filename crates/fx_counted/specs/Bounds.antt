@@ -1,16 +1,12 @@
 -- Bounds of the lock-free table's words: each number stays within its bits.
-use Rattle.std.specs.Prelude.{◌≡◌, ℕ, ◌+◌, ◌/◌, ◌%◌, ◌^◌, ◌<◌, ◌≤◌, Some, slice_index, sum_by}
-use mathlib.Core.Option.{some}
-use lib.ListN.{get_elem?}
-use Rattle.fx_plain.specs.declared.event.File.{File}
-use Rattle.fx_words.specs.Words.{node_in, takes_in, one_change}
+use Rattle.fx_counted.specs.Words.{◌≡◌, ℕ, ◌+◌, ◌/◌, ◌%◌, ◌^◌, ◌<◌, ◌≤◌, Some, slice_index, sum_by}
+use Rattle.fx_counted.specs.Words.{File, node_in, takes_in, one_change, Start, View, Between}
+use Rattle.fx_counted.specs.Words.{Retiring}
 use Rattle.fx_counted.specs.Agrees.{Agrees}
 use Rattle.fx_counted.specs.Layout.{control_place, draw_place, slot_place, node_place}
 use Rattle.fx_counted.specs.Passes.{Shared, slots_of, looks_of}
-use Rattle.fx_counted.specs.declared.view.Start.{Start}
-use Rattle.fx_counted.specs.declared.view.View.{View}
-use Rattle.fx_counted.specs.declared.view.Work.TheVariants.{Between}
-use Rattle.fx_table.specs.declared.values.Task.TheVariants.{Retiring}
+use mathlib.Core.Option.{some}
+use lib.ListN.{get_elem?}
 
 -- the word of a slot
 abbrev pub slot_word_in : Shared → ℕ → ℕ

@@ -1,14 +1,10 @@
 -- A pass that changes a slot, and reports the change if the slot is in the allocation range.
-use Rattle.std.specs.Prelude.{◌≡◌, ℕ, ℤ, pos, negsuc, Bool, true, false}
-use Rattle.fx_table.specs.Pass.{IsFront}
+use Rattle.fx_counted.specs.Words.{◌≡◌, ℕ, ℤ, pos, negsuc, Bool, true, false, IsFront, Change}
+use Rattle.fx_counted.specs.Words.{Outside, Same, More, Less, Log, Start}
 use Rattle.fx_counted.specs.Control.{in_change}
 use Rattle.fx_counted.specs.Laws.{HasPass, IsInRange, IsOutOfRange}
 use Rattle.fx_counted.specs.Passes.{Sat, opening_of, pass_of}
 use Rattle.fx_counted.specs.Effects.{IsInside}
-use Rattle.fx_counted.specs.declared.view.Change.{Change}
-use Rattle.fx_counted.specs.declared.view.Change.TheVariants.{Outside, Same, More, Less}
-use Rattle.fx_counted.specs.declared.view.Log.{Log}
-use Rattle.fx_counted.specs.declared.view.Start.{Start}
 
 -- a seat with one pass of the table, whose front is legal, and whose work agrees with the table
 pub record IsAtWork (k : Start) (m : Sat) : Type 0 where

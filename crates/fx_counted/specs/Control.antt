@@ -1,12 +1,7 @@
 -- The control word: how many slots of the allocation range are full, and how many passes are in a
 -- change.
-use Rattle.std.specs.Prelude.{◌≡◌, ℕ, ◌+◌, ◌/◌, ◌%◌, List, Option, sum_by}
-use Rattle.fx_plain.specs.declared.event.File.{File}
-use Rattle.fx_table.specs.FullSlots.{full_in}
-use Rattle.fx_words.specs.Words.{one_change, bias}
-use Rattle.fx_counted.specs.declared.view.Change.{Change}
-use Rattle.fx_counted.specs.declared.view.Change.TheVariants.{Outside, More, Less}
-use Rattle.fx_counted.specs.declared.view.View.{View}
+use Rattle.fx_counted.specs.Words.{◌≡◌, ℕ, ◌+◌, ◌/◌, ◌%◌, List, Option, sum_by, File, full_in}
+use Rattle.fx_counted.specs.Words.{one_change, bias, Change, Outside, More, Less, View}
 
 -- 1 between the beginning and the end of a change, otherwise 0
 abbrev pub in_change : Change → ℕ

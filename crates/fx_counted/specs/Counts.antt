@@ -1,9 +1,6 @@
 -- The number of look-ups in a history.
-use Rattle.std.specs.Prelude.{ℕ, ◌+◌, List, [], ◌∷◌, Some}
+use Rattle.fx_counted.specs.Words.{ℕ, ◌+◌, List, [], ◌∷◌, Some, Event, Action, Look}
 use Rattle.fx_plain.specs.Step.{changed_at}
-use Rattle.fx_plain.specs.declared.event.Event.{Event}
-use Rattle.fx_plain.specs.declared.event.Action.{Action}
-use Rattle.fx_plain.specs.declared.event.Action.TheVariants.{Look}
 
 -- by number, the look-ups that found its file, after one more action
 abbrev pub looks_after : (ℕ → ℕ) → Action → ℕ → ℕ

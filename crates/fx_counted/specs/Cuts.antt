@@ -1,15 +1,7 @@
 -- The views of seats, by what all shared tables have.
-use Rattle.std.specs.Prelude.{◌≡◌, []}
-use Rattle.fx_plain.specs.Contents.{Contents}
-use Rattle.fx_plain.specs.History.{part_of_pass}
-use Rattle.table_seats.specs.Seats.{Seats}
+use Rattle.fx_counted.specs.Words.{◌≡◌, [], Contents, part_of_pass, Seats, Outside, Log, Start}
+use Rattle.fx_counted.specs.Words.{View, Between, Idle}
 use Rattle.fx_counted.specs.Passes.{new_log, opening_of}
-use Rattle.fx_counted.specs.declared.view.Change.TheVariants.{Outside}
-use Rattle.fx_counted.specs.declared.view.Log.{Log}
-use Rattle.fx_counted.specs.declared.view.Start.{Start}
-use Rattle.fx_counted.specs.declared.view.View.{View}
-use Rattle.fx_counted.specs.declared.view.Work.TheVariants.{Between}
-use Rattle.fx_table.specs.declared.values.Task.TheVariants.{Idle}
 
 -- a table without slots
 abbrev pub empty_table : Contents

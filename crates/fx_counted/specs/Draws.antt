@@ -1,9 +1,7 @@
 -- The draw word: how many chains were drawn, and how many passes got `None`.
-use Rattle.std.specs.Prelude.{◌≡◌, ℕ, ◌+◌, ◌<◌, ◌≤◌, List, sum_by}
-use Rattle.fx_table.specs.Numbers.{numbers_up_to, once}
+use Rattle.fx_counted.specs.Words.{◌≡◌, ℕ, ◌+◌, ◌<◌, ◌≤◌, List, sum_by, numbers_up_to, once, View}
 use Rattle.fx_counted.specs.Passes.{drawn_of, ended_of}
 use Rattle.fx_counted.specs.Phases.{Phase, unborn}
-use Rattle.fx_counted.specs.declared.view.View.{View}
 
 -- the draw word counts the chains that were drawn and the passes that got `None`
 pub record DrawsCount (chains numbers : ℕ) (phase : ℕ → Phase)

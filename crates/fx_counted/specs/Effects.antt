@@ -1,31 +1,15 @@
 -- The result of each kind of step for the pass that makes it.
-use Rattle.std.specs.Prelude.{◌≡◌, ◌≢◌, ℕ, zero, suc, ◌+◌, ◌<◌, nat_lt, if◌then◌else◌, List, []}
-use Rattle.std.specs.Prelude.{◌∷◌, Option, Some, None}
-use Rattle.atomic_table.specs.Table.{Step, rest}
-use Rattle.fx_base.specs.Identity.{Identity}
-use Rattle.fx_plain.specs.History.{◌▷◌}
-use Rattle.fx_plain.specs.Table.{numbered}
-use Rattle.fx_plain.specs.declared.event.File.{File}
-use Rattle.fx_plain.specs.declared.event.Action.{Action}
-use Rattle.fx_plain.specs.declared.event.Action.TheVariants.{Look, Release, Put, Allocate, Full}
-use Rattle.fx_plain.specs.declared.event.Action.TheVariants.{Close}
-use Rattle.fx_table.specs.Calls.{Use, no_use, one_look, one_number, Adds, Draws}
-use Rattle.fx_table.specs.Tasks.{retiring}
-use Rattle.fx_table.specs.Opening.{range_of}
-use Rattle.fx_table.specs.Pass.{next_number}
-use Rattle.fx_words.specs.Words.{takes_in, full_word_of}
+use Rattle.fx_counted.specs.Words.{◌≡◌, ◌≢◌, ℕ, zero, suc, ◌+◌, ◌<◌, nat_lt, if◌then◌else◌, List}
+use Rattle.fx_counted.specs.Words.{[], ◌∷◌, Option, Some, None, Step, rest, Identity, ◌▷◌, numbered}
+use Rattle.fx_counted.specs.Words.{File, Action, Look, Release, Put, Allocate, Full, Close, Use}
+use Rattle.fx_counted.specs.Words.{no_use, one_look, one_number, Adds, Draws, retiring, range_of}
+use Rattle.fx_counted.specs.Words.{next_number, takes_in, full_word_of, if_full, Change, Outside}
+use Rattle.fx_counted.specs.Words.{Same, More, Less, Log, Start, Work, Between, Placing, Emptying}
+use Rattle.fx_counted.specs.Words.{Idle, Holding, Retiring}
 use Rattle.fx_counted.specs.Agrees.{Names}
-use Rattle.fx_table.specs.FullSlots.{if_full}
 use Rattle.fx_counted.specs.Layout.{slot_of, home_place}
 use Rattle.fx_counted.specs.Passes.{Sat, opening_of, slots_of, IsNumber, state_after_all, pass_of}
 use Rattle.fx_counted.specs.Passes.{steps_of, doing_in}
-use Rattle.fx_counted.specs.declared.view.Change.{Change}
-use Rattle.fx_counted.specs.declared.view.Change.TheVariants.{Outside, Same, More, Less}
-use Rattle.fx_counted.specs.declared.view.Log.{Log}
-use Rattle.fx_counted.specs.declared.view.Start.{Start}
-use Rattle.fx_counted.specs.declared.view.Work.{Work}
-use Rattle.fx_counted.specs.declared.view.Work.TheVariants.{Between, Placing, Emptying}
-use Rattle.fx_table.specs.declared.values.Task.TheVariants.{Idle, Holding, Retiring}
 
 -- a step of a table whose places have an open file or none
 abbrev pub At : Type 0

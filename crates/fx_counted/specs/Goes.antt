@@ -1,12 +1,8 @@
 -- Several steps of a pass in a row.
-use Rattle.std.specs.Prelude.{◌≡◌, ℕ, ◌+◌, ◌≤◌, List, [], ◌∷◌}
-use Rattle.fx_plain.specs.declared.event.Action.{Action}
-use Rattle.fx_table.specs.Calls.{Use, Adds}
+use Rattle.fx_counted.specs.Words.{◌≡◌, ℕ, ◌+◌, ◌≤◌, List, [], ◌∷◌, Action, Use, Adds, Change, Log}
+use Rattle.fx_counted.specs.Words.{Work}
 use Rattle.fx_counted.specs.Passes.{Sat, opening_of, pass_of, steps_of, doing_in}
 use Rattle.fx_counted.specs.Effects.{IsInside}
-use Rattle.fx_counted.specs.declared.view.Change.{Change}
-use Rattle.fx_counted.specs.declared.view.Log.{Log}
-use Rattle.fx_counted.specs.declared.view.Work.{Work}
 
 -- At most `most` steps of a seat with one pass: it took these actions, used these numbers and
 -- look-ups, and now has this work

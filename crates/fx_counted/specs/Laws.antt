@@ -1,30 +1,20 @@
 -- Laws: each kind of step keeps the rule, whatever the table and the other passes are. The place of
 -- a step's word is a premise.
-use Rattle.std.specs.Prelude.{◌≡◌, ℕ, ◌+◌, ◌-◌, ◌%◌, ◌^◌, ◌<◌, ◌≤◌, ◌==◌, ◌⊎◌, false, [], ◌∷◌, Some}
-use Rattle.std.specs.Prelude.{None}
-use mathlib.Core.Option.{none}
-use prog.Atomic.{either}
-use Rattle.atomic_table.specs.Table.{step, Splits, Joins, Allows}
-use Rattle.fx_base.specs.Identity.{Identity}
-use Rattle.fx_plain.specs.declared.event.File.{File}
-use Rattle.fx_plain.specs.declared.event.Action.TheVariants.{Clear, Take}
-use Rattle.fx_table.specs.Opening.{range_of}
-use Rattle.fx_words.specs.Words.{name_in, born, one_change, slot_word_of, retire_amount_of}
+use Rattle.fx_counted.specs.Words.{◌≡◌, ℕ, ◌+◌, ◌-◌, ◌%◌, ◌^◌, ◌<◌, ◌≤◌, ◌==◌, ◌⊎◌, false, [], ◌∷◌}
+use Rattle.fx_counted.specs.Words.{Some, None, step, Splits, Joins, Allows, Identity, File, Clear}
+use Rattle.fx_counted.specs.Words.{Take, range_of, name_in, born, one_change, slot_word_of}
+use Rattle.fx_counted.specs.Words.{retire_amount_of, without_first, first_alone, joined, spent}
+use Rattle.fx_counted.specs.Words.{Change, Outside, Same, Log, Start, View, Between, Placing}
+use Rattle.fx_counted.specs.Words.{Emptying, Idle, Holding, Retiring}
 use Rattle.fx_counted.specs.Agrees.{Agrees}
 use Rattle.fx_counted.specs.Control.{in_change, added, removed_by}
-use Rattle.table_seats.specs.Seats.{without_first, first_alone, joined, spent}
 use Rattle.fx_counted.specs.Cuts.{seats}
 use Rattle.fx_counted.specs.Layout.{control_place, draw_place, slot_place, node_place, home_place}
 use Rattle.fx_counted.specs.Passes.{Sat, opening_of, slots_of, next_in}
 use Rattle.fx_counted.specs.Effects.{Births, Looks, Installs, Removes, Retires, Releases, Rests}
 use Rattle.fx_counted.specs.Effects.{GoesOn, SaysFull, Exchanges, DrawsChain}
-use Rattle.fx_counted.specs.declared.view.Change.{Change}
-use Rattle.fx_counted.specs.declared.view.Change.TheVariants.{Outside, Same}
-use Rattle.fx_counted.specs.declared.view.Log.{Log}
-use Rattle.fx_counted.specs.declared.view.Start.{Start}
-use Rattle.fx_counted.specs.declared.view.View.{View}
-use Rattle.fx_counted.specs.declared.view.Work.TheVariants.{Between, Placing, Emptying}
-use Rattle.fx_table.specs.declared.values.Task.TheVariants.{Idle, Holding, Retiring}
+use mathlib.Core.Option.{none}
+use prog.Atomic.{either}
 
 -- the seat has one pass of the table
 abbrev pub HasPass : Start → Sat → Log → Type 0

@@ -18,3 +18,4 @@ pub mod Tables
 pub mod Firsts
 pub mod Lives
 pub mod Showing
+pub mod Words

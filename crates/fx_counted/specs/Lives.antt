@@ -1,25 +1,14 @@
 -- Passes as they are handed out and gathered.
-use Rattle.std.specs.Prelude.{◌≡◌, ℕ, true, false, List, [], flat_map, Option}
-use Rattle.atomic_table.specs.declared.shared.Seat.{Seat}
-use mathlib.Core.Option.{some}
-use lib.ListN.{get_elem?}
-use Rattle.fx_base.specs.Identity.{Identity}
-use Rattle.fx_plain.specs.Contents.{Contents, state_of}
-use Rattle.fx_plain.specs.State.{IsSettled}
-use Rattle.fx_table.specs.Opening.{HasSameFiles}
-use Rattle.fx_table.specs.declared.limits.TheConstants.{PASS_LOOKS}
+use Rattle.fx_counted.specs.Words.{◌≡◌, ℕ, true, false, List, [], flat_map, Option, Seat, Identity}
+use Rattle.fx_counted.specs.Words.{Contents, state_of, IsSettled, HasSameFiles, PASS_LOOKS}
+use Rattle.fx_counted.specs.Words.{first_view, CountedPass, Outside, Log, Start, View, Between}
+use Rattle.fx_counted.specs.Words.{Idle}
 use Rattle.fx_counted.specs.Agrees.{Agrees}
-use Rattle.table_seats.specs.Seats.{first_view}
 use Rattle.fx_counted.specs.Cuts.{seats}
 use Rattle.fx_counted.specs.Passes.{Shared, state_after_all}
-use Rattle.fx_counted.specs.declared.pass.CountedPass.{CountedPass}
 use Rattle.fx_counted.specs.declared.table.CountedTable.{CountedTable}
-use Rattle.fx_counted.specs.declared.view.Change.TheVariants.{Outside}
-use Rattle.fx_counted.specs.declared.view.Log.{Log}
-use Rattle.fx_counted.specs.declared.view.Start.{Start}
-use Rattle.fx_counted.specs.declared.view.View.{View}
-use Rattle.fx_counted.specs.declared.view.Work.TheVariants.{Between}
-use Rattle.fx_table.specs.declared.values.Task.TheVariants.{Idle}
+use mathlib.Core.Option.{some}
+use lib.ListN.{get_elem?}
 
 -- the passes of these seats, in their order
 abbrev pub logs_in : List CountedPass → List Log

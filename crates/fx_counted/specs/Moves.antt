@@ -1,12 +1,8 @@
 -- A pass that has the place of a number.
-use Rattle.std.specs.Prelude.{◌≡◌, ℕ, ◌<◌, ◌⊎◌, [], ◌∷◌, Option}
-use Rattle.fx_base.specs.Identity.{Identity}
+use Rattle.fx_counted.specs.Words.{◌≡◌, ℕ, ◌<◌, ◌⊎◌, [], ◌∷◌, Option, Identity, Log, Start, Between}
+use Rattle.fx_counted.specs.Words.{Placing, Emptying, Idle}
 use Rattle.fx_counted.specs.Laws.{HasPass, place_of}
 use Rattle.fx_counted.specs.Passes.{Sat, IsNumber, next_in}
-use Rattle.fx_counted.specs.declared.view.Log.{Log}
-use Rattle.fx_counted.specs.declared.view.Start.{Start}
-use Rattle.fx_counted.specs.declared.view.Work.TheVariants.{Between, Placing, Emptying}
-use Rattle.fx_table.specs.declared.values.Task.TheVariants.{Idle}
 
 -- the seat's pass has the place of the number, to install its file or because its file is closed;
 -- the place has this content

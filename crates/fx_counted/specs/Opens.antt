@@ -1,26 +1,16 @@
 -- The first words and places of a lock-free table.
-use Rattle.std.specs.Prelude.{◌≡◌, ℕ, ◌+◌, ◌<◌, ◌≤◌, List, [], length, slice_index, Option, Some}
-use Rattle.std.specs.Prelude.{None}
-use mathlib.Core.Option.{some}
-use lib.ListN.{get_elem?}
-use Rattle.atomic_table.specs.Table.{opening}
-use Rattle.fx_base.specs.Identity.{Identity}
-use Rattle.fx_plain.specs.Contents.{Contents, state_of}
-use Rattle.fx_plain.specs.State.{IsSettled}
-use Rattle.fx_plain.specs.declared.event.File.{File}
-use Rattle.fx_plain.specs.declared.table.TheConstants.{MOST_SLOTS}
-use Rattle.fx_table.specs.declared.limits.TheConstants.{CHAIN_NUMBERS, FIRST_CHAIN_NUMBER}
-use Rattle.fx_table.specs.declared.limits.TheConstants.{MAX_CHAINS, MAX_PASSES}
-use Rattle.fx_table.specs.Opening.{range_of}
-use Rattle.fx_words.specs.Words.{born, slot_word_of, control_word_of}
+use Rattle.fx_counted.specs.Words.{◌≡◌, ℕ, ◌+◌, ◌<◌, ◌≤◌, List, [], length, slice_index, Option}
+use Rattle.fx_counted.specs.Words.{Some, None, opening, Identity, Contents, state_of, IsSettled}
+use Rattle.fx_counted.specs.Words.{File, MOST_SLOTS, CHAIN_NUMBERS, FIRST_CHAIN_NUMBER, MAX_CHAINS}
+use Rattle.fx_counted.specs.Words.{MAX_PASSES, range_of, born, slot_word_of, control_word_of}
+use Rattle.fx_counted.specs.Words.{full_in, first_view, Start}
 use Rattle.fx_counted.specs.Agrees.{Agrees}
-use Rattle.fx_table.specs.FullSlots.{full_in}
-use Rattle.table_seats.specs.Seats.{first_view}
 use Rattle.fx_counted.specs.Cuts.{seats}
 use Rattle.fx_counted.specs.Layout.{control_place, draw_place, slot_place, node_place, words_for}
 use Rattle.fx_counted.specs.Layout.{home_place, homes_for}
 use Rattle.fx_counted.specs.Passes.{opening_of, slots_of, chain_numbers, state_after_all}
-use Rattle.fx_counted.specs.declared.view.Start.{Start}
+use mathlib.Core.Option.{some}
+use lib.ListN.{get_elem?}
 
 -- the table may be opened for this number of chains, each with `each` numbers, and of passes
 pub record MayOpen (plain : Contents) (chains each passes : ℕ) : Type 0 where

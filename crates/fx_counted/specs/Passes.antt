@@ -1,26 +1,14 @@
 -- Passes, as views show them.
-use Rattle.std.specs.Prelude.{ℕ, ◌-◌, ◌*◌, ◌==◌, false, List, [], ◌∷◌, Option}
-use Rattle.std.specs.Prelude.{Some, None, sum_by, count_by, if◌then◌else◌}
-use Rattle.atomic_table.specs.Table.{State as TableState, Me}
-use Rattle.fx_base.specs.Identity.{Identity}
-use Rattle.fx_plain.specs.History.{part_of_pass}
+use Rattle.fx_counted.specs.Words.{ℕ, ◌-◌, ◌*◌, ◌==◌, false, List, [], ◌∷◌, Option, Some, None}
+use Rattle.fx_counted.specs.Words.{sum_by, count_by, if◌then◌else◌, Me, Identity, part_of_pass}
+use Rattle.fx_counted.specs.Words.{File, Event, Opening, state_at, size_of, numbers_up_to, PassView}
+use Rattle.fx_counted.specs.Words.{PASS_LOOKS, activity_of, Log, Start, View, Work, Between}
+use Rattle.fx_counted.specs.Words.{Placing, Holding}
+use Rattle.atomic_table.specs.Table.{State as TableState}
 use Rattle.fx_plain.specs.State.{State}
-use Rattle.fx_plain.specs.declared.event.File.{File}
-use Rattle.fx_plain.specs.declared.event.Event.{Event}
-use Rattle.fx_table.specs.Opening.{Opening, state_at, size_of}
-use Rattle.fx_table.specs.Numbers.{numbers_up_to}
-use Rattle.fx_table.specs.Pass.{PassView}
-use Rattle.fx_table.specs.declared.limits.TheConstants.{PASS_LOOKS}
-use Rattle.fx_table.specs.Tasks.{activity_of}
 use Rattle.fx_table.specs.declared.values.Doing.{Doing}
-use Rattle.fx_table.specs.declared.values.Doing.TheVariants as doing
 use Rattle.fx_counted.specs.Layout.{HasNode}
-use Rattle.fx_counted.specs.declared.view.Log.{Log}
-use Rattle.fx_counted.specs.declared.view.Start.{Start}
-use Rattle.fx_counted.specs.declared.view.View.{View}
-use Rattle.fx_counted.specs.declared.view.Work.{Work}
-use Rattle.fx_counted.specs.declared.view.Work.TheVariants.{Between, Placing}
-use Rattle.fx_table.specs.declared.values.Task.TheVariants.{Holding}
+use Rattle.fx_table.specs.declared.values.Doing.TheVariants as doing
 
 -- the table as steps see it: a place has an open file or none
 abbrev pub Shared : Type 0

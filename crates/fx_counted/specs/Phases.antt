@@ -1,6 +1,5 @@
 -- The phases of a file's number.
-use Rattle.std.specs.Prelude.{ℕ, ◌+◌, Option, Some, None}
-use Rattle.fx_base.specs.Identity.{Identity}
+use Rattle.fx_counted.specs.Words.{ℕ, ◌+◌, Option, Some, None, Identity}
 
 -- the phase of a number
 pub data Phase : Type 0 where

@@ -1,12 +1,8 @@
 -- A pass that searches the allocation range for an empty slot.
-use Rattle.std.specs.Prelude.{◌≡◌, ℕ, ◌<◌, Bool, true, false, [], ◌∷◌, List, Option, Some}
-use Rattle.atomic_table.specs.declared.shared.Seat.{Seat}
-use Rattle.fx_base.specs.Identity.{Identity}
-use Rattle.fx_plain.specs.History.{◌▷◌}
-use Rattle.fx_plain.specs.Table.{numbered}
-use Rattle.fx_plain.specs.declared.event.Action.{Action}
-use Rattle.fx_plain.specs.declared.event.Action.TheVariants.{Allocate, Full}
-use Rattle.fx_table.specs.Calls.{Use, no_use, one_number}
+use Rattle.fx_counted.specs.Words.{◌≡◌, ℕ, ◌<◌, Bool, true, false, [], ◌∷◌, List, Option, Some}
+use Rattle.fx_counted.specs.Words.{Seat, Identity, ◌▷◌, numbered, Action, Allocate, Full, Use}
+use Rattle.fx_counted.specs.Words.{no_use, one_number, Change, Outside, Same, More, Start, View}
+use Rattle.fx_counted.specs.Words.{Work, Between, Placing, Idle}
 use Rattle.fx_counted.specs.Changing.{IsAtWork}
 use Rattle.fx_counted.specs.Goes.{Goes}
 use Rattle.fx_counted.specs.Laws.{place_of}
@@ -14,13 +10,6 @@ use Rattle.fx_counted.specs.Passes.{Sat, slots_of}
 use Rattle.fx_counted.specs.declared.round.Round.{Round}
 use Rattle.fx_counted.specs.declared.table.CountedTable.{CountedTable}
 use Rattle.fx_counted.specs.declared.round.Round.TheVariants.{At, AllFull, Again}
-use Rattle.fx_counted.specs.declared.view.Change.{Change}
-use Rattle.fx_counted.specs.declared.view.Change.TheVariants.{Outside, Same, More}
-use Rattle.fx_counted.specs.declared.view.Start.{Start}
-use Rattle.fx_counted.specs.declared.view.View.{View}
-use Rattle.fx_counted.specs.declared.view.Work.{Work}
-use Rattle.fx_counted.specs.declared.view.Work.TheVariants.{Between, Placing}
-use Rattle.fx_table.specs.declared.values.Task.TheVariants.{Idle}
 
 -- the seat's pass has the place of the number, with the file that it is about to install
 pub record IsPlacing (k : Start) (number : ℕ) (file : Identity) (m : Sat) : Type 0 where

@@ -1,11 +1,7 @@
 -- Shown histories, and views that learn from them.
-use Rattle.std.specs.Prelude.{◌≡◌, List, []}
-use Rattle.fx_plain.specs.History.{IsSeenBy}
-use Rattle.fx_plain.specs.declared.event.Event.{Event}
+use Rattle.fx_counted.specs.Words.{◌≡◌, List, [], IsSeenBy, Event, no_use, View}
 use Rattle.fx_counted.specs.Passes.{first_log}
-use Rattle.fx_table.specs.Calls.{no_use}
 use Rattle.fx_counted.specs.Goes.{Goes}
-use Rattle.fx_counted.specs.declared.view.View.{View}
 use Rattle.fx_counted.specs.declared.shown.CountedSeen.{CountedSeen}
 use Rattle.fx_counted.specs.declared.table.CountedTable.{CountedTable}
 

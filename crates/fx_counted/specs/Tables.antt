@@ -1,19 +1,10 @@
 -- A lock-free table and its passes, as their callers see them.
-use Rattle.std.specs.Prelude.{◌≡◌, ℕ, ◌*◌, ◌≤◌, Bool, true, false, [], ◌∷◌}
+use Rattle.fx_counted.specs.Words.{◌≡◌, ℕ, ◌*◌, ◌≤◌, Bool, true, false, [], ◌∷◌, CHAIN_NUMBERS}
+use Rattle.fx_counted.specs.Words.{Opening, PassView, IsFront, Outside, Log, Start, View, Work}
+use Rattle.fx_counted.specs.Words.{Between, Idle, CountedPass}
 use Rattle.atomic_table.specs.Seated.{TableId}
-use Rattle.fx_table.specs.declared.limits.TheConstants.{CHAIN_NUMBERS}
-use Rattle.fx_table.specs.Opening.{Opening}
-use Rattle.fx_table.specs.Pass.{PassView, IsFront}
 use Rattle.fx_counted.specs.Passes.{opening_of, pass_of, steps_of, chain_in}
 use Rattle.fx_counted.specs.Effects.{IsInside}
-use Rattle.fx_counted.specs.declared.view.Change.TheVariants.{Outside}
-use Rattle.fx_counted.specs.declared.view.Log.{Log}
-use Rattle.fx_counted.specs.declared.view.Start.{Start}
-use Rattle.fx_counted.specs.declared.view.View.{View}
-use Rattle.fx_counted.specs.declared.view.Work.{Work}
-use Rattle.fx_counted.specs.declared.view.Work.TheVariants.{Between}
-use Rattle.fx_table.specs.declared.values.Task.TheVariants.{Idle}
-use Rattle.fx_counted.specs.declared.pass.CountedPass.{CountedPass}
 use Rattle.fx_counted.specs.declared.table.CountedTable.{CountedTable}
 
 -- the pass, as the contract of all shared tables shows it

@@ -1,7 +1,5 @@
 //! Closing a table.
-ghost use Rattle.std.specs.Prelude.{◌≡◌, ◌++◌, length, map, reverse, All};
-ghost use Rattle.fx_table.specs.Closing.{ClosesTable};
-ghost use Rattle.fx_table.specs.Pass.{IsIdle};
+ghost use Rattle.fx_counted.specs.Words.{◌≡◌, ◌++◌, length, map, reverse, All, ClosesTable, IsIdle};
 ghost use Rattle.fx_counted.specs.Lives.{IsIdleSeatOf, logs_in, AllAreIdle, Leaves};
 ghost use Rattle.fx_counted.specs.Tables.{view_of, opening_of_table, IsPassOfTable};
 

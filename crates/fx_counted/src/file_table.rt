@@ -1,10 +1,7 @@
 //! The implementation of `FileTable` for the lock-free table. Of its calls only `put_any` may wait.
-ghost use Rattle.std.specs.Prelude.{◌≡◌, length, map, All, refl, ℕ, ◌≤◌};
-ghost use Rattle.fx_table.specs.Closing.{ClosesTable};
-ghost use Rattle.fx_table.specs.Pass.{IsIdle};
+ghost use Rattle.fx_counted.specs.Words.{◌≡◌, length, map, All, refl, ℕ, ◌≤◌, ClosesTable, IsIdle, MOST_SLOTS};
 ghost use Rattle.fx_counted.specs.Tables.{view_of, opening_of_table, IsPassOfTable};
 ghost use mathlib.Core.Path.{subst};
-ghost use Rattle.fx_plain.specs.declared.table.TheConstants.{MOST_SLOTS};
 
 use crate::kinds::Observe;
 use crate::layout::CONTROL;

@@ -1,9 +1,7 @@
 //! The search for an empty slot of the allocation range.
-ghost use Rattle.std.specs.Prelude.{◌≡◌, ◌<◌, true, IfSome, None};
+ghost use Rattle.fx_counted.specs.Words.{◌≡◌, ◌<◌, true, IfSome, None, Outside, Same, More};
 ghost use Rattle.fx_counted.specs.Changing.{InRange};
-ghost use Rattle.fx_counted.specs.Searching.{IsSearching, Tries, HasAllocated, StillPlaces};
-ghost use Rattle.fx_counted.specs.Searching.{HasFoundAllFull, RoundEnds};
-ghost use Rattle.fx_counted.specs.declared.view.Change.TheVariants.{Outside, Same, More};
+ghost use Rattle.fx_counted.specs.Searching.{IsSearching, Tries, HasAllocated, StillPlaces, HasFoundAllFull, RoundEnds};
 
 use crate::kinds::{Answer, Begin, Exchange, Load};
 use crate::layout::{CONTROL, slot_place};

@@ -1,10 +1,8 @@
 //! Changes of slots in the allocation range, which the control word counts: the pass begins a
 //! change before it writes the slot's word, and ends it afterwards.
-ghost use Rattle.std.specs.Prelude.{◌≡◌, []};
-ghost use Rattle.fx_table.specs.Calls.{no_use};
+ghost use Rattle.fx_counted.specs.Words.{◌≡◌, [], no_use, Outside};
 ghost use Rattle.fx_counted.specs.Changing.{IsAtWork, InRange, begun, HasToReport};
 ghost use Rattle.fx_counted.specs.Goes.{Goes};
-ghost use Rattle.fx_counted.specs.declared.view.Change.TheVariants.{Outside};
 
 use crate::kinds::{Begin, End};
 use crate::layout::CONTROL;

@@ -1,11 +1,9 @@
 //! The rule of the lock-free table, and its fourteen kinds of step.
+ghost use Rattle.fx_counted.specs.Words.{first_view, Same, Outside};
 ghost use Rattle.fx_counted.specs.Agrees.{Agrees};
-ghost use Rattle.table_seats.specs.Seats.{first_view};
 ghost use Rattle.table_seats.specs.Settling.{Observes};
 ghost use Rattle.fx_counted.specs.Cuts.{seats as views};
-ghost use Rattle.fx_counted.specs.Effects.{Births, Looks, Installs, Retires, Releases, Rests};
-ghost use Rattle.fx_counted.specs.Effects.{SaysFull, Exchanges, DrawsChain, GoesOn};
-ghost use Rattle.fx_counted.specs.declared.view.Change.TheVariants.{Same, Outside};
+ghost use Rattle.fx_counted.specs.Effects.{Births, Looks, Installs, Retires, Releases, Rests, SaysFull, Exchanges, DrawsChain, GoesOn};
 ghost use Rattle.fx_counted.specs.Showing.{HasLearned};
 
 use crate::view::{Log, Start, View};
@@ -94,7 +92,7 @@ impl Play<Option<OpenFile>, View> for Draw {
 pub struct Clear;
 
 impl Play<Option<OpenFile>, View> for Clear {
-    ghost use Rattle.fx_plain.specs.declared.event.Action.TheVariants.{Clear};
+    ghost use Rattle.fx_counted.specs.Words.{Clear};
     ghost use Rattle.fx_counted.specs.Effects.{Removes};
 
     ghost then = { Removes Clear };
@@ -104,7 +102,7 @@ impl Play<Option<OpenFile>, View> for Clear {
 pub struct Take;
 
 impl Play<Option<OpenFile>, View> for Take {
-    ghost use Rattle.fx_plain.specs.declared.event.Action.TheVariants.{Take};
+    ghost use Rattle.fx_counted.specs.Words.{Take};
     ghost use Rattle.fx_counted.specs.Effects.{Removes};
 
     ghost then = { Removes Take };

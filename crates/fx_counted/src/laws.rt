@@ -1,15 +1,12 @@
 //! The law of each kind of step: if the rule holds before the step, it holds after it, whatever the
 //! table and the other passes are. A swap has three laws, since it is an installation, a clear or a
 //! take. Each law is the contract of a function with an empty body.
-ghost use Rattle.std.specs.Prelude.{ℕ, ◌≤◌};
-ghost use Rattle.fx_plain.specs.declared.table.TheConstants.{MOST_SLOTS};
+ghost use Rattle.fx_counted.specs.Words.{ℕ, ◌≤◌, MOST_SLOTS};
 ghost use Rattle.fx_counted.specs.Layout.{PlacesAreInside, PlacesAreApart};
 ghost use Rattle.fx_counted.specs.Bounds.{WordsAreBounded};
 ghost use Rattle.fx_counted.specs.Opens.{OpeningKeeps};
-ghost use Rattle.fx_counted.specs.Laws.{SplitsKeep, JoinsKeep, BirthsKeep, LooksKeep, InstallsKeep};
-ghost use Rattle.fx_counted.specs.Laws.{ClearsKeep, TakesKeep, RetiresKeep, ReleasesKeep};
-ghost use Rattle.fx_counted.specs.Laws.{RestsKeep, BeginsKeep, EndsKeep, AnswersKeep, LoadsKeep};
-ghost use Rattle.fx_counted.specs.Laws.{ExchangesKeep, DrawsKeep};
+ghost use Rattle.fx_counted.specs.Laws.{SplitsKeep, JoinsKeep, BirthsKeep, LooksKeep, InstallsKeep, ClearsKeep, TakesKeep, RetiresKeep, ReleasesKeep};
+ghost use Rattle.fx_counted.specs.Laws.{RestsKeep, BeginsKeep, EndsKeep, AnswersKeep, LoadsKeep, ExchangesKeep, DrawsKeep};
 
 /// States that a table with the words and places of its opening keeps the rule, with one seat that
 /// has all passes.

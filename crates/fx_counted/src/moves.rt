@@ -1,12 +1,9 @@
 //! Putting an open file into the place of its number, and taking it out, while the seat's pass has
 //! the place.
-ghost use Rattle.std.specs.Prelude.{◌≡◌, [], Some};
+ghost use Rattle.fx_counted.specs.Words.{◌≡◌, [], Some, no_use, Between, Placing, Idle};
 ghost use Rattle.fx_base.specs.declared.open_file.Closed.{Closed};
-ghost use Rattle.fx_table.specs.Calls.{no_use};
 ghost use Rattle.fx_counted.specs.Moves.{HasPlace, MayPlace};
 ghost use Rattle.fx_counted.specs.Effects.{Stepped};
-ghost use Rattle.fx_counted.specs.declared.view.Work.TheVariants.{Between, Placing};
-ghost use Rattle.fx_table.specs.declared.values.Task.TheVariants.{Idle};
 
 use crate::kinds::{Birth, Rest};
 use crate::layout::{home_place, node_place};

@@ -1,16 +1,9 @@
 //! Opening a table.
-ghost use Rattle.std.specs.Prelude.{◌≡◌, ◌+◌, ◌*◌, ◌<◌, ◌≤◌, [], length, map, slice_set, All};
-ghost use Rattle.std.specs.Prelude.{IfOk, IfErr, OnOk, OnErr, vec_len, vec_capacity};
-ghost use Rattle.fx_plain.specs.State.{IsSettled};
-ghost use Rattle.fx_plain.specs.Contents.{state_of, IsPrepared};
-ghost use Rattle.fx_plain.specs.declared.table.TheConstants.{MOST_SLOTS};
-ghost use Rattle.fx_table.specs.Opening.{IsGivenBack, opening_of_chains};
-ghost use Rattle.fx_table.specs.Pass.{IsIdle, new_passes};
-ghost use Rattle.fx_table.specs.Shells.{IsShellOf};
-ghost use Rattle.fx_words.specs.Words.{slot_word_of, born};
+ghost use Rattle.fx_counted.specs.Words.{◌≡◌, ◌+◌, ◌*◌, ◌<◌, ◌≤◌, [], length, map, slice_set, All, IfOk, IfErr, OnOk, OnErr, vec_len, vec_capacity};
+ghost use Rattle.fx_counted.specs.Words.{IsSettled, state_of, IsPrepared, MOST_SLOTS, IsGivenBack, opening_of_chains, IsIdle, new_passes, IsShellOf};
+ghost use Rattle.fx_counted.specs.Words.{slot_word_of, born, first_view};
 ghost use Rattle.fx_counted.specs.Firsts.{AreFirstWords};
 ghost use Rattle.fx_counted.specs.Opens.{MayOpen};
-ghost use Rattle.table_seats.specs.Seats.{first_view};
 ghost use Rattle.fx_counted.specs.Cuts.{seats};
 ghost use Rattle.fx_counted.specs.Layout.{slot_place, words_for, homes_for};
 ghost use Rattle.fx_counted.specs.Lives.{HasAllPasses};

@@ -1,13 +1,8 @@
 //! The lock-free table.
-ghost use Rattle.std.specs.Prelude.{◌≡◌, ◌≤◌, ◌+◌, ◌*◌};
-ghost use Rattle.fx_table.specs.declared.limits.TheConstants.{CHAIN_NUMBERS, MAX_CHAINS};
-ghost use Rattle.fx_table.specs.declared.limits.TheConstants.{MAX_PASSES};
-ghost use Rattle.fx_table.specs.Opening.{size_of, range_of};
-ghost use Rattle.fx_plain.specs.Contents.{state_of, IsPrepared};
-ghost use Rattle.fx_plain.specs.declared.table.TheConstants.{MOST_SLOTS};
+ghost use Rattle.fx_counted.specs.Words.{◌≡◌, ◌≤◌, ◌+◌, ◌*◌, CHAIN_NUMBERS, MAX_CHAINS, MAX_PASSES, size_of, range_of, state_of, IsPrepared};
+ghost use Rattle.fx_counted.specs.Words.{MOST_SLOTS, IsShellOf};
 ghost use Rattle.fx_counted.specs.Layout.{words_for, homes_for};
 ghost use Rattle.fx_counted.specs.Passes.{opening_of};
-ghost use Rattle.fx_table.specs.Shells.{IsShellOf};
 
 use crate::kinds::OneHistory;
 use crate::view::{Start, View};
