@@ -3,10 +3,10 @@ use Rattle.check_judge.proofs.Words.{◌≡◌, ℕ, ◌+◌, ◌<◌, false, tr
 use Rattle.check_judge.proofs.Words.{append_assoc, length-append, length-map, map, slice_index_or, take, length-take-le, take_more, All-append}
 use Rattle.check_judge.proofs.Words.{All-map, All-nil, FileEntry, Completed, next_member, severs, Asked, Operation, Place, IsChainDone, IsRequestDone}
 use Rattle.check_judge.proofs.Words.{Access, IsChainListed, place_at, AccessPlace, own_places, either_case, drop, zero, suc, Some, slice_get}
-use Rattle.check_judge.proofs.Words.{take-append-drop, Vec, first_member, accesses_of_chain, AreChainsDone, ChainAccess, AreListsOf}
-use Rattle.check_judge.proofs.Words.{IsListFor, AreAccessPlaces, places_of_chain, add-zero, AreChainsListed, parts_of, same_Some, ◌≢◌, ◌-◌}
-use Rattle.check_judge.proofs.Words.{slice_set, ◌≤◌, ◌==◌, filter, take_all, take-length, All-get_or, by_equality, eq-eqb, ne_eqb, get_or_read_under}
-use Rattle.check_judge.proofs.Words.{length_push, map_push, filter-append, each_set, slice_get_read, few_made, positions_of, accesses_of_chain-append}
+use Rattle.check_judge.proofs.Words.{take-append-drop, Vec, first_member, accesses_of_chain, AreChainsDone, ChainAccess, AreListsOf, IsListFor}
+use Rattle.check_judge.proofs.Words.{AreAccessPlaces, places_of_chain, add-zero, AreChainsListed, parts_of, same_Some, ◌≢◌, ◌-◌, slice_set, ◌≤◌, ◌==◌}
+use Rattle.check_judge.proofs.Words.{filter, take_all, take-length, All-get_or, by_equality, eq-eqb, ne_eqb, get_or_read_under, length_push, map_push}
+use Rattle.check_judge.proofs.Words.{filter-append, each_set, slice_get_read, few_made, positions_of, accesses_of_chain-append}
 
 -- as many places as accesses
 pub own_listed : (catalogue : List FileEntry) (size : ℕ) (place : Place) (operation : Operation) (own : List Access) (c : Completed)

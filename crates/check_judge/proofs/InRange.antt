@@ -1,20 +1,18 @@
 -- The lines of a report have numbers that their types have.
-use Rattle.check_judge.proofs.Words.{◌≡◌, inl, inr, ℕ, suc, ◌+◌, ◌<◌, ◌≤◌, ◌^◌, pos, List, [], ◌∷◌, length, take, drop, All, refl, subst, arith}
-use Rattle.check_judge.proofs.Words.{Option, Some, None, slice_get, get_or_from_slice_get, slice_get_within, All-append, All-cons, All-get_or}
-use Rattle.check_judge.proofs.Words.{All-head, All-nil, All-tail, FileEntry, Errno, Completed, completed, next_member, canceled, first_member, severs}
-use Rattle.check_judge.proofs.Words.{Asked, Operation, Place, accesses_of, accesses_of_chain, Access, ChainAccess, IsRequestDone, IsChainDone}
-use Rattle.check_judge.proofs.Words.{AreChainsDone, either_way, AreFiles, length-drop, get_or-drop, get_or-take, get_or_past, length-take}
-use Rattle.check_judge.proofs.Words.{IsCompletionInRange, IsPlaceInRange, cases_lt, refusal, bytes_at, part_of, Allocates, both_parts, ◌==◌, not}
-use Rattle.check_judge.proofs.Words.{filter, map, slice_get-get_or, All-map, tag_completion, tags_of, Closed, IsFileInRange, runs_of, each_all}
-use Rattle.check_judge.proofs.Words.{RingState, Reported, IsOneOrder, table_of, lines_of, named_close, RingSlots, MayBeClosed, ring_with_slots}
-use Rattle.check_judge.proofs.Words.{name_of, IsTrue, AreLinesInRange, IsCloseInRange, is_without, All-filter, AllByRecursion, completion_so}
-use Rattle.check_judge.proofs.Words.{name_without_end, IsBytes, IsAllocationInRange}
+use Rattle.check_judge.proofs.{◌≡◌, inl, inr, ℕ, suc, ◌+◌, ◌<◌, ◌≤◌, ◌^◌, pos, List, [], ◌∷◌, length, take, drop, All, refl, subst, arith, Option}
+use Rattle.check_judge.proofs.{Some, None, slice_get, get_or_from_slice_get, slice_get_within, All-append, All-cons, All-get_or, All-head, All-nil}
+use Rattle.check_judge.proofs.{All-tail, FileEntry, Errno, Completed, completed, next_member, canceled, first_member, severs, Asked, Operation, Place}
+use Rattle.check_judge.proofs.{accesses_of, accesses_of_chain, Access, ChainAccess, IsRequestDone, IsChainDone, AreChainsDone, either_way, AreFiles}
+use Rattle.check_judge.proofs.{length-drop, get_or-drop, get_or-take, get_or_past, length-take, IsCompletionInRange, IsPlaceInRange, cases_lt}
+use Rattle.check_judge.proofs.{refusal, bytes_at, part_of, Allocates, both_parts, ◌==◌, not, filter, map, slice_get-get_or, All-map, tag_completion}
+use Rattle.check_judge.proofs.{tags_of, Closed, IsFileInRange, runs_of, each_all, RingState, Reported, IsOneOrder, table_of, lines_of, named_close}
+use Rattle.check_judge.proofs.{RingSlots, MayBeClosed, ring_with_slots, name_of, IsTrue, AreLinesInRange, IsCloseInRange, is_without, All-filter}
+use Rattle.check_judge.proofs.{AllByRecursion, completion_so, name_without_end, IsBytes, IsAllocationInRange, no_bytes, IsCounted, closed_in_range}
+use Rattle.check_judge.proofs.{may_close_all, short_runs}
 use Rattle.fx_base.specs.declared.catalogue.TheConstants.{LONGEST_ENTRY}
 use Rattle.fx_base.specs.declared.tag_completion.TagCompletion.{TagCompletion}
-use Rattle.check_lines.proofs.CompletionTexts.{no_bytes}
 use Rattle.check_judge.proofs.StrandClaims.{possible_of_chain}
 use Rattle.check_judge.proofs.Refuting.{possible_all}
-use Rattle.check_judge.proofs.OrderFiles.{IsCounted, closed_in_range, may_close_all, short_runs}
 
 -- an element of a list of which each is so
 all_got : {A : Type 0} (P : A → Type 0) (xs : List A) (i : ℕ) {x : A} → All P xs → slice_get xs i ≡ Some x → P x

@@ -7,3 +7,8 @@ pub mod Plays
 pub mod InRange
 pub mod Submissions
 pub mod OrderFiles
+-- The names that many of these proofs cite, passed on from one place.
+pub use Words.*
+pub use AccessPlaces.*
+pub use OrderFiles.*
+pub use RequestClaims.*

@@ -9,12 +9,11 @@ use Rattle.check_judge.proofs.Words.{IsRingKept, MOST_SUBMISSIONS, None, false, 
 use Rattle.check_judge.proofs.Words.{slice_get-get_or, is_lt, name_at, all_completed, all_asked, Slots, named_close_of, named_close, named_closes}
 use Rattle.check_judge.proofs.Words.{ClosedLine, AreApart, name_of, drop_all, get_or-map, get_or_default, HasDistinctMarks, each_placed}
 use Rattle.check_judge.proofs.Words.{Contains-permutation, IsPermutation-sym, Request, chains_of, accepted-chains, members-are-runs, are_runs}
+use Rattle.check_judge.proofs.Words.{length-done, each_closed_file_is_known, in_limits, Has, has_either, left_from, placed, placed-append}
+use Rattle.check_judge.proofs.Words.{removed_from}
 use Rattle.check_lines.proofs.Marks.{neither_below, same_cmp}
 use Rattle.fx_base.specs.CloseList.{IsInOrderOfMark}
 use Rattle.fx_chain.specs.declared.completion.Completion.{Completion}
-use Rattle.fx_order.proofs.ChainsFront.{length-done}
-use Rattle.fx_order.proofs.OneRing.{each_closed_file_is_known, in_limits}
-use Rattle.fx_order.proofs.Placed.{Has, has_either, left_from, placed, placed-append, removed_from}
 use Rattle.fx_order.proofs.PlacedNew.{AnyPlace, InLimits, chain_places, has_in_chain}
 use Rattle.fx_order.specs.Laws.{AreKnown, IsOfNext, IsThere}
 use Rattle.fx_table.specs.declared.limits.TheConstants.{MAX_CHAINS}

@@ -1,12 +1,13 @@
 -- The plays of a script go along with the text, command by command.
-use Rattle.check_judge.proofs.Words.{◌≡◌, ◌≤◌, List, sym, subst, IsAccepted, Asked, RingState, IsRing, ring_of, Reported, IsOneOrder}
-use Rattle.check_judge.proofs.Words.{each_order_is_a_history, NonePast, ring_with_files, shows_ring, ◌↔◌, ◌-◌, ℕ, ◌++◌, drop, length, length-append}
-use Rattle.check_judge.proofs.Words.{take, ap, ◌∙◌, arith, length-take-le, take-append-drop, FileEntry, RingContents, Instruction, Prints, RingSlots}
-use Rattle.check_judge.proofs.Words.{BeginsWith, IsMet, ContinuesText, IsStep, ring_with_slots, inl, inr, ⊎_elim, ◌⊎◌, Some, None, ENOMEM, MOST_SLOTS}
-use Rattle.check_judge.proofs.Words.{LeadsNowhere, table_of_slots, result_line, negated, AreInRange, IsRingKept, suc, ◌+◌, ◌<◌, [], ◌∷◌, refl}
-use Rattle.check_judge.proofs.Words.{slice_index_or, Option, append-nil, append_assoc, length-drop, option_to_list, take_all, new_ring}
-use Rattle.check_judge.proofs.Words.{instruction_of, instructions_of, MayPrintBy, LeadsTo, Fault, Order, add-zero, zero-add, add-one, HasNoCloses}
-use Rattle.check_judge.proofs.Words.{Meaning, MayPrintAllBy, PrintsAllBy, mapped_at, shown}
+use Rattle.check_judge.proofs.{◌≡◌, ◌≤◌, List, sym, subst, IsAccepted, Asked, RingState, IsRing, ring_of, Reported, IsOneOrder}
+use Rattle.check_judge.proofs.{each_order_is_a_history, NonePast, ring_with_files, shows_ring, ◌↔◌, ◌-◌, ℕ, ◌++◌, drop, length, length-append, take}
+use Rattle.check_judge.proofs.{ap, ◌∙◌, arith, length-take-le, take-append-drop, FileEntry, RingContents, Instruction, Prints, RingSlots, BeginsWith}
+use Rattle.check_judge.proofs.{IsMet, ContinuesText, IsStep, ring_with_slots, inl, inr, ⊎_elim, ◌⊎◌, Some, None, ENOMEM, MOST_SLOTS, LeadsNowhere}
+use Rattle.check_judge.proofs.{table_of_slots, result_line, negated, AreInRange, IsRingKept, suc, ◌+◌, ◌<◌, [], ◌∷◌, refl, slice_index_or, Option}
+use Rattle.check_judge.proofs.{append-nil, append_assoc, length-drop, option_to_list, take_all, instruction_of, instructions_of, MayPrintBy, LeadsTo}
+use Rattle.check_judge.proofs.{Fault, Order, add-zero, zero-add, add-one, HasNoCloses, Meaning, MayPrintAllBy, PrintsAllBy, mapped_at, shown}
+use Rattle.check_judge.proofs.{drop-drop}
+use Rattle.check_judge.proofs.Words.{new_ring}
 use Rattle.check_judge.specs.Judged.{IsBrokenFrom, IsJudged, IsJudgedFrom, MayPrintFront, PrintsBeginning}
 use Rattle.check_judge.specs.declared.command.Met.{Met}
 use Rattle.check_judge.specs.declared.command.Met.TheVariants.{Apart, Here}
@@ -19,7 +20,6 @@ use Rattle.fx_language.specs.declared.command.Command.{Command}
 use Rattle.fx_ring.proofs.SubmittedRing.{submitted_rings}
 use Rattle.fx_script.specs.Play.{PrintsAll, PrintsEnd}
 use Rattle.std.proofs.Math.Seq.{drop-append_seam, take-add, take-append_seam}
-use Rattle.std.proofs.lemmas.List.{drop-drop}
 
 pub order_rings : {old left : RingState} {requests : List Asked} {report : Reported} → IsRing old → NonePast old.size old.at → old.size ≤ 256
     → IsAccepted requests → IsOneOrder old requests report left → IsRing left

@@ -1,15 +1,14 @@
 -- Reports that no order leads to.
-use Rattle.check_judge.proofs.Words.{◌≡◌, inl, inr, ℕ, zero, suc, ◌+◌, ◌≤◌, List, [], ◌∷◌, length, sym, ◌∙◌, arith, All-contains, Contains, Option}
-use Rattle.check_judge.proofs.Words.{Some, None, slice_index_or, Vec, AllZip, Closed, by_equality, Table, Permits, PermitsAll, table_with}
-use Rattle.check_judge.proofs.Words.{accesses_of, accesses_of_chain, contains_head, contains_tail, Access, ChainAccess, Fits, found_by, left_by}
-use Rattle.check_judge.proofs.Words.{HasNoOrder, Claim, table_of_slots, slice_get_cases, Brings, contains_none, Slots, ap, AllByRecursion}
-use Rattle.check_judge.proofs.Words.{all_completed, Asked, RingState, IsRing, files_removed_in, IsOneOrder, table_of, AreDone, AreClaims}
-use Rattle.check_judge.proofs.Words.{IsAllocationInRange, IfRefuted, same_size, ◌-◌, Removes, emptied, removes_contained, IsBrought, IsKnown}
-use Rattle.check_judge.proofs.Words.{IsPermutation-sym, Contains-permutation, runs_of, IsRecordedOutcome, recorded_report, Recorded}
-use Rattle.check_judge.proofs.Words.{no_file_that_stays_is_closed}
+use Rattle.check_judge.proofs.{◌≡◌, inl, inr, ℕ, zero, suc, ◌+◌, ◌≤◌, List, [], ◌∷◌, length, sym, ◌∙◌, arith, All-contains, Contains, Option, Some}
+use Rattle.check_judge.proofs.{None, slice_index_or, Vec, AllZip, Closed, by_equality, Table, Permits, PermitsAll, table_with, accesses_of}
+use Rattle.check_judge.proofs.{accesses_of_chain, contains_head, contains_tail, Access, ChainAccess, Fits, found_by, left_by, HasNoOrder, Claim}
+use Rattle.check_judge.proofs.{table_of_slots, slice_get_cases, Brings, contains_none, Slots, ap, AllByRecursion, all_completed, Asked, RingState}
+use Rattle.check_judge.proofs.{IsRing, files_removed_in, IsOneOrder, table_of, AreDone, AreClaims, IsAllocationInRange, IfRefuted, same_size, ◌-◌}
+use Rattle.check_judge.proofs.{Removes, emptied, removes_contained, IsBrought, IsKnown, IsPermutation-sym, Contains-permutation, runs_of}
+use Rattle.check_judge.proofs.{IsRecordedOutcome, recorded_report, Recorded, no_file_that_stays_is_closed, at_after, found_at, some_or_none}
+use Rattle.check_judge.proofs.{untouched, same_range}
 use Rattle.check_judge.specs.declared.part.PartVerdict.{PartVerdict}
 use Rattle.check_judge.specs.declared.part.PartVerdict.TheVariants.{Refuted}
-use Rattle.check_judge.proofs.RequestClaims.{at_after, found_at, some_or_none, untouched, same_range}
 use Rattle.check_judge.proofs.StrandClaims.{of_its_chain}
 
 module _ (closes : List Closed) (file : Closed) where

@@ -7,20 +7,18 @@ use Rattle.check_judge.proofs.Words.{Contains, List, None, Option, Result, Some,
 use Rattle.check_judge.proofs.Words.{length, map, negsuc, pos, refl, slice_get, subst, suc, sym, take, true, zero, ℕ, ℤ, ◌++◌, ◌+◌, ◌<◌, ◌||◌, ◌∙◌}
 use Rattle.check_judge.proofs.Words.{◌∷◌, ◌≡◌, ◌⊎◌, true≢false, and_from, take_more, All-head, All-map, All-tail, All-weaker, slice_get_within}
 use Rattle.check_judge.proofs.Words.{same_Some, get_or_from_slice_get, AllByRecursion, AllZip, same_size, list_all-from_AllPass, IsDecided, IsMade}
-use Rattle.check_judge.proofs.Words.{answer, IsOpened, Closes, Reads, Updates, nat_tests, all_zipped_more}
+use Rattle.check_judge.proofs.Words.{answer, IsOpened, Closes, Reads, Updates, nat_tests, all_zipped_more, answer_at_table, bytes_read, intents_of}
+use Rattle.check_judge.proofs.Words.{list_intents, single, FoundAt}
 use Rattle.check_judge.specs.declared.answered.AnsweredRequest.{AnsweredRequest}
 use Rattle.check_judge.specs.declared.judgement.Stop.{Stop}
 use Rattle.check_search.specs.Machine.{allows, cell_at, cell_with, is_same, is_taken, may_leave, suits}
 use Rattle.check_search.specs.declared.claim.Condition.TheVariants.{Nothing, Something}
 use Rattle.fx_base.proofs.Entries.{entry_named}
-use Rattle.fx_chain.specs.Intents.{answer_at_table, bytes_read, intents_of, list_intents}
 use Rattle.fx_chain.specs.declared.intent.Finding.{Finding}
 use Rattle.fx_chain.specs.declared.intent.Intent.{Intent}
 use Rattle.fx_chain.specs.declared.intent.Intent.TheVariants.{Look, Take}
 use Rattle.fx_chain.specs.declared.request.Target.TheVariants.{Any, Slot}
-use Rattle.fx_order.proofs.Intents.{single}
 use Rattle.fx_order.specs.Access.{IsOf}
-use Rattle.fx_chain.specs.declared.intent.Finding.TheVariants.{At as FoundAt}
 
 -- what was decided of all b is decided of all a, if each a has its b
 pub decides_by : (A B X : Type 0) (P : A → Type 0) (Q : B → Type 0) (IsRight : X → A → Type 0) (WasRight : X → B → Type 0) (r : Result X Stop)

@@ -1,21 +1,21 @@
 -- Strands: the claims of each chain at some slots.
-use Rattle.check_judge.proofs.Words.{inl, inr, ℕ, List, [], ◌∷◌, sym, subst, AllByRecursion, Contains, accesses_of, accesses_of_chain, contains_head}
-use Rattle.check_judge.proofs.Words.{contains_tail, Access, ChainAccess, IsAllocationInRange, of_chain, own_first, contains_cases, contains_none, ◌≡◌}
-use Rattle.check_judge.proofs.Words.{◌⊎◌, zero, suc, ◌+◌, ◌≤◌, Bool, true, false, ◌++◌, length, filter, cond, refl, ap, ◌∙◌, arith, slice_get, Some}
-use Rattle.check_judge.proofs.Words.{if◌then◌else◌, Vec, AllZip, append-nil, Closed, by_equality, AreClaims, Fits, touched, AreStrands, keeps, seen}
-use Rattle.check_judge.proofs.Words.{slot_claimed, strand_for, Cell, Claim, Strand, ⊎_elim, nil_from_length, AllZip-long, ◌<◌, map, drop, All}
-use Rattle.check_judge.proofs.Words.{slice_index, slice_set, Option, option_to_list, length-map, length-set, All-contains, Contains-append_right}
-use Rattle.check_judge.proofs.Words.{slice_get_within, Table, Permits, PermitsAll, table_with, table_after, file_removed_by, files_removed_in}
-use Rattle.check_judge.proofs.Words.{Standing, HasNoOrder, table_of_slots, eq-eqb, IsEndOfClaims, Ends, cells_after, is_staying, may_stay, next}
-use Rattle.check_judge.proofs.Words.{IsCell, ShowsFile, has_slot, Resident, All-weaker, true≢false, length-drop, drop_more, drop_all, cases_Bool}
-use Rattle.check_judge.proofs.Words.{list_all-from_AllPass, same_Some, slice_get_cases, slice_get_past, not_own, Slots, each_set, Completed}
-use Rattle.check_judge.proofs.Words.{next_member, first_member, severs, Asked, Place, AreDone, AreMembersDone, Possibly, IsRequestDone, take}
-use Rattle.check_judge.proofs.Words.{both_parts, parts_of}
+use Rattle.check_judge.proofs.{inl, inr, ℕ, List, [], ◌∷◌, sym, subst, AllByRecursion, Contains, accesses_of, accesses_of_chain, contains_head}
+use Rattle.check_judge.proofs.{contains_tail, Access, ChainAccess, IsAllocationInRange, of_chain, own_first, contains_cases, contains_none, ◌≡◌, ◌⊎◌}
+use Rattle.check_judge.proofs.{zero, suc, ◌+◌, ◌≤◌, Bool, true, false, ◌++◌, length, filter, cond, refl, ap, ◌∙◌, arith, slice_get, Some}
+use Rattle.check_judge.proofs.{if◌then◌else◌, Vec, AllZip, append-nil, Closed, by_equality, AreClaims, Fits, touched, AreStrands, seen, slot_claimed}
+use Rattle.check_judge.proofs.{strand_for, Cell, Claim, Strand, ⊎_elim, nil_from_length, AllZip-long, ◌<◌, map, drop, All, slice_index, slice_set}
+use Rattle.check_judge.proofs.{Option, option_to_list, length-map, length-set, All-contains, Contains-append_right, slice_get_within, Table, Permits}
+use Rattle.check_judge.proofs.{PermitsAll, table_with, table_after, file_removed_by, files_removed_in, Standing, HasNoOrder, table_of_slots, eq-eqb}
+use Rattle.check_judge.proofs.{IsEndOfClaims, Ends, cells_after, is_staying, may_stay, next, IsCell, ShowsFile, has_slot, Resident, All-weaker}
+use Rattle.check_judge.proofs.{true≢false, length-drop, drop_more, drop_all, cases_Bool, list_all-from_AllPass, same_Some, slice_get_cases}
+use Rattle.check_judge.proofs.{slice_get_past, not_own, Slots, each_set, Completed, next_member, first_member, severs, Asked, Place, AreDone}
+use Rattle.check_judge.proofs.{AreMembersDone, Possibly, IsRequestDone, take, both_parts, parts_of, allowed, cells_follow, at_after, moved}
+use Rattle.check_judge.proofs.{some_or_none, untouched}
+use Rattle.check_judge.proofs.Words.{keeps}
 use Rattle.check_search.proofs.Uneven.{slots_after}
 use Rattle.check_search.specs.Machine.{HasNoEnd}
 use Rattle.check_search.specs.Starts.{starting}
 use Rattle.std.proofs.lemmas.List.Folds.{list_any_at}
-use Rattle.check_judge.proofs.RequestClaims.{allowed, cells_follow, at_after, moved, some_or_none, untouched}
 use Rattle.check_judge.specs.declared.answered.ClaimSetting.{ClaimSetting}
 
 -- a property of an order's accesses holds of its chains' accesses

@@ -1,19 +1,16 @@
 -- Accepted submissions, and the lines that a text goes on with.
-use Rattle.check_judge.proofs.Words.{◌≡◌, ℕ, ◌+◌, ◌≤◌, List, length, map, filter, not, ◌==◌, take, sym, ap, subst, ◌∙◌, arith, Some, refl}
-use Rattle.check_judge.proofs.Words.{FileEntry, tags_of, all_completed, Asked, runs_of, IsOneOrder, ChainAccess, MOST_SLOTS, RingState, IsRing}
-use Rattle.check_judge.proofs.Words.{ring_of, Reported, SubmitsAll, Closed, named_close_of, lines_in, lines_of, lines_text}
-use Rattle.check_judge.proofs.Words.{named_closes, CameBy, recorded_report, RingSlots, Recorded, IsRingKept, BeginsWith, MayPrintBy, AreAccessPlaces}
-use Rattle.check_judge.proofs.Words.{AreChainsDone, Order, Prints, PrintsReport, RingContents}
-use Rattle.check_judge.proofs.Words.{◌↔◌, ring_with_slots, printed_lines, IsOrderOf, ring_left, HasLines, ◌++◌, None, Result, Ok, Err}
-use Rattle.check_judge.proofs.Words.{Lines, ReadsReport, ContinuesText, LeadsNowhere, LeadsTo, AreApart, YieldsKnown, Fault, IsReportBefore, Yields}
-use Rattle.check_judge.proofs.Words.{one_at, IsRefuted, each_order_is_a_history}
-use Rattle.check_lines.proofs.CompletionTexts.{each_request}
+use Rattle.check_judge.proofs.{◌≡◌, ℕ, ◌+◌, ◌≤◌, List, length, map, filter, not, ◌==◌, take, sym, ap, subst, ◌∙◌, arith, Some, refl, FileEntry}
+use Rattle.check_judge.proofs.{tags_of, all_completed, Asked, runs_of, IsOneOrder, ChainAccess, MOST_SLOTS, RingState, IsRing, ring_of, Reported}
+use Rattle.check_judge.proofs.{SubmitsAll, Closed, named_close_of, lines_in, lines_of, lines_text, named_closes, CameBy, recorded_report, RingSlots}
+use Rattle.check_judge.proofs.{Recorded, IsRingKept, BeginsWith, MayPrintBy, AreAccessPlaces, AreChainsDone, Order, Prints, PrintsReport}
+use Rattle.check_judge.proofs.{RingContents, ◌↔◌, ring_with_slots, printed_lines, IsOrderOf, ring_left, HasLines, ◌++◌, None, Result, Ok, Err, Lines}
+use Rattle.check_judge.proofs.{ReadsReport, ContinuesText, LeadsNowhere, LeadsTo, AreApart, YieldsKnown, Fault, IsReportBefore, Yields, one_at}
+use Rattle.check_judge.proofs.{IsRefuted, each_order_is_a_history, each_request, each_report_leads_to_one_ring, IsCounted, left_in_range, are_from}
+use Rattle.check_judge.proofs.{may_close_all}
 use Rattle.check_lines.specs.declared.report_lines.ReportLines.{ReportLines}
-use Rattle.fx_order.proofs.OneRing.{each_report_leads_to_one_ring}
 use Rattle.fx_order.proofs.Ordered.{each_history_is_an_order}
 use Rattle.fx_script.specs.Text.{report_text}
 use Rattle.std.proofs.lemmas.Simd.{map-map}
-use Rattle.check_judge.proofs.OrderFiles.{IsCounted, left_in_range, are_from, may_close_all}
 use Rattle.check_judge.proofs.Plays.{rest_behind}
 use Rattle.check_judge.proofs.InRange.{report_in_range}
 

@@ -1,42 +1,29 @@
 -- Claims: what completions imply for the accesses that were made, one claim for each access, and
 -- the claims of all chains of a submission.
-use Rattle.std.specs.Prelude.{◌≡◌, ℕ, ◌+◌, ◌<◌, ◌≤◌, pos, int_lt, true, List, [], ◌++◌, length}
-use Rattle.std.specs.Prelude.{slice_get, slice_index_or, Option, Some, None, Result, Ok, Err, Bool}
-use Rattle.std.specs.Global.{Vec}
-use Rattle.std.specs.List.{AllZip, AllByRecursion}
-use Rattle.fx_base.specs.Identity.{Identity}
-use Rattle.fx_base.specs.declared.open_file.Closed.{Closed}
-use Rattle.fx_chain.specs.Completed.{Completed, completed, completed_of}
-use Rattle.fx_chain.specs.Intents.{answer_at_table, intents_of}
-use Rattle.fx_chain.specs.Operation.{operation_of, Asked}
-use Rattle.fx_chain.specs.declared.completion.Place.{Place}
+use Rattle.check_judge.specs.Words.{◌≡◌, ℕ, ◌+◌, ◌<◌, ◌≤◌, pos, int_lt, true, List, [], ◌++◌}
+use Rattle.check_judge.specs.Words.{length, slice_get, slice_index_or, Option, Some, None, Result}
+use Rattle.check_judge.specs.Words.{Ok, Err, Bool, Vec, AllZip, AllByRecursion, Identity, Closed}
+use Rattle.check_judge.specs.Words.{Completed, completed, completed_of, answer_at_table, intents_of}
+use Rattle.check_judge.specs.Words.{operation_of, Asked, Place, IsOf, file_removed_by}
+use Rattle.check_judge.specs.Words.{accesses_of_chain, finding_of, last_finding, accesses_of}
+use Rattle.check_judge.specs.Words.{Access, ChainAccess, IsResident, Same, Empty, File, Claim}
+use Rattle.check_judge.specs.Words.{MatchBool, FileEntry, canceled, AreChainsDone, IsChainDone}
 use Rattle.fx_chain.specs.declared.intent.Finding.{Finding}
 use Rattle.fx_chain.specs.declared.intent.Finding.TheVariants.{At as FoundAt, Free}
 use Rattle.fx_chain.specs.declared.intent.Finding.TheVariants.{Full as FoundFull}
 use Rattle.fx_chain.specs.declared.intent.Intent.{Intent}
 use Rattle.fx_chain.specs.declared.intent.Intent.TheVariants.{Allocate, Look, Take}
-use Rattle.fx_order.specs.Access.{IsOf, file_removed_by, accesses_of_chain, finding_of}
-use Rattle.fx_order.specs.Access.{last_finding, accesses_of}
 use Rattle.fx_order.specs.declared.access.Access.TheVariants.{Looks, Puts, Clears, Takes, Allocates}
 use Rattle.fx_order.specs.declared.access.Access.TheVariants.{FindsFull}
-use Rattle.fx_order.specs.declared.access.Access.{Access}
-use Rattle.fx_order.specs.declared.access.ChainAccess.{ChainAccess}
-use Rattle.check_search.specs.Residents.{IsResident}
 use Rattle.check_search.specs.declared.claim.Condition.{Condition}
 use Rattle.check_search.specs.declared.claim.Condition.TheVariants.{Anything, Nothing}
 use Rattle.check_search.specs.declared.claim.Condition.TheVariants.{NothingToTake, Something, Bytes}
 use Rattle.check_search.specs.declared.claim.Leaves.{Leaves}
-use Rattle.check_search.specs.declared.claim.Leaves.TheVariants.{Same, Empty, File}
-use Rattle.check_search.specs.declared.claim.Claim.{Claim}
 use Rattle.check_search.specs.declared.claim.Claim.TheVariants.{At, Full}
 use Rattle.check_judge.specs.declared.judgement.Stop.{Stop}
 use Rattle.check_judge.specs.declared.judgement.Stop.TheVariants.{Refuted}
 use Rattle.check_judge.specs.declared.answered.AnsweredRequest.{AnsweredRequest}
 use Rattle.check_judge.specs.declared.answered.ClaimSetting.{ClaimSetting}
-use Rattle.std.specs.Bool.{MatchBool}
-use Rattle.fx_base.specs.Catalogue.{FileEntry}
-use Rattle.fx_chain.specs.Explains.{canceled}
-use Rattle.fx_order.specs.Requests.{AreChainsDone, IsChainDone}
 
 -- the slot of an access
 abbrev pub touched : Access → Option ℕ

@@ -1,12 +1,8 @@
 -- Judgements on a script and a text.
-use Rattle.std.specs.Prelude.{◌≡◌, ◌≤◌, ◌<◌, ◌+◌, ℕ, List, [], ◌∷◌, ◌++◌, length, take, drop}
-use Rattle.fx_ring.specs.Ring.{RingContents, RingState, new_ring, ring_of}
-use Rattle.fx_language.specs.Instruction.{Instruction}
-use Rattle.fx_script.specs.Play.{IsText, Prints, PrintsAll}
-use Rattle.fx_language.specs.Script.{Meaning}
-use Rattle.check_lines.specs.Lines.{HasNoCloses}
+use Rattle.check_judge.specs.Words.{◌≡◌, ◌≤◌, ◌<◌, ◌+◌, ℕ, List, [], ◌∷◌, ◌++◌, length, take, drop}
+use Rattle.check_judge.specs.Words.{RingContents, RingState, new_ring, ring_of, Instruction, IsText}
+use Rattle.check_judge.specs.Words.{Prints, PrintsAll, Meaning, HasNoCloses, Order}
 use Rattle.check_judge.specs.Ordered.{IsTextBy, MayPrintAllBy}
-use Rattle.fx_order.specs.declared.listed_order.Order.{Order}
 use Rattle.check_judge.specs.declared.judgement.Break.{Break}
 use Rattle.check_judge.specs.declared.judgement.Judgement.{Judgement}
 use Rattle.check_judge.specs.declared.judgement.Judgement.TheVariants.{Legal, NotLegal, Undecided}

@@ -1,14 +1,7 @@
 -- The properties of a ring that are kept while a text is judged.
-use Rattle.std.specs.Prelude.{◌<◌, ◌≤◌, List, length}
-use Rattle.fx_base.specs.Catalogue.{FileEntry}
-use Rattle.fx_base.specs.Identity.{Identity}
-use Rattle.check_lines.specs.InRange.{AreInRange}
-use Rattle.fx_plain.specs.declared.table.TheConstants.{MOST_SLOTS}
-use Rattle.fx_order.specs.declared.ring_slots.RingSlots.{RingSlots}
-use Rattle.fx_ring.specs.Ring.{HasCounted, IsRing, RingState}
-use Rattle.fx_ring.specs.declared.ring.TheConstants.{MOST_REGISTRATIONS, MOST_SUBMISSIONS}
-use Rattle.fx_language.specs.Script.{AreFiles}
-use Rattle.fx_order.specs.Slots.{ring_with_slots}
+use Rattle.check_judge.specs.Words.{◌<◌, ◌≤◌, List, length, FileEntry, Identity, AreInRange}
+use Rattle.check_judge.specs.Words.{MOST_SLOTS, RingSlots, HasCounted, IsRing, RingState}
+use Rattle.check_judge.specs.Words.{MOST_REGISTRATIONS, MOST_SUBMISSIONS, AreFiles, ring_with_slots}
 
 -- a ring's counts and its table are within their limits, it is what every ring is, and its
 -- catalogue is that of a script

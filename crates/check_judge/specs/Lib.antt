@@ -7,3 +7,4 @@ pub mod Places
 pub mod Ordered
 pub mod Step
 pub mod Judged
+pub mod Words

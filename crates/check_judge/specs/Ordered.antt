@@ -1,17 +1,11 @@
 -- A play of a script in which each accepted submission comes of an order that is given.
-use Rattle.std.specs.Prelude.{◌≡◌, ℕ, List, [], ◌∷◌, ◌++◌, Option, Some, None}
+use Rattle.check_judge.specs.Words.{◌≡◌, ℕ, List, [], ◌∷◌, ◌++◌, Option, Some, None, Asked, runs_of}
+use Rattle.check_judge.specs.Words.{IsOrderOf, ring_left, RingContents, RingState, ring_of}
+use Rattle.check_judge.specs.Words.{IsOneHistory, Reported, Instruction, SubmitsAll, IsNewRing}
+use Rattle.check_judge.specs.Words.{Prints, PrintsEnd, Meaning, Order}
 use Rattle.std.specs.Option.{option_to_list}
-use Rattle.fx_chain.specs.Operation.{Asked}
-use Rattle.fx_chain.specs.Runs.{runs_of}
-use Rattle.fx_order.specs.Order.{IsOrderOf, ring_left}
-use Rattle.fx_ring.specs.Ring.{RingContents, RingState, ring_of}
-use Rattle.fx_ring.specs.Submission.{IsOneHistory, Reported}
-use Rattle.fx_language.specs.Instruction.{Instruction, SubmitsAll}
-use Rattle.fx_script.specs.Play.{IsNewRing, Prints, PrintsEnd}
-use Rattle.fx_language.specs.Script.{Meaning}
 use Rattle.fx_script.specs.Text.{report_text}
 use Rattle.check_judge.specs.Places.{AreAccessPlaces}
-use Rattle.fx_order.specs.declared.listed_order.Order.{Order}
 
 -- an accepted submission leads from one ring to another and prints this, by this order of its
 -- requests

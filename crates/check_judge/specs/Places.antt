@@ -1,19 +1,9 @@
 -- The places of an order's accesses: the member of a chain that makes each access, chain by chain.
-use Rattle.std.specs.Prelude.{◌≡◌, ℕ, ◌+◌, ◌==◌, List, [], ◌∷◌, ◌++◌, map, filter, length, take}
-use Rattle.std.specs.Prelude.{Option, All}
-use Rattle.std.specs.Bool.{MatchBool}
-use Rattle.fx_base.specs.Catalogue.{FileEntry}
-use Rattle.fx_chain.specs.Completed.{Completed, next_member}
-use Rattle.fx_chain.specs.Explains.{canceled, first_member, severs}
-use Rattle.fx_chain.specs.Operation.{Asked, Operation}
-use Rattle.fx_chain.specs.declared.completion.Place.{Place}
-use Rattle.fx_order.specs.Access.{accesses_of_chain}
-use Rattle.fx_chain.specs.Intents.{positions_of}
-use Rattle.fx_order.specs.Requests.{IsRequestDone}
-use Rattle.fx_order.specs.declared.access.Access.{Access}
-use Rattle.fx_order.specs.declared.access.ChainAccess.{ChainAccess}
-use Rattle.fx_order.specs.declared.listed_order.AccessPlace.{AccessPlace}
-use Rattle.std.specs.Global.{Vec}
+use Rattle.check_judge.specs.Words.{◌≡◌, ℕ, ◌+◌, ◌==◌, List, [], ◌∷◌, ◌++◌, map, filter, length}
+use Rattle.check_judge.specs.Words.{take, Option, All, MatchBool, FileEntry, Completed, next_member}
+use Rattle.check_judge.specs.Words.{canceled, first_member, severs, Asked, Operation, Place}
+use Rattle.check_judge.specs.Words.{accesses_of_chain, positions_of, IsRequestDone, Access}
+use Rattle.check_judge.specs.Words.{ChainAccess, AccessPlace, Vec}
 
 -- the place of an access: that of its request, and its position in the list of an update
 abbrev pub place_at : Place → Option ℕ → AccessPlace

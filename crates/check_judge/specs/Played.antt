@@ -1,27 +1,18 @@
 -- Orders of a table's accesses that fit the claims of chains and the closes, the files that are in
 -- the table at some time, and the claims of chains at some slots alone.
-use Rattle.std.specs.Prelude.{◌≡◌, ℕ, ◌<◌, ◌≤◌, List, length, Option, Some, None, Contains, All}
-use Rattle.std.specs.Prelude.{IsTrue, ◌⊎◌, Any, ◌==◌, [], ◌∷◌, filter, slice_get, if◌then◌else◌}
-use Rattle.std.specs.Global.{Vec}
-use Rattle.fx_base.specs.Identity.{Identity}
-use Rattle.fx_base.specs.declared.open_file.Closed.{Closed}
-use Rattle.fx_order.specs.Access.{Table, IsInRange, PermitsAll, table_after, files_removed_in}
-use Rattle.fx_order.specs.Access.{accesses_of, accesses_of_chain}
-use Rattle.fx_order.specs.Slots.{table_of_slots}
-use Rattle.fx_order.specs.declared.access.ChainAccess.{ChainAccess}
+use Rattle.check_judge.specs.Words.{◌≡◌, ℕ, ◌<◌, ◌≤◌, List, length, Option, Some, None, Contains}
+use Rattle.check_judge.specs.Words.{All, IsTrue, ◌⊎◌, Any, ◌==◌, [], ◌∷◌, filter, slice_get}
+use Rattle.check_judge.specs.Words.{if◌then◌else◌, Vec, Identity, Closed, Table, IsInRange}
+use Rattle.check_judge.specs.Words.{PermitsAll, table_after, files_removed_in, accesses_of}
+use Rattle.check_judge.specs.Words.{accesses_of_chain, table_of_slots, ChainAccess, Claim}
+use Rattle.check_judge.specs.Words.{IsResident, Same, Empty, File, AllZip, Access, has_slot}
 use Rattle.check_judge.specs.Claims.{AreClaims, Fits, touched}
 use Rattle.check_search.specs.declared.cell.Cell.{Cell}
-use Rattle.check_search.specs.declared.claim.Claim.{Claim}
 use Rattle.check_search.specs.declared.claim.Resident.{Resident}
 use Rattle.check_judge.specs.declared.answered.TableRecorded.{TableRecorded}
 use Rattle.check_judge.specs.declared.part.PartVerdict.{PartVerdict}
 use Rattle.check_judge.specs.declared.part.PartVerdict.TheVariants.{Refuted}
-use Rattle.check_search.specs.Residents.{IsResident}
 use Rattle.check_search.specs.declared.claim.Claim.TheVariants.{At, Full}
-use Rattle.check_search.specs.declared.claim.Leaves.TheVariants.{Same, Empty, File}
-use Rattle.std.specs.List.{AllZip}
-use Rattle.fx_order.specs.declared.access.Access.{Access}
-use Rattle.check_search.specs.AtSlots.{has_slot}
 use Rattle.check_search.specs.declared.claim.Strand.{Strand}
 
 -- the file at a slot, and a test of whether the closes have it

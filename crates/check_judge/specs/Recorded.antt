@@ -1,21 +1,14 @@
 -- Reports that lines describe.
-use Rattle.std.specs.Prelude.{◌≡◌, ◌⊎◌, ◌<◌, ℕ, pos, List, ◌∷◌, length, All, Result, Ok, Err}
-use Rattle.std.specs.Prelude.{slice_get, Some}
-use Rattle.fx_base.specs.Catalogue.{FileEntry, IsCatalogue}
-use Rattle.fx_base.specs.CloseList.{IsInOrderOfMark}
+use Rattle.check_judge.specs.Words.{◌≡◌, ◌⊎◌, ◌<◌, ℕ, pos, List, ◌∷◌, length, All, Result, Ok, Err}
+use Rattle.check_judge.specs.Words.{slice_get, Some, FileEntry, IsCatalogue, IsInOrderOfMark}
+use Rattle.check_judge.specs.Words.{Closed, Completed, all_completed, Asked, InstallsAt}
+use Rattle.check_judge.specs.Words.{table_of_slots, lines_of, Reported}
 use Rattle.fx_base.specs.declared.mark.Mark.{Mark}
 use Rattle.fx_base.specs.declared.mark.Mark.TheVariants.{Submitted}
-use Rattle.fx_base.specs.declared.open_file.Closed.{Closed}
-use Rattle.fx_chain.specs.Completed.{Completed, all_completed}
-use Rattle.fx_chain.specs.Operation.{Asked}
-use Rattle.fx_chain.specs.Intents.{InstallsAt}
-use Rattle.fx_order.specs.Slots.{table_of_slots}
 use Rattle.fx_order.specs.declared.slots.Slots.{Slots}
 use Rattle.check_judge.specs.declared.recorded.Recorded.{Recorded}
-use Rattle.check_lines.specs.Lines.{lines_of}
 use Rattle.check_lines.specs.LinesView.{lines_in}
 use Rattle.check_lines.specs.declared.report_lines.ReportLines.{ReportLines}
-use Rattle.fx_ring.specs.Submission.{Reported}
 use Rattle.check_judge.specs.declared.judgement.Fault.{Fault}
 
 -- a report of these completions and closes has these lines, in every submission

@@ -1,15 +1,10 @@
 -- Steps of a play: a text that begins with a text of the next command, the ring after it, and the
 -- verdict on that command.
-use Rattle.std.specs.Prelude.{◌≡◌, ℕ, ◌≤◌, List, ◌++◌, length, take, drop}
-use Rattle.fx_base.specs.Catalogue.{FileEntry}
-use Rattle.fx_ring.specs.Ring.{RingContents, RingState, ring_of}
-use Rattle.fx_language.specs.Instruction.{Instruction}
-use Rattle.fx_script.specs.Play.{Prints}
-use Rattle.check_lines.specs.Lines.{HasNoCloses}
-use Rattle.fx_order.specs.declared.ring_slots.RingSlots.{RingSlots}
+use Rattle.check_judge.specs.Words.{◌≡◌, ℕ, ◌≤◌, List, ◌++◌, length, take, drop, FileEntry}
+use Rattle.check_judge.specs.Words.{RingContents, RingState, ring_of, Instruction, Prints}
+use Rattle.check_judge.specs.Words.{HasNoCloses, RingSlots, ring_with_slots}
 use Rattle.check_judge.specs.declared.command.Met.{Met}
 use Rattle.check_judge.specs.declared.command.Met.TheVariants.{Here, Apart}
-use Rattle.fx_order.specs.Slots.{ring_with_slots}
 use Rattle.check_judge.specs.Ordered.{MayPrintBy}
 use Rattle.check_judge.specs.declared.command.CommandVerdict.{CommandVerdict}
 use Rattle.check_judge.specs.declared.command.CommandVerdict.TheVariants.{Printed, Broken}

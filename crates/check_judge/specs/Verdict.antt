@@ -1,11 +1,6 @@
 -- Verdicts on the report of a submission.
-use Rattle.std.specs.Prelude.{◌≡◌, ℕ, ◌+◌, List}
-use Rattle.fx_chain.specs.Completed.{all_completed}
-use Rattle.fx_chain.specs.Operation.{Asked}
-use Rattle.fx_ring.specs.Ring.{RingState}
-use Rattle.fx_ring.specs.Submission.{Reported}
-use Rattle.fx_order.specs.Order.{IsOneOrder}
-use Rattle.fx_order.specs.declared.access.ChainAccess.{ChainAccess}
+use Rattle.check_judge.specs.Words.{◌≡◌, ℕ, ◌+◌, List, all_completed, Asked, RingState, Reported}
+use Rattle.check_judge.specs.Words.{IsOneOrder, ChainAccess}
 use Rattle.check_judge.specs.declared.part.PartVerdict.{PartVerdict}
 use Rattle.check_judge.specs.Played.{IfRefuted}
 use Rattle.check_judge.specs.declared.recorded.Recorded.{Recorded}

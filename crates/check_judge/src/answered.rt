@@ -1,7 +1,5 @@
 //! A request and its completion, of which claims are derived, and a table with its claims.
-ghost use Rattle.std.specs.Prelude.{◌≡◌, ◌+◌, ◌<◌, ◌^◌, None, length};
-ghost use Rattle.fx_chain.specs.Accepted.{IsWithinLimits};
-ghost use Rattle.fx_chain.specs.Operation.{asked_of, operation_of};
+ghost use Rattle.check_judge.specs.Words.{◌≡◌, ◌+◌, ◌<◌, ◌^◌, None, length, IsWithinLimits, asked_of, operation_of};
 ghost use Rattle.fx_chain.specs.Refusal.{refusal_of};
 
 use check_search::Claim;

@@ -1,11 +1,6 @@
 //! Plays a command against a text.
-ghost use Rattle.std.specs.Prelude.{◌≡◌, ℕ, List, string_bytes, IfOk, OnOk};
-ghost use Rattle.fx_base.specs.Catalogue.{FileEntry};
-ghost use Rattle.fx_language.specs.Instruction.{Instruction, instruction_of};
-ghost use Rattle.fx_order.specs.declared.ring_slots.RingSlots.{RingSlots};
+ghost use Rattle.check_judge.specs.Words.{◌≡◌, ℕ, List, string_bytes, IfOk, OnOk, FileEntry, Instruction, instruction_of, RingSlots, ENOMEM, negated};
 ghost use Rattle.check_judge.specs.Step.{IsCommandVerdict, IsStep, IsMet};
-ghost use Rattle.fx_base.specs.declared.errno.Errno.TheVariants.{ENOMEM};
-ghost use Rattle.fx_chain.specs.Completed.{negated};
 ghost use Rattle.check_judge.specs.Kept.{IsRingKept};
 ghost use Rattle.check_lines.specs.Calls.{IsCall};
 ghost use Rattle.fx_print.specs.Text.{result_line};

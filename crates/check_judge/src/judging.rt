@@ -1,11 +1,6 @@
 //! The verdict on what was reported of a submission.
-ghost use Rattle.std.specs.Prelude.{◌≡◌, ◌+◌, ◌<◌, ◌≤◌, ◌^◌, IfOk, IsTrue, OnErr, length};
-ghost use Rattle.std.specs.Prelude.{false};
-ghost use Rattle.fx_plain.specs.declared.table.TheConstants.{MOST_SLOTS};
-ghost use Rattle.fx_chain.specs.Accepted.{IsAccepted};
-ghost use Rattle.fx_chain.specs.Operation.{all_asked};
-ghost use Rattle.fx_ring.specs.Ring.{IsRing};
-ghost use Rattle.fx_order.specs.Slots.{ring_with_slots};
+ghost use Rattle.check_judge.specs.Words.{◌≡◌, ◌+◌, ◌<◌, ◌≤◌, ◌^◌, IfOk, IsTrue, OnErr, length, false, MOST_SLOTS, IsAccepted, all_asked, IsRing};
+ghost use Rattle.check_judge.specs.Words.{ring_with_slots};
 ghost use Rattle.check_judge.specs.Verdict.{CameBy, IsRecordedOutcome, IsVerdict};
 
 use crate::answered::{ClaimSetting, TableRecorded};

@@ -1,14 +1,7 @@
 //! Checks whether slots and counts, read from anywhere, are those of a ring.
-ghost use Rattle.std.specs.Prelude.{◌≡◌, ◌<◌, ◌≤◌, ◌↔◌, ℕ, IsTrue, List, None, Some, length};
-ghost use Rattle.std.specs.Prelude.{slice_index_or};
-ghost use Rattle.fx_base.specs.Catalogue.{FileEntry};
-ghost use Rattle.fx_base.specs.declared.open_file.Closed.{Closed as File};
-ghost use Rattle.check_lines.specs.InRange.{IsFileInRange};
+ghost use Rattle.check_judge.specs.Words.{◌≡◌, ◌<◌, ◌≤◌, ◌↔◌, ℕ, IsTrue, List, None, Some, length, slice_index_or, FileEntry, Closed as File};
+ghost use Rattle.check_judge.specs.Words.{IsFileInRange, AreFiles, IsMarkInRange, ring_with_slots, HasCounted};
 ghost use Rattle.check_judge.specs.Kept.{IsRingKept, IsOfRing};
-ghost use Rattle.fx_language.specs.Script.{AreFiles};
-ghost use Rattle.check_lines.specs.Lines.{IsMarkInRange};
-ghost use Rattle.fx_order.specs.Slots.{ring_with_slots};
-ghost use Rattle.fx_ring.specs.Ring.{HasCounted};
 
 use fx_base::{Catalogue, Closed, Mark};
 use fx_order::RingSlots;

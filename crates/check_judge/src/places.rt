@@ -1,17 +1,8 @@
 //! The places of the requests that make the accesses of an order.
-ghost use Rattle.std.specs.Prelude.{◌≡◌, ◌≤◌, ◌<◌, ◌+◌, ◌++◌, ◌^◌, ℕ, All, IfOk, OnOk};
-ghost use Rattle.std.specs.Prelude.{List, length, map, slice_get, Some};
-ghost use Rattle.std.specs.Global.{Vec as Items};
-ghost use Rattle.fx_chain.specs.Accepted.{IsChain, members_of};
-ghost use Rattle.fx_chain.specs.Completed.{all_completed, completed_of};
-ghost use Rattle.fx_chain.specs.Operation.{all_asked, operation_of};
-ghost use Rattle.fx_order.specs.Requests.{AreChainsDone, IsChainDone, IsRequestDone};
-ghost use Rattle.fx_order.specs.declared.access.Access.{Access};
-ghost use Rattle.fx_order.specs.declared.access.ChainAccess.{ChainAccess as Made};
-ghost use Rattle.check_judge.specs.Places.{AreListsOf, IsListFor, AreAccessPlaces, IsChainListed};
-ghost use Rattle.check_judge.specs.Places.{own_places};
-ghost use Rattle.check_judge.specs.Places.{places_of_chain};
-ghost use Rattle.fx_order.specs.declared.listed_order.AccessPlace.{AccessPlace as Listed};
+ghost use Rattle.check_judge.specs.Words.{◌≡◌, ◌≤◌, ◌<◌, ◌+◌, ◌++◌, ◌^◌, ℕ, All, IfOk, OnOk, List, length, map, slice_get, Some, Vec as Items};
+ghost use Rattle.check_judge.specs.Words.{IsChain, members_of, all_completed, completed_of, all_asked, operation_of, AreChainsDone, IsChainDone};
+ghost use Rattle.check_judge.specs.Words.{IsRequestDone, Access, ChainAccess as Made, AccessPlace as Listed};
+ghost use Rattle.check_judge.specs.Places.{AreListsOf, IsListFor, AreAccessPlaces, IsChainListed, own_places, places_of_chain};
 
 use fx_base::NoMemory;
 use fx_chain::{Chain, Completion, Place, Request};

@@ -1,15 +1,10 @@
 //! The judge: plays the commands of a script against a text, one after another.
-ghost use Rattle.std.specs.Prelude.{◌≡◌, ◌≤◌, IfNone, IfOk, IfSome, List, OnOk, drop, length};
-ghost use Rattle.fx_base.specs.Catalogue.{FileEntry};
-ghost use Rattle.fx_ring.specs.Ring.{new_ring};
-ghost use Rattle.fx_language.specs.Instruction.{instruction_of, instructions_of};
-ghost use Rattle.fx_script.specs.Play.{PrintsEnd};
+ghost use Rattle.check_judge.specs.Words.{◌≡◌, ◌≤◌, IfNone, IfOk, IfSome, List, OnOk, drop, length, FileEntry, new_ring, instruction_of};
+ghost use Rattle.check_judge.specs.Words.{instructions_of, PrintsEnd, AreFiles, ring_with_slots};
 ghost use Rattle.check_judge.specs.Step.{IsCommandVerdict};
 ghost use Rattle.check_judge.specs.Judged.{IsJudged, IsJudgedFrom};
 ghost use Rattle.check_judge.specs.Kept.{IsRingKept};
 ghost use Rattle.check_judge.specs.declared.judgement.Judgement.TheVariants.{NotLegal};
-ghost use Rattle.fx_language.specs.Script.{AreFiles};
-ghost use Rattle.fx_order.specs.Slots.{ring_with_slots};
 
 use crate::command::{CommandVerdict, play_call};
 use crate::judgement::{Break, Fault, Judgement};

@@ -1,15 +1,9 @@
 //! The report that lines describe, and the closed files that they name.
-ghost use Rattle.std.specs.Prelude.{◌≡◌, ◌==◌, ℕ, All, IfNone, IfOk, IfSome, List, Some, filter};
-ghost use Rattle.std.specs.Prelude.{map, not, false};
-ghost use Rattle.fx_base.specs.Catalogue.{name_at};
-ghost use Rattle.fx_base.specs.CloseList.{IsInOrderOfMark};
-ghost use Rattle.fx_base.specs.declared.open_file.Closed.{Closed as File};
+ghost use Rattle.check_judge.specs.Words.{◌≡◌, ◌==◌, ℕ, All, IfNone, IfOk, IfSome, List, Some, filter, map, not, false, name_at, IsInOrderOfMark};
+ghost use Rattle.check_judge.specs.Words.{Closed as File, named_close, named_closes, all_completed, completed_of, all_asked, asked_of};
 ghost use Rattle.check_lines.specs.ClosedView.{named_close_of};
-ghost use Rattle.check_lines.specs.Lines.{named_close, named_closes};
-ghost use Rattle.check_judge.specs.Recorded.{AreApart, HasDistinctMarks, HasNone, IsFileAtSlot};
-ghost use Rattle.check_judge.specs.Recorded.{MayBeClosed, Yields, AreFrom, Installed, OneInstalled};
-ghost use Rattle.fx_chain.specs.Completed.{all_completed, completed_of};
-ghost use Rattle.fx_chain.specs.Operation.{all_asked, asked_of};
+ghost use Rattle.check_judge.specs.Recorded.{AreApart, HasDistinctMarks, HasNone, IsFileAtSlot, MayBeClosed, Yields, AreFrom, Installed};
+ghost use Rattle.check_judge.specs.Recorded.{OneInstalled};
 
 use check_lines::ClosedLine;
 use fx_base::{Catalogue, Closed, Mark, NoMemory};

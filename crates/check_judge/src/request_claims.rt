@@ -1,18 +1,9 @@
 //! The claims of one request, from its completion: one for each access that it intends.
-ghost use Rattle.std.specs.Prelude.{◌≡◌, ◌<◌, ◌≤◌, ◌+◌, ◌↔◌, IfOk, IfSome, IsTrue, None};
-ghost use Rattle.std.specs.Prelude.{Some, slice_index_or, true, ℕ};
-ghost use Rattle.fx_base.specs.declared.errno.Errno.TheVariants.{ENOMEM};
-ghost use Rattle.fx_base.specs.declared.open_file.Closed.{Closed as FileAt};
-ghost use Rattle.fx_chain.specs.Accepted.{IsWithinLimits};
-ghost use Rattle.fx_chain.specs.Completed.{completed_of, refusal};
-ghost use Rattle.fx_chain.specs.Intents.{IsOpened, bytes_asked};
-ghost use Rattle.fx_chain.specs.Operation.{asked_of, operation_of};
+ghost use Rattle.check_judge.specs.Words.{◌≡◌, ◌<◌, ◌≤◌, ◌+◌, ◌↔◌, IfOk, IfSome, IsTrue, None, Some, slice_index_or, true, ℕ, ENOMEM};
+ghost use Rattle.check_judge.specs.Words.{Closed as FileAt, IsWithinLimits, completed_of, refusal, IsOpened, bytes_asked, asked_of, operation_of};
+ghost use Rattle.check_judge.specs.Words.{IsRequestDone, Access as OneAccess, Claim as OneClaim};
 ghost use Rattle.fx_chain.specs.declared.intent.Finding.TheVariants.{At as FoundAt};
-ghost use Rattle.fx_order.specs.Requests.{IsRequestDone};
-ghost use Rattle.fx_order.specs.declared.access.Access.{Access as OneAccess};
-ghost use Rattle.check_search.specs.declared.claim.Claim.{Claim as OneClaim};
-ghost use Rattle.check_judge.specs.Claims.{Appends, Concludes, Fits, IsAnsweredBy, IsDecided};
-ghost use Rattle.check_judge.specs.Claims.{IsMade, answer};
+ghost use Rattle.check_judge.specs.Claims.{Appends, Concludes, Fits, IsAnsweredBy, IsDecided, IsMade, answer};
 
 use crate::answered::{AnsweredRequest, ClaimSetting};
 use crate::judgement::{Reason, Stop};

@@ -1,12 +1,8 @@
 //! The claims of chains at some slots alone, and the accesses that an order of them makes.
-ghost use Rattle.std.specs.Prelude.{◌≡◌, ◌<◌, ◌+◌, ◌^◌, IfOk, OnOk, List, length, filter, ◌==◌};
-ghost use Rattle.std.specs.Prelude.{◌++◌};
-ghost use Rattle.std.specs.List.{list_any};
-ghost use Rattle.fx_base.specs.declared.open_file.Closed.{Closed as FileAt};
-ghost use Rattle.fx_order.specs.declared.access.ChainAccess.{ChainAccess as OneAccess};
+ghost use Rattle.check_judge.specs.Words.{◌≡◌, ◌<◌, ◌+◌, ◌^◌, IfOk, OnOk, List, length, filter, ◌==◌, ◌++◌, list_any, Closed as FileAt};
+ghost use Rattle.check_judge.specs.Words.{ChainAccess as OneAccess, keeps};
 ghost use Rattle.check_judge.specs.Claims.{AreClaims};
 ghost use Rattle.check_judge.specs.Played.{AreStrands, strand_for};
-ghost use Rattle.check_search.specs.AtSlots.{keeps};
 
 use check_search::{Cell, Claim, Condition, Leaves, Strand, apply, cell_at, claim_of, has_slot};
 use fx_base::NoMemory;

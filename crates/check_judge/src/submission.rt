@@ -1,16 +1,9 @@
 //! Plays accepted submissions against a text.
-ghost use Rattle.std.specs.Prelude.{◌≤◌, length, ◌≡◌, ◌<◌, All, IfOk, OnOk};
-ghost use Rattle.fx_chain.specs.Accepted.{IsAccepted};
-ghost use Rattle.fx_chain.specs.Operation.{all_asked};
-ghost use Rattle.fx_plain.specs.declared.table.TheConstants.{MOST_SLOTS};
-ghost use Rattle.fx_chain.specs.Completed.{all_completed};
-ghost use Rattle.fx_chain.specs.Runs.{runs_of};
-ghost use Rattle.fx_ring.specs.declared.ring.TheConstants.{MOST_SUBMISSIONS};
-ghost use Rattle.fx_language.specs.Instruction.{SubmitsAll};
+ghost use Rattle.check_judge.specs.Words.{◌≤◌, length, ◌≡◌, ◌<◌, All, IfOk, OnOk, IsAccepted, all_asked, MOST_SLOTS, all_completed, runs_of};
+ghost use Rattle.check_judge.specs.Words.{MOST_SUBMISSIONS, SubmitsAll, AreChainsDone};
 ghost use Rattle.check_judge.specs.Step.{IsCommandVerdict};
 ghost use Rattle.check_judge.specs.Kept.{IsRingKept};
 ghost use Rattle.check_judge.specs.Places.{AreAccessPlaces};
-ghost use Rattle.fx_order.specs.Requests.{AreChainsDone};
 ghost use Rattle.check_judge.specs.Recorded.{AreApart, HasLines, YieldsKnown};
 ghost use Rattle.fx_table.specs.declared.limits.TheConstants.{MAX_CHAINS};
 

@@ -1,6 +1,5 @@
-use Rattle.check_judge.proofs.Words.{rules, IsChain, all_asked, Chain, first_run, others_completed, own_completed, few_completions, all_of_rest, []}
-use Rattle.check_judge.proofs.Words.{accesses_of_chain, ◌+◌, ◌≡◌, arith, length, length_push, err_from_is_err_and}
-use Rattle.check_judge.proofs.RequestClaims.{decides_by}
+use Rattle.check_judge.proofs.{rules, IsChain, all_asked, Chain, first_run, others_completed, own_completed, few_completions, all_of_rest, []}
+use Rattle.check_judge.proofs.{accesses_of_chain, ◌+◌, ◌≡◌, arith, length, length_push, err_from_is_err_and, decides_by}
 use Rattle.check_judge.proofs.StrandClaims.{chain_parts, claims_more}
 use Rattle.check_judge.proofs.chain_claims.+push_chains.Goals as goal
 

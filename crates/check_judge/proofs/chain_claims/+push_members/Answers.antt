@@ -1,5 +1,4 @@
-use Rattle.check_judge.proofs.Words.{sym, ◌++◌, append_assoc, completed_of, asked_of, first_is, err_from_is_err_and}
-use Rattle.check_judge.proofs.RequestClaims.{decides_by}
+use Rattle.check_judge.proofs.{sym, ◌++◌, append_assoc, completed_of, asked_of, first_is, err_from_is_err_and, decides_by}
 use Rattle.check_judge.proofs.StrandClaims.{member_parts}
 use Rattle.check_judge.proofs.chain_claims.+push_members.Goals as goal
 

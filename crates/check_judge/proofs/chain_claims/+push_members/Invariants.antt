@@ -1,4 +1,4 @@
-use Rattle.check_judge.proofs.Words.{length}
+use Rattle.check_judge.proofs.{length}
 use Rattle.check_judge.proofs.chain_claims.+push_members.Given as goal
 
 abbrev pub decreases-push_members : goal.decreases-push_members

@@ -1,4 +1,4 @@
-use Rattle.check_judge.proofs.Words.{◌≡◌, ◌++◌, List, ℕ, true, false, sym, ap, ◌∙◌, Decides-eqb}
+use Rattle.check_judge.proofs.{◌≡◌, ◌++◌, List, ℕ, true, false, sym, ap, ◌∙◌, Decides-eqb}
 use Rattle.std.proofs.lemmas.Slice.Eq.{starts_is}
 use Rattle.check_judge.proofs.command.meet.Goals as goal
 

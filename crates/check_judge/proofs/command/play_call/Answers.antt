@@ -1,4 +1,4 @@
-use Rattle.check_judge.proofs.Words.{IfOk-weaker, sym, instruction_of, string_bytes}
+use Rattle.check_judge.proofs.{IfOk-weaker, sym, instruction_of, string_bytes}
 use Rattle.check_judge.proofs.Plays.{call_keeps, fails, found, never}
 use Rattle.check_judge.proofs.command.play_call.Goals as goal
 

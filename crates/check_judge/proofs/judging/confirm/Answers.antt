@@ -1,4 +1,4 @@
-use Rattle.check_judge.proofs.Words.{refl, none_past}
+use Rattle.check_judge.proofs.{refl, none_past}
 use Rattle.check_judge.proofs.Plays.{order_rings}
 use Rattle.check_judge.proofs.judging.confirm.Goals as goal
 

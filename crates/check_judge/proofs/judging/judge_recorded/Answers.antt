@@ -1,4 +1,4 @@
-use Rattle.check_judge.proofs.Words.{◌≡◌, length, sym, arith, length-map, members_of, all_asked, ring_with_slots, zero-add, IfOk-weaker}
+use Rattle.check_judge.proofs.{◌≡◌, length, sym, arith, length-map, members_of, all_asked, ring_with_slots, zero-add, IfOk-weaker}
 use Rattle.check_judge.proofs.Refuting.{done_so, outcome_recorded}
 use Rattle.check_judge.proofs.judging.judge_recorded.Goals as goal
 

@@ -1,4 +1,4 @@
-use Rattle.check_judge.proofs.Words.{sym}
+use Rattle.check_judge.proofs.{sym}
 use Rattle.check_judge.proofs.judging.judge_submission.Goals as goal
 
 pub returns-then-branch-clause-verdict : goal.returns-then-branch-clause-verdict

@@ -1,5 +1,4 @@
-use Rattle.check_judge.proofs.Words.{◌≡◌, ℕ, ◌<◌, List, Option, None, Some, length, slice_index_or, Closed, inl, inr, cases_lt, get_or_past, arith}
-use Rattle.check_judge.proofs.Words.{refl}
+use Rattle.check_judge.proofs.{◌≡◌, ℕ, ◌<◌, List, Option, None, Some, length, slice_index_or, Closed, inl, inr, cases_lt, get_or_past, arith, refl}
 use Rattle.check_judge.proofs.kept.are_apart.Goals as goal
 
 under : (at : List (Option Closed)) (k : ℕ) {f : Closed} → slice_index_or at k None ≡ Some f → k < length at

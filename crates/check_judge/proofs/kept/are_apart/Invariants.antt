@@ -1,4 +1,4 @@
-use Rattle.check_judge.proofs.Words.{◌≡◌, ℕ, ◌<◌, None, Some, slice_index_or, Closed}
+use Rattle.check_judge.proofs.{◌≡◌, ℕ, ◌<◌, None, Some, slice_index_or, Closed}
 use Rattle.check_judge.proofs.kept.are_apart.Given as goal
 
 -- no two of the slots that were looked at have files with one mark

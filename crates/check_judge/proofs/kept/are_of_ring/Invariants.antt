@@ -1,4 +1,4 @@
-use Rattle.check_judge.proofs.Words.{◌≡◌, ℕ, ◌<◌, None, Some, slice_index_or, Closed, IsFileInRange, ring_with_slots, IsOfRing}
+use Rattle.check_judge.proofs.{◌≡◌, ℕ, ◌<◌, None, Some, slice_index_or, Closed, IsFileInRange, ring_with_slots, IsOfRing}
 use Rattle.check_judge.proofs.kept.are_of_ring.Given as goal
 
 -- each file that was looked at may be there

@@ -1,4 +1,4 @@
-use Rattle.check_judge.proofs.Words.{◌≡◌, ℕ, ◌<◌, None, Some, slice_index_or, Closed}
+use Rattle.check_judge.proofs.{◌≡◌, ℕ, ◌<◌, None, Some, slice_index_or, Closed}
 use Rattle.check_judge.proofs.kept.is_new.Given as goal
 
 abbrev pub invariant-loop-slot : goal.invariant-loop-slot

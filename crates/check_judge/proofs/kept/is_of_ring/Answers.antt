@@ -1,4 +1,4 @@
-use Rattle.check_judge.proofs.Words.{arith}
+use Rattle.check_judge.proofs.{arith}
 use Rattle.check_judge.proofs.kept.is_of_ring.Goals as goal
 
 pub returns-clause-of_ring : goal.returns-clause-of_ring

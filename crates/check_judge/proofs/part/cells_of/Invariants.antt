@@ -1,4 +1,4 @@
-use Rattle.check_judge.proofs.Words.{All, table_of_slots, IsCell}
+use Rattle.check_judge.proofs.{All, table_of_slots, IsCell}
 use Rattle.check_judge.proofs.part.cells_of.Given as goal
 
 abbrev pub invariant-loop-slot : goal.invariant-loop-slot

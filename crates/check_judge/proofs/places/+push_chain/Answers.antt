@@ -1,5 +1,4 @@
-use Rattle.check_judge.proofs.Words.{sym, ◌∙◌, completed_of, asked_of, first_is, on_ok_weaker}
-use Rattle.check_judge.proofs.AccessPlaces.{going_put, severed_put}
+use Rattle.check_judge.proofs.{sym, ◌∙◌, completed_of, asked_of, first_is, on_ok_weaker, going_put, severed_put}
 use Rattle.check_judge.proofs.places.+push_chain.Goals as goal
 
 pub returns-then-severs : goal.returns-then-severs

@@ -1,6 +1,5 @@
-use Rattle.check_judge.proofs.Words.{rules, IsChain, all_asked, Chain, first_run, others_completed, own_completed, few_completions, all_of_rest}
-use Rattle.check_judge.proofs.Words.{on_ok_weaker}
-use Rattle.check_judge.proofs.AccessPlaces.{lists_put}
+use Rattle.check_judge.proofs.{rules, IsChain, all_asked, Chain, first_run, others_completed, own_completed, few_completions, all_of_rest}
+use Rattle.check_judge.proofs.{on_ok_weaker, lists_put}
 use Rattle.check_judge.proofs.places.+push_lists.Goals as goal
 
 abbrev none : Chain

@@ -1,6 +1,5 @@
-use Rattle.check_judge.proofs.Words.{◌-◌, ◌+◌, ◌≤◌, length, ap, ◌∙◌, arith, None, map, slice_index_or, Vec, ChainAccess, places_of_chain, AccessPlace}
-use Rattle.check_judge.proofs.Words.{length-set, Looks}
-use Rattle.check_judge.proofs.AccessPlaces.{IsNext, all_taken, chains_listed, counts_more, is_next, lists_more, one_left}
+use Rattle.check_judge.proofs.{◌-◌, ◌+◌, ◌≤◌, length, ap, ◌∙◌, arith, None, map, slice_index_or, Vec, ChainAccess, places_of_chain, AccessPlace}
+use Rattle.check_judge.proofs.{length-set, Looks, IsNext, all_taken, chains_listed, counts_more, is_next, lists_more, one_left}
 use Rattle.check_judge.proofs.places.in_order.Goals.{After-index-lists-chain}
 use Rattle.check_judge.proofs.places.in_order.Goals as goal
 

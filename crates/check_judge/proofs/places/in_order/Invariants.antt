@@ -1,5 +1,4 @@
-use Rattle.check_judge.proofs.Words.{◌≡◌, ◌+◌, ◌<◌, ℕ, Some, length, map, slice_get, slice_index_or, take, Vec, places_of_chain, AccessPlace}
-use Rattle.check_judge.proofs.AccessPlaces.{count_of}
+use Rattle.check_judge.proofs.{◌≡◌, ◌+◌, ◌<◌, ℕ, Some, length, map, slice_get, slice_index_or, take, Vec, places_of_chain, AccessPlace, count_of}
 use Rattle.check_judge.proofs.places.in_order.Given as goal
 
 abbrev pub invariant-loop-x : goal.invariant-loop-x

@@ -1,6 +1,5 @@
-use Rattle.check_judge.proofs.Words.{List, Result, Ok, Err, IfOk, map, length-map, members_of, all_completed, Asked, all_asked, AreListsOf, FileEntry}
-use Rattle.check_judge.proofs.Words.{◌++◌, ◌∙◌, add_comm, ap, subst, sym, AccessPlace, Vec}
-use Rattle.check_judge.proofs.AccessPlaces.{all_places, as_many_lists, each_list}
+use Rattle.check_judge.proofs.{List, Result, Ok, Err, IfOk, map, length-map, members_of, all_completed, Asked, all_asked, AreListsOf, FileEntry, ◌++◌}
+use Rattle.check_judge.proofs.{◌∙◌, add_comm, ap, subst, sym, AccessPlace, Vec, all_places, as_many_lists, each_list}
 use Rattle.check_judge.proofs.places.places_of.Goals.{In_ok-push_lists}
 use Rattle.check_judge.proofs.places.places_of.Goals as goal
 

@@ -1,4 +1,4 @@
-use Rattle.check_judge.proofs.Words.{◌≡◌, ◌++◌, map, take, place_at}
+use Rattle.check_judge.proofs.{◌≡◌, ◌++◌, map, take, place_at}
 use Rattle.check_judge.proofs.places.push_own.Given as goal
 
 abbrev pub invariant-loop-entry : goal.invariant-loop-entry

@@ -1,4 +1,4 @@
-use Rattle.check_judge.proofs.Words.{IfOk-weaker}
+use Rattle.check_judge.proofs.{IfOk-weaker}
 use Rattle.check_judge.proofs.Plays.{judged_script}
 use Rattle.check_judge.proofs.play.judge.Goals as goal
 

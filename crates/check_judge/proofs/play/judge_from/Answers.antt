@@ -1,4 +1,4 @@
-use Rattle.check_judge.proofs.Words.{◌≡◌, ◌∙◌, List, drop, sym, ap, Instruction, instruction_of, instructions_of, take_rest, drop-map}
+use Rattle.check_judge.proofs.{◌≡◌, ◌∙◌, List, drop, sym, ap, Instruction, instruction_of, instructions_of, take_rest, drop-map}
 use Rattle.check_judge.proofs.play.judge_from.Goals as goal
 
 pub returns-clause-judged : goal.returns-clause-judged

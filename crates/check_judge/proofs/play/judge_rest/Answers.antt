@@ -1,5 +1,5 @@
-use Rattle.check_judge.proofs.Words.{◌≡◌, ◌+◌, ◌∷◌, length, length-drop, drop, sym, append-nil, ◌++◌, arith, option_to_list, length-map, refl}
-use Rattle.check_judge.proofs.Words.{instruction_of, instructions_of, ring_with_slots, shown, take_rest, IsCommandVerdict}
+use Rattle.check_judge.proofs.{◌≡◌, ◌+◌, ◌∷◌, length, length-drop, drop, sym, append-nil, ◌++◌, arith, option_to_list, length-map, refl}
+use Rattle.check_judge.proofs.{instruction_of, instructions_of, ring_with_slots, shown, take_rest, IsCommandVerdict}
 use Rattle.check_judge.specs.declared.command.CommandVerdict.{CommandVerdict}
 use Rattle.check_judge.proofs.Plays.{GoesWith, at_start, ended, goes_on, next_instruction, not_ended, stops}
 use Rattle.check_judge.proofs.play.judge_rest.Goals.{in-Some+in_ok-push-in-Printed, in_default, In_ok-count, In_ok-play_end}

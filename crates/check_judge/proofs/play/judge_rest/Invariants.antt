@@ -1,4 +1,4 @@
-use Rattle.check_judge.proofs.Words.{◌≤◌, length, IsRingKept, instructions_of, ring_with_slots}
+use Rattle.check_judge.proofs.{◌≤◌, length, IsRingKept, instructions_of, ring_with_slots}
 use Rattle.check_judge.proofs.Plays.{GoesWith}
 use Rattle.check_judge.proofs.play.judge_rest.Given as goal
 

@@ -1,4 +1,4 @@
-use Rattle.check_judge.proofs.Words.{IfOk, Instruction, sym, subst, IsCommandVerdict}
+use Rattle.check_judge.proofs.{IfOk, Instruction, sym, subst, IsCommandVerdict}
 use Rattle.check_judge.proofs.play.play_command.Goals as goal
 
 pub returns-in-Some-clause-answer : goal.returns-in-Some-clause-answer

@@ -1,5 +1,5 @@
-use Rattle.check_judge.proofs.Words.{◌≡◌, ◌∙◌, sym, Decides-eqb, all_closed, all_of_ring, few_of_ring, ring_with_slots, true≢false, teardown_text}
-use Rattle.check_judge.proofs.Words.{end_printed, slice_eq-Decides}
+use Rattle.check_judge.proofs.{◌≡◌, ◌∙◌, sym, Decides-eqb, all_closed, all_of_ring, few_of_ring, ring_with_slots, true≢false, teardown_text}
+use Rattle.check_judge.proofs.{end_printed, slice_eq-Decides}
 use Rattle.check_judge.proofs.play.play_end.Goals as goal
 
 pub close_in_order-requires : goal.close_in_order-requires

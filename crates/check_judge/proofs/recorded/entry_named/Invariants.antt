@@ -1,4 +1,4 @@
-use Rattle.check_judge.proofs.Words.{◌≡◌, ℕ, ◌<◌, Some, name_at}
+use Rattle.check_judge.proofs.{◌≡◌, ℕ, ◌<◌, Some, name_at}
 use Rattle.check_judge.proofs.recorded.entry_named.Given as goal
 
 abbrev pub invariant-loop-entry : goal.invariant-loop-entry

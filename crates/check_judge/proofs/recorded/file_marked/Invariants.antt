@@ -1,4 +1,4 @@
-use Rattle.check_judge.proofs.Words.{◌≡◌, ℕ, ◌<◌, None, Some, slice_index_or, Closed}
+use Rattle.check_judge.proofs.{◌≡◌, ℕ, ◌<◌, None, Some, slice_index_or, Closed}
 use Rattle.check_judge.proofs.recorded.file_marked.Given as goal
 
 abbrev pub invariant-loop-file : goal.invariant-loop-file

@@ -1,5 +1,4 @@
-use Rattle.check_judge.proofs.Words.{◌≡◌, ◌∙◌, ℕ, List, Some, ap, name_at, Closed, NamedClose, sym}
-use Rattle.check_judge.proofs.OrderFiles.{same_entry, same_file}
+use Rattle.check_judge.proofs.{◌≡◌, ◌∙◌, ℕ, List, Some, ap, name_at, Closed, NamedClose, sym, same_entry, same_file}
 use Rattle.check_judge.proofs.recorded.file_recorded.Goals as goal
 
 pub returns-then-file-entry-clause-only : goal.returns-then-file-entry-clause-only

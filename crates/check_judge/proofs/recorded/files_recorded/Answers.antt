@@ -1,5 +1,4 @@
-use Rattle.check_judge.proofs.Words.{◌≡◌, Option, Some, slice_index_or, take_more, Registered, Closed, map_push}
-use Rattle.check_judge.proofs.OrderFiles.{close_at}
+use Rattle.check_judge.proofs.{◌≡◌, Option, Some, slice_index_or, take_more, Registered, Closed, map_push, close_at}
 use Rattle.check_judge.proofs.recorded.files_recorded.Goals as goal
 
 any : Closed

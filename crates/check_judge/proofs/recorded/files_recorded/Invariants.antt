@@ -1,4 +1,4 @@
-use Rattle.check_judge.proofs.Words.{◌≡◌, All, List, map, take, Closed, named_close_of, named_closes, AreApart, MayBeClosed}
+use Rattle.check_judge.proofs.{◌≡◌, All, List, map, take, Closed, named_close_of, named_closes, AreApart, MayBeClosed}
 use Rattle.check_judge.proofs.recorded.files_recorded.Given as goal
 
 abbrev pub invariant-loop-i : goal.invariant-loop-i

@@ -1,6 +1,5 @@
-use Rattle.check_judge.proofs.Words.{⊎_elim}
+use Rattle.check_judge.proofs.{⊎_elim, none_installed}
 use Rattle.check_lines.proofs.Cuts.{from_here}
-use Rattle.check_judge.proofs.OrderFiles.{none_installed}
 use Rattle.check_judge.proofs.recorded.is_installed.Goals.{else-i-completions-via-then-i-completions+else-has_installed}
 use Rattle.check_judge.proofs.recorded.is_installed.Goals.{else-i-completions-via-else-i-completions}
 use Rattle.check_judge.proofs.recorded.is_installed.Goals as goal

@@ -1,4 +1,4 @@
-use Rattle.check_judge.proofs.Words.{drop, all_completed, all_asked, OneInstalled}
+use Rattle.check_judge.proofs.{drop, all_completed, all_asked, OneInstalled}
 use Rattle.check_judge.proofs.recorded.is_installed.Given as goal
 
 -- a request after those that were checked

@@ -1,5 +1,4 @@
-use Rattle.check_judge.proofs.Words.{◌∙◌, ◌-◌, ap, sym, arith, is_lt}
-use Rattle.check_judge.proofs.OrderFiles.{not_in_turn}
+use Rattle.check_judge.proofs.{◌∙◌, ◌-◌, ap, sym, arith, is_lt, not_in_turn}
 use Rattle.check_judge.proofs.recorded.wrong_order.Goals as goal
 
 pub returns-then-not-is_lt : goal.returns-then-not-is_lt

@@ -1,4 +1,4 @@
-use Rattle.check_judge.proofs.Words.{length, ℕ, ◌<◌, ◌≡◌, ◌≤◌, get_or}
+use Rattle.check_judge.proofs.{length, ℕ, ◌<◌, ◌≡◌, ◌≤◌, get_or}
 use Rattle.check_judge.proofs.recorded.wrong_tag.Given as goal
 
 abbrev pub invariant-loop-i : goal.invariant-loop-i

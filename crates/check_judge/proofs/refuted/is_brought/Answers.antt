@@ -1,4 +1,4 @@
-use Rattle.check_judge.proofs.Words.{◌∙◌, All-more, Claim, Vec, refl, sym, take_all, true≢false, Brings, no_any, Any}
+use Rattle.check_judge.proofs.{◌∙◌, All-more, Claim, Vec, refl, sym, take_all, true≢false, Brings, no_any, Any}
 use Rattle.check_judge.proofs.refuted.is_brought.Goals as goal
 
 pub returns-then-has_bringing : goal.returns-then-has_bringing

@@ -1,4 +1,4 @@
-use Rattle.check_judge.proofs.Words.{All, Claim, Vec, take, Brings, Any}
+use Rattle.check_judge.proofs.{All, Claim, Vec, take, Brings, Any}
 use Rattle.check_judge.proofs.refuted.is_brought.Given as goal
 
 -- none of those that were looked at does

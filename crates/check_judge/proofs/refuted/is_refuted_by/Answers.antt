@@ -1,4 +1,4 @@
-use Rattle.check_judge.proofs.Words.{IfOk-weaker}
+use Rattle.check_judge.proofs.{IfOk-weaker}
 use Rattle.check_judge.proofs.StrandClaims.{no_order}
 use Rattle.check_judge.proofs.refuted.is_refuted_by.Goals as goal
 

@@ -1,4 +1,4 @@
-use Rattle.check_judge.proofs.Words.{◌≡◌, ◌∙◌, ap, not, sym, true}
+use Rattle.check_judge.proofs.{◌≡◌, ◌∙◌, ap, not, sym, true}
 use Rattle.check_judge.proofs.Refuting.{never_known}
 use Rattle.check_judge.proofs.refuted.is_unknown.Goals as goal
 

@@ -1,5 +1,4 @@
-use Rattle.check_judge.proofs.Words.{◌≡◌, of_z, rules, to_z, w32}
-use Rattle.check_judge.proofs.RequestClaims.{look_failed, take_recorded}
+use Rattle.check_judge.proofs.{◌≡◌, of_z, rules, to_z, w32, look_failed, take_recorded}
 use Rattle.check_judge.proofs.request_claims.claim_of.Goals as goal
 
 pub claim_by-requires-then-c-lt0 : goal.claim_by-requires-then-c-lt0

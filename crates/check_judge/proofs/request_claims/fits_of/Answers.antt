@@ -1,4 +1,4 @@
-use Rattle.check_judge.proofs.Words.{true, read_default}
+use Rattle.check_judge.proofs.{true, read_default}
 use Rattle.check_judge.proofs.request_claims.fits_of.Goals as goal
 
 pub loop-entry-init : goal.loop-entry-init

@@ -1,5 +1,4 @@
-use Rattle.check_judge.proofs.Words.{◌≡◌, true, slice_index_or, Some, Closed, completed_of, answer}
-use Rattle.fx_chain.specs.declared.intent.Finding.TheVariants.{At as FoundAt}
+use Rattle.check_judge.proofs.{◌≡◌, true, slice_index_or, Some, Closed, completed_of, answer, FoundAt}
 use Rattle.check_judge.proofs.request_claims.fits_of.Given as goal
 
 -- each entry that was left out has another answer

@@ -1,5 +1,4 @@
-use Rattle.check_judge.proofs.Words.{arith, operation_of}
-use Rattle.check_judge.proofs.RequestClaims.{only_so}
+use Rattle.check_judge.proofs.{arith, operation_of, only_so}
 use Rattle.check_judge.proofs.request_claims.only_opened.Goals as goal
 
 pub returns : goal.returns

@@ -1,4 +1,4 @@
-use Rattle.check_judge.proofs.Words.{◌≡◌, ℕ, ◌<◌, operation_of, IsOpened}
+use Rattle.check_judge.proofs.{◌≡◌, ℕ, ◌<◌, operation_of, IsOpened}
 use Rattle.check_judge.proofs.request_claims.only_opened.Given as goal
 
 -- no other one of those that were looked at has the name

@@ -1,6 +1,6 @@
-use Rattle.check_judge.proofs.Words.{operation_of, Some, arith, length, slice_get, sym, ◌≡◌, ◌≤◌, take_all, IsMade, err_from_is_err_and}
-use Rattle.fx_order.proofs.Intents.{as_many_intents}
-use Rattle.check_judge.proofs.RequestClaims.{one_more, made_at, decided, intents, all_made}
+use Rattle.check_judge.proofs.{operation_of, Some, arith, length, slice_get, sym, ◌≡◌, ◌≤◌, take_all, IsMade, err_from_is_err_and, as_many_intents}
+use Rattle.check_judge.proofs.{made_at, decided, intents, all_made}
+use Rattle.check_judge.proofs.RequestClaims.{one_more}
 use Rattle.check_judge.proofs.request_claims.push_intents.Goals.{In-Some}
 use Rattle.check_judge.proofs.request_claims.push_intents.Goals as goal
 

@@ -1,5 +1,4 @@
-use Rattle.check_judge.proofs.Words.{AreAppended, Access, List, take, AllZip, IsMade}
-use Rattle.check_judge.proofs.RequestClaims.{intents}
+use Rattle.check_judge.proofs.{AreAppended, Access, List, take, AllZip, IsMade, intents}
 use Rattle.check_judge.proofs.request_claims.push_intents.Given as goal
 
 -- the claims so far are those of the accesses so far

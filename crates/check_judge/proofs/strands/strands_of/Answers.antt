@@ -1,4 +1,5 @@
-use Rattle.check_judge.proofs.Words.{◌≡◌, ◌∙◌, ℕ, length, refl, ap, subst, arith, filter, slice_get_read, AreStrands, keeps}
+use Rattle.check_judge.proofs.{◌≡◌, ◌∙◌, ℕ, length, refl, ap, subst, arith, filter, slice_get_read, AreStrands}
+use Rattle.check_judge.proofs.Words.{keeps}
 use Rattle.check_judge.proofs.StrandClaims.{one_more}
 use Rattle.check_judge.proofs.strands.strands_of.Goals as goal
 

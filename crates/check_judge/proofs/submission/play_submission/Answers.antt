@@ -1,9 +1,8 @@
-use Rattle.check_judge.proofs.Words.{◌-◌, Some, Ok, length, sym, length-map, all_asked, asked_of, ReadsReport, lines_text, lines_in, CameBy}
-use Rattle.check_judge.proofs.Words.{BeginsWith, AreApart, HasLines, YieldsKnown, ring_with_slots}
+use Rattle.check_judge.proofs.{◌-◌, Some, Ok, length, sym, length-map, all_asked, asked_of, ReadsReport, lines_text, lines_in, CameBy, BeginsWith}
+use Rattle.check_judge.proofs.{AreApart, HasLines, YieldsKnown, ring_with_slots, IsCounted}
 use Rattle.check_judge.proofs.Plays.{begins_with}
 use Rattle.check_judge.proofs.Submissions.{none_ordered, none_read, none_recorded, one_ordered, accepted_goes, accepted_keeps, ordered_done}
 use Rattle.check_judge.proofs.Submissions.{ordered_is, same_slots}
-use Rattle.check_judge.proofs.OrderFiles.{IsCounted}
 use Rattle.check_judge.proofs.submission.play_submission.Goals.{In_ok-front, In-Some, In-Ok, In-Legal}
 use Rattle.check_judge.proofs.submission.play_submission.Goals as goal
 

@@ -1,5 +1,5 @@
-use Rattle.check_judge.proofs.Words.{◌≡◌, ◌==◌, List, filter, map, not, sym, ap, ◌∙◌, Closed, named_close_of, ClosedLine, Lines, named_closes}
-use Rattle.check_judge.proofs.Words.{all_completed}
+use Rattle.check_judge.proofs.{◌≡◌, ◌==◌, List, filter, map, not, sym, ap, ◌∙◌, Closed, named_close_of, ClosedLine, Lines, named_closes}
+use Rattle.check_judge.proofs.{all_completed}
 use Rattle.check_judge.proofs.Submissions.{tags_again, recorded_lines}
 use Rattle.check_judge.proofs.submission.recorded_by.Goals as goal
 
