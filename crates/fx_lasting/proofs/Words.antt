@@ -1,7 +1,7 @@
 -- The names that these proofs cite, passed on from one place. Declares nothing.
 pub use Rattle.atomic_table.proofs.Lists.{set_here, set_else, at_set, at_map, exchanged, at_index}
 pub use Rattle.atomic_table.specs.Seated.{TableId}
-pub use Rattle.atomic_table.specs.Table.{Act, keeps, Valid, stepped, carried_after, step, gives, rest, takes, Allows, Final, Seen, opening, Splits, put_back}
+pub use Rattle.atomic_table.specs.Table.{Act, keeps, Valid, stepped, carried_after, step, gives, rest, takes, Allows, Final, Seen, opening, put_back}
 pub use Rattle.fx_base.specs.declared.open_file.Closed.{Closed}
 pub use Rattle.table_range.specs.Groups.{is_in, question_place, group_place, group_size, groups_in, group_at, group_of, group_start, group_len}
 pub use Rattle.table_range.specs.Counts.{owing, uncounted, account, HasQuestionOf, HasVisitedFull, bit_of, lowered, raised, with_question}
@@ -9,7 +9,7 @@ pub use Rattle.table_range.specs.declared.groups.TheConstants.{RANGE_END}
 pub use Rattle.fx_lasting.specs.holds.HoldsAgree.{IsIn, HoldAgrees, MayBeUncharged, GuardAgrees, GlanceAgrees, Heats, LogAgrees, ViewAgrees, HoldsAt}
 pub use Rattle.fx_lasting.specs.holds.HoldsAgree.{WorkAgrees, IsAllowed, IsIdleIn, IsToVisit, NamesNode, StillNames}
 pub use Rattle.fx_lasting.specs.Agrees.{Agrees}
-pub use Rattle.fx_lasting.specs.nodes.NodesAgree.{NodeAgrees, Does, OwnerAgrees, Nodes, Home, IsFileOfNode, IsVacant, IsBorn, Labels}
+pub use Rattle.fx_lasting.specs.nodes.NodesAgree.{NodeAgrees, Does, OwnerAgrees, Nodes, Home, IsFileOfNode, Labels}
 pub use Rattle.fx_lasting.specs.slots.SlotAgrees.{Names, IsSeated, SlotAgrees}
 pub use Rattle.fx_lasting.specs.AtWork.{IsAtWork, IsReleasing, HasPlace, MayPlace}
 pub use Rattle.fx_lasting.specs.range.Groups.{RangeCounts}
@@ -19,7 +19,7 @@ pub use Rattle.fx_lasting.specs.life.Cuts.{seats}
 pub use Rattle.table_seats.proofs.Gathered.{AreGathered}
 pub use Rattle.table_seats.proofs.Together.{HasLaws, Moves, find_pass, its_pass, its_range, not_there, stepped as seats_step, opens as seats_open}
 pub use Rattle.table_seats.proofs.Together.{renewed, reseated as seats_reseated, known, learned as seats_learn}
-pub use Rattle.table_seats.specs.Seats.{dealt, first_alone, first_view, joined, new_logs, shown_view, spent, without_first}
+pub use Rattle.table_seats.specs.Seats.{dealt, first_alone, first_view, joined, new_logs, spent, without_first}
 pub use Rattle.table_seats.specs.Together.{HasSeen, Together}
 pub use Rattle.fx_lasting.specs.Laws.{AimsKeep, TakesBesideKeep, ReplacesHeldKeep, HasToLetGo, IsOffCount, TakesOutKeep, ExchangesKeep, HasPass}
 pub use Rattle.fx_lasting.specs.Laws.{GlancesKeep, AnnouncesKeep, ConfirmsKeep, WithdrawsKeep, TakesOnceKeep, HeatsKeep, SplitsKeep, JoinsKeep}
@@ -79,7 +79,7 @@ pub use Rattle.fx_lasting.specs.declared.view.Written.{Written}
 pub use Rattle.fx_lasting.specs.declared.view.Placement.{Placement}
 pub use Rattle.fx_lasting.specs.declared.view.Written.TheVariants.{Nothing as Unlabelled, Tag, Label}
 pub use Rattle.fx_plain.proofs.Cells.{changed_here, changed_else, by_equality, read_default, named_same}
-pub use Rattle.fx_plain.specs.Contents.{state_of, Contents, slot_at, node_at, moved_node, removed_at}
+pub use Rattle.fx_plain.specs.Contents.{state_of, Contents, slot_at, node_at, moved_node}
 pub use Rattle.fx_plain.specs.History.{◌▷◌, held_by, held_after, part_of_pass, IsSeenBy, action_of, ◌▷▷◌, ReleasesItsOwn}
 pub use Rattle.fx_plain.specs.State.{State, IsSettled, vacant, file_numbered}
 pub use Rattle.fx_plain.specs.Step.{changed_at, with_removed, after}
@@ -104,7 +104,6 @@ pub use Rattle.std.specs.Int.{bit_at, w64, trailing_zeros}
 pub use Rattle.std.specs.List.{range_with_len, AllWithin}
 pub use Rattle.fx_table.proofs.FullSlots.{full_few}
 pub use Rattle.fx_table.specs.FullSlots.{full_in, if_full}
-pub use Rattle.fx_table.specs.Shells.{IsShell}
 pub use Rattle.fx_lasting.specs.life.Lives.{logs_in, IsNewPass, IsIdleSeatOf, AllAreIdle}
 pub use Rattle.std.specs.Mem.Slots.{slots_items, slots_len, IsFull, slots_filled}
 pub use lib.ListN.{get_elem?}
@@ -121,7 +120,7 @@ pub use Rattle.fx_table.specs.declared.values.Doing.{Doing}
 pub use Rattle.fx_table.specs.declared.values.Doing.TheVariants.{Holding, Idle as DoesNothing}
 pub use Rattle.fx_table.specs.declared.values.Hold.{Hold}
 pub use Rattle.fx_lasting.specs.slots.ByNode.{FitsMiss, WasSo, WasIn, SaysIf, SawIf, FailedIf, HasTriedIf, WasOvertaken, WasOvertakenIn}
-pub use Rattle.fx_lasting.specs.slots.ByKey.{LookedByKey, HeldByKey, fault_for, TriesKey, KeysAreOfOneFile, KeysComeBack, HasShortNumber, key_of_bits}
+pub use Rattle.fx_lasting.specs.slots.ByKey.{LookedByKey, HeldByKey, fault_for, TriesKey, KeysAreOfOneFile, KeysComeBack}
 pub use Rattle.fx_lasting.specs.declared.answers.Miss.{Miss}
 pub use Rattle.fx_lasting.specs.declared.key_answers.KeyFault.{KeyFault}
 pub use Rattle.fx_table.specs.declared.values.Retired.{Retired}

@@ -1,14 +1,12 @@
 -- The rule of a lasting table: words, places and views agree with the state that one legal history
 -- leads to.
-use Rattle.std.specs.Prelude.{◌≡◌, ℕ, ◌<◌, List, slice_index}
-use Rattle.fx_plain.specs.declared.event.Event.{Event}
+use Rattle.fx_lasting.specs.Words.{◌≡◌, ℕ, ◌<◌, List, slice_index, Event, Start}
 use Rattle.fx_lasting.specs.range.Groups.{RangeCounts}
 use Rattle.fx_lasting.specs.slots.Deeds.{Deed}
 use Rattle.fx_lasting.specs.life.Layout.{slot_place}
 use Rattle.fx_lasting.specs.Passes.{Shared, slots_of, range_at_start, state_after_all}
 use Rattle.fx_lasting.specs.Passes.{node_of_number}
 use Rattle.fx_lasting.specs.nodes.Phases.{Phase}
-use Rattle.fx_lasting.specs.declared.view.Start.{Start}
 use Rattle.fx_lasting.specs.nodes.NodesAgree.{Nodes, NodesAgree}
 use Rattle.fx_lasting.specs.slots.SlotAgrees.{SlotAgrees}
 use Rattle.fx_lasting.specs.holds.HoldsAgree.{HoldsAgree}

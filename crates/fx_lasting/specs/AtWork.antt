@@ -1,17 +1,12 @@
 -- The seat of one pass, between two steps of a call.
-use Rattle.std.specs.Prelude.{◌≡◌, ℕ, ◌<◌, ◌≤◌, ◌⊎◌, Bool, true, false, List, [], ◌∷◌, Option}
-use mathlib.Core.Option.{some}
-use lib.ListN.{get_elem?}
-use Rattle.fx_base.specs.Identity.{Identity}
-use Rattle.fx_plain.specs.declared.event.File.{File}
+use Rattle.fx_lasting.specs.Words.{◌≡◌, ℕ, ◌<◌, ◌≤◌, ◌⊎◌, Bool, true, false, List, [], ◌∷◌, Option}
+use Rattle.fx_lasting.specs.Words.{Identity, File, Log, Start, Work, Yielding, Counted, Keeping}
 use Rattle.fx_lasting.specs.Laws.{HasPass, HasItsPlace}
 use Rattle.fx_lasting.specs.Passes.{Sat, HasNoFile, IsHistory}
 use Rattle.fx_lasting.specs.nodes.Stocks.{IsStockOf}
 use Rattle.fx_lasting.specs.Effects.{IsInside}
-use Rattle.fx_lasting.specs.declared.view.Log.{Log}
-use Rattle.fx_lasting.specs.declared.view.Start.{Start}
-use Rattle.fx_lasting.specs.declared.view.Work.{Work}
-use Rattle.fx_lasting.specs.declared.view.Work.TheVariants.{Yielding, Counted, Keeping}
+use mathlib.Core.Option.{some}
+use lib.ListN.{get_elem?}
 
 -- a seat with one pass of the table, which has this number, and whose front is legal
 pub record IsAtWork (k : Start) (number : ℕ) (m : Sat) : Type 0 where

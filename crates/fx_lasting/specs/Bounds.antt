@@ -1,17 +1,13 @@
 -- The bounds of a lasting table's words.
-use Rattle.std.specs.Prelude.{◌≡◌, ℕ, ◌+◌, ◌%◌, ◌^◌, ◌<◌, ◌≤◌, slice_index}
-use mathlib.Core.Option.{some}
-use lib.ListN.{get_elem?}
-use Rattle.fx_plain.specs.declared.event.File.{File}
-use Rattle.table_range.specs.Groups.{group_place, groups_in}
+use Rattle.fx_lasting.specs.Words.{◌≡◌, ℕ, ◌+◌, ◌%◌, ◌^◌, ◌<◌, ◌≤◌, slice_index, File, group_place}
+use Rattle.fx_lasting.specs.Words.{groups_in, Round, Start, View}
 use Rattle.fx_lasting.specs.Agrees.{Agrees}
 use Rattle.fx_lasting.specs.life.Layout.{slot_place}
 use Rattle.fx_lasting.specs.Fields.{full_name_in, count_in, heat_in, cold_takes}
 use Rattle.fx_lasting.specs.Passes.{Shared, slots_of, range_at_start, word_of}
-use Rattle.fx_lasting.specs.declared.view.Round.{Round}
-use Rattle.fx_lasting.specs.declared.view.Start.{Start}
-use Rattle.fx_lasting.specs.declared.view.View.{View}
 use Rattle.fx_lasting.specs.declared.view.Work.TheVariants.{Retiring}
+use mathlib.Core.Option.{some}
+use lib.ListN.{get_elem?}
 
 -- the word of a slot
 abbrev pub slot_word_in : Shared → ℕ → ℕ

@@ -1,5 +1,5 @@
 -- Counts over the numbers of passes.
-use Rattle.std.specs.Prelude.{ℕ, zero, suc, ◌+◌, ◌==◌, Bool, if◌then◌else◌}
+use Rattle.fx_lasting.specs.Words.{ℕ, zero, suc, ◌+◌, ◌==◌, Bool, if◌then◌else◌}
 
 -- of how many of the passes 1 to n this holds
 abbrev pub tally : (ℕ → Bool) → ℕ → ℕ

@@ -1,47 +1,31 @@
 -- Each kind of step: its effect on the pass that makes it.
-use Rattle.std.specs.Prelude.{◌≡◌, ◌≢◌, ℕ, ◌+◌, ◌-◌, ◌*◌, ◌/◌, ◌<◌, ◌==◌, ◌⊎◌, ◌↔◌, nat_lt}
-use Rattle.std.specs.Prelude.{if◌then◌else◌, min, ◌≤◌, Bool, true, false, List, [], slice_set, ◌∷◌}
-use Rattle.std.specs.Prelude.{◌++◌, map, count_by, Option, Some, None, IsSome}
-use mathlib.Core.Option.{some}
-use lib.ListN.{get_elem?}
-use Rattle.atomic_table.specs.Table.{Step, rest}
-use Rattle.fx_base.specs.Identity.{Identity}
-use Rattle.fx_plain.specs.History.{◌▷◌, IsSeenBy, part_of_pass}
-use Rattle.fx_plain.specs.Table.{numbered}
-use Rattle.fx_plain.specs.declared.event.File.{File}
-use Rattle.fx_plain.specs.declared.event.Event.{Event}
-use Rattle.fx_plain.specs.declared.event.Action.{Action}
-use Rattle.fx_plain.specs.declared.event.Action.TheVariants.{Look, Release, Put, Allocate, Full}
-use Rattle.fx_plain.specs.declared.event.Action.TheVariants.{Close, Take}
-use Rattle.fx_words.specs.Words.{entry_in, name_in}
+use Rattle.fx_lasting.specs.Words.{◌≡◌, ◌≢◌, ℕ, ◌+◌, ◌-◌, ◌*◌, ◌/◌, ◌<◌, ◌==◌, ◌⊎◌, ◌↔◌, nat_lt}
+use Rattle.fx_lasting.specs.Words.{if◌then◌else◌, min, ◌≤◌, Bool, true, false, List, [], slice_set}
+use Rattle.fx_lasting.specs.Words.{◌∷◌, ◌++◌, map, count_by, Option, Some, IsSome, Step, rest}
+use Rattle.fx_lasting.specs.Words.{Identity, ◌▷◌, IsSeenBy, part_of_pass, numbered, File, Event}
+use Rattle.fx_lasting.specs.Words.{Action, Look, Release, Put, Allocate, Close, Take, entry_in}
+use Rattle.fx_lasting.specs.Words.{name_in, group_at, group_of, account, CountsAll, HasQuestionOf}
+use Rattle.fx_lasting.specs.Words.{RANGE_END, Survey, Covered, Change, Outside, Lowered, Inside}
+use Rattle.fx_lasting.specs.Words.{Glance, Hot, Cold, Heating, Log, Placement, Round, Start, Work}
+use Rattle.fx_lasting.specs.Words.{Announced, Counted, Guarded, Owing, Yielding, Searching, Placing}
+use Rattle.fx_lasting.specs.Words.{Renewing, Nearing, Relieving, Emptying, Keeping}
+use Rattle.fx_lasting.specs.Words.{Nothing as Unlabelled}
+use Rattle.std.specs.Prelude.{None}
+use Rattle.fx_plain.specs.declared.event.Action.TheVariants.{Full}
 use Rattle.fx_lasting.specs.slots.SlotAgrees.{Names}
 use Rattle.fx_lasting.specs.nodes.Labels.{label_of, as_written}
 use Rattle.fx_lasting.specs.life.Layout.{slot_lines, list_place}
 use Rattle.fx_lasting.specs.Fields.{full_name_in, heat_in, IsHot, count_in, cold_takes, announced}
 use Rattle.fx_lasting.specs.Fields.{IsListedIn}
-use Rattle.table_range.specs.Groups.{group_at, group_of}
-use Rattle.table_range.specs.Counts.{account, CountsAll, HasQuestionOf}
 use Rattle.fx_lasting.specs.nodes.Stocks.{IsInStock}
 use Rattle.fx_lasting.specs.slots.Watches.{HasActed}
 use Rattle.fx_lasting.specs.Passes.{Sat, slots_of, nodes_of, range_at_start, word_of, IsHistory}
 use Rattle.fx_lasting.specs.Passes.{node_of_number, first_log, state_after_all, HoldsAlone}
-use Rattle.table_range.specs.declared.groups.TheConstants.{RANGE_END}
-use Rattle.table_range.specs.declared.views.Survey.{Survey}
-use Rattle.table_range.specs.declared.views.Survey.TheVariants.{None as NotAsked, Covered}
-use Rattle.table_range.specs.declared.views.Change.{Change}
-use Rattle.table_range.specs.declared.views.Change.TheVariants.{Outside, Lowered, Inside}
-use Rattle.fx_lasting.specs.declared.view.Glance.{Glance}
-use Rattle.fx_lasting.specs.declared.view.Glance.TheVariants.{None as Nothing, Hot, Cold, Heating}
-use Rattle.fx_lasting.specs.declared.view.Log.{Log}
-use Rattle.fx_lasting.specs.declared.view.Placement.{Placement}
-use Rattle.fx_lasting.specs.declared.view.Round.{Round}
-use Rattle.fx_lasting.specs.declared.view.Start.{Start}
-use Rattle.fx_lasting.specs.declared.view.Work.{Work}
-use Rattle.fx_lasting.specs.declared.view.Work.TheVariants.{Idle, Announced, Counted, Guarded}
-use Rattle.fx_lasting.specs.declared.view.Work.TheVariants.{Owing, Yielding, Searching, Placing}
-use Rattle.fx_lasting.specs.declared.view.Work.TheVariants.{Renewing, Nearing, Relieving, Retiring}
-use Rattle.fx_lasting.specs.declared.view.Work.TheVariants.{Emptying, Keeping}
-use Rattle.fx_lasting.specs.declared.view.Written.TheVariants.{Nothing as Unlabelled}
+use Rattle.table_range.specs.declared.views.Survey.TheVariants.{None as NotAsked}
+use Rattle.fx_lasting.specs.declared.view.Glance.TheVariants.{None as Nothing}
+use Rattle.fx_lasting.specs.declared.view.Work.TheVariants.{Idle, Retiring}
+use mathlib.Core.Option.{some}
+use lib.ListN.{get_elem?}
 
 -- a step of a table whose places have an open file or none
 abbrev pub At : Type 0

@@ -1,18 +1,15 @@
 -- The short runs of steps that calls are made of: what they return, and the pass after them.
-use Rattle.std.specs.Prelude.{◌≡◌, ℕ, Bool, true, false, List, [], Option, Some, None}
-use mathlib.Core.Option.{some}
-use lib.ListN.{get_elem?}
-use Rattle.fx_base.specs.Identity.{Identity}
-use Rattle.fx_plain.specs.History.{◌▷◌}
-use Rattle.fx_plain.specs.declared.event.File.{File}
-use Rattle.fx_plain.specs.declared.event.Action.{Action}
-use Rattle.fx_plain.specs.declared.event.Action.TheVariants.{Look, Release, Close}
+use Rattle.fx_lasting.specs.Words.{◌≡◌, ℕ, Bool, true, false, List, [], Option, Some, Identity, ◌▷◌}
+use Rattle.fx_lasting.specs.Words.{File, Action, Look, Release, Close, Cold, Work, Emptying}
+use Rattle.fx_lasting.specs.Words.{Keeping}
+use Rattle.std.specs.Prelude.{None}
 use Rattle.fx_lasting.specs.Effects.{announcing, guarding}
 use Rattle.fx_lasting.specs.Passes.{Sat}
 use Rattle.fx_lasting.specs.Runs.{Runs}
-use Rattle.fx_lasting.specs.declared.view.Glance.TheVariants.{None as Nothing, Cold}
-use Rattle.fx_lasting.specs.declared.view.Work.{Work}
-use Rattle.fx_lasting.specs.declared.view.Work.TheVariants.{Idle, Emptying, Keeping}
+use Rattle.fx_lasting.specs.declared.view.Glance.TheVariants.{None as Nothing}
+use Rattle.fx_lasting.specs.declared.view.Work.TheVariants.{Idle}
+use mathlib.Core.Option.{some}
+use lib.ListN.{get_elem?}
 
 -- some steps in a row, which leave its look-up and its account with the groups' words as they were
 abbrev pub Does : Sat → List Action → Work → ℕ → Sat → Type 0

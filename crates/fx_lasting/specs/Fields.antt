@@ -1,9 +1,7 @@
 -- The parts of words, as numbers.
-use Rattle.std.specs.Prelude.{◌≡◌, ℕ, ◌+◌, ◌-◌, ◌*◌, ◌/◌, ◌%◌, ◌^◌, ◌<◌, ◌≤◌, ◌==◌, if◌then◌else◌}
-use Rattle.std.specs.Prelude.{Option}
-use Rattle.std.specs.Int.{bit_at}
-use Rattle.fx_words.specs.Words.{name_in, named, slot_word_of}
-use Rattle.table_range.specs.Counts.{bit_of}
+use Rattle.fx_lasting.specs.Words.{◌≡◌, ℕ, ◌+◌, ◌-◌, ◌*◌, ◌/◌, ◌%◌, ◌^◌, ◌<◌, ◌≤◌, ◌==◌}
+use Rattle.fx_lasting.specs.Words.{if◌then◌else◌, Option, bit_at, name_in, named, slot_word_of}
+use Rattle.fx_lasting.specs.Words.{bit_of}
 
 -- the name and the entry of a slot's word are those of `fx_words`. The 32 bits below them count the
 -- passes that heated the slot, 11 bits, say whether the slot is full, one bit, and count its takes,

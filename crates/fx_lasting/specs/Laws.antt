@@ -1,16 +1,16 @@
 -- The kinds of step keep the rule, whatever the table and the other passes are. A law takes the
 -- place of its word as a premise.
-use Rattle.std.specs.Prelude.{◌≡◌, ◌≢◌, ℕ, ◌+◌, ◌-◌, ◌*◌, ◌%◌, ◌^◌, ◌<◌, ◌≤◌, ◌==◌, ◌⊎◌, true}
-use Rattle.std.specs.Prelude.{false, [], ◌∷◌, Some, None, bit_and}
-use mathlib.Core.Option.{none}
-use prog.Atomic.{either}
-use Rattle.atomic_table.specs.Table.{step, Splits, Joins, Allows}
-use Rattle.fx_base.specs.Identity.{Identity}
-use Rattle.fx_plain.specs.declared.event.File.{File}
+use Rattle.fx_lasting.specs.Words.{◌≡◌, ◌≢◌, ℕ, ◌+◌, ◌-◌, ◌*◌, ◌%◌, ◌^◌, ◌<◌, ◌≤◌, ◌==◌, ◌⊎◌, true}
+use Rattle.fx_lasting.specs.Words.{false, [], ◌∷◌, Some, bit_and, step, Splits, Joins, Allows}
+use Rattle.fx_lasting.specs.Words.{Identity, File, is_in, question_place, group_place, groups_in}
+use Rattle.fx_lasting.specs.Words.{group_of, uncounted, bit_of, lowered, raised, with_question}
+use Rattle.fx_lasting.specs.Words.{MOST_INSTALLING, Covered, Change, Outside, Lowered, Inside, Hot}
+use Rattle.fx_lasting.specs.Words.{Cold, Heating, Log, Placement, Round, Start, View, Work}
+use Rattle.fx_lasting.specs.Words.{Announced, Counted, Guarded, Owing, Yielding, Searching, Placing}
+use Rattle.fx_lasting.specs.Words.{Emptying, Keeping, Written, Nothing as Unlabelled, Tag}
+use Rattle.std.specs.Prelude.{None}
 use Rattle.fx_lasting.specs.Agrees.{Agrees}
 use Rattle.fx_lasting.specs.holds.HoldsAgree.{IsIdleIn}
-use Rattle.table_range.specs.Groups.{is_in, question_place, group_place, groups_in, group_of}
-use Rattle.table_range.specs.Counts.{uncounted, bit_of, lowered, raised, with_question}
 use Rattle.fx_lasting.specs.nodes.Labels.{label_of, as_written}
 use Rattle.fx_lasting.specs.life.Layout.{list_place, slot_place}
 use Rattle.fx_lasting.specs.Fields.{heat_unit, birth_word, announced, charge, retirement_amount}
@@ -21,22 +21,11 @@ use Rattle.fx_lasting.specs.Passes.{held_in, hold_word_of, HoldsAlone, HoldsBesi
 use Rattle.fx_lasting.specs.Passes.{number_word_of, tag_word_of}
 use Rattle.fx_lasting.specs.nodes.Stocks.{IsInStock}
 use Rattle.fx_lasting.specs.Effects.{At, HasAnnounced}
-use Rattle.fx_lasting.specs.declared.life.layout.TheConstants.{MOST_INSTALLING}
-use Rattle.table_range.specs.declared.views.Survey.TheVariants.{None as NotAsked, Covered}
-use Rattle.table_range.specs.declared.views.Change.{Change}
-use Rattle.table_range.specs.declared.views.Change.TheVariants.{Outside, Lowered, Inside}
-use Rattle.fx_lasting.specs.declared.view.Glance.TheVariants.{None as Nothing, Hot, Cold, Heating}
-use Rattle.fx_lasting.specs.declared.view.Log.{Log}
-use Rattle.fx_lasting.specs.declared.view.Placement.{Placement}
-use Rattle.fx_lasting.specs.declared.view.Round.{Round}
-use Rattle.fx_lasting.specs.declared.view.Start.{Start}
-use Rattle.fx_lasting.specs.declared.view.View.{View}
-use Rattle.fx_lasting.specs.declared.view.Work.{Work}
-use Rattle.fx_lasting.specs.declared.view.Work.TheVariants.{Idle, Announced, Counted, Guarded}
-use Rattle.fx_lasting.specs.declared.view.Work.TheVariants.{Owing, Yielding, Searching, Placing}
-use Rattle.fx_lasting.specs.declared.view.Work.TheVariants.{Retiring, Emptying, Keeping}
-use Rattle.fx_lasting.specs.declared.view.Written.{Written}
-use Rattle.fx_lasting.specs.declared.view.Written.TheVariants.{Nothing as Unlabelled, Tag}
+use Rattle.table_range.specs.declared.views.Survey.TheVariants.{None as NotAsked}
+use Rattle.fx_lasting.specs.declared.view.Glance.TheVariants.{None as Nothing}
+use Rattle.fx_lasting.specs.declared.view.Work.TheVariants.{Idle, Retiring}
+use mathlib.Core.Option.{none}
+use prog.Atomic.{either}
 
 -- the effect of a kind of step on its pass
 abbrev pub Kind : Type 1

@@ -16,3 +16,4 @@ pub mod life
 pub mod nodes
 pub mod range
 pub mod slots
+pub mod Words

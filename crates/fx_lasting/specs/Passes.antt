@@ -1,26 +1,17 @@
 -- Views of passes, and their sums.
-use Rattle.std.specs.Prelude.{◌≡◌, ℕ, ◌%◌, ◌⊎◌, ◌==◌, not, nat_lt, List, [], ◌∷◌, map, Option}
-use Rattle.std.specs.Prelude.{replicate, Some, None, length, if◌then◌else◌, Bool, true, false}
-use Rattle.atomic_table.specs.Table.{State as TableState, Me}
-use Rattle.fx_base.specs.Identity.{Identity}
-use Rattle.fx_plain.specs.Contents.{Contents, state_of}
-use Rattle.fx_plain.specs.History.{state_after, action_of, IsLegal}
+use Rattle.fx_lasting.specs.Words.{◌≡◌, ℕ, ◌%◌, ◌⊎◌, ◌==◌, not, nat_lt, List, [], ◌∷◌, map, Option}
+use Rattle.fx_lasting.specs.Words.{replicate, Some, length, if◌then◌else◌, Bool, true, false, Me}
+use Rattle.fx_lasting.specs.Words.{Identity, Contents, state_of, state_after, action_of, IsLegal}
+use Rattle.fx_lasting.specs.Words.{Event, File, Log, Start, View, Watch, MOST_SLOTS, Work, Counted}
+use Rattle.fx_lasting.specs.Words.{Guarded, Yielding, Searching, Placing, Renewing, Nearing}
+use Rattle.fx_lasting.specs.Words.{Relieving, Placement}
+use Rattle.std.specs.Prelude.{None}
+use Rattle.atomic_table.specs.Table.{State as TableState}
 use Rattle.fx_plain.specs.State.{State, opening}
-use Rattle.fx_plain.specs.declared.event.Event.{Event}
-use Rattle.fx_plain.specs.declared.event.File.{File}
 use Rattle.fx_lasting.specs.life.Layout.{stock_for, stock_of, nodes_for, hold_place, node_place}
 use Rattle.fx_lasting.specs.life.Layout.{tag_place, number_place}
 use Rattle.table_range.specs.declared.views.Survey.TheVariants.{None as NotAsked}
-use Rattle.fx_lasting.specs.declared.view.Log.{Log}
-use Rattle.fx_lasting.specs.declared.view.Start.{Start}
-use Rattle.fx_lasting.specs.declared.view.View.{View}
-use Rattle.fx_lasting.specs.declared.view.Watch.{Watch}
-use Rattle.fx_lasting.specs.declared.life.layout.TheConstants.{MOST_SLOTS}
-use Rattle.fx_lasting.specs.declared.view.Work.{Work}
-use Rattle.fx_lasting.specs.declared.view.Work.TheVariants.{Idle, Counted, Guarded, Yielding}
-use Rattle.fx_lasting.specs.declared.view.Work.TheVariants.{Searching, Placing, Renewing, Nearing}
-use Rattle.fx_lasting.specs.declared.view.Work.TheVariants.{Relieving}
-use Rattle.fx_lasting.specs.declared.view.Placement.{Placement}
+use Rattle.fx_lasting.specs.declared.view.Work.TheVariants.{Idle}
 
 -- the table as steps see it: a place has an open file or none
 abbrev pub Shared : Type 0

@@ -1,11 +1,8 @@
 -- Calls that a pass makes again, since another pass changed the slot.
-use Rattle.std.specs.Prelude.{ℕ, zero, suc, ◌≡◌, ◌+◌, ◌<◌, ◌≤◌, ◌⊎◌, ◌==◌, ◌&&◌, not, Bool, false}
-use Rattle.std.specs.Prelude.{Option, Err, List, [], ◌∷◌, length, count_by}
-use Rattle.fx_base.specs.Identity.{Identity}
-use Rattle.fx_plain.specs.History.{IsSeenBy}
-use Rattle.fx_plain.specs.declared.event.Action.{Action}
-use Rattle.fx_plain.specs.declared.event.Action.TheVariants.{Put, Clear, Take, Allocate}
-use Rattle.fx_plain.specs.declared.event.Event.{Event}
+use Rattle.fx_lasting.specs.Words.{ℕ, zero, suc, ◌≡◌, ◌+◌, ◌<◌, ◌≤◌, ◌⊎◌, ◌==◌, ◌&&◌, not, Bool}
+use Rattle.fx_lasting.specs.Words.{false, Option, Err, List, [], ◌∷◌, length, count_by, Identity}
+use Rattle.fx_lasting.specs.Words.{IsSeenBy, Action, Put, Clear, Take, Allocate, Event, Key, Missed}
+use Rattle.fx_lasting.specs.Words.{LastingPass, Start}
 use Rattle.fx_lasting.specs.Laws.{IsInRange}
 use Rattle.fx_lasting.specs.Passes.{range_at_start}
 use Rattle.fx_lasting.specs.Tables.{opening_of, view_of, changes_at, meetings, MeetsMore}
@@ -14,14 +11,10 @@ use Rattle.fx_lasting.specs.slots.RemoveByKey.{TakesAlone}
 use Rattle.fx_lasting.specs.slots.AtEmpty.{GivesUpFor, HasPutEmpty, HasSearched}
 use Rattle.fx_lasting.specs.slots.ReplaceByKey.{PutsAlone}
 use Rattle.fx_lasting.specs.slots.Watches.{HasReplaced}
+use Rattle.fx_lasting.specs.declared.key_answers.KeyFault.TheVariants.{Again}
 use Rattle.fx_lasting.specs.declared.answers.FoundSlot.TheVariants as found
 use Rattle.fx_lasting.specs.declared.answers.PutEmpty.TheVariants as empty
-use Rattle.fx_lasting.specs.declared.key.Key.{Key}
-use Rattle.fx_lasting.specs.declared.key_answers.KeyFault.TheVariants.{Again}
-use Rattle.fx_lasting.specs.declared.key_answers.PutOverKey.TheVariants.{Missed}
-use Rattle.fx_lasting.specs.declared.pass.LastingPass.{LastingPass}
 use Rattle.fx_lasting.specs.declared.tried.TriedPut.TheVariants as put
-use Rattle.fx_lasting.specs.declared.view.Start.{Start}
 
 -- the action fills the slot or empties it
 abbrev pub replaces_at : ℕ → Action → Bool

@@ -1,33 +1,22 @@
 -- A lasting table and its passes, as their callers see them.
-use Rattle.std.specs.Prelude.{◌≡◌, ℕ, ◌+◌, ◌<◌, ◌≤◌, ◌^◌, ◌⊎◌, nat_lt, if◌then◌else◌, Bool, true}
-use Rattle.std.specs.Prelude.{false, List, [], map}
-use mathlib.Core.Option.{some}
-use lib.ListN.{get_elem?}
-use Rattle.atomic_table.specs.Seated.{TableId}
-use Rattle.fx_plain.specs.History.{part_of_pass}
-use Rattle.fx_plain.specs.declared.event.File.{File}
-use Rattle.fx_table.specs.Opening.{Opening, lasting_opening}
-use Rattle.fx_table.specs.Pass.{PassView, IsFront, new_passes}
+use Rattle.fx_lasting.specs.Words.{◌≡◌, ℕ, ◌+◌, ◌<◌, ◌≤◌, ◌^◌, ◌⊎◌, nat_lt, if◌then◌else◌, Bool}
+use Rattle.fx_lasting.specs.Words.{true, false, List, [], map, TableId, part_of_pass, File, Opening}
+use Rattle.fx_lasting.specs.Words.{lasting_opening, PassView, IsFront, new_passes, Holding, Hold}
+use Rattle.fx_lasting.specs.Words.{Retired, groups_in, Covered, Outside, Start, View, Work}
+use Rattle.fx_lasting.specs.Words.{Searching, Counted, Guarded, Renewing, Relieving, Keeping}
+use Rattle.fx_lasting.specs.Words.{LastingPass}
 use Rattle.fx_table.specs.declared.limits.TheConstants.{CHAIN_NUMBERS, PASS_LOOKS}
 use Rattle.fx_table.specs.declared.values.Doing.{Doing}
-use Rattle.fx_table.specs.declared.values.Doing.TheVariants.{Idle as DoesNothing, Holding}
+use Rattle.fx_table.specs.declared.values.Doing.TheVariants.{Idle as DoesNothing}
 use Rattle.fx_table.specs.declared.values.Doing.TheVariants.{Retiring as Retires}
-use Rattle.fx_table.specs.declared.values.Hold.{Hold}
-use Rattle.fx_table.specs.declared.values.Retired.{Retired}
 use Rattle.fx_lasting.specs.AtWork.{IsAtWork}
-use Rattle.table_range.specs.Groups.{groups_in}
 use Rattle.fx_lasting.specs.Passes.{contents_of, first_log, range_at_start}
 use Rattle.fx_lasting.specs.Effects.{changes_in, pass_in, new_round}
-use Rattle.table_range.specs.declared.views.Survey.TheVariants.{Covered}
-use Rattle.table_range.specs.declared.views.Change.TheVariants.{Outside}
 use Rattle.fx_lasting.specs.declared.view.Glance.TheVariants.{None as Nothing}
-use Rattle.fx_lasting.specs.declared.view.Start.{Start}
-use Rattle.fx_lasting.specs.declared.view.View.{View}
-use Rattle.fx_lasting.specs.declared.view.Work.{Work}
-use Rattle.fx_lasting.specs.declared.view.Work.TheVariants.{Idle, Searching, Counted, Guarded}
-use Rattle.fx_lasting.specs.declared.view.Work.TheVariants.{Renewing, Relieving, Retiring, Keeping}
-use Rattle.fx_lasting.specs.declared.pass.LastingPass.{LastingPass}
+use Rattle.fx_lasting.specs.declared.view.Work.TheVariants.{Idle, Retiring}
 use Rattle.fx_lasting.specs.declared.table.LastingTable.{LastingTable}
+use mathlib.Core.Option.{some}
+use lib.ListN.{get_elem?}
 
 -- the values that calls return for the file of a node
 abbrev pub hold_at : File → ℕ → Hold

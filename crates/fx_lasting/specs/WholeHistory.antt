@@ -1,25 +1,15 @@
 -- The history of all passes of a table, and who uses a removed file, between any two steps.
-use Rattle.std.specs.Prelude.{◌≡◌, ◌⊎◌, ℕ, ◌<◌, ◌≤◌, List, [], ◌∷◌, length, Some}
-use mathlib.Core.Option.{some}
-use lib.ListN.{get_elem?}
-use Rattle.fx_plain.specs.History.{IsLegal, IsSeenBy, part_of_pass}
+use Rattle.fx_lasting.specs.Words.{◌≡◌, ◌⊎◌, ℕ, ◌<◌, ◌≤◌, List, [], ◌∷◌, length, Some, IsLegal}
+use Rattle.fx_lasting.specs.Words.{IsSeenBy, part_of_pass, Event, File, start_of, state_at}
+use Rattle.fx_lasting.specs.Words.{PassView, Holding, Hold, Log, Start, View, Work, Announced}
+use Rattle.fx_lasting.specs.Words.{Counted, Guarded, Nearing, Owing, Relieving, Renewing, Yielding}
 use Rattle.fx_plain.specs.Laws.{IsStart, closes_of}
-use Rattle.fx_plain.specs.declared.event.Event.{Event}
-use Rattle.fx_plain.specs.declared.event.File.{File}
-use Rattle.fx_table.specs.Opening.{start_of, state_at}
-use Rattle.fx_table.specs.Pass.{PassView}
-use Rattle.fx_table.specs.declared.values.Doing.TheVariants.{Holding}
-use Rattle.fx_table.specs.declared.values.Hold.{Hold}
 use Rattle.fx_lasting.specs.Agrees.{Agrees}
 use Rattle.fx_lasting.specs.Passes.{Shared, node_of_number, state_after_all}
 use Rattle.fx_lasting.specs.Tables.{opening_of, pass_of}
-use Rattle.fx_lasting.specs.declared.view.Log.{Log}
-use Rattle.fx_lasting.specs.declared.view.Start.{Start}
-use Rattle.fx_lasting.specs.declared.view.View.{View}
-use Rattle.fx_lasting.specs.declared.view.Work.{Work}
-use Rattle.fx_lasting.specs.declared.view.Work.TheVariants.{Announced, Counted, Guarded, Nearing}
-use Rattle.fx_lasting.specs.declared.view.Work.TheVariants.{Owing, Relieving, Renewing, Retiring}
-use Rattle.fx_lasting.specs.declared.view.Work.TheVariants.{Yielding}
+use Rattle.fx_lasting.specs.declared.view.Work.TheVariants.{Retiring}
+use mathlib.Core.Option.{some}
+use lib.ListN.{get_elem?}
 
 -- the pass of a seat that has one pass, as calls show it
 pub record IsPassAt (s : Shared) (seat : ℕ) (pass : PassView) : Type 0 where

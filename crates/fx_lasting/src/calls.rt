@@ -1,20 +1,13 @@
 //! The calls of a pass that never wait, allocate or retry: each makes at most as many atomic steps
 //! as its clause says. They are inlined into their caller with all that they call: if a withdrawal
 //! were a call, each look-up would have a stack frame. These hints change no proof.
-ghost use Rattle.std.specs.Prelude.{◌≡◌, ◌≢◌, ◌+◌, ◌*◌, ◌-◌, ◌/◌, ◌<◌, ◌≤◌, false, Option};
-ghost use Rattle.std.specs.Prelude.{option_map, Err};
-ghost use Rattle.fx_plain.specs.declared.event.Action.TheVariants.{Take};
-ghost use Rattle.fx_plain.specs.declared.event.File.{File};
-ghost use Rattle.fx_table.specs.Calls.{Looked, LookedUp, Released, Placed, Taken, HasRetired};
-ghost use Rattle.fx_table.specs.Opening.{size_of};
-ghost use Rattle.fx_table.specs.Pass.{IsIdle, IsHoldOf, IsRetiredOf};
-ghost use Rattle.fx_table.specs.declared.values.LookFault.TheVariants.{Spent};
+ghost use Rattle.fx_lasting.specs.Words.{◌≡◌, ◌≢◌, ◌+◌, ◌*◌, ◌-◌, ◌/◌, ◌<◌, ◌≤◌, false, Option, option_map, Err, File, Looked, LookedUp, Released};
+ghost use Rattle.fx_lasting.specs.Words.{Placed, HasRetired, size_of, IsIdle, IsHoldOf, IsRetiredOf, Spent, Hot, Cold};
+ghost use Rattle.fx_table.specs.Calls.{Taken};
 ghost use Rattle.fx_lasting.specs.Fields.{count_in, full_name_in};
-ghost use Rattle.fx_lasting.specs.Tables.{view_of, MeetsMore, steps_taken, retired_at};
-ghost use Rattle.fx_lasting.specs.Tables.{opening_of_table, IsPassOfTable, IsSeatOfTable};
+ghost use Rattle.fx_lasting.specs.Tables.{view_of, MeetsMore, steps_taken, retired_at, opening_of_table, IsPassOfTable, IsSeatOfTable};
 ghost use Rattle.fx_lasting.specs.Effects.{Found, first_visit, IsOnList};
 ghost use Rattle.fx_lasting.specs.slots.SwapSteps.{HasRemoved};
-ghost use Rattle.fx_lasting.specs.declared.view.Glance.TheVariants.{Hot, Cold};
 ghost use Rattle.fx_lasting.specs.declared.view.Work.TheVariants.{Idle};
 
 use crate::fields::{count_of, file_node_of, file_word, is_hot, node_named, retire_amount};

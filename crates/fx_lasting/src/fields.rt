@@ -1,11 +1,9 @@
 //! The parts of words that `fx_words` doesn't have: whether a slot is full, its heat and takes, and
 //! what a retirement subtracts.
-ghost use Rattle.std.specs.Prelude.{◌≡◌, ◌≢◌, ◌+◌, ◌-◌, ◌<◌, ◌≤◌, ◌^◌, ◌↔◌, IsTrue, None, true};
-ghost use Rattle.std.specs.Prelude.{false};
-ghost use Rattle.fx_words.specs.Words.{last_node, name_in};
-ghost use Rattle.fx_lasting.specs.Fields.{full_name_in, file_node_in, file_word_of, empty_word_of};
-ghost use Rattle.fx_lasting.specs.Fields.{without_file, name_mask, count_in, IsHot, announced};
-ghost use Rattle.fx_lasting.specs.Fields.{charge, retirement_amount, cold_takes, MayCarry};
+ghost use Rattle.fx_lasting.specs.Words.{◌≡◌, ◌≢◌, ◌+◌, ◌-◌, ◌<◌, ◌≤◌, ◌^◌, ◌↔◌, IsTrue, true, false, last_node, name_in};
+ghost use Rattle.std.specs.Prelude.{None};
+ghost use Rattle.fx_lasting.specs.Fields.{full_name_in, file_node_in, file_word_of, empty_word_of, without_file, count_in, IsHot, announced, charge};
+ghost use Rattle.fx_lasting.specs.Fields.{retirement_amount, cold_takes, MayCarry};
 
 use fx_words::{node_of, slot_word};
 

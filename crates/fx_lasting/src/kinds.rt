@@ -1,15 +1,11 @@
 //! The rule of a lasting table, and its kinds of step.
+ghost use Rattle.fx_lasting.specs.Words.{first_view};
 ghost use Rattle.fx_lasting.specs.Agrees.{Agrees};
-ghost use Rattle.table_seats.specs.Seats.{first_view};
-ghost use Rattle.fx_plain.specs.declared.event.Action.TheVariants.{Take};
 ghost use Rattle.fx_lasting.specs.life.Cuts.{seats as views};
-ghost use Rattle.fx_lasting.specs.Effects.{Glances, Lists, Announces, Confirms, Withdraws, Takes};
-ghost use Rattle.fx_lasting.specs.Effects.{HeatsSlot, StepsDown, LettingGo, Seeks, Births, Rests};
-ghost use Rattle.fx_lasting.specs.Effects.{EndsItsHold, Skims, Visits, Charges, Retires, Installs};
-ghost use Rattle.fx_lasting.specs.Effects.{Exchanges, Removes, Peeks, Sees, Lowers, Checks, Breaks};
-ghost use Rattle.fx_lasting.specs.Effects.{Raises, Begins, Asks, Counts, Decides};
-ghost use Rattle.fx_lasting.specs.nodes.LabelSteps.{RecallsTag, Tags, Numbers, ReadsTag};
-ghost use Rattle.fx_lasting.specs.nodes.LabelSteps.{ReadsNumber};
+ghost use Rattle.fx_lasting.specs.Effects.{Glances, Lists, Announces, Confirms, Withdraws, Takes, HeatsSlot, StepsDown, LettingGo, Seeks, Births};
+ghost use Rattle.fx_lasting.specs.Effects.{Rests, EndsItsHold, Skims, Visits, Charges, Retires, Installs, Exchanges, Removes, Peeks, Sees, Lowers};
+ghost use Rattle.fx_lasting.specs.Effects.{Checks, Breaks, Raises, Begins, Asks, Counts, Decides};
+ghost use Rattle.fx_lasting.specs.nodes.LabelSteps.{RecallsTag, Tags, Numbers, ReadsTag, ReadsNumber};
 ghost use Rattle.fx_lasting.specs.nodes.KeepSteps.{Parks, Resumes, SettlesNode};
 ghost use Rattle.fx_lasting.specs.holds.FinishSteps.{Finishes};
 ghost use Rattle.fx_lasting.specs.slots.SwapSteps.{SwapsHeld, SwapsOut, TakesHeld};

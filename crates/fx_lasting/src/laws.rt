@@ -1,7 +1,6 @@
 //! The law of each kind of step: where the rule holds before the step, it holds after it, whatever
 //! the table and the other passes are.
-ghost use Rattle.std.specs.Prelude.{◌≡◌, ◌≤◌, ℕ};
-ghost use Rattle.fx_words.specs.Words.{last_node};
+ghost use Rattle.fx_lasting.specs.Words.{◌≡◌, ◌≤◌, ℕ, last_node, MOST_SLOTS, MOST_NODES, MOST_PASSES, MOST_INSTALLING};
 ghost use Rattle.fx_lasting.specs.Bounds.{WordsAreBounded};
 ghost use Rattle.fx_lasting.specs.holds.Holds.{NodesAreOfOneFile, HeldNodesNameFiles};
 ghost use Rattle.fx_lasting.specs.slots.ByKey.{KeysAreOfOneFile, KeysComeBack};
@@ -9,19 +8,12 @@ ghost use Rattle.fx_lasting.specs.slots.Current.{CurrentFileFollowsTheChange, Ol
 ghost use Rattle.fx_lasting.specs.life.Layout.{PlacesAreInside, PlacesAreApart, LabelsAreApart, NodesAreInOneLine};
 ghost use Rattle.fx_lasting.specs.life.Opens.{OpeningKeeps};
 ghost use Rattle.fx_lasting.specs.WholeHistory.{HasOneHistory, RemovedFilesHaveUsers};
-ghost use Rattle.fx_lasting.specs.declared.life.layout.TheConstants.{MOST_SLOTS, MOST_NODES, MOST_PASSES, MOST_INSTALLING};
-ghost use Rattle.fx_lasting.specs.Laws.{GlancesKeep, ListsKeep, AnnouncesKeep, ConfirmsKeep};
-ghost use Rattle.fx_lasting.specs.Laws.{WithdrawsKeep, TakesOnceKeep, HeatsKeep, StepsDownKeep};
-ghost use Rattle.fx_lasting.specs.Laws.{LettingGoKeeps, SeeksKeep, BirthsKeep, RecallsTagKeep, TagsKeep};
-ghost use Rattle.fx_lasting.specs.Laws.{NumbersKeep, ReadsTagKeep, ReadsNumberKeep, RestsKeep};
-ghost use Rattle.fx_lasting.specs.Laws.{ParksKeep, ResumesKeep, SettlesKeep, SkimsKeep, VisitsKeep};
-ghost use Rattle.fx_lasting.specs.Laws.{ChargesKeep, FinishesKeep, RetiresKeep, LowersKeep};
-ghost use Rattle.fx_lasting.specs.Laws.{ChecksKeep, BreaksKeep, RaisesKeep, BeginsKeep, AsksKeep};
-ghost use Rattle.fx_lasting.specs.Laws.{CountsKeep, DecidesKeep, PeeksKeep, SplitsKeep, JoinsKeep};
-ghost use Rattle.fx_lasting.specs.Laws.{TakesOutKeep, SwapsOutKeep, InstallsKeep};
-ghost use Rattle.fx_lasting.specs.Laws.{ExchangesKeep, SeesKeep};
-ghost use Rattle.fx_lasting.specs.Laws.{SwapsHeldKeep, TakesHeldKeep, AimsKeep};
-ghost use Rattle.fx_lasting.specs.Laws.{TakesBesideKeep, ReplacesHeldKeep, EndsItsHoldKeep};
+ghost use Rattle.fx_lasting.specs.Laws.{GlancesKeep, ListsKeep, AnnouncesKeep, ConfirmsKeep, WithdrawsKeep, TakesOnceKeep, HeatsKeep, StepsDownKeep};
+ghost use Rattle.fx_lasting.specs.Laws.{LettingGoKeeps, SeeksKeep, BirthsKeep, RecallsTagKeep, TagsKeep, NumbersKeep, ReadsTagKeep, ReadsNumberKeep};
+ghost use Rattle.fx_lasting.specs.Laws.{RestsKeep, ParksKeep, ResumesKeep, SettlesKeep, SkimsKeep, VisitsKeep, ChargesKeep, FinishesKeep};
+ghost use Rattle.fx_lasting.specs.Laws.{RetiresKeep, LowersKeep, ChecksKeep, BreaksKeep, RaisesKeep, BeginsKeep, AsksKeep, CountsKeep, DecidesKeep};
+ghost use Rattle.fx_lasting.specs.Laws.{PeeksKeep, SplitsKeep, JoinsKeep, TakesOutKeep, SwapsOutKeep, InstallsKeep, ExchangesKeep, SeesKeep};
+ghost use Rattle.fx_lasting.specs.Laws.{SwapsHeldKeep, TakesHeldKeep, AimsKeep, TakesBesideKeep, ReplacesHeldKeep, EndsItsHoldKeep};
 
 use crate::kinds::{
     Aiming, Announcing, Asking, Beginning, Birth, Breaking, Charging, Checking, Clearing,

@@ -1,7 +1,5 @@
 //! Queries of a table and its passes.
-ghost use Rattle.std.specs.Prelude.{◌≡◌, ◌<◌, ◌≤◌, ◌↔◌, IsTrue};
-ghost use Rattle.fx_table.specs.Opening.{size_of, range_of};
-ghost use Rattle.fx_table.specs.Pass.{IsIdle};
+ghost use Rattle.fx_lasting.specs.Words.{◌≡◌, ◌<◌, ◌≤◌, ◌↔◌, IsTrue, size_of, range_of, IsIdle};
 ghost use Rattle.fx_lasting.specs.Tables.{view_of, opening_of_table, IsPassOfTable};
 
 use crate::life::layout::MOST_SLOTS;

@@ -1,9 +1,7 @@
 //! The laws of calls that are made again, since another pass changed the slot. Each is a clause of
 //! a function with an empty body.
-ghost use Rattle.fx_lasting.specs.Retries.{EachHasItsChange, LostCallsAreOvertaken};
-ghost use Rattle.fx_lasting.specs.Retries.{RemovalsAreOvertaken, ReplacementsAreOvertaken};
-ghost use Rattle.fx_lasting.specs.Retries.{EachSearchHasItsChange, InstallationsAreOvertaken};
-ghost use Rattle.fx_lasting.specs.Retries.{SearchesAreOvertaken};
+ghost use Rattle.fx_lasting.specs.Retries.{EachHasItsChange, LostCallsAreOvertaken, RemovalsAreOvertaken, ReplacementsAreOvertaken};
+ghost use Rattle.fx_lasting.specs.Retries.{EachSearchHasItsChange, InstallationsAreOvertaken, SearchesAreOvertaken};
 
 /// States that a pass's calls that were overtaken at one slot are at most as many as the changes of
 /// other passes there that the pass has learned of. Such a change is a file that another pass put

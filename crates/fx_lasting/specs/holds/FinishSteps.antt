@@ -1,11 +1,9 @@
 -- The load by which a retirement finds that all takes and charges of its file were dropped: nobody
 -- can reach the file then, so nothing is left to subtract.
-use Rattle.std.specs.Prelude.{◌≡◌, ◌≢◌, ℕ, ◌+◌, []}
-use Rattle.fx_plain.specs.declared.event.File.{File}
+use Rattle.fx_lasting.specs.Words.{◌≡◌, ◌≢◌, ℕ, ◌+◌, [], File, Round}
 use Rattle.fx_lasting.specs.Fields.{retirement_amount}
 use Rattle.fx_lasting.specs.Passes.{Sat}
 use Rattle.fx_lasting.specs.Effects.{At, Goes, TakesOut}
-use Rattle.fx_lasting.specs.declared.view.Round.{Round}
 use Rattle.fx_lasting.specs.declared.view.Work.TheVariants.{Retiring}
 
 -- Finish, of the node's word: if all takes and charges were dropped, the file is closed

@@ -1,18 +1,14 @@
 -- The node of a hold, and its file.
-use Rattle.std.specs.Prelude.{◌≡◌, ◌≢◌, ℕ, ◌+◌, ◌<◌, Some}
-use mathlib.Core.Option.{some}
-use lib.ListN.{get_elem?}
-use Rattle.fx_plain.specs.declared.event.File.{File}
-use Rattle.fx_table.specs.declared.values.Doing.TheVariants.{Holding, Retiring}
-use Rattle.fx_table.specs.declared.values.Hold.{Hold}
-use Rattle.fx_table.specs.declared.values.Retired.{Retired}
+use Rattle.fx_lasting.specs.Words.{◌≡◌, ◌≢◌, ℕ, ◌+◌, ◌<◌, Some, File, Holding, Hold, Retired, Start}
+use Rattle.fx_lasting.specs.Words.{View}
+use Rattle.fx_table.specs.declared.values.Doing.TheVariants.{Retiring}
 use Rattle.fx_lasting.specs.Agrees.{Agrees}
 use Rattle.fx_lasting.specs.Bounds.{slot_word_in, node_word_in}
 use Rattle.fx_lasting.specs.Fields.{full_name_in}
 use Rattle.fx_lasting.specs.Passes.{Shared, slots_of, node_of_number, state_after_all}
 use Rattle.fx_lasting.specs.Tables.{doing_in}
-use Rattle.fx_lasting.specs.declared.view.Start.{Start}
-use Rattle.fx_lasting.specs.declared.view.View.{View}
+use mathlib.Core.Option.{some}
+use lib.ListN.{get_elem?}
 
 -- a pass holds the file by this hold
 abbrev pub IsHeldBy : Shared → File → Hold → Type 0

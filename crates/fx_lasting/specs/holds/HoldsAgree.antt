@@ -1,15 +1,12 @@
 -- The rule of passes: what each works with, which files it holds, and how.
-use Rattle.std.specs.Prelude.{◌≡◌, ◌≢◌, ℕ, ◌+◌, ◌-◌, ◌/◌, ◌<◌, ◌≤◌, ◌⊎◌, Bool, true, false, List}
-use Rattle.std.specs.Prelude.{Some, Contains, sum_by, slice_index}
-use Rattle.std.specs.Int.{bit_at}
-use mathlib.Core.Option.{some}
-use lib.ListN.{get_elem?}
-use Rattle.fx_plain.specs.History.{held_by}
-use Rattle.fx_plain.specs.declared.event.Event.{Event}
-use Rattle.fx_plain.specs.declared.event.File.{File}
+use Rattle.fx_lasting.specs.Words.{◌≡◌, ◌≢◌, ℕ, ◌+◌, ◌-◌, ◌/◌, ◌<◌, ◌≤◌, ◌⊎◌, Bool, true, false}
+use Rattle.fx_lasting.specs.Words.{List, Some, Contains, sum_by, slice_index, bit_at, held_by}
+use Rattle.fx_lasting.specs.Words.{Event, File, bit_of, Glance, Hot, Cold, Heating, Log, Round}
+use Rattle.fx_lasting.specs.Words.{Start, View, Work, Announced, Counted, Guarded, Owing, Yielding}
+use Rattle.fx_lasting.specs.Words.{Searching, Placing, Renewing, Nearing, Relieving, Emptying}
+use Rattle.fx_lasting.specs.Words.{Keeping}
 use Rattle.fx_lasting.specs.slots.Deeds.{Deed, untouched, over, heated}
 use Rattle.fx_lasting.specs.life.Layout.{list_place, slot_place}
-use Rattle.table_range.specs.Counts.{bit_of}
 use Rattle.fx_lasting.specs.Fields.{full_name_in, IsHot, announced, charge, IsListedIn}
 use Rattle.fx_lasting.specs.Passes.{Shared, slots_of, nodes_of, hold_word_of, state_after_all}
 use Rattle.fx_lasting.specs.Passes.{held_in, held_of}
@@ -17,17 +14,10 @@ use Rattle.fx_lasting.specs.nodes.Phases.{Phase, free, placed, seated, leaving, 
 use Rattle.fx_lasting.specs.nodes.Phases.{file_in}
 use Rattle.fx_lasting.specs.nodes.Stocks.{IsInStock}
 use Rattle.fx_lasting.specs.slots.Watches.{WatchAgrees}
-use Rattle.fx_lasting.specs.declared.view.Glance.{Glance}
-use Rattle.fx_lasting.specs.declared.view.Glance.TheVariants.{None as Nothing, Hot, Cold, Heating}
-use Rattle.fx_lasting.specs.declared.view.Log.{Log}
-use Rattle.fx_lasting.specs.declared.view.Round.{Round}
-use Rattle.fx_lasting.specs.declared.view.Start.{Start}
-use Rattle.fx_lasting.specs.declared.view.View.{View}
-use Rattle.fx_lasting.specs.declared.view.Work.{Work}
-use Rattle.fx_lasting.specs.declared.view.Work.TheVariants.{Idle, Announced, Counted, Guarded}
-use Rattle.fx_lasting.specs.declared.view.Work.TheVariants.{Owing, Yielding, Searching, Placing}
-use Rattle.fx_lasting.specs.declared.view.Work.TheVariants.{Retiring, Renewing, Nearing, Relieving}
-use Rattle.fx_lasting.specs.declared.view.Work.TheVariants.{Emptying, Keeping}
+use Rattle.fx_lasting.specs.declared.view.Glance.TheVariants.{None as Nothing}
+use Rattle.fx_lasting.specs.declared.view.Work.TheVariants.{Idle, Retiring}
+use mathlib.Core.Option.{some}
+use lib.ListN.{get_elem?}
 
 -- the file of the node is open
 abbrev pub HoldsAt : Start → (ℕ → Phase) → File → ℕ → Type 0

@@ -1,10 +1,8 @@
 -- The round of a retirement through the hold words of the other passes.
-use Rattle.std.specs.Prelude.{◌≡◌, ℕ, ◌+◌, ◌-◌, ◌*◌, ◌/◌, ◌<◌, ◌≤◌, false, []}
-use Rattle.fx_plain.specs.declared.event.File.{File}
+use Rattle.fx_lasting.specs.Words.{◌≡◌, ℕ, ◌+◌, ◌-◌, ◌*◌, ◌/◌, ◌<◌, ◌≤◌, false, [], File, Round}
 use Rattle.fx_lasting.specs.Ends.{Does}
 use Rattle.fx_lasting.specs.Laws.{IsPassed}
 use Rattle.fx_lasting.specs.Passes.{Sat}
-use Rattle.fx_lasting.specs.declared.view.Round.{Round}
 use Rattle.fx_lasting.specs.declared.view.Work.TheVariants.{Retiring}
 
 -- a round that has visited the passes before `next`, and loaded these words of the list

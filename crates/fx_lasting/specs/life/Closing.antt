@@ -1,12 +1,9 @@
 -- The files that a lasting table is closed into.
-use Rattle.std.specs.Prelude.{◌≡◌, ℕ, zero, suc, List, [], ◌∷◌, ◌++◌, Option, Some, None}
-use Rattle.fx_base.specs.Identity.{Identity}
-use Rattle.fx_plain.specs.Contents.{Contents, state_of}
+use Rattle.fx_lasting.specs.Words.{◌≡◌, ℕ, zero, suc, List, [], ◌∷◌, ◌++◌, Option, Some, Identity}
+use Rattle.fx_lasting.specs.Words.{Contents, state_of, identity_of, Opening, PassView}
+use Rattle.std.specs.Prelude.{None}
 use Rattle.fx_plain.specs.State.{State}
-use Rattle.fx_plain.specs.Table.{identity_of}
 use Rattle.fx_table.specs.Closing.{ClosesTable}
-use Rattle.fx_table.specs.Opening.{Opening}
-use Rattle.fx_table.specs.Pass.{PassView}
 
 -- the file of a slot with the slot's number, if there is one
 abbrev pub with_slot : ℕ → Option Identity → List (ℕ × Identity)

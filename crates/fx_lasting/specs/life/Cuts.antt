@@ -1,14 +1,8 @@
 -- The views of seats, by what all shared tables have.
-use Rattle.std.specs.Prelude.{◌≡◌, List, []}
-use Rattle.fx_plain.specs.History.{part_of_pass}
-use Rattle.table_seats.specs.Seats.{Seats}
-use Rattle.fx_table.specs.Opening.{lasting_opening}
+use Rattle.fx_lasting.specs.Words.{◌≡◌, List, [], part_of_pass, Seats, lasting_opening, Outside}
+use Rattle.fx_lasting.specs.Words.{Log, Start, View}
 use Rattle.fx_lasting.specs.Passes.{contents_of, new_log}
-use Rattle.table_range.specs.declared.views.Change.TheVariants.{Outside}
 use Rattle.fx_lasting.specs.declared.view.Glance.TheVariants.{None as Nothing}
-use Rattle.fx_lasting.specs.declared.view.Log.{Log}
-use Rattle.fx_lasting.specs.declared.view.Start.{Start}
-use Rattle.fx_lasting.specs.declared.view.View.{View}
 use Rattle.fx_lasting.specs.declared.view.Work.TheVariants.{Idle}
 
 -- the start of a seat whose passes went to another

@@ -1,10 +1,7 @@
 -- Where the words and the open files of a lasting table are.
-use Rattle.std.specs.Prelude.{◌≡◌, ◌≢◌, ℕ, ◌+◌, ◌-◌, ◌*◌, ◌/◌, ◌<◌, ◌≤◌, min, nat_lt, if◌then◌else◌}
-use Rattle.std.specs.Prelude.{zero, suc, List, [], ◌∷◌, ◌++◌}
-use Rattle.std.specs.List.{range_with_len}
-use Rattle.table_range.specs.Counts.{bit_of}
-use Rattle.table_range.specs.Groups.{question_place, group_place}
-use Rattle.table_range.specs.declared.groups.TheConstants.{RANGE_END}
+use Rattle.fx_lasting.specs.Words.{◌≡◌, ◌≢◌, ℕ, ◌+◌, ◌-◌, ◌*◌, ◌/◌, ◌<◌, ◌≤◌, min, nat_lt}
+use Rattle.fx_lasting.specs.Words.{if◌then◌else◌, zero, suc, List, [], ◌∷◌, ◌++◌, range_with_len}
+use Rattle.fx_lasting.specs.Words.{bit_of, question_place, group_place, RANGE_END}
 
 -- A line is 8 words. The table's memory begins with the third word of a line: the malloc of glibc
 -- returns a large block 16 bytes after the beginning of a page, so that a line is a cache line.

@@ -1,12 +1,9 @@
 -- The rule of a table's life: its size, its history and the passes that made it.
-use Rattle.std.specs.Prelude.{◌≡◌, ◌+◌, ◌≤◌, List, length}
-use Rattle.fx_plain.specs.declared.event.Event.{Event}
+use Rattle.fx_lasting.specs.Words.{◌≡◌, ◌+◌, ◌≤◌, List, length, Event, MOST_SLOTS, Start}
 use Rattle.table_seats.specs.Together.{Together}
 use Rattle.fx_lasting.specs.life.Cuts.{seats}
 use Rattle.fx_lasting.specs.life.Layout.{words_for}
 use Rattle.fx_lasting.specs.Passes.{Shared, slots_of, range_at_start, nodes_of}
-use Rattle.fx_lasting.specs.declared.life.layout.TheConstants.{MOST_SLOTS}
-use Rattle.fx_lasting.specs.declared.view.Start.{Start}
 
 -- how large everything is
 pub record HasShape (k : Start) (s : Shared) : Type 0 where

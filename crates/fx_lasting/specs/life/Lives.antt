@@ -1,25 +1,17 @@
 -- Passes as they are handed out and gathered.
-use Rattle.std.specs.Prelude.{◌≡◌, ◌≤◌, ℕ, true, false, List, [], flat_map, Option}
+use Rattle.fx_lasting.specs.Words.{◌≡◌, ◌≤◌, ℕ, true, false, List, [], flat_map, Option, Identity}
+use Rattle.fx_lasting.specs.Words.{Contents, state_of, IsSettled, HasSameFiles, first_view}
+use Rattle.fx_lasting.specs.Words.{MOST_PASSES, MOST_INSTALLING, LastingPass, Outside, Log, Start}
+use Rattle.fx_lasting.specs.Words.{View}
 use Rattle.atomic_table.specs.declared.shared.Seat.{Seat}
-use mathlib.Core.Option.{some}
-use lib.ListN.{get_elem?}
-use Rattle.fx_base.specs.Identity.{Identity}
-use Rattle.fx_plain.specs.Contents.{Contents, state_of}
-use Rattle.fx_plain.specs.State.{IsSettled}
-use Rattle.fx_table.specs.Opening.{HasSameFiles}
 use Rattle.fx_lasting.specs.Agrees.{Agrees}
 use Rattle.fx_lasting.specs.life.Closing.{files_with_slots}
-use Rattle.table_seats.specs.Seats.{first_view}
 use Rattle.fx_lasting.specs.life.Cuts.{seats}
 use Rattle.fx_lasting.specs.Passes.{Shared, HasNoFile, state_after_all}
-use Rattle.fx_lasting.specs.declared.life.layout.TheConstants.{MOST_PASSES, MOST_INSTALLING}
-use Rattle.fx_lasting.specs.declared.pass.LastingPass.{LastingPass}
 use Rattle.fx_lasting.specs.declared.table.LastingTable.{LastingTable}
-use Rattle.table_range.specs.declared.views.Change.TheVariants.{Outside}
 use Rattle.fx_lasting.specs.declared.view.Glance.TheVariants.{None as Nothing}
-use Rattle.fx_lasting.specs.declared.view.Log.{Log}
-use Rattle.fx_lasting.specs.declared.view.Start.{Start}
-use Rattle.fx_lasting.specs.declared.view.View.{View}
+use mathlib.Core.Option.{some}
+use lib.ListN.{get_elem?}
 
 -- a table may have this number of passes, and the first `installing` of them install files
 abbrev pub ArePasses : (installing passes : ℕ) → Type 0

@@ -1,15 +1,13 @@
 -- The words and places with which a lasting table begins: its slots are empty.
-use Rattle.std.specs.Prelude.{◌≡◌, ◌≢◌, ℕ, ◌+◌, ◌<◌, ◌≤◌, List, length, slice_index, Option, None}
-use mathlib.Core.Option.{some}
-use lib.ListN.{get_elem?}
+use Rattle.fx_lasting.specs.Words.{◌≡◌, ◌≢◌, ℕ, ◌+◌, ◌<◌, ◌≤◌, List, length, slice_index, Option}
+use Rattle.fx_lasting.specs.Words.{Identity, MOST_SLOTS, Start, View}
+use Rattle.std.specs.Prelude.{None}
 use Rattle.atomic_table.specs.Table.{opening}
-use Rattle.fx_base.specs.Identity.{Identity}
 use Rattle.fx_lasting.specs.life.Layout.{slot_place, words_for}
 use Rattle.fx_lasting.specs.Fields.{empty_word_of}
 use Rattle.fx_lasting.specs.Passes.{Shared, slots_of, range_at_start, nodes_of}
-use Rattle.fx_lasting.specs.declared.life.layout.TheConstants.{MOST_SLOTS}
-use Rattle.fx_lasting.specs.declared.view.Start.{Start}
-use Rattle.fx_lasting.specs.declared.view.View.{View}
+use mathlib.Core.Option.{some}
+use lib.ListN.{get_elem?}
 
 -- the words of the first slots are those of empty slots, and all others are as they were
 pub record AreNamed (done : ℕ) (old new : List ℕ) : Type 0 where

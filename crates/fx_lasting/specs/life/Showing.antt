@@ -1,10 +1,7 @@
 -- Shown histories, and views that learn from them.
-use Rattle.std.specs.Prelude.{◌≡◌, List, []}
-use Rattle.fx_plain.specs.History.{IsSeenBy}
-use Rattle.fx_plain.specs.declared.event.Event.{Event}
+use Rattle.fx_lasting.specs.Words.{◌≡◌, List, [], IsSeenBy, Event, View}
 use Rattle.fx_lasting.specs.Passes.{first_log}
 use Rattle.fx_lasting.specs.Runs.{Runs}
-use Rattle.fx_lasting.specs.declared.view.View.{View}
 use Rattle.fx_lasting.specs.declared.life.shown.LastingSeen.{LastingSeen}
 use Rattle.fx_lasting.specs.declared.table.LastingTable.{LastingTable}
 

@@ -1,12 +1,8 @@
 -- The kinds of step on the two words of a node's label: their effect on the pass that makes them.
-use Rattle.std.specs.Prelude.{◌≡◌, ℕ, []}
-use Rattle.fx_plain.specs.declared.event.File.{File}
+use Rattle.fx_lasting.specs.Words.{◌≡◌, ℕ, [], File, Placing, Written, Nothing, Tag, Label}
 use Rattle.fx_lasting.specs.nodes.Labels.{number_of_mark, as_written}
 use Rattle.fx_lasting.specs.Passes.{Sat, HoldsOn, node_of_number}
 use Rattle.fx_lasting.specs.Effects.{At, Goes, pass_in}
-use Rattle.fx_lasting.specs.declared.view.Work.TheVariants.{Placing}
-use Rattle.fx_lasting.specs.declared.view.Written.{Written}
-use Rattle.fx_lasting.specs.declared.view.Written.TheVariants.{Nothing, Tag, Label}
 
 -- Recall, of the tag's word: it has the tag of the file that the node had before, as if the pass
 -- had stored that one

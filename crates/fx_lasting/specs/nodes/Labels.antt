@@ -1,11 +1,6 @@
 -- The label of a file: its tag, and the number of its mark. Its node has two words for it.
-use Rattle.std.specs.Prelude.{◌≡◌, ℕ, ◌+◌, ◌*◌, ◌^◌}
-use Rattle.fx_base.specs.Identity.{Identity}
-use Rattle.fx_base.specs.declared.mark.Mark.{Mark}
-use Rattle.fx_base.specs.declared.mark.Mark.TheVariants.{Registered, Submitted}
-use Rattle.fx_lasting.specs.declared.view.Placement.{Placement}
-use Rattle.fx_lasting.specs.declared.view.Written.{Written}
-use Rattle.fx_lasting.specs.declared.view.Written.TheVariants.{Nothing, Tag, Label}
+use Rattle.fx_lasting.specs.Words.{◌≡◌, ℕ, ◌+◌, ◌*◌, ◌^◌, Identity, Mark, Registered, Submitted}
+use Rattle.fx_lasting.specs.Words.{Placement, Written, Nothing, Tag, Label}
 
 -- the number of a mark, which a registration chooses; the marks of submissions have 0
 abbrev pub number_of_mark : Mark → ℕ

@@ -1,13 +1,9 @@
 -- The rule of nodes: the word, the place and the label of each, who works with it, and where it
 -- is.
-use Rattle.std.specs.Prelude.{◌≡◌, ℕ, ◌+◌, ◌^◌, ◌<◌, ◌≤◌, true, List, Option, Some, None, Contains}
-use Rattle.std.specs.Prelude.{sum_by, slice_index}
-use mathlib.Core.Option.{some, none}
-use mathlib.Core.Option as maybe
-use lib.ListN.{get_elem?}
-use Rattle.fx_base.specs.Identity.{Identity}
-use Rattle.fx_plain.specs.declared.event.Event.{Event}
-use Rattle.fx_plain.specs.declared.event.File.{File}
+use Rattle.fx_lasting.specs.Words.{◌≡◌, ℕ, ◌+◌, ◌^◌, ◌<◌, ◌≤◌, true, List, Option, Some, Contains}
+use Rattle.fx_lasting.specs.Words.{sum_by, slice_index, Identity, Event, File, Log, Round, Start}
+use Rattle.fx_lasting.specs.Words.{View, Work, Written, Placing, Emptying, Keeping}
+use Rattle.std.specs.Prelude.{None}
 use Rattle.fx_lasting.specs.Counts.{owed}
 use Rattle.fx_lasting.specs.nodes.Labels.{HasWritten}
 use Rattle.fx_lasting.specs.life.Layout.{slot_place}
@@ -17,13 +13,10 @@ use Rattle.fx_lasting.specs.Passes.{number_word_of, state_after_all, alone_in, t
 use Rattle.fx_lasting.specs.nodes.Phases.{Phase, free, placed, seated, leaving, retired, emptied}
 use Rattle.fx_lasting.specs.nodes.Phases.{kept, removed_in, written_in}
 use Rattle.fx_lasting.specs.nodes.Stocks.{Whereabouts, NamesItsNode, StockAgrees}
-use Rattle.fx_lasting.specs.declared.view.Log.{Log}
-use Rattle.fx_lasting.specs.declared.view.Round.{Round}
-use Rattle.fx_lasting.specs.declared.view.Start.{Start}
-use Rattle.fx_lasting.specs.declared.view.View.{View}
-use Rattle.fx_lasting.specs.declared.view.Work.{Work}
-use Rattle.fx_lasting.specs.declared.view.Written.{Written}
-use Rattle.fx_lasting.specs.declared.view.Work.TheVariants.{Placing, Retiring, Emptying, Keeping}
+use Rattle.fx_lasting.specs.declared.view.Work.TheVariants.{Retiring}
+use mathlib.Core.Option.{some, none}
+use mathlib.Core.Option as maybe
+use lib.ListN.{get_elem?}
 
 -- where the numbers of files are
 abbrev pub Nodes : Type 0

@@ -1,11 +1,8 @@
 -- Where each node is in its life.
-use Rattle.std.specs.Prelude.{ℕ, ◌+◌, ◌==◌, if◌then◌else◌, Option, Some, None}
-use Rattle.fx_plain.specs.declared.event.File.{File}
+use Rattle.fx_lasting.specs.Words.{ℕ, ◌+◌, ◌==◌, if◌then◌else◌, Option, Some, File, Placement}
+use Rattle.fx_lasting.specs.Words.{Round, Written, Nothing}
+use Rattle.std.specs.Prelude.{None}
 use Rattle.fx_lasting.specs.nodes.Labels.{label_of}
-use Rattle.fx_lasting.specs.declared.view.Placement.{Placement}
-use Rattle.fx_lasting.specs.declared.view.Round.{Round}
-use Rattle.fx_lasting.specs.declared.view.Written.{Written}
-use Rattle.fx_lasting.specs.declared.view.Written.TheVariants.{Nothing}
 
 -- where a node is
 pub data Phase : Type 0 where

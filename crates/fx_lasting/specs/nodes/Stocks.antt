@@ -1,11 +1,9 @@
 -- The nodes that slots name, and those that passes have in stock. Each node is at one of these
 -- places alone, so the nodes of a pass's stock are at no slot.
-use Rattle.std.specs.Prelude.{◌≡◌, ℕ, ◌+◌, ◌<◌, List, length}
+use Rattle.fx_lasting.specs.Words.{◌≡◌, ℕ, ◌+◌, ◌<◌, List, length, name_in, Start}
+use Rattle.fx_lasting.specs.Passes.{nodes_of, stock_len}
 use mathlib.Core.Option.{some}
 use lib.ListN.{get_elem?}
-use Rattle.fx_words.specs.Words.{name_in}
-use Rattle.fx_lasting.specs.Passes.{nodes_of, stock_len}
-use Rattle.fx_lasting.specs.declared.view.Start.{Start}
 
 -- where a node is
 pub data Whereabouts : Type 0 where

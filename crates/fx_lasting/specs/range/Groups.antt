@@ -1,9 +1,5 @@
 -- The counts of the allocation range's full slots, by the views of a lasting table.
-use Rattle.std.specs.Prelude.{ℕ, List, Option}
-use Rattle.fx_plain.specs.declared.event.File.{File}
-use Rattle.table_range.specs.Counts.{RangeCounts as CountsOf}
-use Rattle.fx_lasting.specs.declared.view.Log.{Log}
-use Rattle.fx_lasting.specs.declared.view.View.{View}
+use Rattle.fx_lasting.specs.Words.{ℕ, List, Option, File, RangeCounts as CountsOf, Log, View}
 
 -- the words of the range's groups count its full slots, and the questions are right
 abbrev pub RangeCounts : (ℕ → Option File) → ℕ × ℕ → List View → List ℕ → Type 0

@@ -1,17 +1,13 @@
 -- A pass that asks whether the allocation range is full.
-use Rattle.std.specs.Prelude.{ℕ, ◌+◌, ◌≤◌, Bool, true, false, [], if◌then◌else◌}
-use Rattle.fx_plain.specs.History.{◌▷◌}
+use Rattle.fx_lasting.specs.Words.{ℕ, ◌+◌, ◌≤◌, Bool, true, false, [], if◌then◌else◌, ◌▷◌, Adds}
+use Rattle.fx_lasting.specs.Words.{no_use, LastingPass, Survey, Covered}
 use Rattle.fx_plain.specs.declared.event.Action.TheVariants.{Full}
-use Rattle.fx_table.specs.Calls.{Adds, no_use}
 use Rattle.fx_lasting.specs.Passes.{Sat}
 use Rattle.fx_lasting.specs.Runs.{Runs}
 use Rattle.fx_lasting.specs.Tables.{IsPassOfTable, opening_of_table, view_of, steps_taken}
 use Rattle.fx_lasting.specs.Tables.{MeetsMore}
 use Rattle.fx_lasting.specs.Effects.{as_asked}
-use Rattle.fx_lasting.specs.declared.pass.LastingPass.{LastingPass}
 use Rattle.fx_lasting.specs.declared.table.LastingTable.{LastingTable}
-use Rattle.table_range.specs.declared.views.Survey.{Survey}
-use Rattle.table_range.specs.declared.views.Survey.TheVariants.{Covered}
 
 -- some steps in a row, after which the pass has asked so; they leave all else as it was
 abbrev pub AsksSo : Survey → ℕ → Sat → Sat → Type 0

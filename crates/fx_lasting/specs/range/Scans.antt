@@ -1,12 +1,10 @@
 -- A scan of the allocation range, which goes once through its groups, and finds no empty slot.
-use Rattle.std.specs.Prelude.{◌≡◌, ℕ, ◌+◌, ◌*◌, ◌%◌, ◌<◌, ◌≤◌, true}
-use Rattle.table_range.specs.Groups.{group_of}
+use Rattle.fx_lasting.specs.Words.{◌≡◌, ℕ, ◌+◌, ◌*◌, ◌%◌, ◌<◌, ◌≤◌, true, group_of, Start}
 use Rattle.fx_lasting.specs.Effects.{pass_in}
 use Rattle.fx_lasting.specs.Laws.{IsInRange}
 use Rattle.fx_lasting.specs.Passes.{Sat, range_at_start}
 use Rattle.fx_lasting.specs.slots.AtEmpty.{FitsSight}
 use Rattle.fx_lasting.specs.slots.ByNode.{WasSo}
-use Rattle.fx_lasting.specs.declared.view.Start.{Start}
 
 -- such a step leads from each group to all of them, within as many steps as there are groups
 abbrev pub LeadsToAll : (groups step : ℕ) → Type 0

@@ -1,27 +1,21 @@
 -- A pass that searches the allocation range for an empty slot.
-use Rattle.std.specs.Prelude.{◌≡◌, ℕ, ◌+◌, ◌*◌, ◌<◌, ◌≤◌, [], ◌∷◌, Option, Some, None, Result, Ok}
-use Rattle.std.specs.Prelude.{Err}
-use mathlib.Core.Option.{some}
-use lib.ListN.{get_elem?}
-use Rattle.fx_base.specs.Identity.{Identity}
-use Rattle.fx_plain.specs.History.{◌▷◌}
-use Rattle.fx_plain.specs.Table.{numbered}
-use Rattle.fx_plain.specs.declared.event.File.{File}
-use Rattle.fx_plain.specs.declared.event.Action.TheVariants.{Allocate, Full}
-use Rattle.fx_table.specs.Calls.{Adds, IsNewFile, no_use, one_number}
-use Rattle.fx_table.specs.Opening.{Opening, size_of}
-use Rattle.fx_table.specs.Pass.{PassView}
+use Rattle.fx_lasting.specs.Words.{◌≡◌, ℕ, ◌+◌, ◌*◌, ◌<◌, ◌≤◌, [], ◌∷◌, Option, Some, Result, Ok}
+use Rattle.fx_lasting.specs.Words.{Err, Identity, ◌▷◌, numbered, File, Allocate, Adds, IsNewFile}
+use Rattle.fx_lasting.specs.Words.{no_use, one_number, Opening, size_of, PassView, group_size}
+use Rattle.fx_lasting.specs.Words.{groups_in, TriedPut, At, Placing}
+use Rattle.std.specs.Prelude.{None}
+use Rattle.fx_plain.specs.declared.event.Action.TheVariants.{Full}
 use Rattle.fx_table.specs.declared.values.Doing.TheVariants.{Idle as DoesNothing}
 use Rattle.fx_lasting.specs.Ends.{Does}
 use Rattle.fx_lasting.specs.nodes.Labels.{label_of, as_written}
-use Rattle.table_range.specs.Groups.{group_size, groups_in}
 use Rattle.fx_lasting.specs.Fields.{most_carried}
 use Rattle.fx_lasting.specs.Passes.{Sat, nodes_of, node_of_number}
 use Rattle.fx_lasting.specs.nodes.Stocks.{IsInStock}
 use Rattle.fx_lasting.specs.Effects.{as_swapped, pass_in}
-use Rattle.fx_lasting.specs.declared.tried.TriedPut.{TriedPut}
-use Rattle.fx_lasting.specs.declared.tried.TriedPut.TheVariants.{At, Full as AllFull, Again}
-use Rattle.fx_lasting.specs.declared.view.Work.TheVariants.{Idle, Placing}
+use Rattle.fx_lasting.specs.declared.tried.TriedPut.TheVariants.{Full as AllFull, Again}
+use Rattle.fx_lasting.specs.declared.view.Work.TheVariants.{Idle}
+use mathlib.Core.Option.{some}
+use lib.ListN.{get_elem?}
 
 -- the seat's pass has the place of a node of its stock, whose word has lost `lost` takes, with the
 -- file that it is about to install

@@ -1,12 +1,9 @@
 -- The call that installs a file at a slot if it is empty, and the search for one.
-use Rattle.std.specs.Prelude.{◌≡◌, ℕ, ◌≤◌, ◌⊎◌, Bool, true, false, List, [], Option, Some, None}
-use Rattle.fx_base.specs.Identity.{Identity}
-use Rattle.fx_plain.specs.History.{◌▷◌, IsSeenBy}
-use Rattle.fx_plain.specs.declared.event.Event.{Event}
-use Rattle.fx_plain.specs.declared.event.Action.TheVariants.{Allocate, Full}
-use Rattle.fx_plain.specs.declared.event.File.{File}
-use Rattle.fx_table.specs.Calls.{Adds, IsNewFile, no_use, one_number}
-use Rattle.fx_table.specs.Pass.{PassView}
+use Rattle.fx_lasting.specs.Words.{◌≡◌, ℕ, ◌≤◌, ◌⊎◌, Bool, true, false, List, [], Option, Some}
+use Rattle.fx_lasting.specs.Words.{Identity, ◌▷◌, IsSeenBy, Event, Allocate, File, Adds, IsNewFile}
+use Rattle.fx_lasting.specs.Words.{no_use, one_number, PassView, TriedPut, At, LastingPass, Start}
+use Rattle.std.specs.Prelude.{None}
+use Rattle.fx_plain.specs.declared.event.Action.TheVariants.{Full}
 use Rattle.fx_table.specs.declared.values.Doing.TheVariants.{Idle as DoesNothing}
 use Rattle.fx_lasting.specs.Ends.{Does}
 use Rattle.fx_lasting.specs.slots.ByNode.{WasSo, HasMet, WasOvertaken, WasOvertakenIn}
@@ -16,13 +13,10 @@ use Rattle.fx_lasting.specs.Tables.{opening_of, view_of, changes_at}
 use Rattle.fx_lasting.specs.Effects.{pass_in, HasGap, MeetsOne}
 use Rattle.fx_lasting.specs.Laws.{IsInRange}
 use Rattle.fx_lasting.specs.declared.answers.FoundSlot.{FoundSlot}
-use Rattle.fx_lasting.specs.declared.answers.FoundSlot.TheVariants as found
 use Rattle.fx_lasting.specs.declared.answers.PutEmpty.{PutEmpty}
+use Rattle.fx_lasting.specs.declared.tried.TriedPut.TheVariants.{Full as AllFull, Again}
+use Rattle.fx_lasting.specs.declared.answers.FoundSlot.TheVariants as found
 use Rattle.fx_lasting.specs.declared.answers.PutEmpty.TheVariants as empty
-use Rattle.fx_lasting.specs.declared.tried.TriedPut.{TriedPut}
-use Rattle.fx_lasting.specs.declared.tried.TriedPut.TheVariants.{At, Full as AllFull, Again}
-use Rattle.fx_lasting.specs.declared.pass.LastingPass.{LastingPass}
-use Rattle.fx_lasting.specs.declared.view.Start.{Start}
 
 -- a slot with this content has a file, or has none
 abbrev pub FitsSight : Bool → Option File → Type 0

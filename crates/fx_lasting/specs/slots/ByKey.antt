@@ -1,27 +1,18 @@
 -- Keys: the name of a file by its slot and the number of its mark, and the calls that take one.
-use Rattle.std.specs.Prelude.{◌≡◌, ◌≢◌, ℕ, ◌+◌, ◌*◌, ◌/◌, ◌%◌, ◌^◌, ◌<◌, ◌≤◌, ◌⊎◌, ◌==◌, nat_lt}
-use Rattle.std.specs.Prelude.{if◌then◌else◌, List, Contains, Option, Some, None, Result, Ok, Err}
-use Rattle.fx_base.specs.Identity.{Identity}
-use Rattle.fx_base.specs.declared.mark.Mark.{Mark}
-use Rattle.fx_base.specs.declared.mark.Mark.TheVariants.{Registered, Submitted}
-use Rattle.fx_plain.specs.declared.event.File.{File}
-use Rattle.fx_table.specs.Calls.{LookedUp, ReleasesFile}
-use Rattle.fx_table.specs.Pass.{PassView}
-use Rattle.fx_table.specs.declared.values.Doing.TheVariants.{Holding}
-use Rattle.fx_table.specs.declared.values.Hold.{Hold}
+use Rattle.fx_lasting.specs.Words.{◌≡◌, ◌≢◌, ℕ, ◌+◌, ◌*◌, ◌/◌, ◌%◌, ◌^◌, ◌<◌, ◌≤◌, ◌⊎◌, ◌==◌}
+use Rattle.fx_lasting.specs.Words.{nat_lt, if◌then◌else◌, List, Contains, Option, Some, Result, Ok}
+use Rattle.fx_lasting.specs.Words.{Err, Identity, Mark, Registered, Submitted, File, LookedUp}
+use Rattle.fx_lasting.specs.Words.{ReleasesFile, PassView, Holding, Hold, Miss, Key, KeyFault}
+use Rattle.fx_lasting.specs.Words.{LastingPass, Start}
+use Rattle.std.specs.Prelude.{None}
 use Rattle.fx_table.specs.declared.values.LookFault.TheVariants.{Empty as EmptySlot}
 use Rattle.fx_lasting.specs.slots.ByNode.{HasMet, IsOn}
 use Rattle.fx_lasting.specs.nodes.Labels.{number_of_mark}
 use Rattle.fx_lasting.specs.Passes.{slots_of}
 use Rattle.fx_lasting.specs.Tables.{opening_of, view_of, changes_at}
 use Rattle.fx_lasting.specs.slots.Watches.{HasActed}
-use Rattle.fx_lasting.specs.declared.answers.Miss.{Miss}
-use Rattle.fx_lasting.specs.declared.answers.Miss.TheVariants as miss
-use Rattle.fx_lasting.specs.declared.key.Key.{Key}
-use Rattle.fx_lasting.specs.declared.key_answers.KeyFault.{KeyFault}
 use Rattle.fx_lasting.specs.declared.key_answers.KeyFault.TheVariants.{NoSlot, Empty, Stale, Again}
-use Rattle.fx_lasting.specs.declared.pass.LastingPass.{LastingPass}
-use Rattle.fx_lasting.specs.declared.view.Start.{Start}
+use Rattle.fx_lasting.specs.declared.answers.Miss.TheVariants as miss
 
 -- the key of a file with this mark at a slot
 abbrev pub key_at : ℕ → Mark → Key

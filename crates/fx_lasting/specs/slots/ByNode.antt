@@ -1,13 +1,8 @@
 -- The exchanges that empty or replace a slot while its word names the node of a held file.
-use Rattle.std.specs.Prelude.{◌≡◌, ◌≢◌, ℕ, ◌+◌, ◌<◌, List, [], Option, Some, None, Result, Ok, Err}
-use Rattle.std.specs.Prelude.{◌⊎◌, ◌==◌}
-use mathlib.Core.Option.{none}
-use prog.Atomic.{either}
-use Rattle.atomic_table.specs.Table.{step, Allows}
-use Rattle.fx_plain.specs.History.{IsSeenBy}
-use Rattle.fx_plain.specs.declared.event.Event.{Event}
-use Rattle.fx_plain.specs.declared.event.File.{File}
-use Rattle.fx_table.specs.declared.values.Retired.{Retired}
+use Rattle.fx_lasting.specs.Words.{◌≡◌, ◌≢◌, ℕ, ◌+◌, ◌<◌, List, [], Option, Some, Result, Ok, Err}
+use Rattle.fx_lasting.specs.Words.{◌⊎◌, ◌==◌, step, Allows, IsSeenBy, Event, File, Retired}
+use Rattle.fx_lasting.specs.Words.{LastingPass, Miss, Start}
+use Rattle.std.specs.Prelude.{None}
 use Rattle.fx_lasting.specs.Ends.{Does}
 use Rattle.fx_lasting.specs.Fields.{full_name_in, without_file}
 use Rattle.fx_lasting.specs.Agrees.{Agrees}
@@ -17,10 +12,9 @@ use Rattle.fx_lasting.specs.Passes.{Sat, node_of_number, state_after_all}
 use Rattle.fx_lasting.specs.Tables.{view_of, changes_at, meetings}
 use Rattle.fx_lasting.specs.Effects.{At, Sees, pass_in, FindsChange, MeetsOne, slot_of}
 use Rattle.fx_lasting.specs.slots.Watches.{HasActed}
-use Rattle.fx_lasting.specs.declared.pass.LastingPass.{LastingPass}
-use Rattle.fx_lasting.specs.declared.answers.Miss.{Miss}
 use Rattle.fx_lasting.specs.declared.answers.Miss.TheVariants.{Empty, Stale, Again}
-use Rattle.fx_lasting.specs.declared.view.Start.{Start}
+use mathlib.Core.Option.{none}
+use prog.Atomic.{either}
 
 -- the file is on the node
 abbrev pub IsOn : Start → ℕ → File → Type 0

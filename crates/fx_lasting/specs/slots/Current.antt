@@ -1,15 +1,8 @@
 -- The check whether a slot has the file that a pass holds.
-use Rattle.std.specs.Prelude.{◌≡◌, ◌⊎◌, ◌↔◌, ℕ, Bool, true, false, IsTrue, List, [], Contains}
-use Rattle.std.specs.Prelude.{Option, Some}
-use Rattle.fx_plain.specs.History.{◌▷◌, ◌▷▷◌}
-use Rattle.fx_plain.specs.declared.event.Event.{Event}
-use Rattle.fx_plain.specs.declared.event.File.{File}
-use Rattle.fx_table.specs.Calls.{Adds, no_use}
+use Rattle.fx_lasting.specs.Words.{◌≡◌, ◌⊎◌, ◌↔◌, ℕ, Bool, true, false, IsTrue, List, [], Contains}
+use Rattle.fx_lasting.specs.Words.{Option, Some, ◌▷◌, ◌▷▷◌, Event, File, Adds, no_use, Opening}
+use Rattle.fx_lasting.specs.Words.{state_at, PassView, Holding, Hold}
 use Rattle.fx_table.specs.Finding.{LeavesAt}
-use Rattle.fx_table.specs.Opening.{Opening, state_at}
-use Rattle.fx_table.specs.Pass.{PassView}
-use Rattle.fx_table.specs.declared.values.Doing.TheVariants.{Holding}
-use Rattle.fx_table.specs.declared.values.Hold.{Hold}
 
 -- the pass holds a file by a hold of this node
 abbrev pub HoldsNode : PassView → ℕ → Type 0

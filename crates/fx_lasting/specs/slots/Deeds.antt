@@ -1,5 +1,5 @@
 -- The deeds of passes at a slot since the slot's word was last swapped.
-use Rattle.std.specs.Prelude.{Bool, true, false}
+use Rattle.fx_lasting.specs.Words.{Bool, true, false}
 
 -- how far a pass is
 pub data Deed : Type 0 where

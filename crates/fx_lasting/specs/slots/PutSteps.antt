@@ -1,26 +1,19 @@
 -- The kinds of step of a replacement by a key by one pass: it sees whether the slot is cold, takes
 -- the slot's file beside the file that it has placed, and puts its own there. Its hold ends then.
-use Rattle.std.specs.Prelude.{◌≡◌, ◌≢◌, ℕ, ◌+◌, ◌-◌, ◌<◌, [], ◌∷◌, Some, None}
-use mathlib.Core.Option.{some}
-use lib.ListN.{get_elem?}
-use Rattle.fx_base.specs.Identity.{Identity}
-use Rattle.fx_plain.specs.History.{◌▷◌}
-use Rattle.fx_plain.specs.Table.{numbered}
-use Rattle.fx_plain.specs.declared.event.File.{File}
-use Rattle.fx_plain.specs.declared.event.Action.TheVariants.{Look, Put, Release}
-use Rattle.atomic_table.specs.Table.{rest}
-use Rattle.fx_words.specs.Words.{name_in}
+use Rattle.fx_lasting.specs.Words.{◌≡◌, ◌≢◌, ℕ, ◌+◌, ◌-◌, ◌<◌, [], ◌∷◌, Some, Identity, ◌▷◌}
+use Rattle.fx_lasting.specs.Words.{numbered, File, Look, Put, Release, rest, name_in, account, Cold}
+use Rattle.fx_lasting.specs.Words.{Hot, Placement, Placing, Renewing}
+use Rattle.std.specs.Prelude.{None}
 use Rattle.fx_lasting.specs.slots.SlotAgrees.{Names}
-use Rattle.table_range.specs.Counts.{account}
 use Rattle.fx_lasting.specs.nodes.Labels.{label_of, as_written}
 use Rattle.fx_lasting.specs.Fields.{full_name_in, IsHot}
 use Rattle.fx_lasting.specs.Passes.{Sat, HoldsBesides, is_guarding, node_of_number, nodes_of}
 use Rattle.fx_lasting.specs.Passes.{range_at_start}
 use Rattle.fx_lasting.specs.Effects.{At, Goes, HasItsHold, NamesANode, Sees, Stepped, TakesAs}
 use Rattle.fx_lasting.specs.Effects.{as_swapped, leaving_work, pass_in, slot_of}
-use Rattle.fx_lasting.specs.declared.view.Glance.TheVariants.{None as Nothing, Cold, Hot}
-use Rattle.fx_lasting.specs.declared.view.Placement.{Placement}
-use Rattle.fx_lasting.specs.declared.view.Work.TheVariants.{Placing, Renewing}
+use Rattle.fx_lasting.specs.declared.view.Glance.TheVariants.{None as Nothing}
+use mathlib.Core.Option.{some}
+use lib.ListN.{get_elem?}
 
 -- Aim, of a slot's word: what a cold slot names is to be taken, and the node of a hot one is to be
 -- announced. An empty slot is looked up at once

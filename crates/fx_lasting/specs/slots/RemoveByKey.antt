@@ -1,15 +1,11 @@
 -- The removal by a key that one pass makes: the pass holds the file of the key, and its hold ends
 -- with the step that empties the slot.
-use Rattle.std.specs.Prelude.{◌≡◌, ℕ, ◌+◌, ◌⊎◌, List, [], Option, Some, None, Result, Ok, Err}
-use Rattle.fx_base.specs.Identity.{Identity}
-use Rattle.fx_plain.specs.History.{◌▷◌}
-use Rattle.fx_plain.specs.declared.event.Action.TheVariants.{Release, Take}
-use Rattle.fx_plain.specs.declared.event.File.{File}
-use Rattle.fx_table.specs.Calls.{Adds, no_use}
-use Rattle.fx_table.specs.Pass.{PassView, IsFileRemoval}
-use Rattle.fx_table.specs.declared.values.Doing.TheVariants.{Holding, Retiring as Retires}
-use Rattle.fx_table.specs.declared.values.Hold.{Hold}
-use Rattle.fx_table.specs.declared.values.Retired.{Retired}
+use Rattle.fx_lasting.specs.Words.{◌≡◌, ℕ, ◌+◌, ◌⊎◌, List, [], Option, Some, Result, Ok, Err}
+use Rattle.fx_lasting.specs.Words.{Identity, ◌▷◌, Release, Take, File, Adds, no_use, PassView}
+use Rattle.fx_lasting.specs.Words.{IsFileRemoval, Holding, Hold, Retired, Miss, Key, KeyFault}
+use Rattle.fx_lasting.specs.Words.{LastingPass, Outside, Start}
+use Rattle.std.specs.Prelude.{None}
+use Rattle.fx_table.specs.declared.values.Doing.TheVariants.{Retiring as Retires}
 use Rattle.fx_lasting.specs.slots.SlotAgrees.{Names}
 use Rattle.fx_lasting.specs.Ends.{Does}
 use Rattle.fx_lasting.specs.slots.ByNode.{FailedIf, FitsMiss, WasSo}
@@ -21,12 +17,6 @@ use Rattle.fx_lasting.specs.Runs.{Runs}
 use Rattle.fx_lasting.specs.nodes.Stocks.{IsStockOf}
 use Rattle.fx_lasting.specs.Tables.{opening_of, view_of}
 use Rattle.fx_lasting.specs.Effects.{HasItsHold, as_stocked, leaving_work, pass_in}
-use Rattle.fx_lasting.specs.declared.answers.Miss.{Miss}
-use Rattle.fx_lasting.specs.declared.key.Key.{Key}
-use Rattle.fx_lasting.specs.declared.key_answers.KeyFault.{KeyFault}
-use Rattle.fx_lasting.specs.declared.pass.LastingPass.{LastingPass}
-use Rattle.table_range.specs.declared.views.Change.TheVariants.{Outside}
-use Rattle.fx_lasting.specs.declared.view.Start.{Start}
 
 -- a pass that holds a file, and tried to empty a slot whose word named the file's node. It has this
 -- stock now

@@ -1,22 +1,14 @@
 -- The replacement by a key that one pass makes: the pass places the new file, holds the file of the
 -- key, and its hold ends with the step that puts the new file at the slot.
-use Rattle.std.specs.Prelude.{◌≡◌, ℕ, ◌+◌, ◌<◌, ◌≤◌, ◌⊎◌, true, false, [], ◌∷◌, Option, Some, None}
-use Rattle.std.specs.Prelude.{Result, Ok, Err, is_some}
-use mathlib.Core.Option.{some}
-use lib.ListN.{get_elem?}
-use Rattle.atomic_table.specs.Seated.{TableId}
-use Rattle.fx_base.specs.Identity.{Identity}
-use Rattle.fx_plain.specs.History.{◌▷◌}
-use Rattle.fx_plain.specs.Table.{numbered}
-use Rattle.fx_plain.specs.declared.event.Action.TheVariants.{Close, Look, Put, Release}
-use Rattle.fx_plain.specs.declared.event.File.{File}
-use Rattle.fx_table.specs.Calls.{Adds, IsHandedOut, no_use, one_number}
-use Rattle.fx_table.specs.Opening.{Opening}
-use Rattle.fx_table.specs.Pass.{PassView, IsFileRemoval}
+use Rattle.fx_lasting.specs.Words.{◌≡◌, ℕ, ◌+◌, ◌<◌, ◌≤◌, ◌⊎◌, true, false, [], ◌∷◌, Option, Some}
+use Rattle.fx_lasting.specs.Words.{Result, Ok, Err, is_some, TableId, Identity, ◌▷◌, numbered}
+use Rattle.fx_lasting.specs.Words.{Close, Look, Put, Release, File, Adds, IsHandedOut, no_use}
+use Rattle.fx_lasting.specs.Words.{one_number, Opening, PassView, IsFileRemoval, Hold, Retired}
+use Rattle.fx_lasting.specs.Words.{Miss, Key, Replaced, Missed, LastingPass, Outside, Glance, Cold}
+use Rattle.fx_lasting.specs.Words.{Hot, Placement, Start, Work, Nearing, Placing}
+use Rattle.std.specs.Prelude.{None}
 use Rattle.fx_table.specs.declared.values.Doing.TheVariants.{Idle as DoesNothing}
 use Rattle.fx_table.specs.declared.values.Doing.TheVariants.{Retiring as Retires}
-use Rattle.fx_table.specs.declared.values.Hold.{Hold}
-use Rattle.fx_table.specs.declared.values.Retired.{Retired}
 use Rattle.fx_lasting.specs.slots.SlotAgrees.{Names}
 use Rattle.fx_lasting.specs.Effects.{HasItsHold, IsOnList, as_swapped, leaving_work, pass_in}
 use Rattle.fx_lasting.specs.Effects.{retiring_work}
@@ -31,22 +23,15 @@ use Rattle.fx_lasting.specs.nodes.Stocks.{IsInStock}
 use Rattle.fx_lasting.specs.slots.RemoveByKey.{LeftAlone}
 use Rattle.fx_lasting.specs.slots.ByKey.{HoldsAtKey, IsKeyOf, LookedByKey}
 use Rattle.fx_lasting.specs.slots.ByNode.{FailedIf, WasIn}
-use Rattle.fx_lasting.specs.declared.answers.Miss.{Miss}
-use Rattle.fx_lasting.specs.declared.key.Key.{Key}
 use Rattle.fx_lasting.specs.declared.key_answers.PutOverKey.{PutOverKey}
-use Rattle.fx_lasting.specs.declared.key_answers.PutOverKey.TheVariants.{Replaced, Missed}
-use Rattle.fx_lasting.specs.declared.pass.LastingPass.{LastingPass}
 use Rattle.fx_lasting.specs.declared.tried.Renewal.{Renewal}
 use Rattle.fx_lasting.specs.declared.tried.Renewal.TheVariants.{Ends, Moved}
 use Rattle.fx_lasting.specs.declared.tried.Taken.{Taken}
+use Rattle.fx_lasting.specs.declared.view.Glance.TheVariants.{None as Nothing}
+use Rattle.fx_lasting.specs.declared.view.Work.TheVariants.{Idle}
+use mathlib.Core.Option.{some}
+use lib.ListN.{get_elem?}
 use Rattle.fx_lasting.specs.declared.tried.Taken.TheVariants as taken
-use Rattle.table_range.specs.declared.views.Change.TheVariants.{Outside}
-use Rattle.fx_lasting.specs.declared.view.Glance.{Glance}
-use Rattle.fx_lasting.specs.declared.view.Glance.TheVariants.{None as Nothing, Cold, Hot}
-use Rattle.fx_lasting.specs.declared.view.Placement.{Placement}
-use Rattle.fx_lasting.specs.declared.view.Start.{Start}
-use Rattle.fx_lasting.specs.declared.view.Work.{Work}
-use Rattle.fx_lasting.specs.declared.view.Work.TheVariants.{Idle, Nearing, Placing}
 
 -- a pass that is to take what a cold slot names, or to announce the node of a hot one
 abbrev pub aim_at : ℕ → Option ℕ → Glance

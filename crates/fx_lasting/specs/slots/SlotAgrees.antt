@@ -1,13 +1,11 @@
 -- The rule of a slot: its word and the file at it.
-use Rattle.std.specs.Prelude.{◌≡◌, ℕ, ◌+◌, ◌<◌, ◌≤◌, Option, Some, None}
-use Rattle.fx_plain.specs.declared.event.File.{File}
-use Rattle.fx_words.specs.Words.{entry_in}
+use Rattle.fx_lasting.specs.Words.{◌≡◌, ℕ, ◌+◌, ◌<◌, ◌≤◌, Option, Some, File, entry_in, Start}
+use Rattle.std.specs.Prelude.{None}
 use Rattle.fx_lasting.specs.Counts.{tally}
 use Rattle.fx_lasting.specs.slots.Deeds.{Deed, has_acted, has_heated}
 use Rattle.fx_lasting.specs.Fields.{full_name_in, count_in, heat_in, cold_takes}
 use Rattle.fx_lasting.specs.Passes.{nodes_of}
 use Rattle.fx_lasting.specs.nodes.Phases.{Phase, seated}
-use Rattle.fx_lasting.specs.declared.view.Start.{Start}
 use Rattle.fx_lasting.specs.nodes.NodesAgree.{Nodes}
 
 -- what a slot's word says of the file at the slot

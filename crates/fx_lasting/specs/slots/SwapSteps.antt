@@ -1,27 +1,20 @@
 -- The kinds of step that empty a slot by an exchange of names: the slot's word names a node of the
 -- pass's stock then, and the node that it named takes that node's place in the stock.
-use Rattle.std.specs.Prelude.{◌≡◌, ◌≢◌, ℕ, ◌-◌, List, [], Option, Some, None}
-use mathlib.Core.Option.{some}
-use lib.ListN.{get_elem?}
-use Rattle.fx_plain.specs.History.{◌▷◌}
-use Rattle.fx_plain.specs.declared.event.File.{File}
-use Rattle.fx_plain.specs.declared.event.Action.TheVariants.{Release, Take}
-use Rattle.fx_table.specs.Calls.{Adds, no_use}
-use Rattle.fx_table.specs.Opening.{Opening}
-use Rattle.fx_table.specs.Pass.{IsFileRemoval, PassView}
+use Rattle.fx_lasting.specs.Words.{◌≡◌, ◌≢◌, ℕ, ◌-◌, List, [], Option, Some, ◌▷◌, File, Release}
+use Rattle.fx_lasting.specs.Words.{Take, Adds, no_use, Opening, IsFileRemoval, PassView, Retired}
+use Rattle.fx_lasting.specs.Words.{name_in, account, Start}
+use Rattle.std.specs.Prelude.{None}
 use Rattle.fx_table.specs.declared.values.Doing.TheVariants.{Idle as DoesNothing}
 use Rattle.fx_table.specs.declared.values.Doing.TheVariants.{Retiring as Retires}
-use Rattle.fx_table.specs.declared.values.Retired.{Retired}
-use Rattle.fx_words.specs.Words.{name_in}
 use Rattle.fx_lasting.specs.slots.SlotAgrees.{Names}
-use Rattle.table_range.specs.Counts.{account}
 use Rattle.fx_lasting.specs.Fields.{empty_word_of}
 use Rattle.fx_lasting.specs.Passes.{Sat, HoldsAlone, is_guarding, node_of_number, range_at_start}
 use Rattle.fx_lasting.specs.Runs.{Runs}
 use Rattle.fx_lasting.specs.nodes.Stocks.{IsStockOf}
 use Rattle.fx_lasting.specs.Effects.{At, Found, HasItsHold, NamesANode, Sees, Stepped, as_stocked}
 use Rattle.fx_lasting.specs.Effects.{as_swapped, leaving_work, pass_in, retiring_work, slot_of}
-use Rattle.fx_lasting.specs.declared.view.Start.{Start}
+use mathlib.Core.Option.{some}
+use lib.ListN.{get_elem?}
 
 -- Swap, to the word of an empty slot that names a node of the stock
 pub record SwapsOut (st : At) (m : Sat) (found : ℕ) (m' : Sat) : Type 0 where

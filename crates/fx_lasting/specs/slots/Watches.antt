@@ -1,16 +1,10 @@
 -- The words that a pass watches: that of a slot, and its own bit in the question word.
-use Rattle.std.specs.Prelude.{◌≡◌, ◌≢◌, ℕ, ◌<◌, ◌⊎◌, true, List, slice_index}
-use Rattle.fx_plain.specs.History.{◌▷◌, IsSeenBy}
-use Rattle.fx_plain.specs.declared.event.Action.{Action}
-use Rattle.fx_plain.specs.declared.event.Action.TheVariants.{Look, Put, Clear, Take, Allocate}
-use Rattle.fx_plain.specs.declared.event.Event.{Event}
-use Rattle.table_range.specs.Groups.{question_place}
-use Rattle.table_range.specs.Counts.{HasQuestionOf}
+use Rattle.fx_lasting.specs.Words.{◌≡◌, ◌≢◌, ℕ, ◌<◌, ◌⊎◌, true, List, slice_index, ◌▷◌, IsSeenBy}
+use Rattle.fx_lasting.specs.Words.{Action, Look, Put, Clear, Take, Allocate, Event, question_place}
+use Rattle.fx_lasting.specs.Words.{HasQuestionOf, Start, Watch}
 use Rattle.fx_lasting.specs.life.Layout.{slot_place}
 use Rattle.fx_lasting.specs.Fields.{heat_in}
 use Rattle.fx_lasting.specs.Passes.{slots_of}
-use Rattle.fx_lasting.specs.declared.view.Start.{Start}
-use Rattle.fx_lasting.specs.declared.view.Watch.{Watch}
 
 -- the action is one at the slot
 abbrev pub ActsAt : ℕ → Action → Type 0

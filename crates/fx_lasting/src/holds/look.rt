@@ -1,12 +1,12 @@
 //! The announcement of a hot file in the pass's hold word, and the heat of a slot that had its
 //! takes.
-ghost use Rattle.std.specs.Prelude.{◌≡◌, ℕ, ◌<◌, []};
+ghost use Rattle.fx_lasting.specs.Words.{◌≡◌, ℕ, ◌<◌, [], Hot};
 ghost use Rattle.fx_lasting.specs.AtWork.{IsAtWork};
 ghost use Rattle.fx_lasting.specs.Ends.{Guards};
 ghost use Rattle.fx_lasting.specs.Laws.{MayAnnounce};
 ghost use Rattle.fx_lasting.specs.Runs.{Runs};
 ghost use Rattle.fx_lasting.specs.Effects.{glance_after, IsOnList};
-ghost use Rattle.fx_lasting.specs.declared.view.Glance.TheVariants.{None as Nothing, Hot};
+ghost use Rattle.fx_lasting.specs.declared.view.Glance.TheVariants.{None as Nothing};
 
 use crate::fields::{HEAT, announced, cold_takes, count_of, is_hot_at};
 use crate::kinds::{Announcing, Confirming, HeatingUp};

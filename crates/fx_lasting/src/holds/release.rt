@@ -1,10 +1,8 @@
 //! Letting a file go: the charge of an announcement that came too late, and the hold of a file.
-ghost use Rattle.std.specs.Prelude.{◌≡◌, ℕ, []};
-ghost use Rattle.fx_plain.specs.declared.event.File.{File};
+ghost use Rattle.fx_lasting.specs.Words.{◌≡◌, ℕ, [], File, Announced, Guarded, Owing};
 ghost use Rattle.fx_lasting.specs.AtWork.{IsAtWork, IsReleasing};
 ghost use Rattle.fx_lasting.specs.Ends.{LetsChargeGo, LetsFileGo};
 ghost use Rattle.fx_lasting.specs.Laws.{HasToLetGo};
-ghost use Rattle.fx_lasting.specs.declared.view.Work.TheVariants.{Announced, Guarded, Owing, Counted};
 
 use crate::fields::announced;
 use crate::kinds::{Letting, SteppingDown, Withdrawing};

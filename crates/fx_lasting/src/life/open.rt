@@ -1,19 +1,11 @@
 //! Opening a table.
-ghost use Rattle.std.specs.Prelude.{◌≡◌, ℕ, ◌+◌, ◌<◌, ◌≤◌, [], length, map, All, IfOk, vec_len};
-ghost use Rattle.std.specs.Prelude.{vec_capacity};
-ghost use Rattle.fx_plain.specs.State.{vacant};
-ghost use Rattle.fx_plain.specs.Contents.{state_of};
-ghost use Rattle.fx_table.specs.Opening.{lasting_opening, size_of};
-ghost use Rattle.fx_table.specs.Pass.{IsIdle};
+ghost use Rattle.fx_lasting.specs.Words.{◌≡◌, ℕ, ◌+◌, ◌<◌, ◌≤◌, [], length, map, All, IfOk, vec_len, vec_capacity, vacant, state_of, lasting_opening};
+ghost use Rattle.fx_lasting.specs.Words.{size_of, IsIdle, range_with_len, MOST_SLOTS, MOST_NODES, MOST_PASSES, MOST_INSTALLING, STOCK_SPACING};
 ghost use Rattle.fx_lasting.specs.life.Opens.{AreNamed};
 ghost use Rattle.fx_lasting.specs.life.Layout.{slot_place, stock_of, stocks_back};
-ghost use Rattle.fx_lasting.specs.life.Lives.{ArePasses, HasAllPasses, IsNewPass};
+ghost use Rattle.fx_lasting.specs.life.Lives.{ArePasses, HasAllPasses};
 ghost use Rattle.fx_lasting.specs.Passes.{empty_slots};
 ghost use Rattle.fx_lasting.specs.Tables.{view_of, opening_of_table, first_passes, IsPassOfTable};
-ghost use Rattle.std.specs.List.{range_with_len};
-ghost use Rattle.fx_lasting.specs.declared.life.layout.TheConstants.{MOST_SLOTS, MOST_NODES};
-ghost use Rattle.fx_lasting.specs.declared.life.layout.TheConstants.{MOST_PASSES, MOST_INSTALLING};
-ghost use Rattle.fx_lasting.specs.declared.life.layout.TheConstants.{STOCK_SPACING};
 
 use crate::fields::empty_word;
 use crate::life::layout::{

@@ -5,10 +5,8 @@
 //! installation then needs neither a search nor a birth: the slot's word begins with as many takes
 //! as the node's word has lost, as if the next file had had them too. A call that needs a pass
 //! without a node settles first: it frees the node.
-ghost use Rattle.std.specs.Prelude.{◌≡◌, ◌+◌, ◌<◌, ◌≤◌, ℕ, ◌∷◌, [], true, false, Some, None, Bool};
-ghost use mathlib.Core.Option.{some};
-ghost use lib.ListN.{get_elem?};
-ghost use Rattle.fx_base.specs.declared.open_file.Closed.{Closed};
+ghost use Rattle.fx_lasting.specs.Words.{◌≡◌, ◌+◌, ◌<◌, ◌≤◌, ℕ, ◌∷◌, [], true, false, Some, Closed, Emptying, Placing};
+ghost use Rattle.std.specs.Prelude.{None};
 ghost use Rattle.fx_lasting.specs.AtWork.{IsAtWork, HasPlace, MayPlace};
 ghost use Rattle.fx_lasting.specs.Ends.{Does, Parked, TakenOut};
 ghost use Rattle.fx_lasting.specs.nodes.Labels.{label_of, as_written};
@@ -17,7 +15,8 @@ ghost use Rattle.fx_lasting.specs.Fields.{most_carried};
 ghost use Rattle.fx_lasting.specs.Passes.{nodes_of};
 ghost use Rattle.fx_lasting.specs.Tables.{view_of, steps_taken, MeetsMore, IsPassOfTable};
 ghost use Rattle.fx_lasting.specs.Effects.{pass_in};
-ghost use Rattle.fx_lasting.specs.declared.view.Work.TheVariants.{Emptying, Placing};
+ghost use mathlib.Core.Option.{some};
+ghost use lib.ListN.{get_elem?};
 
 use crate::fields::{BORN, may_carry};
 use crate::kinds::{Birth, Parking, Resting, Resuming, Settling, Tagging};

@@ -1,14 +1,12 @@
 //! Putting an open file into the place of its node, and taking it out, while the seat's pass has
 //! the place.
-ghost use Rattle.std.specs.Prelude.{◌≡◌, ℕ, ◌∷◌, [], Some, None};
-ghost use Rattle.fx_base.specs.declared.open_file.Closed.{Closed};
+ghost use Rattle.fx_lasting.specs.Words.{◌≡◌, ℕ, ◌∷◌, [], Some, Closed, Placing, Nothing, Tag};
+ghost use Rattle.std.specs.Prelude.{None};
 ghost use Rattle.fx_lasting.specs.AtWork.{IsAtWork, HasPlace};
 ghost use Rattle.fx_lasting.specs.Ends.{Does};
 ghost use Rattle.fx_lasting.specs.nodes.Labels.{label_of, as_written};
 ghost use Rattle.fx_lasting.specs.life.Layout.{node_place};
 ghost use Rattle.fx_lasting.specs.Effects.{rested};
-ghost use Rattle.fx_lasting.specs.declared.view.Work.TheVariants.{Placing};
-ghost use Rattle.fx_lasting.specs.declared.view.Written.TheVariants.{Nothing, Tag};
 
 use crate::kinds::{Numbering, RecallingTag, Resting, Tagging};
 use crate::nodes::labels::number_of_mark;

@@ -1,14 +1,13 @@
 //! The search for a free node of a pass's own stock. One is always free, and none of them goes away
 //! while the pass looks.
-ghost use Rattle.std.specs.Prelude.{◌≡◌, ◌<◌, ◌≤◌, []};
-ghost use mathlib.Core.Option.{some};
-ghost use lib.ListN.{get_elem?};
+ghost use Rattle.fx_lasting.specs.Words.{◌≡◌, ◌<◌, ◌≤◌, [], Searching};
 ghost use Rattle.fx_lasting.specs.AtWork.{IsAtWork};
 ghost use Rattle.fx_lasting.specs.Ends.{Does};
 ghost use Rattle.fx_lasting.specs.Passes.{HasNoFile, nodes_of};
 ghost use Rattle.fx_lasting.specs.nodes.Searches.{next_of};
 ghost use Rattle.fx_lasting.specs.Effects.{pass_in};
-ghost use Rattle.fx_lasting.specs.declared.view.Work.TheVariants.{Searching};
+ghost use mathlib.Core.Option.{some};
+ghost use lib.ListN.{get_elem?};
 
 use crate::kinds::Seeking;
 use crate::table::LastingTable;

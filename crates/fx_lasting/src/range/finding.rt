@@ -1,15 +1,13 @@
 //! The search for an empty slot of the allocation range, for a caller that installs a file there
 //! later (`put_empty`). It looks where an allocation looks, and changes no word.
-ghost use Rattle.std.specs.Prelude.{◌≡◌, ℕ, ◌+◌, ◌-◌, ◌*◌, ◌<◌, ◌≤◌, None};
-ghost use Rattle.fx_table.specs.Pass.{IsIdle};
+ghost use Rattle.fx_lasting.specs.Words.{◌≡◌, ℕ, ◌+◌, ◌-◌, ◌*◌, ◌<◌, ◌≤◌, IsIdle, groups_in, MOST_PASSES};
+ghost use Rattle.std.specs.Prelude.{None};
 ghost use Rattle.fx_lasting.specs.AtWork.{IsAtWork};
-ghost use Rattle.table_range.specs.Groups.{groups_in};
 ghost use Rattle.fx_lasting.specs.Tables.{MeetsMore, view_of, steps_taken, IsPassOfTable};
 ghost use Rattle.fx_lasting.specs.Laws.{IsInRange};
 ghost use Rattle.fx_lasting.specs.range.Scans.{EachFrom, EachInGroup, EachInRange, WasFull};
 ghost use Rattle.fx_lasting.specs.range.Tries.{group_steps, scan_steps};
 ghost use Rattle.fx_lasting.specs.slots.AtEmpty.{HasSearched, LooksFor};
-ghost use Rattle.fx_lasting.specs.declared.life.layout.TheConstants.{MOST_PASSES};
 
 use crate::answers::FoundSlot;
 use crate::kinds::Peeking;

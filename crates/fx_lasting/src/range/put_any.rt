@@ -1,18 +1,14 @@
 //! The search for an empty slot of the allocation range.
-ghost use Rattle.std.specs.Prelude.{◌≡◌, ℕ, ◌+◌, ◌-◌, ◌*◌, ◌<◌, ◌≤◌, true, false, IfSome, IfErr, None};
-ghost use Rattle.fx_table.specs.Pass.{IsIdle};
+ghost use Rattle.fx_lasting.specs.Words.{◌≡◌, ℕ, ◌+◌, ◌-◌, ◌*◌, ◌<◌, ◌≤◌, true, false, IfSome, IfErr, IsIdle, groups_in, MOST_GROUPS, MOST_PASSES};
+ghost use Rattle.fx_lasting.specs.Words.{Outside};
+ghost use Rattle.std.specs.Prelude.{None};
 ghost use Rattle.fx_lasting.specs.AtWork.{IsAtWork};
 ghost use Rattle.fx_lasting.specs.Laws.{IsInRange};
-ghost use Rattle.table_range.specs.Groups.{groups_in};
-ghost use Rattle.table_range.specs.declared.groups.TheConstants.{MOST_GROUPS};
 ghost use Rattle.fx_lasting.specs.range.Questions.{HasAsked};
-ghost use Rattle.fx_lasting.specs.declared.life.layout.TheConstants.{MOST_PASSES};
 ghost use Rattle.fx_lasting.specs.Tables.{view_of, steps_taken, MeetsMore, opening_of_table, IsPassOfTable};
 ghost use Rattle.fx_lasting.specs.slots.AtEmpty.{FailsToFill, FellShort, GivesUpFor};
-ghost use Rattle.fx_lasting.specs.range.Tries.{IsPlacing, Tries, HasAllocated, StillPlaces, TriedSo};
-ghost use Rattle.fx_lasting.specs.range.Tries.{without_asking, group_steps, scan_steps};
+ghost use Rattle.fx_lasting.specs.range.Tries.{IsPlacing, Tries, HasAllocated, StillPlaces, TriedSo, without_asking, group_steps, scan_steps};
 ghost use Rattle.fx_lasting.specs.range.Scans.{LeadsToAll, EachFrom, EachInGroup, EachInRange};
-ghost use Rattle.table_range.specs.declared.views.Change.TheVariants.{Outside};
 
 use crate::fields::{file_word, is_full, node_named};
 use crate::kinds::{Exchanging, Peeking, Seeing};

@@ -3,15 +3,11 @@
 //! clears the word after it has taken its slot off the count, and before it empties the slot: so
 //! no group that was found full loses a file while the bit is there. Nobody else sets the bit of a
 //! pass, so a bit that is there was never cleared since.
-ghost use Rattle.std.specs.Prelude.{◌≡◌, ℕ, ◌+◌, ◌<◌, ◌≤◌, true, false};
+ghost use Rattle.fx_lasting.specs.Words.{◌≡◌, ℕ, ◌+◌, ◌<◌, ◌≤◌, true, false, groups_in, Outside, MOST_INSTALLING, Covered};
 ghost use Rattle.fx_lasting.specs.AtWork.{IsAtWork};
-ghost use Rattle.table_range.specs.Groups.{groups_in};
 ghost use Rattle.fx_lasting.specs.range.Questions.{DecidesIf, AsksSo, VisitsGroup};
 ghost use Rattle.fx_lasting.specs.Effects.{pass_in, MeetsOne};
 ghost use Rattle.fx_lasting.specs.slots.AtEmpty.{FallsShort};
-ghost use Rattle.table_range.specs.declared.views.Change.TheVariants.{Outside};
-ghost use Rattle.fx_lasting.specs.declared.life.layout.TheConstants.{MOST_INSTALLING};
-ghost use Rattle.table_range.specs.declared.views.Survey.TheVariants.{Covered};
 
 use crate::kinds::{Asking, Beginning, Counting, Deciding};
 use crate::table::LastingTable;

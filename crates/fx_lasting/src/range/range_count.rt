@@ -1,13 +1,10 @@
 //! The steps that take a slot off its group's count, clear the questions of other passes, and add a
 //! slot to the count. `table_range` has what the counts mean.
-ghost use Rattle.std.specs.Prelude.{◌≡◌, ℕ, ◌<◌, [], true};
+ghost use Rattle.fx_lasting.specs.Words.{◌≡◌, ℕ, ◌<◌, [], true, is_in, group_of, groups_in, uncounted, Outside};
 ghost use Rattle.fx_lasting.specs.AtWork.{IsAtWork};
-ghost use Rattle.table_range.specs.Groups.{is_in, group_of, groups_in};
-ghost use Rattle.table_range.specs.Counts.{uncounted};
 ghost use Rattle.fx_lasting.specs.Laws.{IsInRange};
 ghost use Rattle.fx_lasting.specs.Passes.{range_at_start};
 ghost use Rattle.fx_lasting.specs.Runs.{Runs};
-ghost use Rattle.table_range.specs.declared.views.Change.TheVariants.{Outside};
 
 use crate::kinds::{Breaking, Checking, Lowering, Raising};
 use crate::table::LastingTable;

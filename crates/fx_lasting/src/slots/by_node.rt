@@ -7,11 +7,9 @@
 //! four times in all. It returns `Again` only if the slot's word changed meanwhile.
 //! While a file stays at its slot, look-ups change the word at most 16 times, and twice for each
 //! pass (`words_are_bounded`).
-ghost use Rattle.std.specs.Prelude.{◌≡◌, ℕ, ◌+◌, ◌<◌};
-ghost use Rattle.fx_words.specs.Words.{entry_in};
+ghost use Rattle.fx_lasting.specs.Words.{◌≡◌, ℕ, ◌+◌, ◌<◌, entry_in};
 ghost use Rattle.fx_lasting.specs.AtWork.{IsAtWork};
-ghost use Rattle.fx_lasting.specs.slots.ByNode.{SawIf, SaysIf, MayExchange, SeesIfLost, TriedExchange};
-ghost use Rattle.fx_lasting.specs.slots.ByNode.{word_put};
+ghost use Rattle.fx_lasting.specs.slots.ByNode.{SawIf, SaysIf, MayExchange, SeesIfLost, TriedExchange, word_put};
 ghost use Rattle.fx_lasting.specs.Fields.{count_in, full_name_in};
 
 use crate::answers::Miss;

@@ -3,23 +3,16 @@
 //! by its hold word. Its hold ends with the step that puts the new file there, as that of a removal
 //! does (`slots/remove_by_key.rt`). So the pass keeps the old file's node, as after a replacement
 //! by slot.
-ghost use Rattle.std.specs.Prelude.{◌≡◌, ◌≢◌, ℕ, ◌+◌, ◌*◌, ◌<◌, ◌≤◌, [], true, false, Some, is_some};
-ghost use Rattle.fx_base.specs.declared.open_file.Closed.{Closed};
-ghost use Rattle.fx_plain.specs.declared.event.File.{File};
-ghost use Rattle.fx_table.specs.Calls.{Adds, no_use};
-ghost use Rattle.fx_table.specs.Pass.{IsIdle};
+ghost use Rattle.fx_lasting.specs.Words.{◌≡◌, ◌≢◌, ℕ, ◌+◌, ◌*◌, ◌<◌, ◌≤◌, [], true, false, Some, is_some, Closed, File, Adds, no_use, IsIdle};
+ghost use Rattle.fx_lasting.specs.Words.{Outside, Cold, Placement, Placing};
 ghost use Rattle.fx_table.specs.declared.values.Doing.TheVariants.{Idle as DoesNothing};
 ghost use Rattle.fx_lasting.specs.AtWork.{IsAtWork, MayPlace};
 ghost use Rattle.fx_lasting.specs.Effects.{IsOnList};
 ghost use Rattle.fx_lasting.specs.Ends.{LetsFileGo};
 ghost use Rattle.fx_lasting.specs.Passes.{held_in, HoldsOn, is_guarding};
-ghost use Rattle.fx_lasting.specs.slots.ReplaceByKey.{AimedAt, Compared, HoldsBeside, IsBeside, PutsAlone, aim_at};
-ghost use Rattle.fx_lasting.specs.slots.ReplaceByKey.{Renews, TriedRenewal};
+ghost use Rattle.fx_lasting.specs.slots.ReplaceByKey.{AimedAt, Compared, HoldsBeside, IsBeside, PutsAlone, aim_at, Renews, TriedRenewal};
 ghost use Rattle.fx_lasting.specs.Tables.{view_of, MeetsMore, steps_taken, opening_of_table, IsPassOfTable, IsSeatOfTable};
-ghost use Rattle.table_range.specs.declared.views.Change.TheVariants.{Outside};
-ghost use Rattle.fx_lasting.specs.declared.view.Glance.TheVariants.{None as Nothing, Cold};
-ghost use Rattle.fx_lasting.specs.declared.view.Placement.{Placement};
-ghost use Rattle.fx_lasting.specs.declared.view.Work.TheVariants.{Placing};
+ghost use Rattle.fx_lasting.specs.declared.view.Glance.TheVariants.{None as Nothing};
 
 use crate::answers::Miss;
 use crate::fields::{file_node_of, file_word, is_hot_at};
