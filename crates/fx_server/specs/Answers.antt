@@ -1,23 +1,15 @@
 -- The records that the exports ensure: what each number that C gets means, and what is written to
 -- `out`. The worker stays in its table.
-use Rattle.std.specs.Prelude.{◌≡◌, ◌⊎◌, ℕ, ℤ, pos, Bool, true, false, Option, Some, None, Result}
-use Rattle.std.specs.Prelude.{Ok, Err}
-use Rattle.fx_base.specs.Identity.{Identity}
-use Rattle.fx_table.specs.Calls.{LookedUp, Placed, Released, Taken}
-use Rattle.fx_table.specs.Opening.{Opening}
-use Rattle.fx_table.specs.Pass.{PassView}
+use Rattle.fx_server.specs.Words.{◌≡◌, ◌⊎◌, ℕ, ℤ, pos, Bool, true, false, Option, Some, None}
+use Rattle.fx_server.specs.Words.{Result, Ok, Err, Identity, LookedUp, Placed, Released, Taken}
+use Rattle.fx_server.specs.Words.{Opening, PassView, Hold, Retired, CoreOutcome, NO_OUTCOME, AGAIN}
+use Rattle.fx_server.specs.Words.{DONE, EMPTY, FULL, IDLE, NO_SLOT, STALE, Held}
 use Rattle.fx_table.specs.declared.values.Empty.{Empty as NoFile}
-use Rattle.fx_table.specs.declared.values.Hold.{Hold}
 use Rattle.fx_table.specs.declared.values.LookFault.{LookFault}
-use Rattle.fx_table.specs.declared.values.LookFault.TheVariants as fault
-use Rattle.fx_table.specs.declared.values.Retired.{Retired}
 use Rattle.fx_lasting.specs.Laws.{IsInRange as IsAllocated}
 use Rattle.fx_lasting.specs.declared.answers.FoundSlot.{FoundSlot}
-use Rattle.fx_lasting.specs.declared.answers.FoundSlot.TheVariants as found
 use Rattle.fx_lasting.specs.declared.answers.PutEmpty.{PutEmpty}
-use Rattle.fx_lasting.specs.declared.answers.PutEmpty.TheVariants as empty
 use Rattle.fx_lasting.specs.declared.tried.TriedPut.{TriedPut}
-use Rattle.fx_lasting.specs.declared.tried.TriedPut.TheVariants as tried
 use Rattle.fx_lasting.specs.range.Tries.{TriedSo}
 use Rattle.fx_lasting.specs.slots.AtEmpty.{GivesUpFor, HasPutEmpty, HasSearched}
 use Rattle.fx_lasting.specs.slots.Current.{ChecksCurrent}
@@ -27,12 +19,11 @@ use Rattle.fx_server.specs.Outcomes.{LastUses, dropped_or, tag_of}
 use Rattle.fx_server.specs.Workers.{DrawsNone, HasFound, HasFoundNone, HasNoSlot, IsBusy, IsRefused}
 use Rattle.fx_server.specs.Workers.{IsRefusedAt, RetiresAs, UsesNumber, hold_in, its_opening}
 use Rattle.fx_server.specs.Workers.{its_pass, its_start}
-use Rattle.fx_server.specs.declared.answers.CoreOutcome.{CoreOutcome}
-use Rattle.fx_server.specs.declared.answers.TheConstants.{NO_OUTCOME}
-use Rattle.fx_server.specs.declared.codes.TheConstants.{AGAIN, DONE, EMPTY, FULL, IDLE, NO_SLOT}
-use Rattle.fx_server.specs.declared.codes.TheConstants.{STALE}
-use Rattle.fx_server.specs.declared.worker.Held.{Held}
 use Rattle.fx_server.specs.Worker.{TableWorker}
+use Rattle.fx_table.specs.declared.values.LookFault.TheVariants as fault
+use Rattle.fx_lasting.specs.declared.answers.FoundSlot.TheVariants as found
+use Rattle.fx_lasting.specs.declared.answers.PutEmpty.TheVariants as empty
+use Rattle.fx_lasting.specs.declared.tried.TriedPut.TheVariants as tried
 
 -- the worker's pass looked a slot of the table up
 pub record LooksAt (w : TableWorker) (slot : ℕ) (found : Result Hold LookFault) (out : CoreOutcome)

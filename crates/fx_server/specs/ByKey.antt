@@ -1,27 +1,17 @@
 -- The exports by key, which is the slot of a file and its number: what each number that C gets
 -- means, and what is written to `out`.
-use Rattle.std.specs.Prelude.{◌≡◌, ◌⊎◌, ℕ, ℤ, Option, Result, Ok, Err}
-use Rattle.fx_base.specs.Identity.{Identity}
-use Rattle.fx_table.specs.declared.values.Hold.{Hold}
-use Rattle.fx_table.specs.declared.values.Retired.{Retired}
+use Rattle.fx_server.specs.Words.{◌≡◌, ◌⊎◌, ℕ, ℤ, Option, Result, Ok, Err, Identity, Hold, Retired}
+use Rattle.fx_server.specs.Words.{LookedByKey, view_of, Key, KeyFault, LastingPass, CoreOutcome}
+use Rattle.fx_server.specs.Words.{NO_OUTCOME, DONE, Held}
 use Rattle.fx_lasting.specs.slots.RemoveByKey.{TakesAlone}
-use Rattle.fx_lasting.specs.slots.ByKey.{LookedByKey}
 use Rattle.fx_lasting.specs.slots.ReplaceByKey.{PutsAlone}
-use Rattle.fx_lasting.specs.Tables.{view_of}
-use Rattle.fx_lasting.specs.declared.key.Key.{Key}
-use Rattle.fx_lasting.specs.declared.key_answers.KeyFault.{KeyFault}
 use Rattle.fx_lasting.specs.declared.key_answers.PutOverKey.{PutOverKey}
 use Rattle.fx_lasting.specs.declared.key_answers.PutOverKey.TheVariants.{Replaced, Missed}
-use Rattle.fx_lasting.specs.declared.pass.LastingPass.{LastingPass}
 use Rattle.fx_server.specs.Files.{file_with}
 use Rattle.fx_server.specs.Outcomes.{LastUses, fault_code}
 use Rattle.fx_server.specs.Workers.{DrawsNone, HasFound, HasFoundNone, IsBusy, IsGood, IsRefused}
 use Rattle.fx_server.specs.Workers.{RetiresAs, UsesNumber, hold_in, its_opening, its_pass}
 use Rattle.fx_server.specs.Workers.{its_start}
-use Rattle.fx_server.specs.declared.answers.CoreOutcome.{CoreOutcome}
-use Rattle.fx_server.specs.declared.answers.TheConstants.{NO_OUTCOME}
-use Rattle.fx_server.specs.declared.codes.TheConstants.{DONE}
-use Rattle.fx_server.specs.declared.worker.Held.{Held}
 use Rattle.fx_server.specs.Worker.{TableWorker}
 
 -- the key of a slot and a number

@@ -1,19 +1,12 @@
 -- The end of a key: one event of one pass removes or replaces its file.
-use Rattle.std.specs.Prelude.{◌≡◌, ◌≢◌, ℕ, ℤ, List, Option, Some, None}
-use Rattle.fx_plain.specs.History.{◌▷◌, ◌▷▷◌, IsLegal}
-use Rattle.fx_plain.specs.Laws.{IsInstalled, IsStart}
-use Rattle.fx_plain.specs.State.{State}
+use Rattle.fx_server.specs.Words.{◌≡◌, ◌≢◌, ℕ, ℤ, List, Option, Some, None, ◌▷◌, ◌▷▷◌, IsLegal}
+use Rattle.fx_server.specs.Words.{IsInstalled, IsStart, State, Event, File, IsKeyOf, number_of_mark}
+use Rattle.fx_server.specs.Words.{Key, CoreOutcome}
 use Rattle.fx_plain.specs.declared.event.Action.{Action}
 use Rattle.fx_plain.specs.declared.event.Action.TheVariants.{Put, Clear, Take}
-use Rattle.fx_plain.specs.declared.event.Event.{Event}
-use Rattle.fx_plain.specs.declared.event.File.{File}
-use Rattle.fx_lasting.specs.slots.ByKey.{IsKeyOf}
-use Rattle.fx_lasting.specs.nodes.Labels.{number_of_mark}
-use Rattle.fx_lasting.specs.declared.key.Key.{Key}
 use Rattle.fx_server.specs.ByKey.{RemovesAs, ReplacesAs}
 use Rattle.fx_server.specs.Outcomes.{IsDone}
 use Rattle.fx_server.specs.Workers.{its_pass}
-use Rattle.fx_server.specs.declared.answers.CoreOutcome.{CoreOutcome}
 use Rattle.fx_server.specs.Worker.{TableWorker}
 
 -- the file that an action removes from its slot

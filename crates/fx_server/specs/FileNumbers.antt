@@ -1,9 +1,7 @@
 -- The numbers of the files that workers install.
-use Rattle.std.specs.Prelude.{◌≡◌, ◌≢◌, ◌==◌, ℕ, zero, suc, ◌+◌, ◌*◌, ◌^◌, ◌≤◌, nat_lt}
-use Rattle.std.specs.Prelude.{if◌then◌else◌, List, map}
+use Rattle.fx_server.specs.Words.{◌≡◌, ◌≢◌, ◌==◌, ℕ, zero, suc, ◌+◌, ◌*◌, ◌^◌, ◌≤◌, nat_lt}
+use Rattle.fx_server.specs.Words.{if◌then◌else◌, List, map, MOST_INSTALLING, FileNumbers}
 use Rattle.std.specs.List.{range_with_len}
-use Rattle.fx_lasting.specs.declared.life.layout.TheConstants.{MOST_INSTALLING}
-use Rattle.fx_server.specs.declared.file_numbers.FileNumbers.{FileNumbers}
 
 -- the number after one of a worker: no addition overflows, and the number after 0 is 0
 abbrev pub number_after : (step number : ℕ) → ℕ

@@ -1,6 +1,5 @@
 -- The files of a server's table.
-use Rattle.std.specs.Prelude.{ℕ, ◌/◌, ◌%◌, ◌^◌}
-use Rattle.fx_base.specs.Identity.{Identity}
+use Rattle.fx_server.specs.Words.{ℕ, ◌/◌, ◌%◌, ◌^◌, Identity}
 use Rattle.fx_base.specs.declared.mark.Mark.TheVariants.{Registered}
 
 -- the file with this tag, and with this number in its mark (`number_of_mark`)

@@ -1,11 +1,7 @@
 -- The numbers of the files that workers install: no two files of a history have one.
-use Rattle.std.specs.Prelude.{◌≡◌, ◌≢◌, ◌⊎◌, ℕ, ◌+◌, ◌<◌, ◌≤◌, List, length, slice_index_or}
-use Rattle.fx_plain.specs.History.{part_of_pass}
-use Rattle.fx_plain.specs.Laws.{IsInstalled}
-use Rattle.fx_plain.specs.declared.event.Event.{Event}
-use Rattle.fx_plain.specs.declared.event.File.{File}
-use Rattle.fx_lasting.specs.nodes.Labels.{number_of_mark}
-use Rattle.fx_lasting.specs.declared.life.layout.TheConstants.{MOST_INSTALLING}
+use Rattle.fx_server.specs.Words.{◌≡◌, ◌≢◌, ◌⊎◌, ℕ, ◌+◌, ◌<◌, ◌≤◌, List, length, slice_index_or}
+use Rattle.fx_server.specs.Words.{part_of_pass, IsInstalled, Event, File, number_of_mark}
+use Rattle.fx_server.specs.Words.{MOST_INSTALLING}
 use Rattle.fx_server.specs.EndsOfKeys.{HaveTheirOwnKeys}
 use Rattle.fx_server.specs.FileNumbers.{after_draws, first_numbers, number_drawn, without_kept}
 use Rattle.fx_server.specs.Opened.{AreOpened}

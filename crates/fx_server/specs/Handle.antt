@@ -3,10 +3,9 @@ use base.Fml.{Fml, ftrue}
 use base.Stored.{Coded}
 use mir.Syntax.{Ty}
 use denote.RawPtr.{Ptr}
+use Rattle.fx_server.specs.Words.{Option, Some, None, Global}
 use Rattle.std.specs.Box.Ownership.{box_owns}
-use Rattle.std.specs.Prelude.{Option, Some, None}
 use Rattle.std.specs.Coded.{coded_option}
-use Rattle.std.specs.Global.{Global}
 use Rattle.std_heap.specs.contracts.GlobalAllocator.TheImpl.{ghosts}
 use Rattle.fx_server.specs.contracts.worker.TableWorker.{the_row}
 use Rattle.fx_server.specs.declared.worker.TableWorker.{TableWorker}

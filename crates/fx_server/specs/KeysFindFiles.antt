@@ -1,16 +1,9 @@
 -- A key finds its file: the one whose installation returned the key, or none.
-use Rattle.std.specs.Prelude.{◌≡◌, ◌⊎◌, ℕ, ℤ, pos, ◌<◌, ◌≤◌, List, [], ◌∷◌, length, slice_index_or}
-use Rattle.fx_plain.specs.History.{◌▷▷◌, IsLegal, part_of_pass}
-use Rattle.fx_plain.specs.Laws.{IsInstalled}
-use Rattle.fx_plain.specs.declared.event.Event.{Event}
-use Rattle.fx_plain.specs.declared.event.File.{File}
-use Rattle.fx_table.specs.Opening.{start_of, state_at}
-use Rattle.fx_table.specs.declared.values.Doing.TheVariants.{Holding}
-use Rattle.fx_table.specs.declared.values.Hold.{Hold}
-use Rattle.fx_lasting.specs.Tables.{opening_of_table}
+use Rattle.fx_server.specs.Words.{◌≡◌, ◌⊎◌, ℕ, ℤ, pos, ◌<◌, ◌≤◌, List, [], ◌∷◌, length}
+use Rattle.fx_server.specs.Words.{slice_index_or, ◌▷▷◌, IsLegal, part_of_pass, IsInstalled, Event}
+use Rattle.fx_server.specs.Words.{File, start_of, state_at, Holding, Hold, opening_of_table, Key}
+use Rattle.fx_server.specs.Words.{MOST_INSTALLING, CoreOutcome, DONE}
 use Rattle.fx_lasting.specs.WholeHistory.{IsPartOf}
-use Rattle.fx_lasting.specs.declared.key.Key.{Key}
-use Rattle.fx_lasting.specs.declared.life.layout.TheConstants.{MOST_INSTALLING}
 use Rattle.fx_server.specs.Answers.{FindsAs, GetsAtAs, InsertsAs, PutsEmptyAs, ReleasesAs}
 use Rattle.fx_server.specs.Answers.{RemovesAtAs, ReplacesAtAs, ChecksCurrentAs}
 use Rattle.fx_server.specs.ByKey.{GetsAs, RemovesAs, ReplacesAs, key_of}
@@ -19,8 +12,6 @@ use Rattle.fx_server.specs.FilesNumbers.{KeepsItsNumbers}
 use Rattle.fx_server.specs.Opened.{AreOpened}
 use Rattle.fx_server.specs.Outcomes.{IsDone}
 use Rattle.fx_server.specs.Workers.{its_pass}
-use Rattle.fx_server.specs.declared.answers.CoreOutcome.{CoreOutcome}
-use Rattle.fx_server.specs.declared.codes.TheConstants.{DONE}
 use Rattle.fx_server.specs.Worker.{TableWorker}
 
 -- a call of one of the exports, by a worker that is `w` before it and `w'` after it

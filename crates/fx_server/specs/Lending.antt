@@ -1,5 +1,5 @@
 -- A handle lends its worker.
-use Rattle.std.specs.Borrow.{Lends, MutBor, Fml}
+use Rattle.fx_server.specs.Words.{Lends, MutBor, Fml}
 use Rattle.fx_server.specs.declared.handle.Handle.{Handle}
 use Rattle.fx_server.specs.declared.worker.TableWorker.{TableWorker}
 use Rattle.fx_server.specs.contracts.handle.Handle.{the_row}

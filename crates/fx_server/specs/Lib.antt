@@ -13,3 +13,4 @@ pub mod Places
 pub mod StaleKeys
 pub mod Workers
 pub mod Worker
+pub mod Words

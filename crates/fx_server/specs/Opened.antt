@@ -1,15 +1,10 @@
 -- The workers of a table that was just opened.
-use Rattle.std.specs.Prelude.{◌≡◌, ℕ, List, All, None, map, length}
-use Rattle.std.specs.Global.{Box}
+use Rattle.fx_server.specs.Words.{◌≡◌, ℕ, List, All, None, map, length, Box, vacant}
+use Rattle.fx_server.specs.Words.{lasting_opening, opening_of_table, first_passes, LastingPass}
+use Rattle.fx_server.specs.Words.{LastingTable, Shared}
 use Rattle.fx_plain.specs.Contents.{Contents, state_of}
-use Rattle.fx_plain.specs.State.{vacant}
-use Rattle.fx_table.specs.Opening.{lasting_opening}
-use Rattle.fx_lasting.specs.Tables.{opening_of_table, first_passes}
-use Rattle.fx_lasting.specs.declared.pass.LastingPass.{LastingPass}
-use Rattle.fx_lasting.specs.declared.table.LastingTable.{LastingTable}
 use Rattle.fx_server.specs.FileNumbers.{numbers_of_all}
 use Rattle.fx_server.specs.Workers.{its_table, its_pass}
-use Rattle.fx_server.specs.declared.shared.Shared.{Shared}
 use Rattle.fx_server.specs.Worker.{TableWorker}
 
 abbrev pub workers_in : List (Box TableWorker) → List TableWorker

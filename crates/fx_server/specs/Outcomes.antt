@@ -1,10 +1,7 @@
 -- The meaning of the numbers and tags that C gets.
-use Rattle.std.specs.Prelude.{◌≡◌, ℕ, ℤ, pos, Option, Some, None}
-use Rattle.fx_base.specs.Identity.{Identity}
-use Rattle.fx_lasting.specs.declared.key_answers.KeyFault.{KeyFault}
+use Rattle.fx_server.specs.Words.{◌≡◌, ℕ, ℤ, pos, Option, Some, None, Identity, KeyFault}
+use Rattle.fx_server.specs.Words.{CoreOutcome, DROPPED, EMPTY, NO_SLOT, AGAIN, STALE}
 use Rattle.fx_lasting.specs.declared.key_answers.KeyFault.TheVariants as fault
-use Rattle.fx_server.specs.declared.answers.CoreOutcome.{CoreOutcome}
-use Rattle.fx_server.specs.declared.codes.TheConstants.{DROPPED, EMPTY, NO_SLOT, AGAIN, STALE}
 
 -- the tag of a file if it came out, or 0
 abbrev pub tag_of : Option Identity → ℕ

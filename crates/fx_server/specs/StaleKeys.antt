@@ -1,14 +1,10 @@
 -- The answer `STALE` of a call by key: the slot had another file than that of the key at a moment
 -- of the call.
-use Rattle.std.specs.Prelude.{◌≡◌, ◌≢◌, ℕ, ℤ, Option, Some}
-use Rattle.fx_plain.specs.declared.event.File.{File}
+use Rattle.fx_server.specs.Words.{◌≡◌, ◌≢◌, ℕ, ℤ, Option, Some, File, IsKeyOf, Key, CoreOutcome}
+use Rattle.fx_server.specs.Words.{STALE}
 use Rattle.fx_lasting.specs.slots.ByNode.{WasSo}
-use Rattle.fx_lasting.specs.slots.ByKey.{IsKeyOf}
-use Rattle.fx_lasting.specs.declared.key.Key.{Key}
 use Rattle.fx_server.specs.ByKey.{GetsAs, RemovesAs, ReplacesAs}
 use Rattle.fx_server.specs.Workers.{its_pass, its_start}
-use Rattle.fx_server.specs.declared.answers.CoreOutcome.{CoreOutcome}
-use Rattle.fx_server.specs.declared.codes.TheConstants.{STALE}
 use Rattle.fx_server.specs.Worker.{TableWorker}
 
 -- there is a file, and the key names another one or none

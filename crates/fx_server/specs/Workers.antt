@@ -1,27 +1,13 @@
 -- A worker: its parts, its invariant, and the facts of which the clauses of its calls consist.
-use Rattle.std.specs.Prelude.{◌≡◌, ◌⊎◌, ℕ, ℤ, ◌≤◌, true, Option, Some, None, is_some}
-use Rattle.fx_base.specs.Identity.{Identity}
-use Rattle.fx_plain.specs.declared.event.File.{File}
-use Rattle.fx_table.specs.Calls.{HasRetired}
-use Rattle.fx_table.specs.Opening.{Opening, size_of}
-use Rattle.fx_table.specs.Pass.{PassView, IsIdle, IsHoldOf}
-use Rattle.fx_table.specs.declared.values.Doing.TheVariants.{Holding}
-use Rattle.fx_table.specs.declared.values.Hold.{Hold}
-use Rattle.fx_table.specs.declared.values.Retired.{Retired}
-use Rattle.fx_lasting.specs.nodes.Labels.{number_of_mark}
-use Rattle.fx_lasting.specs.declared.life.layout.TheConstants.{MOST_SLOTS, MOST_PASSES}
-use Rattle.fx_lasting.specs.declared.life.layout.TheConstants.{MOST_INSTALLING}
-use Rattle.fx_lasting.specs.Tables.{view_of, opening_of_table, IsPassOfTable}
-use Rattle.fx_lasting.specs.declared.pass.LastingPass.{LastingPass}
-use Rattle.fx_lasting.specs.declared.table.LastingTable.{LastingTable}
+use Rattle.fx_server.specs.Words.{◌≡◌, ◌⊎◌, ℕ, ℤ, ◌≤◌, true, Option, Some, None, is_some, Identity}
+use Rattle.fx_server.specs.Words.{File, HasRetired, Opening, size_of, PassView, IsIdle, IsHoldOf}
+use Rattle.fx_server.specs.Words.{Holding, Hold, Retired, number_of_mark, MOST_SLOTS, MOST_PASSES}
+use Rattle.fx_server.specs.Words.{MOST_INSTALLING, view_of, opening_of_table, IsPassOfTable}
+use Rattle.fx_server.specs.Words.{LastingPass, LastingTable, CoreOutcome, BUSY, IN_USE, NO_SLOT}
+use Rattle.fx_server.specs.Words.{READER, FileNumbers, Shared, Held}
 use Rattle.fx_lasting.specs.declared.view.Start.{Start}
 use Rattle.fx_server.specs.FileNumbers.{after_draw}
 use Rattle.fx_server.specs.Outcomes.{dropped_or, tag_of}
-use Rattle.fx_server.specs.declared.answers.CoreOutcome.{CoreOutcome}
-use Rattle.fx_server.specs.declared.codes.TheConstants.{BUSY, IN_USE, NO_SLOT, READER}
-use Rattle.fx_server.specs.declared.file_numbers.FileNumbers.{FileNumbers}
-use Rattle.fx_server.specs.declared.shared.Shared.{Shared}
-use Rattle.fx_server.specs.declared.worker.Held.{Held}
 use Rattle.fx_server.specs.Worker.{TableWorker}
 
 -- a table can have this many slots and workers, and workers that install files

@@ -1,5 +1,5 @@
 //! A worker as C has it: the pointer of its box.
-ghost use Rattle.std.specs.Prelude.{◌≡◌, Option, Some};
+ghost use Rattle.fx_server.specs.Words.{◌≡◌, Option, Some};
 ghost use Rattle.fx_server.specs.declared.worker.TableWorker.{TableWorker};
 ghost use Rattle.fx_server.specs.Handle.{handle_owns, place_coded, place_owns, worker_coded};
 
@@ -30,7 +30,7 @@ impl Model for Handle {
 unsafe impl Send for Handle {}
 
 impl Handle {
-    ghost use Rattle.std.specs.Borrow.{sem};
+    ghost use Rattle.fx_server.specs.Words.{sem};
     ghost use Rattle.fx_server.specs.Lending.{LendsWorker};
 
     /// Lends the worker. What is done to it is done to the handle's.

@@ -2,8 +2,7 @@
 ghost use Rattle.fx_server.specs.EndsOfKeys.{DoneRemovalsEndKeys, DoneReplacementsEndKeys, KeysEndOnce};
 ghost use Rattle.fx_server.specs.FileNumbers.{NumbersAreDrawnOnce, NumbersLast};
 ghost use Rattle.fx_server.specs.FilesNumbers.{FilesHaveTheirOwnNumbers, OpenedWorkersDrawTheirNumbers};
-ghost use Rattle.fx_server.specs.KeysFindFiles.{AKeyFindsItsFile, ExportsKeepNumbers};
-ghost use Rattle.fx_server.specs.KeysFindFiles.{FilesInUseHaveTheirNumbers};
+ghost use Rattle.fx_server.specs.KeysFindFiles.{AKeyFindsItsFile, ExportsKeepNumbers, FilesInUseHaveTheirNumbers};
 ghost use Rattle.fx_server.specs.StaleKeys.{StaleKeysHadAnother};
 
 /// States that no number but 0 is drawn twice by the workers of a table, so that no key names two

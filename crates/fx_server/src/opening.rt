@@ -1,10 +1,8 @@
 //! Opening a table with its workers.
-ghost use Rattle.std.specs.Prelude.{◌≡◌, ◌<◌, ◌≤◌, ◌+◌, All, IfOk, IfErr, Err, None, ◌⊎◌, length};
-ghost use Rattle.std.specs.Arc.{arc_value};
+ghost use Rattle.fx_server.specs.Words.{◌≡◌, ◌<◌, ◌≤◌, ◌+◌, All, IfOk, IfErr, Err, None, ◌⊎◌, length, arc_value, MOST_PASSES, BAD_ARGUMENT};
+ghost use Rattle.fx_server.specs.Words.{NO_MEMORY};
 ghost use Rattle.fx_server.specs.Opened.{AreDealt, AreOpened, workers_in};
 ghost use Rattle.fx_server.specs.Workers.{IsInRange, IsReady};
-ghost use Rattle.fx_lasting.specs.declared.life.layout.TheConstants.{MOST_PASSES};
-ghost use Rattle.fx_server.specs.declared.codes.TheConstants.{BAD_ARGUMENT, NO_MEMORY};
 
 use crate::codes::{BAD_ARGUMENT, NO_MEMORY};
 use crate::file_numbers::FileNumbers;

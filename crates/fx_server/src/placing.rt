@@ -1,9 +1,8 @@
 //! The workers of a new table in their places.
-ghost use Rattle.std.specs.Prelude.{◌≡◌, ◌≢◌, ◌⊎◌, Some, length, map};
+ghost use Rattle.fx_server.specs.Words.{◌≡◌, ◌≢◌, ◌⊎◌, Some, length, map, DONE, BAD_ARGUMENT, NO_MEMORY};
 ghost use Rattle.fx_server.specs.Opened.{workers_in};
 ghost use Rattle.fx_server.specs.Places.{OpensAs, workers_at};
 ghost use Rattle.fx_server.specs.Workers.{IsInRange};
-ghost use Rattle.fx_server.specs.declared.codes.TheConstants.{DONE, BAD_ARGUMENT, NO_MEMORY};
 
 use crate::codes::{BAD_ARGUMENT, DONE};
 use crate::handle::WorkerPlace;

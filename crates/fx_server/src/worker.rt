@@ -1,7 +1,5 @@
 //! A pass together with its table.
-ghost use Rattle.std.specs.Prelude.{◌≡◌, Some};
-ghost use Rattle.fx_table.specs.Pass.{IsHoldOf};
-ghost use Rattle.fx_lasting.specs.Tables.{view_of, IsPassOfTable};
+ghost use Rattle.fx_server.specs.Words.{◌≡◌, Some, IsHoldOf, view_of, IsPassOfTable};
 ghost use Rattle.fx_server.specs.Answers.{GetsAtAs, ReleasesAs, RemovesAtAs, ChecksCurrentAs};
 ghost use Rattle.fx_server.specs.Workers.{HasLabel, HasNumber};
 
@@ -35,7 +33,7 @@ pub struct TableWorker {
 }
 
 impl Model for TableWorker {
-    ghost use Rattle.std.specs.Arc.{arc_value};
+    ghost use Rattle.fx_server.specs.Words.{arc_value};
     ghost use Rattle.fx_server.specs.Worker.{TableWorker as Worker};
     ghost use Rattle.fx_server.specs.Workers.{IsGood, worker_of};
 
