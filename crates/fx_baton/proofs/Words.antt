@@ -16,7 +16,7 @@ pub use Rattle.fx_baton.specs.declared.view.Call.{Call}
 pub use Rattle.fx_baton.specs.declared.view.Log.{Log}
 pub use Rattle.fx_baton.specs.declared.view.Start.{Start}
 pub use Rattle.fx_baton.specs.declared.view.View.{View}
-pub use Rattle.fx_plain.specs.Contents.{Contents, IsTable, is_leaving, is_retired, leaving, node_at, removed_at, state_of}
+pub use Rattle.fx_plain.specs.Contents.{Contents, IsTable, is_leaving, leaving, node_at, removed_at, state_of}
 pub use Rattle.fx_plain.specs.History.{IsLegal, IsSeenBy, Leads, ReleasesItsOwn, action_of, close_of, held_after, held_by, part_of_pass, ◌▷▷◌, ◌▷◌}
 pub use Rattle.fx_plain.specs.State.{IsSettled, State, opening}
 pub use Rattle.fx_plain.specs.Step.{Steps, changed_at, with_removed}
@@ -32,14 +32,14 @@ pub use Rattle.fx_table.proofs.SumLemmas.{one_less_at, one_more_at, sum_at, sum_
 pub use Rattle.fx_table.proofs.Chains.{all_are_drawn, drawn_few, drawn_inside, next_is_its_own, fits, one_dealt, all_dealt}
 pub use Rattle.fx_table.specs.Closing.{ClosesTable, times_drawn}
 pub use Rattle.fx_table.specs.Files.{HasFile}
-pub use Rattle.fx_table.specs.Numbers.{chains_of_pass, number_following, numbers_for, pass_of_chain, pass_of_number}
-pub use Rattle.fx_table.specs.Opening.{HasSameFiles, Opening, size_of, state_at}
+pub use Rattle.fx_table.specs.Numbers.{number_following, numbers_for, pass_of_chain, pass_of_number}
+pub use Rattle.fx_table.specs.Opening.{Opening, size_of, state_at}
 pub use Rattle.fx_table.specs.Pass.{IsFront, IsHoldOf, IsRetiredOf, PassView, hold_of, new_pass, IsFileHold, retired_of}
 pub use Rattle.fx_table.specs.Turns.{HasDrawnInTurn}
 pub use Rattle.fx_table.specs.declared.values.Task.{Task}
 pub use Rattle.fx_table.specs.declared.values.Task.TheVariants.{Holding, Idle, Retiring}
-pub use Rattle.std.proofs.Common.{Bool, List, [], ap, arith, cond, eqb, false, get_or, inl, inr, length, map, refl, reverse, rules, set, subst, sym}
-pub use Rattle.std.proofs.Common.{true, vec_capacity, ℕ, ⊎_elim, ◌*◌, ◌++◌, ◌+◌, ◌-◌, ◌<◌, ◌∙◌, ◌∷◌, ◌≡◌, ◌≢◌, ◌≤◌, ◌⊎◌}
+pub use Rattle.std.proofs.Common.{Bool, List, [], ap, arith, cond, eqb, false, get_or, inl, inr, length, map, refl, reverse, set, subst, sym, true}
+pub use Rattle.std.proofs.Common.{vec_capacity, ℕ, ⊎_elim, ◌*◌, ◌++◌, ◌+◌, ◌-◌, ◌<◌, ◌∙◌, ◌∷◌, ◌≡◌, ◌≢◌, ◌≤◌, ◌⊎◌}
 pub use Rattle.std.specs.Prelude.{Contains, None, Option, Some, if◌then◌else◌, is_some, not, option_map, sum_by, ◌&&◌, ◌==◌}
 pub use lib.ListN.{get_elem?}
 pub use mathlib.Core.Logic.{dite}
@@ -47,7 +47,6 @@ pub use mathlib.Core.Option.{none, some, some-injective}
 pub use native.Mathlib.Decide.{ℕ_discrete}
 pub use Rattle.fx_table.specs.Tasks.{activity_of, retiring}
 pub use Rattle.fx_baton.specs.Turns.{holds_now, actions_of, doing_of, events_of, use_of, table_of_seats, by, table_of_loan}
-pub use Rattle.fx_plain.specs.declared.node.Node.TheVariants.{Leaving, Retired}
 pub use Rattle.fx_table.proofs.Growing.{Grows}
 pub use Rattle.fx_table.proofs.Seats.{IsAnew, gathered, last_of}
 pub use Rattle.table_seats.proofs.Gathered.{AreGathered, each_rests, its_log as gathered_log, numbers, of_only, pass_of, whole as gathered_whole}
@@ -57,5 +56,5 @@ pub use Rattle.table_seats.specs.Together.{HasSeen}
 pub use Rattle.table_seats.specs.Seats.{dealt, first_alone, first_view, front_in, shown_view, without_first, joined, spent}
 pub use Rattle.std.proofs.lemmas.Option.{none-some}
 pub use Rattle.std.proofs.lemmas.List.{append-nil, set-get_or}
-pub use Rattle.table_seats.proofs.Moving.{IsDealing, IsGathering, IsRule, alone_is_dealt, last_is_dealt, may_join as seats_join, may_observe}
-pub use Rattle.table_seats.proofs.Moving.{may_show as seats_show, may_split as seats_split, rest_is_dealt}
+pub use Rattle.table_seats.proofs.Moving.{IsDealing, IsGathering, IsRule, alone_is_dealt, may_join as seats_join, may_observe, may_show as seats_show}
+pub use Rattle.table_seats.proofs.Moving.{may_split as seats_split}

@@ -1,17 +1,10 @@
 -- The kinds of step keep the rule.
-use Rattle.std.specs.Prelude.{◌≡◌, ℕ, ◌==◌, List, [], ◌∷◌, Some, None}
+use Rattle.fx_baton.specs.Words.{◌≡◌, ℕ, ◌==◌, List, [], ◌∷◌, Some, None, step, Splits, Joins}
+use Rattle.fx_baton.specs.Words.{Allows, Contents, IsTable, Event, Task, Idle, Log, View, Start}
+use Rattle.fx_baton.specs.Words.{without_first, first_alone, joined, spent}
+use Rattle.fx_baton.specs.Rule.{IsKept, seats, Grabs, PutsBack, IsTurn}
 use mathlib.Core.Option.{none}
 use prog.Atomic.{either}
-use Rattle.atomic_table.specs.Table.{step, Splits, Joins, Allows}
-use Rattle.fx_plain.specs.Contents.{Contents, IsTable}
-use Rattle.fx_plain.specs.declared.event.Event.{Event}
-use Rattle.fx_table.specs.declared.values.Task.{Task}
-use Rattle.fx_table.specs.declared.values.Task.TheVariants.{Idle}
-use Rattle.fx_baton.specs.declared.view.Log.{Log}
-use Rattle.fx_baton.specs.declared.view.View.{View}
-use Rattle.fx_baton.specs.declared.view.Start.{Start}
-use Rattle.table_seats.specs.Seats.{without_first, first_alone, joined, spent}
-use Rattle.fx_baton.specs.Rule.{IsKept, seats, Grabs, PutsBack, IsTurn}
 
 abbrev pub SplitsKeep : Type 0
 SplitsKeep =

@@ -5,3 +5,4 @@ pub mod Passes
 pub mod Lives
 pub mod Tables
 pub mod Showing
+pub mod Words

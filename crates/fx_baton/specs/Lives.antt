@@ -1,19 +1,11 @@
 -- Passes as they are handed out and gathered.
-use Rattle.std.specs.Prelude.{◌≡◌, ℕ, true, false, List, [], ◌∷◌, flat_map, None}
-use Rattle.atomic_table.specs.declared.shared.Seat.{Seat}
+use Rattle.fx_baton.specs.Words.{◌≡◌, ℕ, true, false, List, [], ◌∷◌, flat_map, None, Seat, Contents}
+use Rattle.fx_baton.specs.Words.{IsTable, state_of, opening, PASS_LOOKS, Idle, Log, View, Start}
+use Rattle.fx_baton.specs.Words.{BatonPass, first_view}
+use Rattle.fx_baton.specs.declared.table.BatonTable.{BatonTable}
+use Rattle.fx_baton.specs.Rule.{Shared, IsKept, IsHome, seats}
 use lib.ListN.{get_elem?}
 use mathlib.Core.Option.{some}
-use Rattle.fx_plain.specs.Contents.{Contents, IsTable, state_of}
-use Rattle.fx_plain.specs.State.{opening}
-use Rattle.fx_table.specs.declared.limits.TheConstants.{PASS_LOOKS}
-use Rattle.fx_table.specs.declared.values.Task.TheVariants.{Idle}
-use Rattle.fx_baton.specs.declared.view.Log.{Log}
-use Rattle.fx_baton.specs.declared.view.View.{View}
-use Rattle.fx_baton.specs.declared.view.Start.{Start}
-use Rattle.fx_baton.specs.declared.pass.BatonPass.{BatonPass}
-use Rattle.fx_baton.specs.declared.table.BatonTable.{BatonTable}
-use Rattle.table_seats.specs.Seats.{first_view}
-use Rattle.fx_baton.specs.Rule.{Shared, IsKept, IsHome, seats}
 
 -- the list has one table: the other one, prepared for numbers below `numbers`
 pub record HasPrepared (plain : Contents) (numbers : ℕ) (list : List Contents) : Type 0 where

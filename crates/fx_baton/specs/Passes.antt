@@ -1,25 +1,12 @@
 -- A pass of the table guarded by one word, as the contract of all shared tables shows it.
-use Rattle.std.specs.Prelude.{◌≡◌, ℕ, ◌-◌, ◌≤◌, Bool, true, false, List, [], ◌∷◌, Some, None}
+use Rattle.fx_baton.specs.Words.{◌≡◌, ℕ, ◌-◌, ◌≤◌, Bool, true, false, List, [], ◌∷◌, Some, None}
+use Rattle.fx_baton.specs.Words.{Seat, Contents, IsTable, state_of, IsSeenBy, Event, chains_of_pass}
+use Rattle.fx_baton.specs.Words.{numbers_for, PassView, IsFront, state_at, Adds, activity_of, Task}
+use Rattle.fx_baton.specs.Words.{Idle, Holding, Retiring, Log, View, Start, Call, BatonPass}
+use Rattle.fx_baton.specs.Words.{front_in}
 use Rattle.atomic_table.specs.Seated.{TableId}
-use Rattle.atomic_table.specs.declared.shared.Seat.{Seat}
-use Rattle.fx_plain.specs.Contents.{Contents, IsTable, state_of}
-use Rattle.fx_plain.specs.History.{IsSeenBy}
-use Rattle.fx_plain.specs.declared.event.Event.{Event}
-use Rattle.fx_table.specs.Numbers.{chains_of_pass, numbers_for}
-use Rattle.fx_table.specs.Pass.{PassView, IsFront}
-use Rattle.fx_table.specs.Opening.{state_at}
 use Rattle.fx_table.specs.Turns.{HasDrawnInTurn}
-use Rattle.fx_table.specs.Calls.{Adds}
-use Rattle.fx_table.specs.Tasks.{activity_of}
-use Rattle.fx_table.specs.declared.values.Task.{Task}
-use Rattle.fx_table.specs.declared.values.Task.TheVariants.{Idle, Holding, Retiring}
-use Rattle.fx_baton.specs.declared.view.Log.{Log}
-use Rattle.fx_baton.specs.declared.view.View.{View}
-use Rattle.fx_baton.specs.declared.view.Start.{Start}
-use Rattle.fx_baton.specs.declared.view.Call.{Call}
 use Rattle.fx_baton.specs.declared.view.Call.TheVariants.{Put as PutCall, Allocate as AllocateCall}
-use Rattle.fx_baton.specs.declared.pass.BatonPass.{BatonPass}
-use Rattle.table_seats.specs.Seats.{front_in}
 use Rattle.fx_baton.specs.Rule.{opening_of, seats, Knows, IsTurn}
 use Rattle.fx_baton.specs.Turns.{actions_of, doing_of, events_of, use_of, table_of_seats}
 

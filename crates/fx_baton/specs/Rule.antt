@@ -1,25 +1,17 @@
 -- The rule of the table guarded by one word.
-use Rattle.std.specs.Prelude.{◌≡◌, ◌≢◌, ℕ, ◌+◌, ◌<◌, ◌≤◌, ◌==◌, ◌⊎◌, true, if◌then◌else◌}
-use Rattle.std.specs.Prelude.{List, [], ◌∷◌, map, Option, Some, None, Contains, sum_by}
+use Rattle.fx_baton.specs.Words.{◌≡◌, ◌≢◌, ℕ, ◌+◌, ◌<◌, ◌≤◌, ◌==◌, ◌⊎◌, true, if◌then◌else◌, List}
+use Rattle.fx_baton.specs.Words.{[], ◌∷◌, map, Option, Some, None, Contains, sum_by, Me, Step}
+use Rattle.fx_baton.specs.Words.{Contents, state_of, leaving, IsTable, IsLegal, IsSeenBy}
+use Rattle.fx_baton.specs.Words.{part_of_pass, held_by, ◌▷▷◌, File, Event, FIRST_CHAIN_NUMBER}
+use Rattle.fx_baton.specs.Words.{MAX_PASSES, numbers_for, number_following, pass_of_number, Opening}
+use Rattle.fx_baton.specs.Words.{opening_with, start_of, state_at, Task, Idle, Holding, Retiring}
+use Rattle.fx_baton.specs.Words.{Seats, Log, View, Start}
+use Rattle.atomic_table.specs.Table.{State as TableState}
+use Rattle.fx_plain.specs.State.{State}
+use Rattle.fx_table.specs.Files.{HasFile}
+use Rattle.table_seats.specs.Together.{Together}
 use mathlib.Core.Option.{some, none}
 use lib.ListN.{get_elem?}
-use Rattle.atomic_table.specs.Table.{State as TableState, Me, Step}
-use Rattle.fx_plain.specs.State.{State}
-use Rattle.fx_plain.specs.Contents.{Contents, state_of, leaving, IsTable}
-use Rattle.fx_plain.specs.History.{IsLegal, IsSeenBy, part_of_pass, held_by, ◌▷▷◌}
-use Rattle.fx_plain.specs.declared.event.File.{File}
-use Rattle.fx_plain.specs.declared.event.Event.{Event}
-use Rattle.fx_table.specs.declared.limits.TheConstants.{FIRST_CHAIN_NUMBER, MAX_PASSES}
-use Rattle.fx_table.specs.Numbers.{numbers_for, number_following, pass_of_number}
-use Rattle.fx_table.specs.Files.{HasFile}
-use Rattle.fx_table.specs.Opening.{Opening, opening_with, start_of, state_at}
-use Rattle.fx_table.specs.declared.values.Task.{Task}
-use Rattle.fx_table.specs.declared.values.Task.TheVariants.{Idle, Holding, Retiring}
-use Rattle.table_seats.specs.Seats.{Seats}
-use Rattle.table_seats.specs.Together.{Together}
-use Rattle.fx_baton.specs.declared.view.Log.{Log}
-use Rattle.fx_baton.specs.declared.view.View.{View}
-use Rattle.fx_baton.specs.declared.view.Start.{Start}
 
 abbrev pub Shared : Type 0
 Shared = TableState Contents View

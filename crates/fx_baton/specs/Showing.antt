@@ -1,10 +1,7 @@
 -- Shown histories, and views that learn from them.
-use Rattle.std.specs.Prelude.{◌≡◌, List, [], ◌∷◌}
+use Rattle.fx_baton.specs.Words.{◌≡◌, List, [], ◌∷◌, IsLegal, IsSeenBy, part_of_pass, Event, Log}
+use Rattle.fx_baton.specs.Words.{View}
 use Rattle.fx_plain.specs.State.{State}
-use Rattle.fx_plain.specs.History.{IsLegal, IsSeenBy, part_of_pass}
-use Rattle.fx_plain.specs.declared.event.Event.{Event}
-use Rattle.fx_baton.specs.declared.view.Log.{Log}
-use Rattle.fx_baton.specs.declared.view.View.{View}
 use Rattle.fx_baton.specs.declared.shown.BatonSeen.{BatonSeen}
 use Rattle.fx_baton.specs.declared.table.BatonTable.{BatonTable}
 use Rattle.fx_baton.specs.Rule.{begin_of}

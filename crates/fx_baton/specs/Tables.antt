@@ -1,7 +1,6 @@
 -- A shared table as its callers see it.
-use Rattle.fx_table.specs.Opening.{Opening}
+use Rattle.fx_baton.specs.Words.{Opening, BatonPass}
 use Rattle.fx_baton.specs.declared.table.BatonTable.{BatonTable}
-use Rattle.fx_baton.specs.declared.pass.BatonPass.{BatonPass}
 use Rattle.fx_baton.specs.Rule.{opening_of}
 use Rattle.fx_baton.specs.Passes.{IsPassOf}
 

@@ -1,18 +1,11 @@
 -- The events that one turn at the table adds.
-use Rattle.std.specs.Prelude.{ℕ, List, [], ◌∷◌, map, Option, Some, None}
-use Rattle.fx_plain.specs.Contents.{Contents, state_of}
-use Rattle.fx_plain.specs.History.{close_of, ◌▷◌, ◌▷▷◌}
-use Rattle.fx_plain.specs.Table.{numbered, closed_by_release, closed_by_retirement}
-use Rattle.fx_plain.specs.declared.event.File.{File}
-use Rattle.fx_plain.specs.declared.event.Event.{Event}
+use Rattle.fx_baton.specs.Words.{ℕ, List, [], ◌∷◌, map, Option, Some, None, Contents, state_of}
+use Rattle.fx_baton.specs.Words.{close_of, ◌▷◌, ◌▷▷◌, numbered, closed_by_release}
+use Rattle.fx_baton.specs.Words.{closed_by_retirement, File, Event, Use, no_use, one_look}
+use Rattle.fx_baton.specs.Words.{one_number, retiring, Task, Idle, Holding, Retiring, Call}
 use Rattle.fx_plain.specs.declared.event.Action.{Action}
 use Rattle.fx_plain.specs.declared.event.Action.TheVariants.{Look, Release, Put, Clear, Take}
 use Rattle.fx_plain.specs.declared.event.Action.TheVariants.{Allocate, Full}
-use Rattle.fx_table.specs.Calls.{Use, no_use, one_look, one_number}
-use Rattle.fx_table.specs.Tasks.{retiring}
-use Rattle.fx_table.specs.declared.values.Task.{Task}
-use Rattle.fx_table.specs.declared.values.Task.TheVariants.{Idle, Holding, Retiring}
-use Rattle.fx_baton.specs.declared.view.Call.{Call}
 use Rattle.fx_baton.specs.declared.view.Call.TheVariants.{Look as LookCall, Release as ReleaseCall}
 use Rattle.fx_baton.specs.declared.view.Call.TheVariants.{Put as PutCall, Allocate as AllocateCall}
 use Rattle.fx_baton.specs.declared.view.Call.TheVariants.{Full as FullCall, Clear as ClearCall}

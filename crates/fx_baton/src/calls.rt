@@ -1,13 +1,9 @@
 //! The implementation of `FileTable` for the table guarded by one word.
-ghost use Rattle.std.specs.Prelude.{◌≡◌, ℕ, ◌≤◌, Option, length, map, option_map, All, refl};
-ghost use mathlib.Core.Path.{subst};
-ghost use Rattle.fx_plain.specs.declared.table.TheConstants.{MOST_SLOTS};
-ghost use Rattle.fx_plain.specs.declared.event.File.{File};
-ghost use Rattle.fx_plain.specs.Table.{number_of};
-ghost use Rattle.fx_table.specs.Pass.{IsIdle, retired_of};
-ghost use Rattle.fx_table.specs.Closing.{ClosesTable};
+ghost use Rattle.fx_baton.specs.Words.{◌≡◌, ℕ, ◌≤◌, Option, length, map, option_map, All, refl, MOST_SLOTS, File, number_of, IsIdle, retired_of};
+ghost use Rattle.fx_baton.specs.Words.{ClosesTable};
 ghost use Rattle.fx_baton.specs.Passes.{next_of, view_of};
 ghost use Rattle.fx_baton.specs.Tables.{opening_of_table, IsPassOfTable};
+ghost use mathlib.Core.Path.{subst};
 
 use crate::kinds::Observe;
 use crate::pass::BatonPass;

@@ -10,7 +10,7 @@ use table_seats::SeatView;
 pub struct OneHistory;
 
 impl TableRule<PlainTable, View, Start> for OneHistory {
-    ghost use Rattle.table_seats.specs.Seats.{first_view};
+    ghost use Rattle.fx_baton.specs.Words.{first_view};
     ghost use Rattle.fx_baton.specs.Rule.{IsKept, seats};
 
     ghost holds = { IsKept };
@@ -29,9 +29,7 @@ impl Play<PlainTable, View> for Grab {
 
 /// The events of a pass while it had the table, for contracts alone.
 pub trait Turn {
-    ghost use Rattle.std.specs.Prelude.{List};
-    ghost use Rattle.fx_plain.specs.declared.event.Event.{Event};
-    ghost use Rattle.fx_table.specs.declared.values.Task.{Task};
+    ghost use Rattle.fx_baton.specs.Words.{List, Event, Task};
 
     // The events, the newest first.
     ghost events: { List Event };
@@ -41,8 +39,7 @@ pub trait Turn {
 }
 
 impl Turn for Brand {
-    ghost use Rattle.std.specs.Prelude.{[]};
-    ghost use Rattle.fx_table.specs.declared.values.Task.TheVariants.{Idle};
+    ghost use Rattle.fx_baton.specs.Words.{[], Idle};
 
     ghost events = { [] };
 

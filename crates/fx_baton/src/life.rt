@@ -1,15 +1,9 @@
 //! Opening and closing a table.
-ghost use Rattle.std.specs.Prelude.{◌≡◌, ◌≤◌, ◌∷◌, ◌++◌, [], length, map, reverse, All, IfOk};
-ghost use Rattle.std.specs.Prelude.{IfErr, vec_capacity};
-ghost use Rattle.fx_plain.specs.State.{IsSettled};
-ghost use Rattle.fx_plain.specs.Contents.{Contents, state_of};
-ghost use Rattle.fx_table.specs.Opening.{IsGivenBack, opening_with};
-ghost use Rattle.fx_table.specs.Pass.{IsIdle, new_passes};
-ghost use Rattle.fx_table.specs.Closing.{ClosesTable};
+ghost use Rattle.fx_baton.specs.Words.{◌≡◌, ◌≤◌, ◌∷◌, ◌++◌, [], length, map, reverse, All, IfOk, IfErr, vec_capacity, IsSettled, Contents, state_of};
+ghost use Rattle.fx_baton.specs.Words.{IsGivenBack, opening_with, IsIdle, new_passes, ClosesTable};
 ghost use Rattle.fx_baton.specs.Passes.{view_of};
 ghost use Rattle.fx_baton.specs.Tables.{opening_of_table, IsPassOfTable};
-ghost use Rattle.fx_baton.specs.Lives.{HasPrepared, HasAllPasses, IsIdleSeatOf, logs_in, AllIsHome};
-ghost use Rattle.fx_baton.specs.Lives.{Leaves};
+ghost use Rattle.fx_baton.specs.Lives.{HasPrepared, HasAllPasses, IsIdleSeatOf, logs_in, AllIsHome, Leaves};
 
 use crate::pass::BatonPass;
 use crate::table::BatonTable;

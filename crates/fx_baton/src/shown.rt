@@ -1,9 +1,5 @@
 //! The order between the calls of two threads: a pass shows what it has seen, and another pass
 //! learns it. Neither call makes an atomic step.
-ghost use Rattle.std.specs.Prelude.{◌≡◌};
-ghost use Rattle.fx_table.specs.Showing.{Learns};
-ghost use Rattle.fx_baton.specs.Passes.{view_of};
-ghost use Rattle.fx_baton.specs.Tables.{opening_of_table, IsPassOfTable};
 ghost use Rattle.fx_baton.specs.Showing.{shown_of, IsSeenOf};
 
 use crate::pass::BatonPass;

@@ -1,13 +1,8 @@
 //! The table guarded by one word: taking it, and putting it back.
-ghost use Rattle.std.specs.Prelude.{◌≡◌, ◌≤◌, ◌∷◌, []};
-ghost use Rattle.fx_plain.specs.declared.table.TheConstants.{MOST_SLOTS};
-ghost use Rattle.fx_table.specs.declared.limits.TheConstants.{MAX_CHAINS, MAX_PASSES};
-ghost use Rattle.fx_table.specs.Opening.{size_of, range_of};
-ghost use Rattle.fx_baton.specs.declared.view.Log.{Log};
+ghost use Rattle.fx_baton.specs.Words.{◌≡◌, ◌≤◌, ◌∷◌, [], MOST_SLOTS, MAX_CHAINS, MAX_PASSES, size_of, range_of, Log};
 ghost use Rattle.fx_baton.specs.Rule.{Takes, opening_of, view_after};
 ghost use Rattle.fx_baton.specs.Turns.{table_of_seats, use_of};
-ghost use Rattle.fx_baton.specs.Passes.{view_of, pass_after, IsPassOf, HasTable, HasPlayed};
-ghost use Rattle.fx_baton.specs.Passes.{HasCalled, HasGivenBack};
+ghost use Rattle.fx_baton.specs.Passes.{view_of, pass_after, IsPassOf, HasTable, HasPlayed, HasCalled, HasGivenBack};
 
 use crate::kinds::{Give, Grab, OneHistory, Turn};
 use crate::pass::BatonPass;
