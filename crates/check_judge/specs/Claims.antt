@@ -1,9 +1,9 @@
 -- Claims: what completions imply for the accesses that were made, one claim for each access, and
 -- the claims of all chains of a submission.
-use Rattle.check_judge.specs.Words.{◌≡◌, ℕ, ◌+◌, ◌<◌, ◌≤◌, pos, int_lt, true, List, [], ◌++◌}
-use Rattle.check_judge.specs.Words.{length, slice_get, slice_index_or, Option, Some, None, Result}
-use Rattle.check_judge.specs.Words.{Ok, Err, Bool, Vec, AllZip, AllByRecursion, Identity, Closed}
-use Rattle.check_judge.specs.Words.{Completed, completed, completed_of, answer_at_table, intents_of}
+use Rattle.std.specs.Prelude.{◌≡◌, ◌+◌, ◌<◌, ◌≤◌, ◌++◌, ℕ, pos, int_lt, true, List, [], length}
+use Rattle.std.specs.Prelude.{slice_get, slice_index_or, Option, Some, None, Result, Ok, Err, Bool}
+use Rattle.check_judge.specs.Words.{Vec, AllZip, AllByRecursion, Identity, Closed, Completed}
+use Rattle.check_judge.specs.Words.{completed, completed_of, answer_at_table, intents_of}
 use Rattle.check_judge.specs.Words.{operation_of, Asked, Place, IsOf, file_removed_by}
 use Rattle.check_judge.specs.Words.{accesses_of_chain, finding_of, last_finding, accesses_of}
 use Rattle.check_judge.specs.Words.{Access, ChainAccess, IsResident, Same, Empty, File, Claim}

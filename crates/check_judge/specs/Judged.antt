@@ -1,5 +1,5 @@
 -- Judgements on a script and a text.
-use Rattle.check_judge.specs.Words.{◌≡◌, ◌≤◌, ◌<◌, ◌+◌, ℕ, List, [], ◌∷◌, ◌++◌, length, take, drop}
+use Rattle.std.specs.Prelude.{◌≡◌, ◌≤◌, ◌<◌, ◌+◌, ◌∷◌, ◌++◌, ℕ, List, [], length, take, drop}
 use Rattle.check_judge.specs.Words.{RingContents, RingState, new_ring, ring_of, Instruction, IsText}
 use Rattle.check_judge.specs.Words.{Prints, PrintsAll, Meaning, HasNoCloses, Order}
 use Rattle.check_judge.specs.Ordered.{IsTextBy, MayPrintAllBy}

@@ -1,7 +1,8 @@
 -- The properties of a ring that are kept while a text is judged.
-use Rattle.check_judge.specs.Words.{◌<◌, ◌≤◌, List, length, FileEntry, Identity, AreInRange}
-use Rattle.check_judge.specs.Words.{MOST_SLOTS, RingSlots, HasCounted, IsRing, RingState}
-use Rattle.check_judge.specs.Words.{MOST_REGISTRATIONS, MOST_SUBMISSIONS, AreFiles, ring_with_slots}
+use Rattle.std.specs.Prelude.{◌<◌, ◌≤◌}
+use Rattle.check_judge.specs.Words.{List, length, FileEntry, Identity, AreInRange, MOST_SLOTS}
+use Rattle.check_judge.specs.Words.{RingSlots, HasCounted, IsRing, RingState, MOST_REGISTRATIONS}
+use Rattle.check_judge.specs.Words.{MOST_SUBMISSIONS, AreFiles, ring_with_slots}
 
 -- a ring's counts and its table are within their limits, it is what every ring is, and its
 -- catalogue is that of a script

@@ -1,8 +1,8 @@
 -- A play of a script in which each accepted submission comes of an order that is given.
-use Rattle.check_judge.specs.Words.{◌≡◌, ℕ, List, [], ◌∷◌, ◌++◌, Option, Some, None, Asked, runs_of}
-use Rattle.check_judge.specs.Words.{IsOrderOf, ring_left, RingContents, RingState, ring_of}
-use Rattle.check_judge.specs.Words.{IsOneHistory, Reported, Instruction, SubmitsAll, IsNewRing}
-use Rattle.check_judge.specs.Words.{Prints, PrintsEnd, Meaning, Order}
+use Rattle.std.specs.Prelude.{◌≡◌, ◌∷◌, ◌++◌, ℕ, List, [], Option, Some, None}
+use Rattle.check_judge.specs.Words.{Asked, runs_of, IsOrderOf, ring_left, RingContents, RingState}
+use Rattle.check_judge.specs.Words.{ring_of, IsOneHistory, Reported, Instruction, SubmitsAll}
+use Rattle.check_judge.specs.Words.{IsNewRing, Prints, PrintsEnd, Meaning, Order}
 use Rattle.std.specs.Option.{option_to_list}
 use Rattle.fx_script.specs.Text.{report_text}
 use Rattle.check_judge.specs.Places.{AreAccessPlaces}

@@ -1,9 +1,10 @@
 -- The places of an order's accesses: the member of a chain that makes each access, chain by chain.
-use Rattle.check_judge.specs.Words.{◌≡◌, ℕ, ◌+◌, ◌==◌, List, [], ◌∷◌, ◌++◌, map, filter, length}
-use Rattle.check_judge.specs.Words.{take, Option, All, MatchBool, FileEntry, Completed, next_member}
-use Rattle.check_judge.specs.Words.{canceled, first_member, severs, Asked, Operation, Place}
-use Rattle.check_judge.specs.Words.{accesses_of_chain, positions_of, IsRequestDone, Access}
-use Rattle.check_judge.specs.Words.{ChainAccess, AccessPlace, Vec}
+use Rattle.std.specs.Prelude.{◌≡◌, ◌+◌, ◌==◌, ◌∷◌, ◌++◌}
+use Rattle.check_judge.specs.Words.{ℕ, List, [], map, filter, length, take, Option, All, MatchBool}
+use Rattle.check_judge.specs.Words.{FileEntry, Completed, next_member, canceled, first_member}
+use Rattle.check_judge.specs.Words.{severs, Asked, Operation, Place, accesses_of_chain}
+use Rattle.check_judge.specs.Words.{positions_of, IsRequestDone, Access, ChainAccess, AccessPlace}
+use Rattle.check_judge.specs.Words.{Vec}
 
 -- the place of an access: that of its request, and its position in the list of an update
 abbrev pub place_at : Place → Option ℕ → AccessPlace

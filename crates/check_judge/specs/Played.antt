@@ -1,8 +1,8 @@
 -- Orders of a table's accesses that fit the claims of chains and the closes, the files that are in
 -- the table at some time, and the claims of chains at some slots alone.
-use Rattle.check_judge.specs.Words.{◌≡◌, ℕ, ◌<◌, ◌≤◌, List, length, Option, Some, None, Contains}
-use Rattle.check_judge.specs.Words.{All, IsTrue, ◌⊎◌, Any, ◌==◌, [], ◌∷◌, filter, slice_get}
-use Rattle.check_judge.specs.Words.{if◌then◌else◌, Vec, Identity, Closed, Table, IsInRange}
+use Rattle.std.specs.Prelude.{◌≡◌, ◌<◌, ◌≤◌, ◌⊎◌, ◌==◌, ◌∷◌, if◌then◌else◌}
+use Rattle.check_judge.specs.Words.{ℕ, List, length, Option, Some, None, Contains, All, IsTrue, Any}
+use Rattle.check_judge.specs.Words.{[], filter, slice_get, Vec, Identity, Closed, Table, IsInRange}
 use Rattle.check_judge.specs.Words.{PermitsAll, table_after, files_removed_in, accesses_of}
 use Rattle.check_judge.specs.Words.{accesses_of_chain, table_of_slots, ChainAccess, Claim}
 use Rattle.check_judge.specs.Words.{IsResident, Same, Empty, File, AllZip, Access, has_slot}

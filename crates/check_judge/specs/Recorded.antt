@@ -1,8 +1,9 @@
 -- Reports that lines describe.
-use Rattle.check_judge.specs.Words.{◌≡◌, ◌⊎◌, ◌<◌, ℕ, pos, List, ◌∷◌, length, All, Result, Ok, Err}
-use Rattle.check_judge.specs.Words.{slice_get, Some, FileEntry, IsCatalogue, IsInOrderOfMark}
-use Rattle.check_judge.specs.Words.{Closed, Completed, all_completed, Asked, InstallsAt}
-use Rattle.check_judge.specs.Words.{table_of_slots, lines_of, Reported}
+use Rattle.std.specs.Prelude.{◌≡◌, ◌⊎◌, ◌<◌, ◌∷◌}
+use Rattle.check_judge.specs.Words.{ℕ, pos, List, length, All, Result, Ok, Err, slice_get, Some}
+use Rattle.check_judge.specs.Words.{FileEntry, IsCatalogue, IsInOrderOfMark, Closed, Completed}
+use Rattle.check_judge.specs.Words.{all_completed, Asked, InstallsAt, table_of_slots, lines_of}
+use Rattle.check_judge.specs.Words.{Reported}
 use Rattle.fx_base.specs.declared.mark.Mark.{Mark}
 use Rattle.fx_base.specs.declared.mark.Mark.TheVariants.{Submitted}
 use Rattle.fx_order.specs.declared.slots.Slots.{Slots}

@@ -1,8 +1,8 @@
 -- Steps of a play: a text that begins with a text of the next command, the ring after it, and the
 -- verdict on that command.
-use Rattle.check_judge.specs.Words.{◌≡◌, ℕ, ◌≤◌, List, ◌++◌, length, take, drop, FileEntry}
-use Rattle.check_judge.specs.Words.{RingContents, RingState, ring_of, Instruction, Prints}
-use Rattle.check_judge.specs.Words.{HasNoCloses, RingSlots, ring_with_slots}
+use Rattle.std.specs.Prelude.{◌≡◌, ◌≤◌, ◌++◌, ℕ, List, length, take, drop}
+use Rattle.check_judge.specs.Words.{FileEntry, RingContents, RingState, ring_of, Instruction}
+use Rattle.check_judge.specs.Words.{Prints, HasNoCloses, RingSlots, ring_with_slots}
 use Rattle.check_judge.specs.declared.command.Met.{Met}
 use Rattle.check_judge.specs.declared.command.Met.TheVariants.{Here, Apart}
 use Rattle.check_judge.specs.Ordered.{MayPrintBy}

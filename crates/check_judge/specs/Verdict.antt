@@ -1,6 +1,7 @@
 -- Verdicts on the report of a submission.
-use Rattle.check_judge.specs.Words.{◌≡◌, ℕ, ◌+◌, List, all_completed, Asked, RingState, Reported}
-use Rattle.check_judge.specs.Words.{IsOneOrder, ChainAccess}
+use Rattle.std.specs.Prelude.{◌≡◌, ◌+◌}
+use Rattle.check_judge.specs.Words.{ℕ, List, all_completed, Asked, RingState, Reported, IsOneOrder}
+use Rattle.check_judge.specs.Words.{ChainAccess}
 use Rattle.check_judge.specs.declared.part.PartVerdict.{PartVerdict}
 use Rattle.check_judge.specs.Played.{IfRefuted}
 use Rattle.check_judge.specs.declared.recorded.Recorded.{Recorded}

@@ -1,5 +1,6 @@
 //! A request and its completion, of which claims are derived, and a table with its claims.
-ghost use Rattle.check_judge.specs.Words.{◌≡◌, ◌+◌, ◌<◌, ◌^◌, None, length, IsWithinLimits, asked_of, operation_of};
+ghost use Rattle.std.specs.Prelude.{◌≡◌, ◌+◌, ◌<◌, ◌^◌};
+ghost use Rattle.check_judge.specs.Words.{None, length, IsWithinLimits, asked_of, operation_of};
 ghost use Rattle.fx_chain.specs.Refusal.{refusal_of};
 
 use check_search::Claim;

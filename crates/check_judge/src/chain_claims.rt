@@ -1,6 +1,6 @@
 //! The claims of chains, member by member.
-ghost use Rattle.check_judge.specs.Words.{◌≡◌, ◌<◌, ◌+◌, ◌^◌, All, List, OnOk, length, map, IsChain, IsWithinLimits, members_of, all_completed};
-ghost use Rattle.check_judge.specs.Words.{all_asked, asked_of, ChainAccess};
+ghost use Rattle.std.specs.Prelude.{◌≡◌, ◌<◌, ◌+◌, ◌^◌, All, List, OnOk, length, map};
+ghost use Rattle.check_judge.specs.Words.{IsChain, IsWithinLimits, members_of, all_completed, all_asked, asked_of, ChainAccess};
 ghost use Rattle.check_judge.specs.Claims.{Appends, AreClaims, Concludes, AreDone, AreMembersDone};
 
 use crate::answered::ClaimSetting;

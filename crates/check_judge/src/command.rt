@@ -1,5 +1,6 @@
 //! Plays a command against a text.
-ghost use Rattle.check_judge.specs.Words.{◌≡◌, ℕ, List, string_bytes, IfOk, OnOk, FileEntry, Instruction, instruction_of, RingSlots, ENOMEM, negated};
+ghost use Rattle.std.specs.Prelude.{◌≡◌};
+ghost use Rattle.check_judge.specs.Words.{ℕ, List, string_bytes, IfOk, OnOk, FileEntry, Instruction, instruction_of, RingSlots, ENOMEM, negated};
 ghost use Rattle.check_judge.specs.Step.{IsCommandVerdict, IsStep, IsMet};
 ghost use Rattle.check_judge.specs.Kept.{IsRingKept};
 ghost use Rattle.check_lines.specs.Calls.{IsCall};

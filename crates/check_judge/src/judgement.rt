@@ -44,7 +44,7 @@ pub enum Stop {
 }
 
 impl From<fx_base::NoMemory> for Stop {
-    ghost use Rattle.check_judge.specs.Words.{◌≡◌};
+    ghost use Rattle.std.specs.Prelude.{◌≡◌};
     ghost use Rattle.check_judge.specs.declared.judgement.Stop.TheVariants.{NoMemory};
 
     ghost from_gives = { λ _ e. e ≡ NoMemory };
@@ -55,7 +55,7 @@ impl From<fx_base::NoMemory> for Stop {
 }
 
 impl<T: Drop> From<AllocFailed<T>> for Stop {
-    ghost use Rattle.check_judge.specs.Words.{◌≡◌};
+    ghost use Rattle.std.specs.Prelude.{◌≡◌};
     ghost use Rattle.check_judge.specs.declared.judgement.Stop.TheVariants.{NoMemory};
 
     ghost from_gives = { λ _ e. e ≡ NoMemory };

@@ -1,6 +1,6 @@
 //! The verdict on what was reported of a submission.
-ghost use Rattle.check_judge.specs.Words.{◌≡◌, ◌+◌, ◌<◌, ◌≤◌, ◌^◌, IfOk, IsTrue, OnErr, length, false, MOST_SLOTS, IsAccepted, all_asked, IsRing};
-ghost use Rattle.check_judge.specs.Words.{ring_with_slots};
+ghost use Rattle.std.specs.Prelude.{◌≡◌, ◌+◌, ◌<◌, ◌≤◌, ◌^◌};
+ghost use Rattle.check_judge.specs.Words.{IfOk, IsTrue, OnErr, length, false, MOST_SLOTS, IsAccepted, all_asked, IsRing, ring_with_slots};
 ghost use Rattle.check_judge.specs.Verdict.{CameBy, IsRecordedOutcome, IsVerdict};
 
 use crate::answered::{ClaimSetting, TableRecorded};

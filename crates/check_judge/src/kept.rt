@@ -1,6 +1,6 @@
 //! Checks whether slots and counts, read from anywhere, are those of a ring.
-ghost use Rattle.check_judge.specs.Words.{◌≡◌, ◌<◌, ◌≤◌, ◌↔◌, ℕ, IsTrue, List, None, Some, length, slice_index_or, FileEntry, Closed as File};
-ghost use Rattle.check_judge.specs.Words.{IsFileInRange, AreFiles, IsMarkInRange, ring_with_slots, HasCounted};
+ghost use Rattle.std.specs.Prelude.{◌≡◌, ◌<◌, ◌≤◌, ◌↔◌, ℕ, IsTrue, List, None, Some, length, slice_index_or};
+ghost use Rattle.check_judge.specs.Words.{FileEntry, Closed as File, IsFileInRange, AreFiles, IsMarkInRange, ring_with_slots, HasCounted};
 ghost use Rattle.check_judge.specs.Kept.{IsRingKept, IsOfRing};
 
 use fx_base::{Catalogue, Closed, Mark};

@@ -1,5 +1,6 @@
 //! Judges the closes and claims of a table, slot by slot and by slots that chains have in common.
-ghost use Rattle.check_judge.specs.Words.{◌<◌, IfOk, length, table_of_slots};
+ghost use Rattle.std.specs.Prelude.{◌<◌};
+ghost use Rattle.check_judge.specs.Words.{IfOk, length, table_of_slots};
 ghost use Rattle.check_judge.specs.Played.{AreCellsOf, IsCell, IsTableVerdict};
 
 use crate::answered::TableRecorded;

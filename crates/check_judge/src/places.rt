@@ -1,7 +1,7 @@
 //! The places of the requests that make the accesses of an order.
-ghost use Rattle.check_judge.specs.Words.{◌≡◌, ◌≤◌, ◌<◌, ◌+◌, ◌++◌, ◌^◌, ℕ, All, IfOk, OnOk, List, length, map, slice_get, Some, Vec as Items};
-ghost use Rattle.check_judge.specs.Words.{IsChain, members_of, all_completed, completed_of, all_asked, operation_of, AreChainsDone, IsChainDone};
-ghost use Rattle.check_judge.specs.Words.{IsRequestDone, Access, ChainAccess as Made, AccessPlace as Listed};
+ghost use Rattle.std.specs.Prelude.{◌≡◌, ◌≤◌, ◌<◌, ◌+◌, ◌++◌, ◌^◌, ℕ, All, IfOk, OnOk, List, length, map, slice_get, Some};
+ghost use Rattle.check_judge.specs.Words.{Vec as Items, IsChain, members_of, all_completed, completed_of, all_asked, operation_of, AreChainsDone};
+ghost use Rattle.check_judge.specs.Words.{IsChainDone, IsRequestDone, Access, ChainAccess as Made, AccessPlace as Listed};
 ghost use Rattle.check_judge.specs.Places.{AreListsOf, IsListFor, AreAccessPlaces, IsChainListed, own_places, places_of_chain};
 
 use fx_base::NoMemory;

@@ -1,6 +1,6 @@
 //! The judge: plays the commands of a script against a text, one after another.
-ghost use Rattle.check_judge.specs.Words.{◌≡◌, ◌≤◌, IfNone, IfOk, IfSome, List, OnOk, drop, length, FileEntry, new_ring, instruction_of};
-ghost use Rattle.check_judge.specs.Words.{instructions_of, PrintsEnd, AreFiles, ring_with_slots};
+ghost use Rattle.std.specs.Prelude.{◌≡◌, ◌≤◌, IfNone, IfOk, IfSome, List, OnOk, drop, length};
+ghost use Rattle.check_judge.specs.Words.{FileEntry, new_ring, instruction_of, instructions_of, PrintsEnd, AreFiles, ring_with_slots};
 ghost use Rattle.check_judge.specs.Step.{IsCommandVerdict};
 ghost use Rattle.check_judge.specs.Judged.{IsJudged, IsJudgedFrom};
 ghost use Rattle.check_judge.specs.Kept.{IsRingKept};

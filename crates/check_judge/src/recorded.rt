@@ -1,5 +1,6 @@
 //! The report that lines describe, and the closed files that they name.
-ghost use Rattle.check_judge.specs.Words.{◌≡◌, ◌==◌, ℕ, All, IfNone, IfOk, IfSome, List, Some, filter, map, not, false, name_at, IsInOrderOfMark};
+ghost use Rattle.std.specs.Prelude.{◌≡◌, ◌==◌};
+ghost use Rattle.check_judge.specs.Words.{ℕ, All, IfNone, IfOk, IfSome, List, Some, filter, map, not, false, name_at, IsInOrderOfMark};
 ghost use Rattle.check_judge.specs.Words.{Closed as File, named_close, named_closes, all_completed, completed_of, all_asked, asked_of};
 ghost use Rattle.check_lines.specs.ClosedView.{named_close_of};
 ghost use Rattle.check_judge.specs.Recorded.{AreApart, HasDistinctMarks, HasNone, IsFileAtSlot, MayBeClosed, Yields, AreFrom, Installed};

@@ -1,6 +1,6 @@
 //! Refutes a table's claims without a search: a closed file was never in the table, the counts of a
 //! slot's files differ, or a request waits for a file that is never installed.
-ghost use Rattle.check_judge.specs.Words.{◌↔◌, Any, Contains, IfOk, IsTrue};
+ghost use Rattle.std.specs.Prelude.{◌↔◌, Any, Contains, IfOk, IsTrue};
 ghost use Rattle.check_judge.specs.Played.{Brings, IsBrought, IsKnown, AreCellsOf, IsOrderless, IsTableVerdict};
 ghost use Rattle.check_search.specs.Machine.{HasNoEnd};
 ghost use Rattle.check_search.specs.Starts.{starting};

@@ -1,7 +1,7 @@
 //! The claims of one request, from its completion: one for each access that it intends.
-ghost use Rattle.check_judge.specs.Words.{◌≡◌, ◌<◌, ◌≤◌, ◌+◌, ◌↔◌, IfOk, IfSome, IsTrue, None, Some, slice_index_or, true, ℕ, ENOMEM};
-ghost use Rattle.check_judge.specs.Words.{Closed as FileAt, IsWithinLimits, completed_of, refusal, IsOpened, bytes_asked, asked_of, operation_of};
-ghost use Rattle.check_judge.specs.Words.{IsRequestDone, Access as OneAccess, Claim as OneClaim};
+ghost use Rattle.std.specs.Prelude.{◌≡◌, ◌<◌, ◌≤◌, ◌+◌, ◌↔◌, IfOk, IfSome, IsTrue, None, Some, slice_index_or, true, ℕ};
+ghost use Rattle.check_judge.specs.Words.{ENOMEM, Closed as FileAt, IsWithinLimits, completed_of, refusal, IsOpened, bytes_asked, asked_of};
+ghost use Rattle.check_judge.specs.Words.{operation_of, IsRequestDone, Access as OneAccess, Claim as OneClaim};
 ghost use Rattle.fx_chain.specs.declared.intent.Finding.TheVariants.{At as FoundAt};
 ghost use Rattle.check_judge.specs.Claims.{Appends, Concludes, Fits, IsAnsweredBy, IsDecided, IsMade, answer};
 

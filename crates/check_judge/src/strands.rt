@@ -1,6 +1,6 @@
 //! The claims of chains at some slots alone, and the accesses that an order of them makes.
-ghost use Rattle.check_judge.specs.Words.{◌≡◌, ◌<◌, ◌+◌, ◌^◌, IfOk, OnOk, List, length, filter, ◌==◌, ◌++◌, list_any, Closed as FileAt};
-ghost use Rattle.check_judge.specs.Words.{ChainAccess as OneAccess, keeps};
+ghost use Rattle.std.specs.Prelude.{◌≡◌, ◌<◌, ◌+◌, ◌^◌, ◌==◌, ◌++◌};
+ghost use Rattle.check_judge.specs.Words.{IfOk, OnOk, List, length, filter, list_any, Closed as FileAt, ChainAccess as OneAccess, keeps};
 ghost use Rattle.check_judge.specs.Claims.{AreClaims};
 ghost use Rattle.check_judge.specs.Played.{AreStrands, strand_for};
 

@@ -1,6 +1,6 @@
 //! Plays accepted submissions against a text.
-ghost use Rattle.check_judge.specs.Words.{◌≤◌, length, ◌≡◌, ◌<◌, All, IfOk, OnOk, IsAccepted, all_asked, MOST_SLOTS, all_completed, runs_of};
-ghost use Rattle.check_judge.specs.Words.{MOST_SUBMISSIONS, SubmitsAll, AreChainsDone};
+ghost use Rattle.std.specs.Prelude.{◌≤◌, ◌≡◌, ◌<◌, length, All, IfOk, OnOk};
+ghost use Rattle.check_judge.specs.Words.{IsAccepted, all_asked, MOST_SLOTS, all_completed, runs_of, MOST_SUBMISSIONS, SubmitsAll, AreChainsDone};
 ghost use Rattle.check_judge.specs.Step.{IsCommandVerdict};
 ghost use Rattle.check_judge.specs.Kept.{IsRingKept};
 ghost use Rattle.check_judge.specs.Places.{AreAccessPlaces};

@@ -1,15 +1,15 @@
 -- The calls between submissions, and refused submissions, where they find memory (this project's
 -- own).
-use Rattle.check_lines.specs.Words.{◌≡◌, ℕ, ◌+◌, pos, nat_le, false, List, [], codes, length}
-use Rattle.check_lines.specs.Words.{Option, Some, None, if◌then◌else◌, list_any, MatchOption}
-use Rattle.check_lines.specs.Words.{MOST_ENTRIES, Closed, is_bad_entry, negated, fault_of}
-use Rattle.check_lines.specs.Words.{range_refusal, register_refusal, registered, removed_from}
-use Rattle.check_lines.specs.Words.{registered_sparse, sparse_refusal, unregister_refusal}
-use Rattle.check_lines.specs.Words.{update_refusal, updated, RingState, files_of_ring}
-use Rattle.check_lines.specs.Words.{without_table, tags_given, MOST_SUBMISSIONS, Instruction}
-use Rattle.check_lines.specs.Words.{MakesSparse, RegistersList, Unregisters, SetsRange, UpdatesRing}
-use Rattle.check_lines.specs.Words.{SubmitsAll, refused_line, result_line, too_many_line}
-use Rattle.check_lines.specs.Words.{PrintsClosed}
+use Rattle.std.specs.Prelude.{◌≡◌, ◌+◌, if◌then◌else◌}
+use Rattle.check_lines.specs.Words.{ℕ, pos, nat_le, false, List, [], codes, length, Option, Some}
+use Rattle.check_lines.specs.Words.{None, list_any, MatchOption, MOST_ENTRIES, Closed, is_bad_entry}
+use Rattle.check_lines.specs.Words.{negated, fault_of, range_refusal, register_refusal, registered}
+use Rattle.check_lines.specs.Words.{removed_from, registered_sparse, sparse_refusal}
+use Rattle.check_lines.specs.Words.{unregister_refusal, update_refusal, updated, RingState}
+use Rattle.check_lines.specs.Words.{files_of_ring, without_table, tags_given, MOST_SUBMISSIONS}
+use Rattle.check_lines.specs.Words.{Instruction, MakesSparse, RegistersList, Unregisters, SetsRange}
+use Rattle.check_lines.specs.Words.{UpdatesRing, SubmitsAll, refused_line, result_line}
+use Rattle.check_lines.specs.Words.{too_many_line, PrintsClosed}
 use Rattle.fx_base.specs.declared.errno.Errno.{Errno}
 use Rattle.fx_chain.specs.declared.fault.CutFault.{CutFault}
 

@@ -1,6 +1,6 @@
 -- The parts of a text, and its first lines.
-use Rattle.check_lines.specs.Words.{◌≡◌, ℕ, List, ◌++◌, length, All, IsTrue, get_or, StartsWith}
-use Rattle.check_lines.specs.Words.{flat_map}
+use Rattle.std.specs.Prelude.{◌≡◌, ◌++◌}
+use Rattle.check_lines.specs.Words.{ℕ, List, length, All, IsTrue, get_or, StartsWith, flat_map}
 use Rattle.check_lines.specs.Lines.{is_without}
 
 -- a text in two parts: the byte isn't in the first one, and the second begins with it or is empty

@@ -1,5 +1,6 @@
 -- Files whose numbers are within the ranges of their types.
-use Rattle.check_lines.specs.Words.{◌≡◌, ◌<◌, ◌^◌, ℕ, Option, Some, Closed}
+use Rattle.std.specs.Prelude.{◌≡◌, ◌<◌, ◌^◌}
+use Rattle.check_lines.specs.Words.{ℕ, Option, Some, Closed}
 use Rattle.check_lines.specs.Lines.{IsMarkInRange}
 
 -- the numbers of a file's mark, and its tag, are within the ranges of their types

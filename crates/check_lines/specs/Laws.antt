@@ -1,6 +1,7 @@
 -- Laws of printed lines.
-use Rattle.check_lines.specs.Words.{◌≡◌, ℕ, ℤ, List, ◌++◌, length, IsTrue, Asked, RingContents}
-use Rattle.check_lines.specs.Words.{IsOneHistory, Reported, Instruction, PrintsAll, result_line}
+use Rattle.std.specs.Prelude.{◌≡◌, ◌++◌}
+use Rattle.check_lines.specs.Words.{ℕ, ℤ, List, length, IsTrue, Asked, RingContents, IsOneHistory}
+use Rattle.check_lines.specs.Words.{Reported, Instruction, PrintsAll, result_line}
 use Rattle.fx_base.specs.Name.{is_name}
 use Rattle.check_lines.specs.Lines.{HasNoCloses, IsResultInRange, is_without}
 

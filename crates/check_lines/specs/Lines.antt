@@ -1,8 +1,9 @@
 -- The lines of a submission's report.
-use Rattle.check_lines.specs.Words.{◌≡◌, ℕ, ◌<◌, ◌^◌, ◌==◌, Bool, not, ℤ, pos, negsuc, List, ◌++◌}
-use Rattle.check_lines.specs.Words.{length, map, codes, All, IsTrue, Option, StartsWith, flat_map}
-use Rattle.check_lines.specs.Words.{list_all, IsBytes, FileEntry, Mark, Closed, Completed, Place}
-use Rattle.check_lines.specs.Words.{Reported, closed_line, completion_lines, name_of, tag_line}
+use Rattle.std.specs.Prelude.{◌≡◌, ◌<◌, ◌^◌, ◌==◌, ◌++◌}
+use Rattle.check_lines.specs.Words.{ℕ, Bool, not, ℤ, pos, negsuc, List, length, map, codes, All}
+use Rattle.check_lines.specs.Words.{IsTrue, Option, StartsWith, flat_map, list_all, IsBytes}
+use Rattle.check_lines.specs.Words.{FileEntry, Mark, Closed, Completed, Place, Reported}
+use Rattle.check_lines.specs.Words.{closed_line, completion_lines, name_of, tag_line}
 use Rattle.fx_base.specs.Tags.{tag_completion, tags_of}
 use Rattle.fx_base.specs.declared.mark.Mark.TheVariants.{Registered, Submitted}
 use Rattle.check_lines.specs.Reads.{ReadsPrinted}

@@ -1,5 +1,5 @@
 -- A text that was printed, read back.
-use Rattle.check_lines.specs.Words.{◌≡◌, ℕ, List, Option, Some, None}
+use Rattle.std.specs.Prelude.{◌≡◌, ℕ, List, Option, Some, None}
 
 -- a text is printed from this value, which fits, and from no other value that fits
 pub record IsPrintedFrom {A : Type 0} (print : A → List ℕ) (fits : A → Type 0)

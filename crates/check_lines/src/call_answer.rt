@@ -1,9 +1,10 @@
 //! Calls between submissions: the ring that each leaves and the line that it prints if no
 //! allocation fails; and the line of a refused submission.
-ghost use Rattle.check_lines.specs.Words.{◌≡◌, ◌+◌, ◌^◌, ◌<◌, ◌≤◌, false, IfOk, OnOk, length, None, All, [], List, string_bytes, unwrap_or, list_any};
-ghost use Rattle.check_lines.specs.Words.{option_to_list, MatchOption, MOST_ENTRIES, is_bad_entry, file_after, files_after, removed_by_number};
-ghost use Rattle.check_lines.specs.Words.{removed_from, tag_at, tags_for, table_of_slots, ring_of_slots, ring_with_slots, HasClosed};
-ghost use Rattle.check_lines.specs.Words.{ring_files_in_order, IsRing, FileEntry, fault_of, all_asked, instruction_of, refused_line, too_many_line};
+ghost use Rattle.std.specs.Prelude.{◌≡◌, ◌+◌, ◌^◌, ◌<◌, ◌≤◌};
+ghost use Rattle.check_lines.specs.Words.{false, IfOk, OnOk, length, None, All, [], List, string_bytes, unwrap_or, list_any, option_to_list};
+ghost use Rattle.check_lines.specs.Words.{MatchOption, MOST_ENTRIES, is_bad_entry, file_after, files_after, removed_by_number, removed_from, tag_at};
+ghost use Rattle.check_lines.specs.Words.{tags_for, table_of_slots, ring_of_slots, ring_with_slots, HasClosed, ring_files_in_order, IsRing};
+ghost use Rattle.check_lines.specs.Words.{FileEntry, fault_of, all_asked, instruction_of, refused_line, too_many_line};
 ghost use Rattle.check_lines.specs.InRange.{AreInRange};
 ghost use Rattle.fx_order.specs.Access.{with_file};
 ghost use Rattle.fx_plain.specs.declared.table.TheConstants.{MOST_SLOTS};

@@ -1,7 +1,7 @@
 //! Accepted submissions, and the calls between them: the word of each, and the error with which it
 //! is refused.
-ghost use Rattle.check_lines.specs.Words.{◌≡◌, ◌<◌, ◌≤◌, IfNone, IfSome, IsTrue, None, false, length, option_map, fault_of, all_asked, SubmitsAll};
-ghost use Rattle.check_lines.specs.Words.{instruction_of, MOST_SUBMISSIONS, ring_with_slots};
+ghost use Rattle.std.specs.Prelude.{◌≡◌, ◌<◌, ◌≤◌, IfNone, IfSome, IsTrue, None, false, length, option_map};
+ghost use Rattle.check_lines.specs.Words.{fault_of, all_asked, SubmitsAll, instruction_of, MOST_SUBMISSIONS, ring_with_slots};
 ghost use Rattle.fx_chain.specs.Accepted.{IsAccepted};
 ghost use Rattle.fx_chain.specs.Runs.{runs_of};
 ghost use Rattle.fx_table.specs.declared.limits.TheConstants.{MAX_CHAINS};

@@ -1,5 +1,6 @@
 //! Laws of printed lines. Each is the contract of a function that does nothing.
-ghost use Rattle.check_lines.specs.Words.{◌≡◌, List, FileEntry, Reported};
+ghost use Rattle.std.specs.Prelude.{◌≡◌};
+ghost use Rattle.check_lines.specs.Words.{List, FileEntry, Reported};
 ghost use Rattle.fx_script.specs.Text.{report_text};
 ghost use Rattle.check_lines.specs.Laws.{BeginsWithOneResult, NamesHaveNoLineEnd, PlaysBeginWithNoClose, ReportsHaveEachRequest};
 ghost use Rattle.check_lines.specs.Lines.{lines_of, lines_text};

@@ -1,9 +1,9 @@
 //! Parses the printed lines of a submission's report: words and numbers, lines, and all lines of a
 //! report. What a text reads as is printed again and compared, so that of a text that isn't printed
 //! so any value may be parsed.
-ghost use Rattle.check_lines.specs.Words.{◌≡◌, ◌++◌, ◌≤◌, ◌<◌, ◌^◌, ℕ, ℤ, List, decimal, IfOk, IfNone, IfSome, codes, map, drop, get_or, false};
-ghost use Rattle.check_lines.specs.Words.{option_map, encode_lower, IsBytes, Mark as FileMark, Completed, all_completed, completed_of};
-ghost use Rattle.check_lines.specs.Words.{Place as RequestPlace, completion_line, mark_text, place_text};
+ghost use Rattle.std.specs.Prelude.{◌≡◌, ◌++◌, ◌≤◌, ◌<◌, ◌^◌, ℕ, ℤ, List, decimal, IfOk, IfNone, IfSome, codes, map, drop, get_or, false, option_map};
+ghost use Rattle.check_lines.specs.Words.{encode_lower, IsBytes, Mark as FileMark, Completed, all_completed, completed_of, Place as RequestPlace};
+ghost use Rattle.check_lines.specs.Words.{completion_line, mark_text, place_text};
 ghost use Rattle.check_lines.specs.Front.{AreAll, AreFirst, HasLength, IsCut};
 ghost use Rattle.check_lines.specs.Reads.{ReadsPrinted};
 ghost use Rattle.std.specs.Fmt.{signed_decimal};

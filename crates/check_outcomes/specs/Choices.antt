@@ -1,7 +1,7 @@
 -- The accesses that a request may make next.
-use Rattle.check_outcomes.specs.Words.{◌≡◌, ℕ, List, ◌∷◌, ◌++◌, length, Contains, Option, Some}
-use Rattle.check_outcomes.specs.Words.{None, FileEntry, Completed, Operation, Place, IsOf, Table}
-use Rattle.check_outcomes.specs.Words.{Permits, Access}
+use Rattle.std.specs.Prelude.{◌≡◌, ◌∷◌, ◌++◌}
+use Rattle.check_outcomes.specs.Words.{ℕ, List, length, Contains, Option, Some, None, FileEntry}
+use Rattle.check_outcomes.specs.Words.{Completed, Operation, Place, IsOf, Table, Permits, Access}
 use Rattle.fx_chain.specs.declared.intent.Intent.{Intent}
 use Rattle.fx_order.specs.Requests.{IsRequestDone}
 

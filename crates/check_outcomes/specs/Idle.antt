@@ -1,5 +1,5 @@
 -- Chains of which no access matters any more.
-use Rattle.check_outcomes.specs.Words.{◌≡◌, ◌+◌, ◌<◌, ◌≤◌, ◌==◌, Bool, true, List, [], length}
+use Rattle.std.specs.Prelude.{◌≡◌, ◌+◌, ◌<◌, ◌≤◌, ◌==◌, Bool, true, List, [], length}
 use Rattle.check_outcomes.specs.Words.{list_all, Completed, is_read, Asked, Place}
 use Rattle.check_outcomes.specs.Rests.{Rest}
 

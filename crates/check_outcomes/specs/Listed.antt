@@ -1,8 +1,9 @@
 -- The states that a search met, and those of them that it has examined.
-use Rattle.check_outcomes.specs.Words.{◌≡◌, ℕ, ◌+◌, ◌<◌, List, [], length, map, slice_index_or}
-use Rattle.check_outcomes.specs.Words.{false, Contains, IsTrue, Option, Some, Vec, Completed}
-use Rattle.check_outcomes.specs.Words.{all_completed, first_member, Asked, all_asked, Completion}
-use Rattle.check_outcomes.specs.Words.{Place, ring_of_slots, table_of_slots, Access, Slots, Permits}
+use Rattle.std.specs.Prelude.{◌≡◌, ◌+◌, ◌<◌}
+use Rattle.check_outcomes.specs.Words.{ℕ, List, [], length, map, slice_index_or, false, Contains}
+use Rattle.check_outcomes.specs.Words.{IsTrue, Option, Some, Vec, Completed, all_completed}
+use Rattle.check_outcomes.specs.Words.{first_member, Asked, all_asked, Completion, Place}
+use Rattle.check_outcomes.specs.Words.{ring_of_slots, table_of_slots, Access, Slots, Permits}
 use Rattle.check_outcomes.specs.Words.{RingContents, RingState, ring_of, Reported, ChainAccess}
 use Rattle.check_outcomes.specs.Rests.{Rest, settled_at}
 use Rattle.check_outcomes.specs.Nodes.{AreAllStates, IsExplored, StateView}

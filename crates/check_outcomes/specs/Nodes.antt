@@ -1,8 +1,9 @@
 -- The states of a submission that is played by an order: the table, and where each chain is.
-use Rattle.check_outcomes.specs.Words.{◌≡◌, ℕ, ◌+◌, ◌<◌, ◌≤◌, Bool, true, false, List, [], ◌∷◌}
-use Rattle.check_outcomes.specs.Words.{◌++◌, length, Contains, AllByRecursion, FileEntry, Completed}
-use Rattle.check_outcomes.specs.Words.{first_member, Asked, runs_of, Place, RingState, Reported}
-use Rattle.check_outcomes.specs.Words.{Table, Permits, table_with, Access, IsOneOrder, table_of}
+use Rattle.std.specs.Prelude.{◌≡◌, ◌+◌, ◌<◌, ◌≤◌, ◌∷◌, ◌++◌}
+use Rattle.check_outcomes.specs.Words.{ℕ, Bool, true, false, List, [], length, Contains}
+use Rattle.check_outcomes.specs.Words.{AllByRecursion, FileEntry, Completed, first_member, Asked}
+use Rattle.check_outcomes.specs.Words.{runs_of, Place, RingState, Reported, Table, Permits}
+use Rattle.check_outcomes.specs.Words.{table_with, Access, IsOneOrder, table_of}
 use Rattle.check_outcomes.specs.Idle.{AreIdle, are_reads}
 use Rattle.check_outcomes.specs.Parts.{AreParts, Parts}
 use Rattle.check_outcomes.specs.Rests.{HasMemory, IsNext, Rest, Rules, rules_of, settled_at, step}

@@ -1,9 +1,9 @@
 -- The reports that a submission may produce if no allocation fails.
-use Rattle.check_outcomes.specs.Words.{◌≡◌, ◌+◌, ◌<◌, List, All, Contains, length, map}
-use Rattle.check_outcomes.specs.Words.{IsPermutation, Completed, all_completed, completed_of, Asked}
-use Rattle.check_outcomes.specs.Words.{Place, IsOrderOf, ring_left, ring_of_slots, ChainAccess}
-use Rattle.check_outcomes.specs.Words.{Slots, RingContents, RingState, ring_of, IsOneHistory}
-use Rattle.check_outcomes.specs.Words.{Reported, reported}
+use Rattle.std.specs.Prelude.{◌≡◌, ◌+◌, ◌<◌}
+use Rattle.check_outcomes.specs.Words.{List, All, Contains, length, map, IsPermutation, Completed}
+use Rattle.check_outcomes.specs.Words.{all_completed, completed_of, Asked, Place, IsOrderOf}
+use Rattle.check_outcomes.specs.Words.{ring_left, ring_of_slots, ChainAccess, Slots, RingContents}
+use Rattle.check_outcomes.specs.Words.{RingState, ring_of, IsOneHistory, Reported, reported}
 use Rattle.check_outcomes.specs.Rests.{HasMemory}
 use Rattle.check_outcomes.specs.declared.outcomes.PossibleAnswer.{PossibleAnswer}
 use Rattle.check_outcomes.specs.declared.outcomes.PossibleReport.{PossibleReport}

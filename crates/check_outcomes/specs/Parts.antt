@@ -1,7 +1,7 @@
 -- Chains that share no slot are in different parts of a submission, and no access of one part
 -- matters to another. So the parts may be played one after another.
-use Rattle.check_outcomes.specs.Words.{◌≡◌, ℕ, ◌+◌, ◌<◌, List, [], ◌∷◌, All, MayReach, Operation}
-use Rattle.check_outcomes.specs.Words.{Asked, Table}
+use Rattle.std.specs.Prelude.{◌≡◌, ◌+◌, ◌<◌, ◌∷◌}
+use Rattle.check_outcomes.specs.Words.{ℕ, List, [], All, MayReach, Operation, Asked, Table}
 
 -- the number of the part that each chain is in, by the chain's number from 1, and of the part that
 -- each slot belongs to

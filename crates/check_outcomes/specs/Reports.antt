@@ -1,9 +1,10 @@
 -- The states of a submission with what was recorded on the way to them, so that their ends are
 -- reports.
-use Rattle.check_outcomes.specs.Words.{◌≡◌, ℕ, ◌+◌, ◌≤◌, List, [], ◌++◌, length, All, Contains}
-use Rattle.check_outcomes.specs.Words.{IsPermutation, option_to_list, FileEntry, Closed, Completed}
-use Rattle.check_outcomes.specs.Words.{Asked, runs_of, RingState, Reported, Permits}
-use Rattle.check_outcomes.specs.Words.{file_removed_by, Access, IsOneOrder, table_of}
+use Rattle.std.specs.Prelude.{◌≡◌, ◌+◌, ◌≤◌, ◌++◌}
+use Rattle.check_outcomes.specs.Words.{ℕ, List, [], length, All, Contains, IsPermutation}
+use Rattle.check_outcomes.specs.Words.{option_to_list, FileEntry, Closed, Completed, Asked, runs_of}
+use Rattle.check_outcomes.specs.Words.{RingState, Reported, Permits, file_removed_by, Access}
+use Rattle.check_outcomes.specs.Words.{IsOneOrder, table_of}
 use Rattle.check_outcomes.specs.Rests.{HasMemory, IsNext, Rules, rules_of, step}
 use Rattle.check_outcomes.specs.Idle.{has_none}
 use Rattle.check_outcomes.specs.Parts.{AreParts, Parts}

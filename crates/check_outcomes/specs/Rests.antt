@@ -1,8 +1,9 @@
 -- Where a chain is between two of its accesses, and where its next access leads it.
-use Rattle.check_outcomes.specs.Words.{◌≡◌, ℕ, ◌+◌, ◌==◌, List, [], ◌∷◌, Option, Some, None}
-use Rattle.check_outcomes.specs.Words.{if◌then◌else◌, option_map, FileEntry, Completed, negated}
-use Rattle.check_outcomes.specs.Words.{next_member, canceled, first_member, severs, answer_of}
-use Rattle.check_outcomes.specs.Words.{count_of, Asked, Place, finding_of, Access}
+use Rattle.std.specs.Prelude.{◌≡◌, ◌+◌, ◌==◌, ◌∷◌, if◌then◌else◌}
+use Rattle.check_outcomes.specs.Words.{ℕ, List, [], Option, Some, None, option_map, FileEntry}
+use Rattle.check_outcomes.specs.Words.{Completed, negated, next_member, canceled, first_member}
+use Rattle.check_outcomes.specs.Words.{severs, answer_of, count_of, Asked, Place, finding_of}
+use Rattle.check_outcomes.specs.Words.{Access}
 use Rattle.fx_base.specs.declared.errno.Errno.TheVariants.{ENOMEM}
 use Rattle.check_outcomes.specs.Choices.{IsNextAccess}
 

@@ -1,6 +1,6 @@
 -- Where a chain is, by how many of its members are done.
-use Rattle.check_outcomes.specs.Words.{◌≡◌, ℕ, ◌+◌, ◌≤◌, ◌==◌, ◌&&◌, nat_le, Bool, false, List, []}
-use Rattle.check_outcomes.specs.Words.{◌∷◌, ◌++◌, length, drop, Contains, Option, Some, None}
+use Rattle.std.specs.Prelude.{◌≡◌, ◌+◌, ◌≤◌, ◌==◌, ◌&&◌, ◌∷◌, ◌++◌, ℕ, nat_le, Bool, false, List}
+use Rattle.std.specs.Prelude.{[], length, drop, Contains, Option, Some, None}
 use Rattle.check_outcomes.specs.Words.{FileEntry, Completed, Asked, Place, Table, Permits, Access}
 use Rattle.check_outcomes.specs.Rests.{IsNext, Rest, Rules, behind, over, rest_at, step}
 use Rattle.check_outcomes.specs.declared.submission.Progress.{Progress}

@@ -1,6 +1,6 @@
 -- The record of the way to the states of the program, and the numbers of a state's files.
-use Rattle.check_outcomes.specs.Words.{◌≡◌, ℕ, ◌<◌, List, [], ◌∷◌, ◌++◌, length, map}
-use Rattle.check_outcomes.specs.Words.{slice_index_or, slice_set, IsPermutation, Option, None, Some}
+use Rattle.std.specs.Prelude.{◌≡◌, ◌<◌, ◌∷◌, ◌++◌, ℕ, List, [], length, map, slice_index_or}
+use Rattle.std.specs.Prelude.{slice_set, IsPermutation, Option, None, Some}
 use Rattle.check_outcomes.specs.Words.{option_to_list, Vec, Closed, Completed, all_completed}
 use Rattle.check_outcomes.specs.Words.{Completion, file_removed_by, Access}
 use Rattle.fx_base.specs.declared.mark.Mark.{Mark}

@@ -1,7 +1,7 @@
 -- The states of the program, read as states of a submission.
-use Rattle.check_outcomes.specs.Words.{◌≡◌, ℕ, ◌+◌, ◌-◌, ◌<◌, ◌==◌, ◌&&◌, not, Bool, true, false}
-use Rattle.check_outcomes.specs.Words.{List, [], length, slice_index_or, All, Contains, IfSome}
-use Rattle.check_outcomes.specs.Words.{if◌then◌else◌, Vec, Completed, first_member, Asked}
+use Rattle.std.specs.Prelude.{◌≡◌, ◌+◌, ◌-◌, ◌<◌, ◌==◌, ◌&&◌, if◌then◌else◌}
+use Rattle.check_outcomes.specs.Words.{ℕ, not, Bool, true, false, List, [], length, slice_index_or}
+use Rattle.check_outcomes.specs.Words.{All, Contains, IfSome, Vec, Completed, first_member, Asked}
 use Rattle.check_outcomes.specs.Words.{all_asked, runs_of, table_of_slots, Access, Permits, Slots}
 use Rattle.check_outcomes.specs.Rests.{IsNext, Rest, Rules, rules_of, step}
 use Rattle.check_outcomes.specs.Parts.{Parts, StaysIn}

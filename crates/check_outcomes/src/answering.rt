@@ -1,5 +1,6 @@
 //! The accesses that a request may make next, if no allocation fails.
-ghost use Rattle.check_outcomes.specs.Words.{◌≡◌, ◌<◌, ◌^◌, [], ◌∷◌, IfOk, length, IsCatalogue, operation_of, table_of_slots};
+ghost use Rattle.std.specs.Prelude.{◌≡◌, ◌<◌, ◌^◌, ◌∷◌};
+ghost use Rattle.check_outcomes.specs.Words.{[], IfOk, length, IsCatalogue, operation_of, table_of_slots};
 ghost use Rattle.fx_chain.specs.declared.intent.Intent.TheVariants.{Allocate};
 ghost use Rattle.check_outcomes.specs.Choices.{HasEach, HasEachOf};
 

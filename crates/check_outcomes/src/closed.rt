@@ -1,5 +1,6 @@
 //! The check that a search met all states of a submission.
-ghost use Rattle.check_outcomes.specs.Words.{◌<◌, IfOk, IfSome, IsTrue, All, Contains, length, completed_of, Permits, table_of_slots};
+ghost use Rattle.std.specs.Prelude.{◌<◌};
+ghost use Rattle.check_outcomes.specs.Words.{IfOk, IfSome, IsTrue, All, Contains, length, completed_of, Permits, table_of_slots};
 ghost use Rattle.check_outcomes.specs.Outcomes.{answered};
 ghost use Rattle.check_outcomes.specs.Listed.{AreAllBy, IsExploredBy, IsExploredInTurn, IsStateExploredBy, says};
 ghost use Rattle.check_outcomes.specs.Views.{IsTurnAt};

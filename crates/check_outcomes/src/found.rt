@@ -1,5 +1,6 @@
 //! The states that a search met.
-ghost use Rattle.check_outcomes.specs.Words.{◌≡◌, ◌++◌, ℕ, IfOk, IsTrue, OnOk, Contains, List, map, Asked};
+ghost use Rattle.std.specs.Prelude.{◌≡◌, ◌++◌};
+ghost use Rattle.check_outcomes.specs.Words.{ℕ, IfOk, IsTrue, OnOk, Contains, List, map, Asked};
 ghost use Rattle.check_outcomes.specs.Tellings.{file_numbers};
 ghost use Rattle.check_outcomes.specs.Views.{recorded_state_of, view_of_state};
 

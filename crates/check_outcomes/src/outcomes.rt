@@ -1,7 +1,7 @@
 //! The reports that a submission can produce, and the answers that a request of it can give, each
 //! with an order.
-ghost use Rattle.check_outcomes.specs.Words.{◌≡◌, ◌+◌, ◌<◌, ◌≤◌, ◌^◌, ℕ, All, Contains, IfOk, IfSome, IsTrue, Some, length, IsCatalogue, IsAccepted};
-ghost use Rattle.check_outcomes.specs.Words.{all_completed, completed_of, all_asked, ring_of_slots, MOST_SLOTS};
+ghost use Rattle.std.specs.Prelude.{◌≡◌, ◌+◌, ◌<◌, ◌≤◌, ◌^◌, ℕ, All, Contains, IfOk, IfSome, IsTrue, Some, length};
+ghost use Rattle.check_outcomes.specs.Words.{IsCatalogue, IsAccepted, all_completed, completed_of, all_asked, ring_of_slots, MOST_SLOTS};
 ghost use Rattle.check_outcomes.specs.Listed.{IsAnswerIn, IsPossibleIn, IsReportOf, IsRecordedAt, IsRecordedOf, OfEach};
 ghost use Rattle.check_outcomes.specs.Outcomes.{HasEachAnswer, HasEachEnd, HasEachReport, IsAnswer, IsPossible};
 ghost use Rattle.check_outcomes.specs.Tellings.{all_recorded, answers_of};

@@ -1,6 +1,7 @@
 //! The parts of a submission: chains that may access one slot are in one part. The parts are played
 //! one after another, so that the states of one aren't met again beside each state of another.
-ghost use Rattle.check_outcomes.specs.Words.{◌≡◌, ◌<◌, ◌≤◌, ℕ, All, IsTrue, length, slice_index_or, asked_of, table_of_slots};
+ghost use Rattle.std.specs.Prelude.{◌≡◌, ◌<◌, ◌≤◌};
+ghost use Rattle.check_outcomes.specs.Words.{ℕ, All, IsTrue, length, slice_index_or, asked_of, table_of_slots};
 ghost use Rattle.check_outcomes.specs.Parts.{StaysIn};
 ghost use Rattle.check_outcomes.specs.Views.{ArePartsIn, parts_by_numbers};
 

@@ -1,6 +1,6 @@
 //! A state of a submission that is played by an order, and where an access leads from it.
-ghost use Rattle.check_outcomes.specs.Words.{◌≡◌, ◌<◌, [], IfOk, IfSome, IsTrue, length, slice_index_or, all_completed, is_read, asked_of, list_all};
-ghost use Rattle.check_outcomes.specs.Words.{table_of_slots};
+ghost use Rattle.std.specs.Prelude.{◌≡◌, ◌<◌, [], IfOk, IfSome, IsTrue, length, slice_index_or};
+ghost use Rattle.check_outcomes.specs.Words.{all_completed, is_read, asked_of, list_all, table_of_slots};
 ghost use Rattle.check_outcomes.specs.Listed.{IsFirstState};
 ghost use Rattle.check_outcomes.specs.Tellings.{IsRecordedOn, answers_of};
 ghost use Rattle.check_outcomes.specs.Views.{HasEachNextIn, IsOverIn, IsStepTo, has_reads_at, is_idle_at, not_begun};

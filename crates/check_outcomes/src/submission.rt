@@ -1,9 +1,9 @@
 //! A submission that is played: where each of its chains is between two of its accesses, and where
 //! its next one leads it.
-ghost use Rattle.check_outcomes.specs.Words.{◌≡◌, ℕ, ◌+◌, ◌-◌, ◌<◌, ◌≤◌, ◌^◌, ◌++◌, [], All, IfOk, Some, drop, length, map, option_map};
-ghost use Rattle.check_outcomes.specs.Words.{slice_index_or, IsCatalogue, Closed as File, IsAccepted, IsChain, IsWithinLimits, members_of};
-ghost use Rattle.check_outcomes.specs.Words.{all_completed, next_member, canceled, first_member, all_asked, asked_of, runs_of, finding_of};
-ghost use Rattle.check_outcomes.specs.Words.{table_of_slots, MOST_SLOTS};
+ghost use Rattle.std.specs.Prelude.{◌≡◌, ◌+◌, ◌-◌, ◌<◌, ◌≤◌, ◌^◌, ◌++◌};
+ghost use Rattle.check_outcomes.specs.Words.{ℕ, [], All, IfOk, Some, drop, length, map, option_map, slice_index_or, IsCatalogue, Closed as File};
+ghost use Rattle.check_outcomes.specs.Words.{IsAccepted, IsChain, IsWithinLimits, members_of, all_completed, next_member, canceled, first_member};
+ghost use Rattle.check_outcomes.specs.Words.{all_asked, asked_of, runs_of, finding_of, table_of_slots, MOST_SLOTS};
 ghost use Rattle.fx_order.specs.declared.access.Access.TheVariants.{Allocates};
 ghost use Rattle.fx_table.specs.declared.limits.TheConstants.{MAX_CHAINS};
 ghost use Rattle.check_outcomes.specs.Rests.{rules_of, settled_at};

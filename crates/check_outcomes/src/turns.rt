@@ -1,6 +1,6 @@
 //! Turns: the parts of a submission are played one after another. If nothing but reads is left of a
 //! part, so are its chains, since reads commute.
-ghost use Rattle.check_outcomes.specs.Words.{◌≡◌, IfSome, IsTrue, Some};
+ghost use Rattle.std.specs.Prelude.{◌≡◌, IfSome, IsTrue, Some};
 ghost use Rattle.check_outcomes.specs.Views.{HasReadsAloneIn, IsTurnAt, IsTurnOfPart, IsTurnOfReader, Waits};
 
 use crate::parts::PartNumbers;

@@ -1,5 +1,6 @@
 //! The answers and removed files on the way to a state of a submission.
-ghost use Rattle.check_outcomes.specs.Words.{◌≡◌, ◌++◌, ◌<◌, [], IfOk, IsPermutation, IsTrue, length, option_to_list, all_completed, file_removed_by};
+ghost use Rattle.std.specs.Prelude.{◌≡◌, ◌++◌, ◌<◌};
+ghost use Rattle.check_outcomes.specs.Words.{[], IfOk, IsPermutation, IsTrue, length, option_to_list, all_completed, file_removed_by};
 ghost use Rattle.check_outcomes.specs.Tellings.{IsRecordedOn, answers_of};
 
 use fx_base::{Closed, NoMemory};

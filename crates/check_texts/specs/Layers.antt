@@ -1,6 +1,6 @@
 -- The exits of rings, and what is kept of their ways.
-use Rattle.check_texts.specs.Words.{◌≡◌, ℕ, List, [], ◌∷◌, Option, Some, None, true, Contains}
-use Rattle.check_texts.specs.Words.{IsTrue, All, length, map, slice_get, string_bytes, take}
+use Rattle.std.specs.Prelude.{◌≡◌, ◌∷◌, ℕ, List, [], Option, Some, None, true, Contains, IsTrue}
+use Rattle.std.specs.Prelude.{All, length, map, slice_get, string_bytes, take}
 use Rattle.check_texts.specs.Words.{flat_map, FileEntry, Instruction, instruction_of}
 use Rattle.check_texts.specs.Words.{ring_with_slots, RingContents, ring_of}
 use Rattle.std.specs.Global.{Vec}

@@ -1,10 +1,10 @@
 -- The rings that commands may lead to if no allocation fails.
-use Rattle.check_texts.specs.Words.{◌≡◌, ◌⊎◌, ℕ, ◌+◌, List, [], ◌∷◌, ◌++◌, map, string_bytes, Bool}
-use Rattle.check_texts.specs.Words.{true, false, Option, Contains, IsTrue, FileEntry, Completed}
-use Rattle.check_texts.specs.Words.{completed_of, fault_of, Asked, all_asked, Place, ring_following}
-use Rattle.check_texts.specs.Words.{IsRing, RingContents, RingState, ring_of, Reported, reported}
-use Rattle.check_texts.specs.Words.{Instruction, SubmitsAll, instructions_of, ring_with_slots}
-use Rattle.check_texts.specs.Words.{Prints, report_text, accepted_following}
+use Rattle.std.specs.Prelude.{◌≡◌, ◌⊎◌, ◌+◌, ◌∷◌, ◌++◌, ℕ, List, [], map, string_bytes, Bool, true}
+use Rattle.std.specs.Prelude.{false, Option, Contains, IsTrue}
+use Rattle.check_texts.specs.Words.{FileEntry, Completed, completed_of, fault_of, Asked, all_asked}
+use Rattle.check_texts.specs.Words.{Place, ring_following, IsRing, RingContents, RingState, ring_of}
+use Rattle.check_texts.specs.Words.{Reported, reported, Instruction, SubmitsAll, instructions_of}
+use Rattle.check_texts.specs.Words.{ring_with_slots, Prints, report_text, accepted_following}
 use Rattle.check_outcomes.specs.declared.outcomes.PossibleReport.{PossibleReport}
 use Rattle.check_texts.specs.Texts.{FoundMemory, IsReportFound, PrintsAllFound}
 use Rattle.check_texts.specs.declared.walk.Inquiry.{Inquiry}

@@ -1,10 +1,10 @@
 -- The texts of a script in which memory was found, and what its requests may answer in them (this
 -- project's own).
-use Rattle.check_texts.specs.Words.{◌≡◌, ℕ, List, [], ◌∷◌, ◌++◌, codes, Option, Some, None}
-use Rattle.check_texts.specs.Words.{Contains, Completed, negated, Asked, Place, RingContents}
-use Rattle.check_texts.specs.Words.{ring_of, Reported, MayReport, Instruction, MakesSparse}
-use Rattle.check_texts.specs.Words.{RegistersList, Unregisters, SetsRange, UpdatesRing, SubmitsAll}
-use Rattle.check_texts.specs.Words.{Meaning, IsNewRing, IsText, Prints, PrintsEnd, report_text}
+use Rattle.std.specs.Prelude.{◌≡◌, ◌∷◌, ◌++◌, ℕ, List, [], codes, Option, Some, None, Contains}
+use Rattle.check_texts.specs.Words.{Completed, negated, Asked, Place, RingContents, ring_of}
+use Rattle.check_texts.specs.Words.{Reported, MayReport, Instruction, MakesSparse, RegistersList}
+use Rattle.check_texts.specs.Words.{Unregisters, SetsRange, UpdatesRing, SubmitsAll, Meaning}
+use Rattle.check_texts.specs.Words.{IsNewRing, IsText, Prints, PrintsEnd, report_text}
 use Rattle.std.specs.Option.{option_to_list}
 use Rattle.fx_base.specs.declared.errno.Errno.TheVariants.{ENOMEM}
 use Rattle.fx_print.specs.Text.{result_line}

@@ -1,8 +1,9 @@
 -- The ways by which the plays of a script go if no allocation fails: the lines that each command
 -- prints, and those of the end.
-use Rattle.check_texts.specs.Words.{◌≡◌, ℕ, ◌≤◌, ◌<◌, ◌^◌, ◌-◌, List, [], ◌∷◌, Bool, Contains}
-use Rattle.check_texts.specs.Words.{IsTrue, length, map, Instruction, Meaning, IsRing, RingContents}
-use Rattle.check_texts.specs.Words.{RingState, ring_of, IsNewRing, PrintsEnd}
+use Rattle.std.specs.Prelude.{◌≡◌, ◌≤◌, ◌<◌, ◌^◌, ◌-◌, ◌∷◌}
+use Rattle.check_texts.specs.Words.{ℕ, List, [], Bool, Contains, IsTrue, length, map, Instruction}
+use Rattle.check_texts.specs.Words.{Meaning, IsRing, RingContents, RingState, ring_of, IsNewRing}
+use Rattle.check_texts.specs.Words.{PrintsEnd}
 use Rattle.check_texts.specs.Rings.{LeadsRing, Stage}
 
 -- the commands print these, one after another, and then the end of the script prints the last

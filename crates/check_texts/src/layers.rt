@@ -1,6 +1,7 @@
 //! The rings before each command of a script, each once, and the exits of each: what the command
 //! prints, and the ring after it.
-ghost use Rattle.check_texts.specs.Words.{◌≡◌, All, IfOk, List, OnOk, true, FileEntry, instruction_of, instructions_of};
+ghost use Rattle.std.specs.Prelude.{◌≡◌};
+ghost use Rattle.check_texts.specs.Words.{All, IfOk, List, OnOk, true, FileEntry, instruction_of, instructions_of};
 ghost use Rattle.check_texts.specs.Rings.{AreRings, stages_of};
 ghost use Rattle.check_texts.specs.Layers.{AreExits, IsLayer, commands_in};
 ghost use Rattle.check_texts.specs.Ways.{AreBare};

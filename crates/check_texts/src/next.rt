@@ -1,7 +1,7 @@
 //! The rings that one command may lead to.
-ghost use Rattle.check_texts.specs.Words.{◌≡◌, ◌++◌, ◌<◌, ◌≤◌, All, IfOk, IsTrue, List, Contains, None, OnOk, length, string_bytes, FileEntry};
-ghost use Rattle.check_texts.specs.Words.{IsAccepted, fault_of, all_asked, SubmitsAll, instruction_of, ring_with_slots, MOST_SLOTS, IsRing};
-ghost use Rattle.check_texts.specs.Words.{MOST_SUBMISSIONS, IsCall};
+ghost use Rattle.std.specs.Prelude.{◌≡◌, ◌++◌, ◌<◌, ◌≤◌};
+ghost use Rattle.check_texts.specs.Words.{All, IfOk, IsTrue, List, Contains, None, OnOk, length, string_bytes, FileEntry, IsAccepted, fault_of};
+ghost use Rattle.check_texts.specs.Words.{all_asked, SubmitsAll, instruction_of, ring_with_slots, MOST_SLOTS, IsRing, MOST_SUBMISSIONS, IsCall};
 ghost use Rattle.check_texts.specs.Rings.{Grows, AppendsNext, kept_text, stage_of, stage_reported, stages_of};
 
 use crate::walk::{Reached, Spent, WalkSetting};

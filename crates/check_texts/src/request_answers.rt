@@ -1,6 +1,7 @@
 //! The answers that a request of a script can give, each in a play to the end of the script.
-ghost use Rattle.check_texts.specs.Words.{◌≡◌, ◌⊎◌, ◌+◌, ◌<◌, ◌≤◌, All, Contains, IfNone, IfOk, IfSome, IsTrue, length, Completed, completed_of};
-ghost use Rattle.check_texts.specs.Words.{all_asked, instructions_of, ring_of_slots, ring_with_slots, MOST_SLOTS, MOST_SUBMISSIONS, IsRing};
+ghost use Rattle.std.specs.Prelude.{◌≡◌, ◌⊎◌, ◌+◌, ◌<◌, ◌≤◌};
+ghost use Rattle.check_texts.specs.Words.{All, Contains, IfNone, IfOk, IfSome, IsTrue, length, Completed, completed_of, all_asked, instructions_of};
+ghost use Rattle.check_texts.specs.Words.{ring_of_slots, ring_with_slots, MOST_SLOTS, MOST_SUBMISSIONS, IsRing};
 ghost use Rattle.check_texts.specs.Rings.{AreRings, AreSaidFrom, Grows, HasEachSaid, HasEachSaidFrom, IsAskedIn, MayEnd, MaySay, count_after_all};
 ghost use Rattle.check_texts.specs.Rings.{said_in, stages_of};
 ghost use Rattle.check_texts.specs.Texts.{MayAnswerIn};

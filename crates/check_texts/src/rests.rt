@@ -1,5 +1,5 @@
 //! The ways of rings to the end of a script, and their number.
-ghost use Rattle.check_texts.specs.Words.{◌≡◌, ◌++◌, [], ◌∷◌, All, IfOk, IfSome, IsTrue, List, OnOk, Some, map, slice_get, string_bytes, true};
+ghost use Rattle.std.specs.Prelude.{◌≡◌, ◌++◌, ◌∷◌, [], All, IfOk, IfSome, IsTrue, List, OnOk, Some, map, slice_get, string_bytes, true};
 ghost use Rattle.check_texts.specs.Words.{FileEntry, Instruction, ring_with_slots};
 ghost use Rattle.check_texts.specs.Rings.{MayLeadTo, Stage, stage_of, stages_of};
 ghost use Rattle.check_texts.specs.Layers.{AreExits, AreRests, AreWaysBy, AreWaysOf, IsLayer, IsRest, bare, commands_in, rests_in, ways_at};

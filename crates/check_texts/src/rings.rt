@@ -1,6 +1,6 @@
 //! The rings that commands may lead to, one after another.
-ghost use Rattle.check_texts.specs.Words.{◌≡◌, [], ◌∷◌, IfOk, IsTrue, Contains, List, length, FileEntry, instruction_of, instructions_of};
-ghost use Rattle.check_texts.specs.Words.{ring_with_slots, new_ring};
+ghost use Rattle.std.specs.Prelude.{◌≡◌, ◌∷◌, [], IfOk, IsTrue, Contains, List, length};
+ghost use Rattle.check_texts.specs.Words.{FileEntry, instruction_of, instructions_of, ring_with_slots, new_ring};
 ghost use Rattle.check_texts.specs.Rings.{AreStagesFrom, AreRings, HasEachFrom, HasEachLast, MayLeadAllTo, Stage, stages_of};
 
 use crate::next::{both, push_next};

@@ -1,6 +1,7 @@
 //! The texts that a script can print, each of which is one of its texts.
-ghost use Rattle.check_texts.specs.Words.{◌≡◌, ◌-◌, ◌^◌, ◌<◌, ◌≤◌, All, Contains, IfOk, IfSome, IsTrue, List, Some, length, map, slice_get};
-ghost use Rattle.check_texts.specs.Words.{string_bytes, string_eq, ℕ, concat, FileEntry, Instruction, new_ring};
+ghost use Rattle.std.specs.Prelude.{◌≡◌, ◌-◌, ◌^◌, ◌<◌, ◌≤◌};
+ghost use Rattle.check_texts.specs.Words.{All, Contains, IfOk, IfSome, IsTrue, List, Some, length, map, slice_get, string_bytes, string_eq, ℕ};
+ghost use Rattle.check_texts.specs.Words.{concat, FileEntry, Instruction, new_ring};
 ghost use Rattle.indexmap.specs.IndexSet.{IsUnique};
 ghost use Rattle.check_texts.specs.Layers.{AreAllCounted, AreRests, rests_in, ways_at};
 ghost use Rattle.check_texts.specs.Texts.{EachFoundTextIsAText, IsTextFound};

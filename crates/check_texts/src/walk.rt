@@ -1,8 +1,9 @@
 //! A walk through a script: its setting, the request that is asked for, the rings that it reaches,
 //! the orders that it keeps, and how much of its limits it has used. Nothing is proved of these
 //! numbers, which only bound the walk.
-ghost use Rattle.check_texts.specs.Words.{◌≡◌, ◌+◌, ◌<◌, ◌≤◌, IfOk, List, None, length, FileEntry, IsCatalogue, IsAccepted, fault_of, all_asked};
-ghost use Rattle.check_texts.specs.Words.{ring_of_slots, ring_with_slots, MOST_SLOTS, MOST_SUBMISSIONS};
+ghost use Rattle.std.specs.Prelude.{◌≡◌, ◌+◌, ◌<◌, ◌≤◌};
+ghost use Rattle.check_texts.specs.Words.{IfOk, List, None, length, FileEntry, IsCatalogue, IsAccepted, fault_of, all_asked, ring_of_slots};
+ghost use Rattle.check_texts.specs.Words.{ring_with_slots, MOST_SLOTS, MOST_SUBMISSIONS};
 
 use check_search::Limits;
 use fx_base::{Catalogue, NoMemory};

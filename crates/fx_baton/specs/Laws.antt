@@ -1,7 +1,7 @@
 -- The kinds of step keep the rule.
-use Rattle.fx_baton.specs.Words.{◌≡◌, ℕ, ◌==◌, List, [], ◌∷◌, Some, None, step, Splits, Joins}
-use Rattle.fx_baton.specs.Words.{Allows, Contents, IsTable, Event, Task, Idle, Log, View, Start}
-use Rattle.fx_baton.specs.Words.{without_first, first_alone, joined, spent}
+use Rattle.std.specs.Prelude.{◌≡◌, ◌==◌, ◌∷◌, ℕ, List, [], Some, None}
+use Rattle.fx_baton.specs.Words.{step, Splits, Joins, Allows, Contents, IsTable, Event, Task, Idle}
+use Rattle.fx_baton.specs.Words.{Log, View, Start, without_first, first_alone, joined, spent}
 use Rattle.fx_baton.specs.Rule.{IsKept, seats, Grabs, PutsBack, IsTurn}
 use mathlib.Core.Option.{none}
 use prog.Atomic.{either}

@@ -1,7 +1,7 @@
 -- Passes as they are handed out and gathered.
-use Rattle.fx_baton.specs.Words.{◌≡◌, ℕ, true, false, List, [], ◌∷◌, flat_map, None, Seat, Contents}
-use Rattle.fx_baton.specs.Words.{IsTable, state_of, opening, PASS_LOOKS, Idle, Log, View, Start}
-use Rattle.fx_baton.specs.Words.{BatonPass, first_view}
+use Rattle.std.specs.Prelude.{◌≡◌, ◌∷◌, ℕ, true, false, List, [], flat_map, None}
+use Rattle.fx_baton.specs.Words.{Seat, Contents, IsTable, state_of, opening, PASS_LOOKS, Idle, Log}
+use Rattle.fx_baton.specs.Words.{View, Start, BatonPass, first_view}
 use Rattle.fx_baton.specs.declared.table.BatonTable.{BatonTable}
 use Rattle.fx_baton.specs.Rule.{Shared, IsKept, IsHome, seats}
 use lib.ListN.{get_elem?}

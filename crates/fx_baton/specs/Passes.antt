@@ -1,9 +1,9 @@
 -- A pass of the table guarded by one word, as the contract of all shared tables shows it.
-use Rattle.fx_baton.specs.Words.{◌≡◌, ℕ, ◌-◌, ◌≤◌, Bool, true, false, List, [], ◌∷◌, Some, None}
-use Rattle.fx_baton.specs.Words.{Seat, Contents, IsTable, state_of, IsSeenBy, Event, chains_of_pass}
-use Rattle.fx_baton.specs.Words.{numbers_for, PassView, IsFront, state_at, Adds, activity_of, Task}
-use Rattle.fx_baton.specs.Words.{Idle, Holding, Retiring, Log, View, Start, Call, BatonPass}
-use Rattle.fx_baton.specs.Words.{front_in}
+use Rattle.std.specs.Prelude.{◌≡◌, ◌-◌, ◌≤◌, ◌∷◌}
+use Rattle.fx_baton.specs.Words.{ℕ, Bool, true, false, List, [], Some, None, Seat, Contents}
+use Rattle.fx_baton.specs.Words.{IsTable, state_of, IsSeenBy, Event, chains_of_pass, numbers_for}
+use Rattle.fx_baton.specs.Words.{PassView, IsFront, state_at, Adds, activity_of, Task, Idle}
+use Rattle.fx_baton.specs.Words.{Holding, Retiring, Log, View, Start, Call, BatonPass, front_in}
 use Rattle.atomic_table.specs.Seated.{TableId}
 use Rattle.fx_table.specs.Turns.{HasDrawnInTurn}
 use Rattle.fx_baton.specs.declared.view.Call.TheVariants.{Put as PutCall, Allocate as AllocateCall}

@@ -1,7 +1,7 @@
 -- The rule of the table guarded by one word.
-use Rattle.fx_baton.specs.Words.{◌≡◌, ◌≢◌, ℕ, ◌+◌, ◌<◌, ◌≤◌, ◌==◌, ◌⊎◌, true, if◌then◌else◌, List}
-use Rattle.fx_baton.specs.Words.{[], ◌∷◌, map, Option, Some, None, Contains, sum_by, Me, Step}
-use Rattle.fx_baton.specs.Words.{Contents, state_of, leaving, IsTable, IsLegal, IsSeenBy}
+use Rattle.std.specs.Prelude.{◌≡◌, ◌≢◌, ◌+◌, ◌<◌, ◌≤◌, ◌==◌, ◌⊎◌, if◌then◌else◌, ◌∷◌}
+use Rattle.fx_baton.specs.Words.{ℕ, true, List, [], map, Option, Some, None, Contains, sum_by, Me}
+use Rattle.fx_baton.specs.Words.{Step, Contents, state_of, leaving, IsTable, IsLegal, IsSeenBy}
 use Rattle.fx_baton.specs.Words.{part_of_pass, held_by, ◌▷▷◌, File, Event, FIRST_CHAIN_NUMBER}
 use Rattle.fx_baton.specs.Words.{MAX_PASSES, numbers_for, number_following, pass_of_number, Opening}
 use Rattle.fx_baton.specs.Words.{opening_with, start_of, state_at, Task, Idle, Holding, Retiring}

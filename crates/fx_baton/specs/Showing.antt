@@ -1,6 +1,6 @@
 -- Shown histories, and views that learn from them.
-use Rattle.fx_baton.specs.Words.{◌≡◌, List, [], ◌∷◌, IsLegal, IsSeenBy, part_of_pass, Event, Log}
-use Rattle.fx_baton.specs.Words.{View}
+use Rattle.std.specs.Prelude.{◌≡◌, ◌∷◌}
+use Rattle.fx_baton.specs.Words.{List, [], IsLegal, IsSeenBy, part_of_pass, Event, Log, View}
 use Rattle.fx_plain.specs.State.{State}
 use Rattle.fx_baton.specs.declared.shown.BatonSeen.{BatonSeen}
 use Rattle.fx_baton.specs.declared.table.BatonTable.{BatonTable}

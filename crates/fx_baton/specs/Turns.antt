@@ -1,8 +1,9 @@
 -- The events that one turn at the table adds.
-use Rattle.fx_baton.specs.Words.{ℕ, List, [], ◌∷◌, map, Option, Some, None, Contents, state_of}
-use Rattle.fx_baton.specs.Words.{close_of, ◌▷◌, ◌▷▷◌, numbered, closed_by_release}
-use Rattle.fx_baton.specs.Words.{closed_by_retirement, File, Event, Use, no_use, one_look}
-use Rattle.fx_baton.specs.Words.{one_number, retiring, Task, Idle, Holding, Retiring, Call}
+use Rattle.std.specs.Prelude.{◌∷◌}
+use Rattle.fx_baton.specs.Words.{ℕ, List, [], map, Option, Some, None, Contents, state_of, close_of}
+use Rattle.fx_baton.specs.Words.{◌▷◌, ◌▷▷◌, numbered, closed_by_release, closed_by_retirement, File}
+use Rattle.fx_baton.specs.Words.{Event, Use, no_use, one_look, one_number, retiring, Task, Idle}
+use Rattle.fx_baton.specs.Words.{Holding, Retiring, Call}
 use Rattle.fx_plain.specs.declared.event.Action.{Action}
 use Rattle.fx_plain.specs.declared.event.Action.TheVariants.{Look, Release, Put, Clear, Take}
 use Rattle.fx_plain.specs.declared.event.Action.TheVariants.{Allocate, Full}

@@ -1,6 +1,6 @@
 //! The implementation of `FileTable` for the table guarded by one word.
-ghost use Rattle.fx_baton.specs.Words.{◌≡◌, ℕ, ◌≤◌, Option, length, map, option_map, All, refl, MOST_SLOTS, File, number_of, IsIdle, retired_of};
-ghost use Rattle.fx_baton.specs.Words.{ClosesTable};
+ghost use Rattle.std.specs.Prelude.{◌≡◌, ◌≤◌};
+ghost use Rattle.fx_baton.specs.Words.{ℕ, Option, length, map, option_map, All, refl, MOST_SLOTS, File, number_of, IsIdle, retired_of, ClosesTable};
 ghost use Rattle.fx_baton.specs.Passes.{next_of, view_of};
 ghost use Rattle.fx_baton.specs.Tables.{opening_of_table, IsPassOfTable};
 ghost use mathlib.Core.Path.{subst};

@@ -1,6 +1,6 @@
 //! Opening and closing a table.
-ghost use Rattle.fx_baton.specs.Words.{◌≡◌, ◌≤◌, ◌∷◌, ◌++◌, [], length, map, reverse, All, IfOk, IfErr, vec_capacity, IsSettled, Contents, state_of};
-ghost use Rattle.fx_baton.specs.Words.{IsGivenBack, opening_with, IsIdle, new_passes, ClosesTable};
+ghost use Rattle.std.specs.Prelude.{◌≡◌, ◌≤◌, ◌∷◌, ◌++◌, [], length, map, reverse, All, IfOk, IfErr, vec_capacity};
+ghost use Rattle.fx_baton.specs.Words.{IsSettled, Contents, state_of, IsGivenBack, opening_with, IsIdle, new_passes, ClosesTable};
 ghost use Rattle.fx_baton.specs.Passes.{view_of};
 ghost use Rattle.fx_baton.specs.Tables.{opening_of_table, IsPassOfTable};
 ghost use Rattle.fx_baton.specs.Lives.{HasPrepared, HasAllPasses, IsIdleSeatOf, logs_in, AllIsHome, Leaves};

@@ -1,5 +1,6 @@
 //! The table guarded by one word: taking it, and putting it back.
-ghost use Rattle.fx_baton.specs.Words.{◌≡◌, ◌≤◌, ◌∷◌, [], MOST_SLOTS, MAX_CHAINS, MAX_PASSES, size_of, range_of, Log};
+ghost use Rattle.std.specs.Prelude.{◌≡◌, ◌≤◌, ◌∷◌};
+ghost use Rattle.fx_baton.specs.Words.{[], MOST_SLOTS, MAX_CHAINS, MAX_PASSES, size_of, range_of, Log};
 ghost use Rattle.fx_baton.specs.Rule.{Takes, opening_of, view_after};
 ghost use Rattle.fx_baton.specs.Turns.{table_of_seats, use_of};
 ghost use Rattle.fx_baton.specs.Passes.{view_of, pass_after, IsPassOf, HasTable, HasPlayed, HasCalled, HasGivenBack};

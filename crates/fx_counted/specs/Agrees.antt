@@ -1,11 +1,11 @@
 -- The rule of the lock-free table: words, places and views agree with the state that one legal
 -- history leads to.
-use Rattle.fx_counted.specs.Words.{◌≡◌, ℕ, ◌+◌, ◌*◌, ◌<◌, ◌≤◌, true, List, length, slice_index}
-use Rattle.fx_counted.specs.Words.{Option, Some, None, ◌==◌, Contains, count_by, sum_by, Identity}
-use Rattle.fx_counted.specs.Words.{held_by, numbered, File, Event, MOST_SLOTS, CHAIN_NUMBERS}
-use Rattle.fx_counted.specs.Words.{MAX_CHAINS, MAX_PASSES, PASS_LOOKS, range_of, name_in, entry_in}
-use Rattle.fx_counted.specs.Words.{takes_in, born, Log, Start, View, Work, Between, Placing}
-use Rattle.fx_counted.specs.Words.{Emptying, Idle, Holding, Retiring}
+use Rattle.std.specs.Prelude.{◌≡◌, ◌+◌, ◌*◌, ◌<◌, ◌≤◌, ◌==◌}
+use Rattle.fx_counted.specs.Words.{ℕ, true, List, length, slice_index, Option, Some, None, Contains}
+use Rattle.fx_counted.specs.Words.{count_by, sum_by, Identity, held_by, numbered, File, Event}
+use Rattle.fx_counted.specs.Words.{MOST_SLOTS, CHAIN_NUMBERS, MAX_CHAINS, MAX_PASSES, PASS_LOOKS}
+use Rattle.fx_counted.specs.Words.{range_of, name_in, entry_in, takes_in, born, Log, Start, View}
+use Rattle.fx_counted.specs.Words.{Work, Between, Placing, Emptying, Idle, Holding, Retiring}
 use Rattle.fx_plain.specs.State.{State}
 use Rattle.table_seats.specs.Together.{Together}
 use Rattle.fx_counted.specs.Control.{ControlCounts}

@@ -1,7 +1,7 @@
 -- Bounds of the lock-free table's words: each number stays within its bits.
-use Rattle.fx_counted.specs.Words.{◌≡◌, ℕ, ◌+◌, ◌/◌, ◌%◌, ◌^◌, ◌<◌, ◌≤◌, Some, slice_index, sum_by}
-use Rattle.fx_counted.specs.Words.{File, node_in, takes_in, one_change, Start, View, Between}
-use Rattle.fx_counted.specs.Words.{Retiring}
+use Rattle.std.specs.Prelude.{◌≡◌, ◌+◌, ◌/◌, ◌%◌, ◌^◌, ◌<◌, ◌≤◌}
+use Rattle.fx_counted.specs.Words.{ℕ, Some, slice_index, sum_by, File, node_in, takes_in}
+use Rattle.fx_counted.specs.Words.{one_change, Start, View, Between, Retiring}
 use Rattle.fx_counted.specs.Agrees.{Agrees}
 use Rattle.fx_counted.specs.Layout.{control_place, draw_place, slot_place, node_place}
 use Rattle.fx_counted.specs.Passes.{Shared, slots_of, looks_of}

@@ -1,6 +1,6 @@
 -- A pass that changes a slot, and reports the change if the slot is in the allocation range.
-use Rattle.fx_counted.specs.Words.{◌≡◌, ℕ, ℤ, pos, negsuc, Bool, true, false, IsFront, Change}
-use Rattle.fx_counted.specs.Words.{Outside, Same, More, Less, Log, Start}
+use Rattle.std.specs.Prelude.{◌≡◌, ℕ, ℤ, pos, negsuc, Bool, true, false}
+use Rattle.fx_counted.specs.Words.{IsFront, Change, Outside, Same, More, Less, Log, Start}
 use Rattle.fx_counted.specs.Control.{in_change}
 use Rattle.fx_counted.specs.Laws.{HasPass, IsInRange, IsOutOfRange}
 use Rattle.fx_counted.specs.Passes.{Sat, opening_of, pass_of}

@@ -1,7 +1,8 @@
 -- The control word: how many slots of the allocation range are full, and how many passes are in a
 -- change.
-use Rattle.fx_counted.specs.Words.{◌≡◌, ℕ, ◌+◌, ◌/◌, ◌%◌, List, Option, sum_by, File, full_in}
-use Rattle.fx_counted.specs.Words.{one_change, bias, Change, Outside, More, Less, View}
+use Rattle.std.specs.Prelude.{◌≡◌, ◌+◌, ◌/◌, ◌%◌}
+use Rattle.fx_counted.specs.Words.{ℕ, List, Option, sum_by, File, full_in, one_change, bias, Change}
+use Rattle.fx_counted.specs.Words.{Outside, More, Less, View}
 
 -- 1 between the beginning and the end of a change, otherwise 0
 abbrev pub in_change : Change → ℕ

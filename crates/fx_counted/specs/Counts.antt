@@ -1,5 +1,6 @@
 -- The number of look-ups in a history.
-use Rattle.fx_counted.specs.Words.{ℕ, ◌+◌, List, [], ◌∷◌, Some, Event, Action, Look}
+use Rattle.std.specs.Prelude.{◌+◌, ◌∷◌}
+use Rattle.fx_counted.specs.Words.{ℕ, List, [], Some, Event, Action, Look}
 use Rattle.fx_plain.specs.Step.{changed_at}
 
 -- by number, the look-ups that found its file, after one more action

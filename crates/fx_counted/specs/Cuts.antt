@@ -1,6 +1,7 @@
 -- The views of seats, by what all shared tables have.
-use Rattle.fx_counted.specs.Words.{◌≡◌, [], Contents, part_of_pass, Seats, Outside, Log, Start}
-use Rattle.fx_counted.specs.Words.{View, Between, Idle}
+use Rattle.std.specs.Prelude.{◌≡◌}
+use Rattle.fx_counted.specs.Words.{[], Contents, part_of_pass, Seats, Outside, Log, Start, View}
+use Rattle.fx_counted.specs.Words.{Between, Idle}
 use Rattle.fx_counted.specs.Passes.{new_log, opening_of}
 
 -- a table without slots

@@ -1,5 +1,6 @@
 -- The draw word: how many chains were drawn, and how many passes got `None`.
-use Rattle.fx_counted.specs.Words.{◌≡◌, ℕ, ◌+◌, ◌<◌, ◌≤◌, List, sum_by, numbers_up_to, once, View}
+use Rattle.std.specs.Prelude.{◌≡◌, ◌+◌, ◌<◌, ◌≤◌}
+use Rattle.fx_counted.specs.Words.{ℕ, List, sum_by, numbers_up_to, once, View}
 use Rattle.fx_counted.specs.Passes.{drawn_of, ended_of}
 use Rattle.fx_counted.specs.Phases.{Phase, unborn}
 

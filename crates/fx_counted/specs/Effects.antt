@@ -1,11 +1,11 @@
 -- The result of each kind of step for the pass that makes it.
-use Rattle.fx_counted.specs.Words.{◌≡◌, ◌≢◌, ℕ, zero, suc, ◌+◌, ◌<◌, nat_lt, if◌then◌else◌, List}
-use Rattle.fx_counted.specs.Words.{[], ◌∷◌, Option, Some, None, Step, rest, Identity, ◌▷◌, numbered}
-use Rattle.fx_counted.specs.Words.{File, Action, Look, Release, Put, Allocate, Full, Close, Use}
-use Rattle.fx_counted.specs.Words.{no_use, one_look, one_number, Adds, Draws, retiring, range_of}
-use Rattle.fx_counted.specs.Words.{next_number, takes_in, full_word_of, if_full, Change, Outside}
-use Rattle.fx_counted.specs.Words.{Same, More, Less, Log, Start, Work, Between, Placing, Emptying}
-use Rattle.fx_counted.specs.Words.{Idle, Holding, Retiring}
+use Rattle.std.specs.Prelude.{◌≡◌, ◌≢◌, ◌+◌, ◌<◌, if◌then◌else◌, ◌∷◌}
+use Rattle.fx_counted.specs.Words.{ℕ, zero, suc, nat_lt, List, [], Option, Some, None, Step, rest}
+use Rattle.fx_counted.specs.Words.{Identity, ◌▷◌, numbered, File, Action, Look, Release, Put}
+use Rattle.fx_counted.specs.Words.{Allocate, Full, Close, Use, no_use, one_look, one_number, Adds}
+use Rattle.fx_counted.specs.Words.{Draws, retiring, range_of, next_number, takes_in, full_word_of}
+use Rattle.fx_counted.specs.Words.{if_full, Change, Outside, Same, More, Less, Log, Start, Work}
+use Rattle.fx_counted.specs.Words.{Between, Placing, Emptying, Idle, Holding, Retiring}
 use Rattle.fx_counted.specs.Agrees.{Names}
 use Rattle.fx_counted.specs.Layout.{slot_of, home_place}
 use Rattle.fx_counted.specs.Passes.{Sat, opening_of, slots_of, IsNumber, state_after_all, pass_of}

@@ -1,5 +1,5 @@
 -- The first words of a shared table, from the table of one thread.
-use Rattle.fx_counted.specs.Words.{◌≡◌, ℕ, ◌+◌, ◌*◌, ◌<◌, ◌≤◌, List, Some, length, slice_index}
+use Rattle.std.specs.Prelude.{◌≡◌, ◌+◌, ◌*◌, ◌<◌, ◌≤◌, ℕ, List, Some, length, slice_index}
 use Rattle.fx_counted.specs.Words.{File, full_in, first_at, control_word_of}
 use Rattle.fx_plain.specs.State.{State}
 use Rattle.fx_counted.specs.Layout.{control_place, draw_place, slot_place, node_place, words_for}

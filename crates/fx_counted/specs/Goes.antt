@@ -1,6 +1,6 @@
 -- Several steps of a pass in a row.
-use Rattle.fx_counted.specs.Words.{◌≡◌, ℕ, ◌+◌, ◌≤◌, List, [], ◌∷◌, Action, Use, Adds, Change, Log}
-use Rattle.fx_counted.specs.Words.{Work}
+use Rattle.std.specs.Prelude.{◌≡◌, ◌+◌, ◌≤◌, ◌∷◌}
+use Rattle.fx_counted.specs.Words.{ℕ, List, [], Action, Use, Adds, Change, Log, Work}
 use Rattle.fx_counted.specs.Passes.{Sat, opening_of, pass_of, steps_of, doing_in}
 use Rattle.fx_counted.specs.Effects.{IsInside}
 

@@ -1,11 +1,11 @@
 -- Laws: each kind of step keeps the rule, whatever the table and the other passes are. The place of
 -- a step's word is a premise.
-use Rattle.fx_counted.specs.Words.{◌≡◌, ℕ, ◌+◌, ◌-◌, ◌%◌, ◌^◌, ◌<◌, ◌≤◌, ◌==◌, ◌⊎◌, false, [], ◌∷◌}
-use Rattle.fx_counted.specs.Words.{Some, None, step, Splits, Joins, Allows, Identity, File, Clear}
-use Rattle.fx_counted.specs.Words.{Take, range_of, name_in, born, one_change, slot_word_of}
-use Rattle.fx_counted.specs.Words.{retire_amount_of, without_first, first_alone, joined, spent}
-use Rattle.fx_counted.specs.Words.{Change, Outside, Same, Log, Start, View, Between, Placing}
-use Rattle.fx_counted.specs.Words.{Emptying, Idle, Holding, Retiring}
+use Rattle.std.specs.Prelude.{◌≡◌, ◌+◌, ◌-◌, ◌%◌, ◌^◌, ◌<◌, ◌≤◌, ◌==◌, ◌⊎◌, ◌∷◌}
+use Rattle.fx_counted.specs.Words.{ℕ, false, [], Some, None, step, Splits, Joins, Allows, Identity}
+use Rattle.fx_counted.specs.Words.{File, Clear, Take, range_of, name_in, born, one_change}
+use Rattle.fx_counted.specs.Words.{slot_word_of, retire_amount_of, without_first, first_alone}
+use Rattle.fx_counted.specs.Words.{joined, spent, Change, Outside, Same, Log, Start, View, Between}
+use Rattle.fx_counted.specs.Words.{Placing, Emptying, Idle, Holding, Retiring}
 use Rattle.fx_counted.specs.Agrees.{Agrees}
 use Rattle.fx_counted.specs.Control.{in_change, added, removed_by}
 use Rattle.fx_counted.specs.Cuts.{seats}

@@ -1,6 +1,6 @@
 -- The places of the lock-free table's words and open files.
-use Rattle.fx_counted.specs.Words.{◌≡◌, ◌≢◌, ℕ, ◌+◌, ◌-◌, ◌*◌, ◌/◌, ◌<◌, ◌≤◌, ◌⊎◌, nat_lt}
-use Rattle.fx_counted.specs.Words.{if◌then◌else◌, FIRST_CHAIN_NUMBER}
+use Rattle.std.specs.Prelude.{◌≡◌, ◌≢◌, ◌+◌, ◌-◌, ◌*◌, ◌/◌, ◌<◌, ◌≤◌, ◌⊎◌, if◌then◌else◌}
+use Rattle.fx_counted.specs.Words.{ℕ, nat_lt, FIRST_CHAIN_NUMBER}
 
 -- The control word and the draw word have a cache line of their own, and so has each slot. A slot's
 -- word is next to the node word of the number that the slot has at first.

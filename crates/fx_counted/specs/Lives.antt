@@ -1,8 +1,8 @@
 -- Passes as they are handed out and gathered.
-use Rattle.fx_counted.specs.Words.{◌≡◌, ℕ, true, false, List, [], flat_map, Option, Seat, Identity}
-use Rattle.fx_counted.specs.Words.{Contents, state_of, IsSettled, HasSameFiles, PASS_LOOKS}
-use Rattle.fx_counted.specs.Words.{first_view, CountedPass, Outside, Log, Start, View, Between}
-use Rattle.fx_counted.specs.Words.{Idle}
+use Rattle.std.specs.Prelude.{◌≡◌, ℕ, true, false, List, [], flat_map, Option}
+use Rattle.fx_counted.specs.Words.{Seat, Identity, Contents, state_of, IsSettled, HasSameFiles}
+use Rattle.fx_counted.specs.Words.{PASS_LOOKS, first_view, CountedPass, Outside, Log, Start, View}
+use Rattle.fx_counted.specs.Words.{Between, Idle}
 use Rattle.fx_counted.specs.Agrees.{Agrees}
 use Rattle.fx_counted.specs.Cuts.{seats}
 use Rattle.fx_counted.specs.Passes.{Shared, state_after_all}

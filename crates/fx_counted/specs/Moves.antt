@@ -1,6 +1,6 @@
 -- A pass that has the place of a number.
-use Rattle.fx_counted.specs.Words.{◌≡◌, ℕ, ◌<◌, ◌⊎◌, [], ◌∷◌, Option, Identity, Log, Start, Between}
-use Rattle.fx_counted.specs.Words.{Placing, Emptying, Idle}
+use Rattle.std.specs.Prelude.{◌≡◌, ◌<◌, ◌⊎◌, ◌∷◌, ℕ, [], Option}
+use Rattle.fx_counted.specs.Words.{Identity, Log, Start, Between, Placing, Emptying, Idle}
 use Rattle.fx_counted.specs.Laws.{HasPass, place_of}
 use Rattle.fx_counted.specs.Passes.{Sat, IsNumber, next_in}
 

@@ -1,9 +1,10 @@
 -- The first words and places of a lock-free table.
-use Rattle.fx_counted.specs.Words.{◌≡◌, ℕ, ◌+◌, ◌<◌, ◌≤◌, List, [], length, slice_index, Option}
-use Rattle.fx_counted.specs.Words.{Some, None, opening, Identity, Contents, state_of, IsSettled}
-use Rattle.fx_counted.specs.Words.{File, MOST_SLOTS, CHAIN_NUMBERS, FIRST_CHAIN_NUMBER, MAX_CHAINS}
-use Rattle.fx_counted.specs.Words.{MAX_PASSES, range_of, born, slot_word_of, control_word_of}
-use Rattle.fx_counted.specs.Words.{full_in, first_view, Start}
+use Rattle.std.specs.Prelude.{◌≡◌, ◌+◌, ◌<◌, ◌≤◌}
+use Rattle.fx_counted.specs.Words.{ℕ, List, [], length, slice_index, Option, Some, None, opening}
+use Rattle.fx_counted.specs.Words.{Identity, Contents, state_of, IsSettled, File, MOST_SLOTS}
+use Rattle.fx_counted.specs.Words.{CHAIN_NUMBERS, FIRST_CHAIN_NUMBER, MAX_CHAINS, MAX_PASSES}
+use Rattle.fx_counted.specs.Words.{range_of, born, slot_word_of, control_word_of, full_in}
+use Rattle.fx_counted.specs.Words.{first_view, Start}
 use Rattle.fx_counted.specs.Agrees.{Agrees}
 use Rattle.fx_counted.specs.Cuts.{seats}
 use Rattle.fx_counted.specs.Layout.{control_place, draw_place, slot_place, node_place, words_for}

@@ -1,9 +1,9 @@
 -- Passes, as views show them.
-use Rattle.fx_counted.specs.Words.{ℕ, ◌-◌, ◌*◌, ◌==◌, false, List, [], ◌∷◌, Option, Some, None}
-use Rattle.fx_counted.specs.Words.{sum_by, count_by, if◌then◌else◌, Me, Identity, part_of_pass}
-use Rattle.fx_counted.specs.Words.{File, Event, Opening, state_at, size_of, numbers_up_to, PassView}
-use Rattle.fx_counted.specs.Words.{PASS_LOOKS, activity_of, Log, Start, View, Work, Between}
-use Rattle.fx_counted.specs.Words.{Placing, Holding}
+use Rattle.std.specs.Prelude.{◌-◌, ◌*◌, ◌==◌, ◌∷◌, if◌then◌else◌}
+use Rattle.fx_counted.specs.Words.{ℕ, false, List, [], Option, Some, None, sum_by, count_by, Me}
+use Rattle.fx_counted.specs.Words.{Identity, part_of_pass, File, Event, Opening, state_at, size_of}
+use Rattle.fx_counted.specs.Words.{numbers_up_to, PassView, PASS_LOOKS, activity_of, Log, Start}
+use Rattle.fx_counted.specs.Words.{View, Work, Between, Placing, Holding}
 use Rattle.atomic_table.specs.Table.{State as TableState}
 use Rattle.fx_plain.specs.State.{State}
 use Rattle.fx_table.specs.declared.values.Doing.{Doing}

@@ -1,5 +1,6 @@
 -- The phases of a file's number.
-use Rattle.fx_counted.specs.Words.{ℕ, ◌+◌, Option, Some, None, Identity}
+use Rattle.std.specs.Prelude.{◌+◌}
+use Rattle.fx_counted.specs.Words.{ℕ, Option, Some, None, Identity}
 
 -- the phase of a number
 pub data Phase : Type 0 where

@@ -1,5 +1,5 @@
 -- A pass that searches the allocation range for an empty slot.
-use Rattle.fx_counted.specs.Words.{◌≡◌, ℕ, ◌<◌, Bool, true, false, [], ◌∷◌, List, Option, Some}
+use Rattle.std.specs.Prelude.{◌≡◌, ◌<◌, ◌∷◌, ℕ, Bool, true, false, [], List, Option, Some}
 use Rattle.fx_counted.specs.Words.{Seat, Identity, ◌▷◌, numbered, Action, Allocate, Full, Use}
 use Rattle.fx_counted.specs.Words.{no_use, one_number, Change, Outside, Same, More, Start, View}
 use Rattle.fx_counted.specs.Words.{Work, Between, Placing, Idle}

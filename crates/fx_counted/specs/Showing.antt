@@ -1,5 +1,6 @@
 -- Shown histories, and views that learn from them.
-use Rattle.fx_counted.specs.Words.{◌≡◌, List, [], IsSeenBy, Event, no_use, View}
+use Rattle.std.specs.Prelude.{◌≡◌}
+use Rattle.fx_counted.specs.Words.{List, [], IsSeenBy, Event, no_use, View}
 use Rattle.fx_counted.specs.Passes.{first_log}
 use Rattle.fx_counted.specs.Goes.{Goes}
 use Rattle.fx_counted.specs.declared.shown.CountedSeen.{CountedSeen}

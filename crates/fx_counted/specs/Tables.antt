@@ -1,7 +1,7 @@
 -- A lock-free table and its passes, as their callers see them.
-use Rattle.fx_counted.specs.Words.{◌≡◌, ℕ, ◌*◌, ◌≤◌, Bool, true, false, [], ◌∷◌, CHAIN_NUMBERS}
-use Rattle.fx_counted.specs.Words.{Opening, PassView, IsFront, Outside, Log, Start, View, Work}
-use Rattle.fx_counted.specs.Words.{Between, Idle, CountedPass}
+use Rattle.std.specs.Prelude.{◌≡◌, ◌*◌, ◌≤◌, ◌∷◌, ℕ, Bool, true, false, []}
+use Rattle.fx_counted.specs.Words.{CHAIN_NUMBERS, Opening, PassView, IsFront, Outside, Log, Start}
+use Rattle.fx_counted.specs.Words.{View, Work, Between, Idle, CountedPass}
 use Rattle.atomic_table.specs.Seated.{TableId}
 use Rattle.fx_counted.specs.Passes.{opening_of, pass_of, steps_of, chain_in}
 use Rattle.fx_counted.specs.Effects.{IsInside}

@@ -1,7 +1,8 @@
 //! The calls of a pass that never wait, allocate or retry: each makes at most as many atomic steps
 //! as its clause says.
-ghost use Rattle.fx_counted.specs.Words.{◌≡◌, ◌+◌, ◌<◌, ◌≤◌, true, Option, option_map, File, Draws, Looked, Released, Placed, Cleared, Taken};
-ghost use Rattle.fx_counted.specs.Words.{HasRetired, size_of, IsIdle, IsHoldOf, IsRetiredOf, retired_of, next_number, takes_in};
+ghost use Rattle.std.specs.Prelude.{◌≡◌, ◌+◌, ◌<◌, ◌≤◌};
+ghost use Rattle.fx_counted.specs.Words.{true, Option, option_map, File, Draws, Looked, Released, Placed, Cleared, Taken, HasRetired, size_of};
+ghost use Rattle.fx_counted.specs.Words.{IsIdle, IsHoldOf, IsRetiredOf, retired_of, next_number, takes_in};
 ghost use Rattle.fx_table.specs.Settling.{DrawsNext};
 ghost use Rattle.fx_counted.specs.Agrees.{Names};
 ghost use Rattle.fx_counted.specs.Tables.{view_of, steps_taken, opening_of_table, IsPassOfTable};

@@ -1,5 +1,6 @@
 //! Closing a table.
-ghost use Rattle.fx_counted.specs.Words.{◌≡◌, ◌++◌, length, map, reverse, All, ClosesTable, IsIdle};
+ghost use Rattle.std.specs.Prelude.{◌≡◌, ◌++◌};
+ghost use Rattle.fx_counted.specs.Words.{length, map, reverse, All, ClosesTable, IsIdle};
 ghost use Rattle.fx_counted.specs.Lives.{IsIdleSeatOf, logs_in, AllAreIdle, Leaves};
 ghost use Rattle.fx_counted.specs.Tables.{view_of, opening_of_table, IsPassOfTable};
 

@@ -1,5 +1,6 @@
 //! The implementation of `FileTable` for the lock-free table. Of its calls only `put_any` may wait.
-ghost use Rattle.fx_counted.specs.Words.{◌≡◌, length, map, All, refl, ℕ, ◌≤◌, ClosesTable, IsIdle, MOST_SLOTS};
+ghost use Rattle.std.specs.Prelude.{◌≡◌, ◌≤◌};
+ghost use Rattle.fx_counted.specs.Words.{length, map, All, refl, ℕ, ClosesTable, IsIdle, MOST_SLOTS};
 ghost use Rattle.fx_counted.specs.Tables.{view_of, opening_of_table, IsPassOfTable};
 ghost use mathlib.Core.Path.{subst};
 

@@ -1,5 +1,6 @@
 //! The search for an empty slot of the allocation range.
-ghost use Rattle.fx_counted.specs.Words.{◌≡◌, ◌<◌, true, IfSome, None, Outside, Same, More};
+ghost use Rattle.std.specs.Prelude.{◌≡◌, ◌<◌};
+ghost use Rattle.fx_counted.specs.Words.{true, IfSome, None, Outside, Same, More};
 ghost use Rattle.fx_counted.specs.Changing.{InRange};
 ghost use Rattle.fx_counted.specs.Searching.{IsSearching, Tries, HasAllocated, StillPlaces, HasFoundAllFull, RoundEnds};
 

@@ -1,6 +1,7 @@
 //! Changes of slots in the allocation range, which the control word counts: the pass begins a
 //! change before it writes the slot's word, and ends it afterwards.
-ghost use Rattle.fx_counted.specs.Words.{◌≡◌, [], no_use, Outside};
+ghost use Rattle.std.specs.Prelude.{◌≡◌};
+ghost use Rattle.fx_counted.specs.Words.{[], no_use, Outside};
 ghost use Rattle.fx_counted.specs.Changing.{IsAtWork, InRange, begun, HasToReport};
 ghost use Rattle.fx_counted.specs.Goes.{Goes};
 

@@ -1,7 +1,8 @@
 //! The law of each kind of step: if the rule holds before the step, it holds after it, whatever the
 //! table and the other passes are. A swap has three laws, since it is an installation, a clear or a
 //! take. Each law is the contract of a function with an empty body.
-ghost use Rattle.fx_counted.specs.Words.{ℕ, ◌≤◌, MOST_SLOTS};
+ghost use Rattle.std.specs.Prelude.{◌≤◌};
+ghost use Rattle.fx_counted.specs.Words.{ℕ, MOST_SLOTS};
 ghost use Rattle.fx_counted.specs.Layout.{PlacesAreInside, PlacesAreApart};
 ghost use Rattle.fx_counted.specs.Bounds.{WordsAreBounded};
 ghost use Rattle.fx_counted.specs.Opens.{OpeningKeeps};

@@ -1,7 +1,8 @@
 //! The places of a table's words and open files. The words that a pass changes at one call are on a
 //! cache line that no other slot's calls change: a slot's word is next to the node word of the
 //! number that the slot has at first, and nothing else is on that line.
-ghost use Rattle.fx_counted.specs.Words.{◌≡◌, ◌<◌, ◌≤◌, MOST_SLOTS};
+ghost use Rattle.std.specs.Prelude.{◌≡◌, ◌<◌, ◌≤◌};
+ghost use Rattle.fx_counted.specs.Words.{MOST_SLOTS};
 ghost use Rattle.fx_counted.specs.Layout.{control_place, draw_place, slot_place, node_place, words_for, home_place, homes_for, HasNode};
 
 use fx_table::{CHAIN_NUMBERS, FIRST_CHAIN_NUMBER, MAX_CHAINS};

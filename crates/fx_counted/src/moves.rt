@@ -1,6 +1,7 @@
 //! Putting an open file into the place of its number, and taking it out, while the seat's pass has
 //! the place.
-ghost use Rattle.fx_counted.specs.Words.{◌≡◌, [], Some, no_use, Between, Placing, Idle};
+ghost use Rattle.std.specs.Prelude.{◌≡◌};
+ghost use Rattle.fx_counted.specs.Words.{[], Some, no_use, Between, Placing, Idle};
 ghost use Rattle.fx_base.specs.declared.open_file.Closed.{Closed};
 ghost use Rattle.fx_counted.specs.Moves.{HasPlace, MayPlace};
 ghost use Rattle.fx_counted.specs.Effects.{Stepped};

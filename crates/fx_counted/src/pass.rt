@@ -1,5 +1,5 @@
 //! The passes of the lock-free table.
-ghost use Rattle.fx_counted.specs.Words.{◌≡◌};
+ghost use Rattle.std.specs.Prelude.{◌≡◌};
 ghost use Rattle.fx_counted.specs.Lives.{IsNewPass};
 
 use crate::view::View;

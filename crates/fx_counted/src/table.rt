@@ -1,6 +1,6 @@
 //! The lock-free table.
-ghost use Rattle.fx_counted.specs.Words.{◌≡◌, ◌≤◌, ◌+◌, ◌*◌, CHAIN_NUMBERS, MAX_CHAINS, MAX_PASSES, size_of, range_of, state_of, IsPrepared};
-ghost use Rattle.fx_counted.specs.Words.{MOST_SLOTS, IsShellOf};
+ghost use Rattle.std.specs.Prelude.{◌≡◌, ◌≤◌, ◌+◌, ◌*◌};
+ghost use Rattle.fx_counted.specs.Words.{CHAIN_NUMBERS, MAX_CHAINS, MAX_PASSES, size_of, range_of, state_of, IsPrepared, MOST_SLOTS, IsShellOf};
 ghost use Rattle.fx_counted.specs.Layout.{words_for, homes_for};
 ghost use Rattle.fx_counted.specs.Passes.{opening_of};
 

@@ -1,6 +1,7 @@
 -- The rule of a lasting table: words, places and views agree with the state that one legal history
 -- leads to.
-use Rattle.fx_lasting.specs.Words.{◌≡◌, ℕ, ◌<◌, List, slice_index, Event, Start}
+use Rattle.std.specs.Prelude.{◌≡◌, ◌<◌}
+use Rattle.fx_lasting.specs.Words.{ℕ, List, slice_index, Event, Start}
 use Rattle.fx_lasting.specs.range.Groups.{RangeCounts}
 use Rattle.fx_lasting.specs.slots.Deeds.{Deed}
 use Rattle.fx_lasting.specs.life.Layout.{slot_place}

@@ -1,5 +1,5 @@
 -- The seat of one pass, between two steps of a call.
-use Rattle.fx_lasting.specs.Words.{◌≡◌, ℕ, ◌<◌, ◌≤◌, ◌⊎◌, Bool, true, false, List, [], ◌∷◌, Option}
+use Rattle.std.specs.Prelude.{◌≡◌, ◌<◌, ◌≤◌, ◌⊎◌, ◌∷◌, ℕ, Bool, true, false, List, [], Option}
 use Rattle.fx_lasting.specs.Words.{Identity, File, Log, Start, Work, Yielding, Counted, Keeping}
 use Rattle.fx_lasting.specs.Laws.{HasPass, HasItsPlace}
 use Rattle.fx_lasting.specs.Passes.{Sat, HasNoFile, IsHistory}

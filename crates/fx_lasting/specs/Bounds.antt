@@ -1,6 +1,6 @@
 -- The bounds of a lasting table's words.
-use Rattle.fx_lasting.specs.Words.{◌≡◌, ℕ, ◌+◌, ◌%◌, ◌^◌, ◌<◌, ◌≤◌, slice_index, File, group_place}
-use Rattle.fx_lasting.specs.Words.{groups_in, Round, Start, View}
+use Rattle.std.specs.Prelude.{◌≡◌, ◌+◌, ◌%◌, ◌^◌, ◌<◌, ◌≤◌}
+use Rattle.fx_lasting.specs.Words.{ℕ, slice_index, File, group_place, groups_in, Round, Start, View}
 use Rattle.fx_lasting.specs.Agrees.{Agrees}
 use Rattle.fx_lasting.specs.life.Layout.{slot_place}
 use Rattle.fx_lasting.specs.Fields.{full_name_in, count_in, heat_in, cold_takes}

@@ -1,5 +1,5 @@
 -- Counts over the numbers of passes.
-use Rattle.fx_lasting.specs.Words.{ℕ, zero, suc, ◌+◌, ◌==◌, Bool, if◌then◌else◌}
+use Rattle.std.specs.Prelude.{◌+◌, ◌==◌, if◌then◌else◌, ℕ, zero, suc, Bool}
 
 -- of how many of the passes 1 to n this holds
 abbrev pub tally : (ℕ → Bool) → ℕ → ℕ

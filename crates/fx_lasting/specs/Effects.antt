@@ -1,16 +1,15 @@
 -- Each kind of step: its effect on the pass that makes it.
-use Rattle.fx_lasting.specs.Words.{◌≡◌, ◌≢◌, ℕ, ◌+◌, ◌-◌, ◌*◌, ◌/◌, ◌<◌, ◌==◌, ◌⊎◌, ◌↔◌, nat_lt}
-use Rattle.fx_lasting.specs.Words.{if◌then◌else◌, min, ◌≤◌, Bool, true, false, List, [], slice_set}
-use Rattle.fx_lasting.specs.Words.{◌∷◌, ◌++◌, map, count_by, Option, Some, IsSome, Step, rest}
-use Rattle.fx_lasting.specs.Words.{Identity, ◌▷◌, IsSeenBy, part_of_pass, numbered, File, Event}
-use Rattle.fx_lasting.specs.Words.{Action, Look, Release, Put, Allocate, Close, Take, entry_in}
-use Rattle.fx_lasting.specs.Words.{name_in, group_at, group_of, account, CountsAll, HasQuestionOf}
-use Rattle.fx_lasting.specs.Words.{RANGE_END, Survey, Covered, Change, Outside, Lowered, Inside}
-use Rattle.fx_lasting.specs.Words.{Glance, Hot, Cold, Heating, Log, Placement, Round, Start, Work}
-use Rattle.fx_lasting.specs.Words.{Announced, Counted, Guarded, Owing, Yielding, Searching, Placing}
-use Rattle.fx_lasting.specs.Words.{Renewing, Nearing, Relieving, Emptying, Keeping}
-use Rattle.fx_lasting.specs.Words.{Nothing as Unlabelled}
-use Rattle.std.specs.Prelude.{None}
+use Rattle.std.specs.Prelude.{◌≡◌, ◌≢◌, ◌+◌, ◌-◌, ◌*◌, ◌/◌, ◌<◌, ◌==◌, ◌⊎◌, ◌↔◌, if◌then◌else◌, ◌≤◌}
+use Rattle.std.specs.Prelude.{◌∷◌, ◌++◌, None}
+use Rattle.fx_lasting.specs.Words.{ℕ, nat_lt, min, Bool, true, false, List, [], slice_set, map}
+use Rattle.fx_lasting.specs.Words.{count_by, Option, Some, IsSome, Step, rest, Identity, ◌▷◌}
+use Rattle.fx_lasting.specs.Words.{IsSeenBy, part_of_pass, numbered, File, Event, Action, Look}
+use Rattle.fx_lasting.specs.Words.{Release, Put, Allocate, Close, Take, entry_in, name_in, group_at}
+use Rattle.fx_lasting.specs.Words.{group_of, account, CountsAll, HasQuestionOf, RANGE_END, Survey}
+use Rattle.fx_lasting.specs.Words.{Covered, Change, Outside, Lowered, Inside, Glance, Hot, Cold}
+use Rattle.fx_lasting.specs.Words.{Heating, Log, Placement, Round, Start, Work, Announced, Counted}
+use Rattle.fx_lasting.specs.Words.{Guarded, Owing, Yielding, Searching, Placing, Renewing, Nearing}
+use Rattle.fx_lasting.specs.Words.{Relieving, Emptying, Keeping, Nothing as Unlabelled}
 use Rattle.fx_plain.specs.declared.event.Action.TheVariants.{Full}
 use Rattle.fx_lasting.specs.slots.SlotAgrees.{Names}
 use Rattle.fx_lasting.specs.nodes.Labels.{label_of, as_written}

@@ -1,8 +1,7 @@
 -- The short runs of steps that calls are made of: what they return, and the pass after them.
-use Rattle.fx_lasting.specs.Words.{◌≡◌, ℕ, Bool, true, false, List, [], Option, Some, Identity, ◌▷◌}
-use Rattle.fx_lasting.specs.Words.{File, Action, Look, Release, Close, Cold, Work, Emptying}
-use Rattle.fx_lasting.specs.Words.{Keeping}
-use Rattle.std.specs.Prelude.{None}
+use Rattle.std.specs.Prelude.{◌≡◌, None, ℕ, Bool, true, false, List, [], Option, Some}
+use Rattle.fx_lasting.specs.Words.{Identity, ◌▷◌, File, Action, Look, Release, Close, Cold, Work}
+use Rattle.fx_lasting.specs.Words.{Emptying, Keeping}
 use Rattle.fx_lasting.specs.Effects.{announcing, guarding}
 use Rattle.fx_lasting.specs.Passes.{Sat}
 use Rattle.fx_lasting.specs.Runs.{Runs}

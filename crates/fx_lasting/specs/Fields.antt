@@ -1,7 +1,6 @@
 -- The parts of words, as numbers.
-use Rattle.fx_lasting.specs.Words.{◌≡◌, ℕ, ◌+◌, ◌-◌, ◌*◌, ◌/◌, ◌%◌, ◌^◌, ◌<◌, ◌≤◌, ◌==◌}
-use Rattle.fx_lasting.specs.Words.{if◌then◌else◌, Option, bit_at, name_in, named, slot_word_of}
-use Rattle.fx_lasting.specs.Words.{bit_of}
+use Rattle.std.specs.Prelude.{◌≡◌, ◌+◌, ◌-◌, ◌*◌, ◌/◌, ◌%◌, ◌^◌, ◌<◌, ◌≤◌, ◌==◌, if◌then◌else◌}
+use Rattle.fx_lasting.specs.Words.{ℕ, Option, bit_at, name_in, named, slot_word_of, bit_of}
 
 -- the name and the entry of a slot's word are those of `fx_words`. The 32 bits below them count the
 -- passes that heated the slot, 11 bits, say whether the slot is full, one bit, and count its takes,

@@ -1,14 +1,13 @@
 -- The kinds of step keep the rule, whatever the table and the other passes are. A law takes the
 -- place of its word as a premise.
-use Rattle.fx_lasting.specs.Words.{◌≡◌, ◌≢◌, ℕ, ◌+◌, ◌-◌, ◌*◌, ◌%◌, ◌^◌, ◌<◌, ◌≤◌, ◌==◌, ◌⊎◌, true}
-use Rattle.fx_lasting.specs.Words.{false, [], ◌∷◌, Some, bit_and, step, Splits, Joins, Allows}
+use Rattle.std.specs.Prelude.{◌≡◌, ◌≢◌, ◌+◌, ◌-◌, ◌*◌, ◌%◌, ◌^◌, ◌<◌, ◌≤◌, ◌==◌, ◌⊎◌, ◌∷◌, None}
+use Rattle.fx_lasting.specs.Words.{ℕ, true, false, [], Some, bit_and, step, Splits, Joins, Allows}
 use Rattle.fx_lasting.specs.Words.{Identity, File, is_in, question_place, group_place, groups_in}
 use Rattle.fx_lasting.specs.Words.{group_of, uncounted, bit_of, lowered, raised, with_question}
 use Rattle.fx_lasting.specs.Words.{MOST_INSTALLING, Covered, Change, Outside, Lowered, Inside, Hot}
 use Rattle.fx_lasting.specs.Words.{Cold, Heating, Log, Placement, Round, Start, View, Work}
 use Rattle.fx_lasting.specs.Words.{Announced, Counted, Guarded, Owing, Yielding, Searching, Placing}
 use Rattle.fx_lasting.specs.Words.{Emptying, Keeping, Written, Nothing as Unlabelled, Tag}
-use Rattle.std.specs.Prelude.{None}
 use Rattle.fx_lasting.specs.Agrees.{Agrees}
 use Rattle.fx_lasting.specs.holds.HoldsAgree.{IsIdleIn}
 use Rattle.fx_lasting.specs.nodes.Labels.{label_of, as_written}

@@ -1,11 +1,10 @@
 -- Views of passes, and their sums.
-use Rattle.fx_lasting.specs.Words.{◌≡◌, ℕ, ◌%◌, ◌⊎◌, ◌==◌, not, nat_lt, List, [], ◌∷◌, map, Option}
-use Rattle.fx_lasting.specs.Words.{replicate, Some, length, if◌then◌else◌, Bool, true, false, Me}
-use Rattle.fx_lasting.specs.Words.{Identity, Contents, state_of, state_after, action_of, IsLegal}
-use Rattle.fx_lasting.specs.Words.{Event, File, Log, Start, View, Watch, MOST_SLOTS, Work, Counted}
-use Rattle.fx_lasting.specs.Words.{Guarded, Yielding, Searching, Placing, Renewing, Nearing}
-use Rattle.fx_lasting.specs.Words.{Relieving, Placement}
-use Rattle.std.specs.Prelude.{None}
+use Rattle.std.specs.Prelude.{◌≡◌, ◌%◌, ◌⊎◌, ◌==◌, ◌∷◌, if◌then◌else◌, None}
+use Rattle.fx_lasting.specs.Words.{ℕ, not, nat_lt, List, [], map, Option, replicate, Some, length}
+use Rattle.fx_lasting.specs.Words.{Bool, true, false, Me, Identity, Contents, state_of, state_after}
+use Rattle.fx_lasting.specs.Words.{action_of, IsLegal, Event, File, Log, Start, View, Watch}
+use Rattle.fx_lasting.specs.Words.{MOST_SLOTS, Work, Counted, Guarded, Yielding, Searching, Placing}
+use Rattle.fx_lasting.specs.Words.{Renewing, Nearing, Relieving, Placement}
 use Rattle.atomic_table.specs.Table.{State as TableState}
 use Rattle.fx_plain.specs.State.{State, opening}
 use Rattle.fx_lasting.specs.life.Layout.{stock_for, stock_of, nodes_for, hold_place, node_place}

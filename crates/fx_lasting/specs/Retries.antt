@@ -1,8 +1,8 @@
 -- Calls that a pass makes again, since another pass changed the slot.
-use Rattle.fx_lasting.specs.Words.{ℕ, zero, suc, ◌≡◌, ◌+◌, ◌<◌, ◌≤◌, ◌⊎◌, ◌==◌, ◌&&◌, not, Bool}
-use Rattle.fx_lasting.specs.Words.{false, Option, Err, List, [], ◌∷◌, length, count_by, Identity}
-use Rattle.fx_lasting.specs.Words.{IsSeenBy, Action, Put, Clear, Take, Allocate, Event, Key, Missed}
-use Rattle.fx_lasting.specs.Words.{LastingPass, Start}
+use Rattle.std.specs.Prelude.{◌≡◌, ◌+◌, ◌<◌, ◌≤◌, ◌⊎◌, ◌==◌, ◌&&◌, ◌∷◌}
+use Rattle.fx_lasting.specs.Words.{ℕ, zero, suc, not, Bool, false, Option, Err, List, [], length}
+use Rattle.fx_lasting.specs.Words.{count_by, Identity, IsSeenBy, Action, Put, Clear, Take, Allocate}
+use Rattle.fx_lasting.specs.Words.{Event, Key, Missed, LastingPass, Start}
 use Rattle.fx_lasting.specs.Laws.{IsInRange}
 use Rattle.fx_lasting.specs.Passes.{range_at_start}
 use Rattle.fx_lasting.specs.Tables.{opening_of, view_of, changes_at, meetings, MeetsMore}

@@ -1,10 +1,10 @@
 -- A lasting table and its passes, as their callers see them.
-use Rattle.fx_lasting.specs.Words.{◌≡◌, ℕ, ◌+◌, ◌<◌, ◌≤◌, ◌^◌, ◌⊎◌, nat_lt, if◌then◌else◌, Bool}
-use Rattle.fx_lasting.specs.Words.{true, false, List, [], map, TableId, part_of_pass, File, Opening}
-use Rattle.fx_lasting.specs.Words.{lasting_opening, PassView, IsFront, new_passes, Holding, Hold}
-use Rattle.fx_lasting.specs.Words.{Retired, groups_in, Covered, Outside, Start, View, Work}
-use Rattle.fx_lasting.specs.Words.{Searching, Counted, Guarded, Renewing, Relieving, Keeping}
-use Rattle.fx_lasting.specs.Words.{LastingPass}
+use Rattle.std.specs.Prelude.{◌≡◌, ◌+◌, ◌<◌, ◌≤◌, ◌^◌, ◌⊎◌, if◌then◌else◌}
+use Rattle.fx_lasting.specs.Words.{ℕ, nat_lt, Bool, true, false, List, [], map, TableId}
+use Rattle.fx_lasting.specs.Words.{part_of_pass, File, Opening, lasting_opening, PassView, IsFront}
+use Rattle.fx_lasting.specs.Words.{new_passes, Holding, Hold, Retired, groups_in, Covered, Outside}
+use Rattle.fx_lasting.specs.Words.{Start, View, Work, Searching, Counted, Guarded, Renewing}
+use Rattle.fx_lasting.specs.Words.{Relieving, Keeping, LastingPass}
 use Rattle.fx_table.specs.declared.limits.TheConstants.{CHAIN_NUMBERS, PASS_LOOKS}
 use Rattle.fx_table.specs.declared.values.Doing.{Doing}
 use Rattle.fx_table.specs.declared.values.Doing.TheVariants.{Idle as DoesNothing}

@@ -1,6 +1,6 @@
 -- The history of all passes of a table, and who uses a removed file, between any two steps.
-use Rattle.fx_lasting.specs.Words.{◌≡◌, ◌⊎◌, ℕ, ◌<◌, ◌≤◌, List, [], ◌∷◌, length, Some, IsLegal}
-use Rattle.fx_lasting.specs.Words.{IsSeenBy, part_of_pass, Event, File, start_of, state_at}
+use Rattle.std.specs.Prelude.{◌≡◌, ◌⊎◌, ◌<◌, ◌≤◌, ◌∷◌, ℕ, List, [], length, Some}
+use Rattle.fx_lasting.specs.Words.{IsLegal, IsSeenBy, part_of_pass, Event, File, start_of, state_at}
 use Rattle.fx_lasting.specs.Words.{PassView, Holding, Hold, Log, Start, View, Work, Announced}
 use Rattle.fx_lasting.specs.Words.{Counted, Guarded, Nearing, Owing, Relieving, Renewing, Yielding}
 use Rattle.fx_plain.specs.Laws.{IsStart, closes_of}

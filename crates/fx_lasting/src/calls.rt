@@ -1,8 +1,9 @@
 //! The calls of a pass that never wait, allocate or retry: each makes at most as many atomic steps
 //! as its clause says. They are inlined into their caller with all that they call: if a withdrawal
 //! were a call, each look-up would have a stack frame. These hints change no proof.
-ghost use Rattle.fx_lasting.specs.Words.{◌≡◌, ◌≢◌, ◌+◌, ◌*◌, ◌-◌, ◌/◌, ◌<◌, ◌≤◌, false, Option, option_map, Err, File, Looked, LookedUp, Released};
-ghost use Rattle.fx_lasting.specs.Words.{Placed, HasRetired, size_of, IsIdle, IsHoldOf, IsRetiredOf, Spent, Hot, Cold};
+ghost use Rattle.std.specs.Prelude.{◌≡◌, ◌≢◌, ◌+◌, ◌*◌, ◌-◌, ◌/◌, ◌<◌, ◌≤◌};
+ghost use Rattle.fx_lasting.specs.Words.{false, Option, option_map, Err, File, Looked, LookedUp, Released, Placed, HasRetired, size_of, IsIdle};
+ghost use Rattle.fx_lasting.specs.Words.{IsHoldOf, IsRetiredOf, Spent, Hot, Cold};
 ghost use Rattle.fx_table.specs.Calls.{Taken};
 ghost use Rattle.fx_lasting.specs.Fields.{count_in, full_name_in};
 ghost use Rattle.fx_lasting.specs.Tables.{view_of, MeetsMore, steps_taken, retired_at, opening_of_table, IsPassOfTable, IsSeatOfTable};

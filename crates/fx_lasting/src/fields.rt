@@ -1,7 +1,7 @@
 //! The parts of words that `fx_words` doesn't have: whether a slot is full, its heat and takes, and
 //! what a retirement subtracts.
-ghost use Rattle.fx_lasting.specs.Words.{◌≡◌, ◌≢◌, ◌+◌, ◌-◌, ◌<◌, ◌≤◌, ◌^◌, ◌↔◌, IsTrue, true, false, last_node, name_in};
-ghost use Rattle.std.specs.Prelude.{None};
+ghost use Rattle.std.specs.Prelude.{◌≡◌, ◌≢◌, ◌+◌, ◌-◌, ◌<◌, ◌≤◌, ◌^◌, ◌↔◌, None};
+ghost use Rattle.fx_lasting.specs.Words.{IsTrue, true, false, last_node, name_in};
 ghost use Rattle.fx_lasting.specs.Fields.{full_name_in, file_node_in, file_word_of, empty_word_of, without_file, count_in, IsHot, announced, charge};
 ghost use Rattle.fx_lasting.specs.Fields.{retirement_amount, cold_takes, MayCarry};
 

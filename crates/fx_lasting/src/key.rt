@@ -1,5 +1,5 @@
 //! Keys: the name of a file by its slot and its number.
-ghost use Rattle.fx_lasting.specs.Words.{◌≡◌};
+ghost use Rattle.std.specs.Prelude.{◌≡◌};
 ghost use Rattle.fx_lasting.specs.slots.ByKey.{bits_of_key, key_at, key_of_bits};
 
 use crate::life::layout::MOST_SLOTS;

@@ -1,6 +1,7 @@
 //! The law of each kind of step: where the rule holds before the step, it holds after it, whatever
 //! the table and the other passes are.
-ghost use Rattle.fx_lasting.specs.Words.{◌≡◌, ◌≤◌, ℕ, last_node, MOST_SLOTS, MOST_NODES, MOST_PASSES, MOST_INSTALLING};
+ghost use Rattle.std.specs.Prelude.{◌≡◌, ◌≤◌};
+ghost use Rattle.fx_lasting.specs.Words.{ℕ, last_node, MOST_SLOTS, MOST_NODES, MOST_PASSES, MOST_INSTALLING};
 ghost use Rattle.fx_lasting.specs.Bounds.{WordsAreBounded};
 ghost use Rattle.fx_lasting.specs.holds.Holds.{NodesAreOfOneFile, HeldNodesNameFiles};
 ghost use Rattle.fx_lasting.specs.slots.ByKey.{KeysAreOfOneFile, KeysComeBack};

@@ -1,5 +1,5 @@
 //! The passes of the table.
-ghost use Rattle.fx_lasting.specs.Words.{◌≡◌};
+ghost use Rattle.std.specs.Prelude.{◌≡◌};
 ghost use Rattle.fx_lasting.specs.life.Lives.{IsNewPass};
 
 use crate::range::recent::Emptied;

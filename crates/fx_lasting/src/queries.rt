@@ -1,5 +1,6 @@
 //! Queries of a table and its passes.
-ghost use Rattle.fx_lasting.specs.Words.{◌≡◌, ◌<◌, ◌≤◌, ◌↔◌, IsTrue, size_of, range_of, IsIdle};
+ghost use Rattle.std.specs.Prelude.{◌≡◌, ◌<◌, ◌≤◌, ◌↔◌};
+ghost use Rattle.fx_lasting.specs.Words.{IsTrue, size_of, range_of, IsIdle};
 ghost use Rattle.fx_lasting.specs.Tables.{view_of, opening_of_table, IsPassOfTable};
 
 use crate::life::layout::MOST_SLOTS;

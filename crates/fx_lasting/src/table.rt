@@ -1,5 +1,6 @@
 //! The table.
-ghost use Rattle.fx_lasting.specs.Words.{◌≡◌, ◌≤◌, ◌<◌, ◌+◌, ◌^◌, group_size, MOST_SLOTS, MOST_PASSES, MOST_INSTALLING, MOST_NODES};
+ghost use Rattle.std.specs.Prelude.{◌≡◌, ◌≤◌, ◌<◌, ◌+◌, ◌^◌};
+ghost use Rattle.fx_lasting.specs.Words.{group_size, MOST_SLOTS, MOST_PASSES, MOST_INSTALLING, MOST_NODES};
 ghost use Rattle.fx_lasting.specs.life.Layout.{words_for, hold_place, node_place, tag_place, number_place};
 ghost use Rattle.fx_lasting.specs.Passes.{slots_of, range_at_start, nodes_of};
 

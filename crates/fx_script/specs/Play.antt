@@ -1,12 +1,12 @@
 -- The texts that a script may print: the answers of a ring to its commands, one after another (this
 -- project's own).
-use Rattle.fx_script.specs.Words.{◌≡◌, ◌⊎◌, ℕ, pos, nat_le, List, [], ◌∷◌, ◌++◌, codes, length}
-use Rattle.fx_script.specs.Words.{Option, Some, None, MatchOption, negated, Asked, HasClosed}
-use Rattle.fx_script.specs.Words.{RingContents, RingState, files_of_ring, new_ring, ring_of}
-use Rattle.fx_script.specs.Words.{without_table, IsOneHistory, Reported, Instruction, MakesSparse}
-use Rattle.fx_script.specs.Words.{RegistersList, Unregisters, SetsRange, UpdatesRing, SubmitsAll}
-use Rattle.fx_script.specs.Words.{Meaning, result_line, closes_text, refused_line, teardown_text}
-use Rattle.fx_script.specs.Words.{too_many_line}
+use Rattle.std.specs.Prelude.{◌≡◌, ◌⊎◌, ◌∷◌, ◌++◌}
+use Rattle.fx_script.specs.Words.{ℕ, pos, nat_le, List, [], codes, length, Option, Some, None}
+use Rattle.fx_script.specs.Words.{MatchOption, negated, Asked, HasClosed, RingContents, RingState}
+use Rattle.fx_script.specs.Words.{files_of_ring, new_ring, ring_of, without_table, IsOneHistory}
+use Rattle.fx_script.specs.Words.{Reported, Instruction, MakesSparse, RegistersList, Unregisters}
+use Rattle.fx_script.specs.Words.{SetsRange, UpdatesRing, SubmitsAll, Meaning, result_line}
+use Rattle.fx_script.specs.Words.{closes_text, refused_line, teardown_text, too_many_line}
 use Rattle.std.specs.Bool.{MatchBool}
 use Rattle.fx_base.specs.CloseListView.{CloseListView}
 use Rattle.fx_base.specs.declared.errno.Errno.{Errno}

@@ -1,6 +1,7 @@
 -- The ring of a play, and the answer of its submissions.
-use Rattle.fx_script.specs.Words.{◌≡◌, ℕ, List, Result, Ok, Err, FileEntry, refused_line}
-use Rattle.fx_script.specs.Words.{too_many_line, RingContents, reported, Cut, TooMany}
+use Rattle.std.specs.Prelude.{◌≡◌}
+use Rattle.fx_script.specs.Words.{ℕ, List, Result, Ok, Err, FileEntry, refused_line, too_many_line}
+use Rattle.fx_script.specs.Words.{RingContents, reported, Cut, TooMany}
 use Rattle.fx_ring.specs.OpenRings.{OpenRingContents}
 use Rattle.fx_ring.specs.declared.report.Report.{Report}
 use Rattle.fx_ring.specs.declared.report.SubmitFault.{SubmitFault}

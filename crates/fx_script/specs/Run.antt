@@ -1,6 +1,6 @@
 -- The input and output of a run.
-use Rattle.fx_script.specs.Words.{◌≡◌, ◌⊎◌, ℕ, List, Option, IfSome, Appends, Meaning, IsScript}
-use Rattle.fx_script.specs.Words.{HasFault}
+use Rattle.std.specs.Prelude.{◌≡◌, ◌⊎◌}
+use Rattle.fx_script.specs.Words.{ℕ, List, Option, IfSome, Appends, Meaning, IsScript, HasFault}
 use Rattle.fx_script.specs.Play.{IsText, IsTextOfFirst}
 use Rattle.fx_script.specs.declared.runner.PlayFault.{PlayFault}
 use Rattle.fx_script.specs.declared.runner.PlayFault.TheVariants.{Read, Script, Write, NoMemory}

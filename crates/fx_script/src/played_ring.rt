@@ -1,6 +1,7 @@
 //! The ring of a play: the table may stay open between submissions that one worker plays one after
 //! another.
-ghost use Rattle.fx_script.specs.Words.{◌≡◌, ◌≤◌, IfOk, string_bytes, MatchOption, CHAIN_NUMBERS, MAX_CHAINS, ring_of, instruction_of};
+ghost use Rattle.std.specs.Prelude.{◌≡◌, ◌≤◌};
+ghost use Rattle.fx_script.specs.Words.{IfOk, string_bytes, MatchOption, CHAIN_NUMBERS, MAX_CHAINS, ring_of, instruction_of};
 ghost use Rattle.fx_script.specs.Play.{Prints};
 ghost use Rattle.fx_script.specs.PlayedRing.{ring_played};
 

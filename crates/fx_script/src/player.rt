@@ -1,6 +1,7 @@
 //! Playing a script: the ring executes its commands, one after another, and the text of each is
 //! written.
-ghost use Rattle.fx_script.specs.Words.{◌≡◌, ◌≤◌, IfErr, IsOkAnd, OnOk, string_bytes, Appends, MAX_PASSES, ring_of, instructions_of};
+ghost use Rattle.std.specs.Prelude.{◌≡◌, ◌≤◌};
+ghost use Rattle.fx_script.specs.Words.{IfErr, IsOkAnd, OnOk, string_bytes, Appends, MAX_PASSES, ring_of, instructions_of};
 ghost use Rattle.fx_script.specs.Play.{IsText, IsTextOfFirst, PrintsAll, PrintsFirst};
 ghost use Rattle.fx_script.specs.Run.{IsPlayFault, Writes};
 

@@ -1,7 +1,7 @@
 //! The text of each command: the ring's answer to it.
-ghost use Rattle.fx_script.specs.Words.{◌≡◌, ◌≢◌, ◌<◌, All, Err, IfOk, OnOk, Some, None, length, string_bytes, negated, all_asked, ring_of, reported};
-ghost use Rattle.fx_script.specs.Words.{Workers, MakesSparse, RegistersList, Unregisters, SetsRange, UpdatesRing, SubmitsAll, instruction_of};
-ghost use Rattle.fx_script.specs.Words.{result_line};
+ghost use Rattle.std.specs.Prelude.{◌≡◌, ◌≢◌, ◌<◌};
+ghost use Rattle.fx_script.specs.Words.{All, Err, IfOk, OnOk, Some, None, length, string_bytes, negated, all_asked, ring_of, reported, Workers};
+ghost use Rattle.fx_script.specs.Words.{MakesSparse, RegistersList, Unregisters, SetsRange, UpdatesRing, SubmitsAll, instruction_of, result_line};
 ghost use Rattle.fx_script.specs.Play.{Prints, PrintsEnd};
 ghost use Rattle.fx_script.specs.PlayedRing.{IsAnswerText};
 ghost use Rattle.fx_script.specs.Text.{report_text};

@@ -1,5 +1,6 @@
 //! A run: reading a script and playing it, and the reasons why a run ends early.
-ghost use Rattle.fx_script.specs.Words.{◌≡◌, ◌+◌, ◌≤◌, IfErr, IfOk, IfSome, OnOk, take, MAX_PASSES};
+ghost use Rattle.std.specs.Prelude.{◌≡◌, ◌+◌, ◌≤◌};
+ghost use Rattle.fx_script.specs.Words.{IfErr, IfOk, IfSome, OnOk, take, MAX_PASSES};
 ghost use Rattle.fx_language.specs.declared.limits.TheConstants.{LONGEST_SCRIPT};
 ghost use Rattle.fx_script.specs.Run.{IsInput, IsInputFault, IsRun, IsRunFault};
 ghost use Rattle.fx_script.specs.RunView.{play_fault};

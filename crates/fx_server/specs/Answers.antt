@@ -1,9 +1,10 @@
 -- The records that the exports ensure: what each number that C gets means, and what is written to
 -- `out`. The worker stays in its table.
-use Rattle.fx_server.specs.Words.{◌≡◌, ◌⊎◌, ℕ, ℤ, pos, Bool, true, false, Option, Some, None}
-use Rattle.fx_server.specs.Words.{Result, Ok, Err, Identity, LookedUp, Placed, Released, Taken}
-use Rattle.fx_server.specs.Words.{Opening, PassView, Hold, Retired, CoreOutcome, NO_OUTCOME, AGAIN}
-use Rattle.fx_server.specs.Words.{DONE, EMPTY, FULL, IDLE, NO_SLOT, STALE, Held}
+use Rattle.std.specs.Prelude.{◌≡◌, ◌⊎◌}
+use Rattle.fx_server.specs.Words.{ℕ, ℤ, pos, Bool, true, false, Option, Some, None, Result, Ok, Err}
+use Rattle.fx_server.specs.Words.{Identity, LookedUp, Placed, Released, Taken, Opening, PassView}
+use Rattle.fx_server.specs.Words.{Hold, Retired, CoreOutcome, NO_OUTCOME, AGAIN, DONE, EMPTY, FULL}
+use Rattle.fx_server.specs.Words.{IDLE, NO_SLOT, STALE, Held}
 use Rattle.fx_table.specs.declared.values.Empty.{Empty as NoFile}
 use Rattle.fx_table.specs.declared.values.LookFault.{LookFault}
 use Rattle.fx_lasting.specs.Laws.{IsInRange as IsAllocated}

@@ -1,8 +1,8 @@
 -- The exports by key, which is the slot of a file and its number: what each number that C gets
 -- means, and what is written to `out`.
-use Rattle.fx_server.specs.Words.{◌≡◌, ◌⊎◌, ℕ, ℤ, Option, Result, Ok, Err, Identity, Hold, Retired}
-use Rattle.fx_server.specs.Words.{LookedByKey, view_of, Key, KeyFault, LastingPass, CoreOutcome}
-use Rattle.fx_server.specs.Words.{NO_OUTCOME, DONE, Held}
+use Rattle.std.specs.Prelude.{◌≡◌, ◌⊎◌, ℕ, ℤ, Option, Result, Ok, Err}
+use Rattle.fx_server.specs.Words.{Identity, Hold, Retired, LookedByKey, view_of, Key, KeyFault}
+use Rattle.fx_server.specs.Words.{LastingPass, CoreOutcome, NO_OUTCOME, DONE, Held}
 use Rattle.fx_lasting.specs.slots.RemoveByKey.{TakesAlone}
 use Rattle.fx_lasting.specs.slots.ReplaceByKey.{PutsAlone}
 use Rattle.fx_lasting.specs.declared.key_answers.PutOverKey.{PutOverKey}

@@ -1,7 +1,7 @@
 -- The end of a key: one event of one pass removes or replaces its file.
-use Rattle.fx_server.specs.Words.{◌≡◌, ◌≢◌, ℕ, ℤ, List, Option, Some, None, ◌▷◌, ◌▷▷◌, IsLegal}
-use Rattle.fx_server.specs.Words.{IsInstalled, IsStart, State, Event, File, IsKeyOf, number_of_mark}
-use Rattle.fx_server.specs.Words.{Key, CoreOutcome}
+use Rattle.std.specs.Prelude.{◌≡◌, ◌≢◌, ℕ, ℤ, List, Option, Some, None}
+use Rattle.fx_server.specs.Words.{◌▷◌, ◌▷▷◌, IsLegal, IsInstalled, IsStart, State, Event, File}
+use Rattle.fx_server.specs.Words.{IsKeyOf, number_of_mark, Key, CoreOutcome}
 use Rattle.fx_plain.specs.declared.event.Action.{Action}
 use Rattle.fx_plain.specs.declared.event.Action.TheVariants.{Put, Clear, Take}
 use Rattle.fx_server.specs.ByKey.{RemovesAs, ReplacesAs}

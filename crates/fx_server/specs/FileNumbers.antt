@@ -1,6 +1,6 @@
 -- The numbers of the files that workers install.
-use Rattle.fx_server.specs.Words.{◌≡◌, ◌≢◌, ◌==◌, ℕ, zero, suc, ◌+◌, ◌*◌, ◌^◌, ◌≤◌, nat_lt}
-use Rattle.fx_server.specs.Words.{if◌then◌else◌, List, map, MOST_INSTALLING, FileNumbers}
+use Rattle.std.specs.Prelude.{◌≡◌, ◌≢◌, ◌==◌, ◌+◌, ◌*◌, ◌^◌, ◌≤◌, if◌then◌else◌}
+use Rattle.fx_server.specs.Words.{ℕ, zero, suc, nat_lt, List, map, MOST_INSTALLING, FileNumbers}
 use Rattle.std.specs.List.{range_with_len}
 
 -- the number after one of a worker: no addition overflows, and the number after 0 is 0

@@ -1,5 +1,6 @@
 -- The files of a server's table.
-use Rattle.fx_server.specs.Words.{ℕ, ◌/◌, ◌%◌, ◌^◌, Identity}
+use Rattle.std.specs.Prelude.{◌/◌, ◌%◌, ◌^◌}
+use Rattle.fx_server.specs.Words.{ℕ, Identity}
 use Rattle.fx_base.specs.declared.mark.Mark.TheVariants.{Registered}
 
 -- the file with this tag, and with this number in its mark (`number_of_mark`)

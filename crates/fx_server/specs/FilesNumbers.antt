@@ -1,7 +1,7 @@
 -- The numbers of the files that workers install: no two files of a history have one.
-use Rattle.fx_server.specs.Words.{◌≡◌, ◌≢◌, ◌⊎◌, ℕ, ◌+◌, ◌<◌, ◌≤◌, List, length, slice_index_or}
-use Rattle.fx_server.specs.Words.{part_of_pass, IsInstalled, Event, File, number_of_mark}
-use Rattle.fx_server.specs.Words.{MOST_INSTALLING}
+use Rattle.std.specs.Prelude.{◌≡◌, ◌≢◌, ◌⊎◌, ◌+◌, ◌<◌, ◌≤◌}
+use Rattle.fx_server.specs.Words.{ℕ, List, length, slice_index_or, part_of_pass, IsInstalled, Event}
+use Rattle.fx_server.specs.Words.{File, number_of_mark, MOST_INSTALLING}
 use Rattle.fx_server.specs.EndsOfKeys.{HaveTheirOwnKeys}
 use Rattle.fx_server.specs.FileNumbers.{after_draws, first_numbers, number_drawn, without_kept}
 use Rattle.fx_server.specs.Opened.{AreOpened}

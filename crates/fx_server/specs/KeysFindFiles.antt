@@ -1,8 +1,8 @@
 -- A key finds its file: the one whose installation returned the key, or none.
-use Rattle.fx_server.specs.Words.{◌≡◌, ◌⊎◌, ℕ, ℤ, pos, ◌<◌, ◌≤◌, List, [], ◌∷◌, length}
-use Rattle.fx_server.specs.Words.{slice_index_or, ◌▷▷◌, IsLegal, part_of_pass, IsInstalled, Event}
-use Rattle.fx_server.specs.Words.{File, start_of, state_at, Holding, Hold, opening_of_table, Key}
-use Rattle.fx_server.specs.Words.{MOST_INSTALLING, CoreOutcome, DONE}
+use Rattle.std.specs.Prelude.{◌≡◌, ◌⊎◌, ◌<◌, ◌≤◌, ◌∷◌, ℕ, ℤ, pos, List, [], length, slice_index_or}
+use Rattle.fx_server.specs.Words.{◌▷▷◌, IsLegal, part_of_pass, IsInstalled, Event, File, start_of}
+use Rattle.fx_server.specs.Words.{state_at, Holding, Hold, opening_of_table, Key, MOST_INSTALLING}
+use Rattle.fx_server.specs.Words.{CoreOutcome, DONE}
 use Rattle.fx_lasting.specs.WholeHistory.{IsPartOf}
 use Rattle.fx_server.specs.Answers.{FindsAs, GetsAtAs, InsertsAs, PutsEmptyAs, ReleasesAs}
 use Rattle.fx_server.specs.Answers.{RemovesAtAs, ReplacesAtAs, ChecksCurrentAs}

@@ -1,7 +1,7 @@
 -- The workers of a table that was just opened.
-use Rattle.fx_server.specs.Words.{◌≡◌, ℕ, List, All, None, map, length, Box, vacant}
-use Rattle.fx_server.specs.Words.{lasting_opening, opening_of_table, first_passes, LastingPass}
-use Rattle.fx_server.specs.Words.{LastingTable, Shared}
+use Rattle.std.specs.Prelude.{◌≡◌}
+use Rattle.fx_server.specs.Words.{ℕ, List, All, None, map, length, Box, vacant, lasting_opening}
+use Rattle.fx_server.specs.Words.{opening_of_table, first_passes, LastingPass, LastingTable, Shared}
 use Rattle.fx_plain.specs.Contents.{Contents, state_of}
 use Rattle.fx_server.specs.FileNumbers.{numbers_of_all}
 use Rattle.fx_server.specs.Workers.{its_table, its_pass}

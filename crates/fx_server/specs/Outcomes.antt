@@ -1,6 +1,7 @@
 -- The meaning of the numbers and tags that C gets.
-use Rattle.fx_server.specs.Words.{◌≡◌, ℕ, ℤ, pos, Option, Some, None, Identity, KeyFault}
-use Rattle.fx_server.specs.Words.{CoreOutcome, DROPPED, EMPTY, NO_SLOT, AGAIN, STALE}
+use Rattle.std.specs.Prelude.{◌≡◌}
+use Rattle.fx_server.specs.Words.{ℕ, ℤ, pos, Option, Some, None, Identity, KeyFault, CoreOutcome}
+use Rattle.fx_server.specs.Words.{DROPPED, EMPTY, NO_SLOT, AGAIN, STALE}
 use Rattle.fx_lasting.specs.declared.key_answers.KeyFault.TheVariants as fault
 
 -- the tag of a file if it came out, or 0

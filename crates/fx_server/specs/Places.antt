@@ -1,5 +1,5 @@
 -- The places of C for the workers of a table.
-use Rattle.fx_server.specs.Words.{◌≡◌, ℕ, List, Option, Some, length, map}
+use Rattle.std.specs.Prelude.{◌≡◌, ℕ, List, Option, Some, length, map}
 use Rattle.fx_server.specs.Opened.{AreOpened}
 use Rattle.fx_server.specs.Workers.{IsInRange}
 use Rattle.fx_server.specs.declared.handle.WorkerPlace.{WorkerPlace}

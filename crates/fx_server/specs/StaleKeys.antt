@@ -1,7 +1,7 @@
 -- The answer `STALE` of a call by key: the slot had another file than that of the key at a moment
 -- of the call.
-use Rattle.fx_server.specs.Words.{◌≡◌, ◌≢◌, ℕ, ℤ, Option, Some, File, IsKeyOf, Key, CoreOutcome}
-use Rattle.fx_server.specs.Words.{STALE}
+use Rattle.std.specs.Prelude.{◌≡◌, ◌≢◌}
+use Rattle.fx_server.specs.Words.{ℕ, ℤ, Option, Some, File, IsKeyOf, Key, CoreOutcome, STALE}
 use Rattle.fx_lasting.specs.slots.ByNode.{WasSo}
 use Rattle.fx_server.specs.ByKey.{GetsAs, RemovesAs, ReplacesAs}
 use Rattle.fx_server.specs.Workers.{its_pass, its_start}

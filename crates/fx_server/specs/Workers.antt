@@ -1,10 +1,10 @@
 -- A worker: its parts, its invariant, and the facts of which the clauses of its calls consist.
-use Rattle.fx_server.specs.Words.{◌≡◌, ◌⊎◌, ℕ, ℤ, ◌≤◌, true, Option, Some, None, is_some, Identity}
-use Rattle.fx_server.specs.Words.{File, HasRetired, Opening, size_of, PassView, IsIdle, IsHoldOf}
-use Rattle.fx_server.specs.Words.{Holding, Hold, Retired, number_of_mark, MOST_SLOTS, MOST_PASSES}
-use Rattle.fx_server.specs.Words.{MOST_INSTALLING, view_of, opening_of_table, IsPassOfTable}
-use Rattle.fx_server.specs.Words.{LastingPass, LastingTable, CoreOutcome, BUSY, IN_USE, NO_SLOT}
-use Rattle.fx_server.specs.Words.{READER, FileNumbers, Shared, Held}
+use Rattle.std.specs.Prelude.{◌≡◌, ◌⊎◌, ◌≤◌, ℕ, ℤ, true, Option, Some, None, is_some}
+use Rattle.fx_server.specs.Words.{Identity, File, HasRetired, Opening, size_of, PassView, IsIdle}
+use Rattle.fx_server.specs.Words.{IsHoldOf, Holding, Hold, Retired, number_of_mark, MOST_SLOTS}
+use Rattle.fx_server.specs.Words.{MOST_PASSES, MOST_INSTALLING, view_of, opening_of_table}
+use Rattle.fx_server.specs.Words.{IsPassOfTable, LastingPass, LastingTable, CoreOutcome, BUSY}
+use Rattle.fx_server.specs.Words.{IN_USE, NO_SLOT, READER, FileNumbers, Shared, Held}
 use Rattle.fx_lasting.specs.declared.view.Start.{Start}
 use Rattle.fx_server.specs.FileNumbers.{after_draw}
 use Rattle.fx_server.specs.Outcomes.{dropped_or, tag_of}

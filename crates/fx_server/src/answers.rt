@@ -1,5 +1,5 @@
 //! The numbers and tags that C gets. A file is named by its tag.
-ghost use Rattle.fx_server.specs.Words.{◌≡◌};
+ghost use Rattle.std.specs.Prelude.{◌≡◌};
 ghost use Rattle.fx_server.specs.Outcomes.{dropped_or, fault_code, tag_of};
 
 use crate::codes::{AGAIN, DROPPED, EMPTY, NO_SLOT, STALE};

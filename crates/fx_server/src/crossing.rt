@@ -1,5 +1,5 @@
 //! Values that cross threads: a worker, its handle, and the place of a handle.
-ghost use Rattle.fx_server.specs.Words.{◌≡◌};
+ghost use Rattle.std.specs.Prelude.{◌≡◌};
 
 use crate::handle::{Handle, WorkerPlace};
 use crate::worker::TableWorker;

@@ -1,6 +1,6 @@
 //! The numbers of the files that a worker installs. A key of the bindings is a slot and the number
 //! of its file.
-ghost use Rattle.fx_server.specs.Words.{◌≡◌};
+ghost use Rattle.std.specs.Prelude.{◌≡◌};
 ghost use Rattle.fx_server.specs.FileNumbers.{first_numbers, after_draw, after_keep, without_kept};
 
 /// The next number of a worker, or 0 if it has used all its numbers or doesn't install files. The

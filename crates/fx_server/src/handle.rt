@@ -1,5 +1,5 @@
 //! A worker as C has it: the pointer of its box.
-ghost use Rattle.fx_server.specs.Words.{◌≡◌, Option, Some};
+ghost use Rattle.std.specs.Prelude.{◌≡◌, Option, Some};
 ghost use Rattle.fx_server.specs.declared.worker.TableWorker.{TableWorker};
 ghost use Rattle.fx_server.specs.Handle.{handle_owns, place_coded, place_owns, worker_coded};
 

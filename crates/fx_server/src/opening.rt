@@ -1,6 +1,6 @@
 //! Opening a table with its workers.
-ghost use Rattle.fx_server.specs.Words.{◌≡◌, ◌<◌, ◌≤◌, ◌+◌, All, IfOk, IfErr, Err, None, ◌⊎◌, length, arc_value, MOST_PASSES, BAD_ARGUMENT};
-ghost use Rattle.fx_server.specs.Words.{NO_MEMORY};
+ghost use Rattle.std.specs.Prelude.{◌≡◌, ◌<◌, ◌≤◌, ◌+◌, ◌⊎◌};
+ghost use Rattle.fx_server.specs.Words.{All, IfOk, IfErr, Err, None, length, arc_value, MOST_PASSES, BAD_ARGUMENT, NO_MEMORY};
 ghost use Rattle.fx_server.specs.Opened.{AreDealt, AreOpened, workers_in};
 ghost use Rattle.fx_server.specs.Workers.{IsInRange, IsReady};
 

@@ -1,5 +1,6 @@
 //! The workers of a new table in their places.
-ghost use Rattle.fx_server.specs.Words.{◌≡◌, ◌≢◌, ◌⊎◌, Some, length, map, DONE, BAD_ARGUMENT, NO_MEMORY};
+ghost use Rattle.std.specs.Prelude.{◌≡◌, ◌≢◌, ◌⊎◌};
+ghost use Rattle.fx_server.specs.Words.{Some, length, map, DONE, BAD_ARGUMENT, NO_MEMORY};
 ghost use Rattle.fx_server.specs.Opened.{workers_in};
 ghost use Rattle.fx_server.specs.Places.{OpensAs, workers_at};
 ghost use Rattle.fx_server.specs.Workers.{IsInRange};

@@ -1,5 +1,6 @@
 //! The part of a table that its workers share, and the files that they install.
-ghost use Rattle.fx_server.specs.Words.{◌≡◌, number_of_mark};
+ghost use Rattle.std.specs.Prelude.{◌≡◌};
+ghost use Rattle.fx_server.specs.Words.{number_of_mark};
 ghost use Rattle.fx_server.specs.Files.{file_with};
 
 use fx_base::{Mark, OpenFile};

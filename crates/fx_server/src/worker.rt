@@ -1,5 +1,6 @@
 //! A pass together with its table.
-ghost use Rattle.fx_server.specs.Words.{◌≡◌, Some, IsHoldOf, view_of, IsPassOfTable};
+ghost use Rattle.std.specs.Prelude.{◌≡◌};
+ghost use Rattle.fx_server.specs.Words.{Some, IsHoldOf, view_of, IsPassOfTable};
 ghost use Rattle.fx_server.specs.Answers.{GetsAtAs, ReleasesAs, RemovesAtAs, ChecksCurrentAs};
 ghost use Rattle.fx_server.specs.Workers.{HasLabel, HasNumber};
 

@@ -1,6 +1,7 @@
 -- The load by which a retirement finds that all takes and charges of its file were dropped: nobody
 -- can reach the file then, so nothing is left to subtract.
-use Rattle.fx_lasting.specs.Words.{◌≡◌, ◌≢◌, ℕ, ◌+◌, [], File, Round}
+use Rattle.std.specs.Prelude.{◌≡◌, ◌≢◌, ◌+◌}
+use Rattle.fx_lasting.specs.Words.{ℕ, [], File, Round}
 use Rattle.fx_lasting.specs.Fields.{retirement_amount}
 use Rattle.fx_lasting.specs.Passes.{Sat}
 use Rattle.fx_lasting.specs.Effects.{At, Goes, TakesOut}

@@ -1,6 +1,6 @@
 -- The node of a hold, and its file.
-use Rattle.fx_lasting.specs.Words.{◌≡◌, ◌≢◌, ℕ, ◌+◌, ◌<◌, Some, File, Holding, Hold, Retired, Start}
-use Rattle.fx_lasting.specs.Words.{View}
+use Rattle.std.specs.Prelude.{◌≡◌, ◌≢◌, ◌+◌, ◌<◌}
+use Rattle.fx_lasting.specs.Words.{ℕ, Some, File, Holding, Hold, Retired, Start, View}
 use Rattle.fx_table.specs.declared.values.Doing.TheVariants.{Retiring}
 use Rattle.fx_lasting.specs.Agrees.{Agrees}
 use Rattle.fx_lasting.specs.Bounds.{slot_word_in, node_word_in}

@@ -1,10 +1,10 @@
 -- The rule of passes: what each works with, which files it holds, and how.
-use Rattle.fx_lasting.specs.Words.{◌≡◌, ◌≢◌, ℕ, ◌+◌, ◌-◌, ◌/◌, ◌<◌, ◌≤◌, ◌⊎◌, Bool, true, false}
-use Rattle.fx_lasting.specs.Words.{List, Some, Contains, sum_by, slice_index, bit_at, held_by}
-use Rattle.fx_lasting.specs.Words.{Event, File, bit_of, Glance, Hot, Cold, Heating, Log, Round}
-use Rattle.fx_lasting.specs.Words.{Start, View, Work, Announced, Counted, Guarded, Owing, Yielding}
-use Rattle.fx_lasting.specs.Words.{Searching, Placing, Renewing, Nearing, Relieving, Emptying}
-use Rattle.fx_lasting.specs.Words.{Keeping}
+use Rattle.std.specs.Prelude.{◌≡◌, ◌≢◌, ◌+◌, ◌-◌, ◌/◌, ◌<◌, ◌≤◌, ◌⊎◌}
+use Rattle.fx_lasting.specs.Words.{ℕ, Bool, true, false, List, Some, Contains, sum_by, slice_index}
+use Rattle.fx_lasting.specs.Words.{bit_at, held_by, Event, File, bit_of, Glance, Hot, Cold, Heating}
+use Rattle.fx_lasting.specs.Words.{Log, Round, Start, View, Work, Announced, Counted, Guarded}
+use Rattle.fx_lasting.specs.Words.{Owing, Yielding, Searching, Placing, Renewing, Nearing}
+use Rattle.fx_lasting.specs.Words.{Relieving, Emptying, Keeping}
 use Rattle.fx_lasting.specs.slots.Deeds.{Deed, untouched, over, heated}
 use Rattle.fx_lasting.specs.life.Layout.{list_place, slot_place}
 use Rattle.fx_lasting.specs.Fields.{full_name_in, IsHot, announced, charge, IsListedIn}

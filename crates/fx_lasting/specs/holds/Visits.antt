@@ -1,5 +1,6 @@
 -- The round of a retirement through the hold words of the other passes.
-use Rattle.fx_lasting.specs.Words.{◌≡◌, ℕ, ◌+◌, ◌-◌, ◌*◌, ◌/◌, ◌<◌, ◌≤◌, false, [], File, Round}
+use Rattle.std.specs.Prelude.{◌≡◌, ◌+◌, ◌-◌, ◌*◌, ◌/◌, ◌<◌, ◌≤◌}
+use Rattle.fx_lasting.specs.Words.{ℕ, false, [], File, Round}
 use Rattle.fx_lasting.specs.Ends.{Does}
 use Rattle.fx_lasting.specs.Laws.{IsPassed}
 use Rattle.fx_lasting.specs.Passes.{Sat}

@@ -1,7 +1,6 @@
 -- The files that a lasting table is closed into.
-use Rattle.fx_lasting.specs.Words.{◌≡◌, ℕ, zero, suc, List, [], ◌∷◌, ◌++◌, Option, Some, Identity}
-use Rattle.fx_lasting.specs.Words.{Contents, state_of, identity_of, Opening, PassView}
-use Rattle.std.specs.Prelude.{None}
+use Rattle.std.specs.Prelude.{◌≡◌, ◌∷◌, ◌++◌, None, ℕ, zero, suc, List, [], Option, Some}
+use Rattle.fx_lasting.specs.Words.{Identity, Contents, state_of, identity_of, Opening, PassView}
 use Rattle.fx_plain.specs.State.{State}
 use Rattle.fx_table.specs.Closing.{ClosesTable}
 

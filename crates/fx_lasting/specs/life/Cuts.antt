@@ -1,6 +1,6 @@
 -- The views of seats, by what all shared tables have.
-use Rattle.fx_lasting.specs.Words.{◌≡◌, List, [], part_of_pass, Seats, lasting_opening, Outside}
-use Rattle.fx_lasting.specs.Words.{Log, Start, View}
+use Rattle.std.specs.Prelude.{◌≡◌, List, []}
+use Rattle.fx_lasting.specs.Words.{part_of_pass, Seats, lasting_opening, Outside, Log, Start, View}
 use Rattle.fx_lasting.specs.Passes.{contents_of, new_log}
 use Rattle.fx_lasting.specs.declared.view.Glance.TheVariants.{None as Nothing}
 use Rattle.fx_lasting.specs.declared.view.Work.TheVariants.{Idle}

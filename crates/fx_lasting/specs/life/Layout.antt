@@ -1,7 +1,7 @@
 -- Where the words and the open files of a lasting table are.
-use Rattle.fx_lasting.specs.Words.{◌≡◌, ◌≢◌, ℕ, ◌+◌, ◌-◌, ◌*◌, ◌/◌, ◌<◌, ◌≤◌, min, nat_lt}
-use Rattle.fx_lasting.specs.Words.{if◌then◌else◌, zero, suc, List, [], ◌∷◌, ◌++◌, range_with_len}
-use Rattle.fx_lasting.specs.Words.{bit_of, question_place, group_place, RANGE_END}
+use Rattle.std.specs.Prelude.{◌≡◌, ◌≢◌, ◌+◌, ◌-◌, ◌*◌, ◌/◌, ◌<◌, ◌≤◌, if◌then◌else◌, ◌∷◌, ◌++◌}
+use Rattle.fx_lasting.specs.Words.{ℕ, min, nat_lt, zero, suc, List, [], range_with_len, bit_of}
+use Rattle.fx_lasting.specs.Words.{question_place, group_place, RANGE_END}
 
 -- A line is 8 words. The table's memory begins with the third word of a line: the malloc of glibc
 -- returns a large block 16 bytes after the beginning of a page, so that a line is a cache line.

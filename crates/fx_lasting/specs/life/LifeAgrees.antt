@@ -1,5 +1,6 @@
 -- The rule of a table's life: its size, its history and the passes that made it.
-use Rattle.fx_lasting.specs.Words.{◌≡◌, ◌+◌, ◌≤◌, List, length, Event, MOST_SLOTS, Start}
+use Rattle.std.specs.Prelude.{◌≡◌, ◌+◌, ◌≤◌}
+use Rattle.fx_lasting.specs.Words.{List, length, Event, MOST_SLOTS, Start}
 use Rattle.table_seats.specs.Together.{Together}
 use Rattle.fx_lasting.specs.life.Cuts.{seats}
 use Rattle.fx_lasting.specs.life.Layout.{words_for}

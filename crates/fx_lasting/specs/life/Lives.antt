@@ -1,8 +1,8 @@
 -- Passes as they are handed out and gathered.
-use Rattle.fx_lasting.specs.Words.{◌≡◌, ◌≤◌, ℕ, true, false, List, [], flat_map, Option, Identity}
-use Rattle.fx_lasting.specs.Words.{Contents, state_of, IsSettled, HasSameFiles, first_view}
-use Rattle.fx_lasting.specs.Words.{MOST_PASSES, MOST_INSTALLING, LastingPass, Outside, Log, Start}
-use Rattle.fx_lasting.specs.Words.{View}
+use Rattle.std.specs.Prelude.{◌≡◌, ◌≤◌}
+use Rattle.fx_lasting.specs.Words.{ℕ, true, false, List, [], flat_map, Option, Identity, Contents}
+use Rattle.fx_lasting.specs.Words.{state_of, IsSettled, HasSameFiles, first_view, MOST_PASSES}
+use Rattle.fx_lasting.specs.Words.{MOST_INSTALLING, LastingPass, Outside, Log, Start, View}
 use Rattle.atomic_table.specs.declared.shared.Seat.{Seat}
 use Rattle.fx_lasting.specs.Agrees.{Agrees}
 use Rattle.fx_lasting.specs.life.Closing.{files_with_slots}

@@ -1,7 +1,6 @@
 -- The words and places with which a lasting table begins: its slots are empty.
-use Rattle.fx_lasting.specs.Words.{◌≡◌, ◌≢◌, ℕ, ◌+◌, ◌<◌, ◌≤◌, List, length, slice_index, Option}
+use Rattle.std.specs.Prelude.{◌≡◌, ◌≢◌, ◌+◌, ◌<◌, ◌≤◌, None, ℕ, List, length, slice_index, Option}
 use Rattle.fx_lasting.specs.Words.{Identity, MOST_SLOTS, Start, View}
-use Rattle.std.specs.Prelude.{None}
 use Rattle.atomic_table.specs.Table.{opening}
 use Rattle.fx_lasting.specs.life.Layout.{slot_place, words_for}
 use Rattle.fx_lasting.specs.Fields.{empty_word_of}

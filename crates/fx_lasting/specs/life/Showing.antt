@@ -1,5 +1,6 @@
 -- Shown histories, and views that learn from them.
-use Rattle.fx_lasting.specs.Words.{◌≡◌, List, [], IsSeenBy, Event, View}
+use Rattle.std.specs.Prelude.{◌≡◌}
+use Rattle.fx_lasting.specs.Words.{List, [], IsSeenBy, Event, View}
 use Rattle.fx_lasting.specs.Passes.{first_log}
 use Rattle.fx_lasting.specs.Runs.{Runs}
 use Rattle.fx_lasting.specs.declared.life.shown.LastingSeen.{LastingSeen}

@@ -1,9 +1,8 @@
 -- The steps by which a pass keeps the node of a closed file for its next one. If the node's word
 -- has lost few takes, no rest has to store 0, and no birth has to store its first word: the next
 -- file's slot word begins with those takes.
-use Rattle.fx_lasting.specs.Words.{◌≡◌, ℕ, ◌+◌, ◌-◌, ◌≤◌, [], ◌∷◌, rest, Placing, Emptying, Keeping}
-use Rattle.fx_lasting.specs.Words.{Nothing as Unlabelled}
-use Rattle.std.specs.Prelude.{None}
+use Rattle.std.specs.Prelude.{◌≡◌, ◌+◌, ◌-◌, ◌≤◌, ◌∷◌, None}
+use Rattle.fx_lasting.specs.Words.{ℕ, [], rest, Placing, Emptying, Keeping, Nothing as Unlabelled}
 use Rattle.fx_lasting.specs.nodes.Labels.{as_written}
 use Rattle.fx_lasting.specs.Fields.{birth_word, most_carried, MayCarry}
 use Rattle.fx_lasting.specs.Passes.{Sat}

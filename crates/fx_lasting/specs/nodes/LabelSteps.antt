@@ -1,5 +1,6 @@
 -- The kinds of step on the two words of a node's label: their effect on the pass that makes them.
-use Rattle.fx_lasting.specs.Words.{◌≡◌, ℕ, [], File, Placing, Written, Nothing, Tag, Label}
+use Rattle.std.specs.Prelude.{◌≡◌}
+use Rattle.fx_lasting.specs.Words.{ℕ, [], File, Placing, Written, Nothing, Tag, Label}
 use Rattle.fx_lasting.specs.nodes.Labels.{number_of_mark, as_written}
 use Rattle.fx_lasting.specs.Passes.{Sat, HoldsOn, node_of_number}
 use Rattle.fx_lasting.specs.Effects.{At, Goes, pass_in}

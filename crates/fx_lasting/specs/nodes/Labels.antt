@@ -1,6 +1,7 @@
 -- The label of a file: its tag, and the number of its mark. Its node has two words for it.
-use Rattle.fx_lasting.specs.Words.{◌≡◌, ℕ, ◌+◌, ◌*◌, ◌^◌, Identity, Mark, Registered, Submitted}
-use Rattle.fx_lasting.specs.Words.{Placement, Written, Nothing, Tag, Label}
+use Rattle.std.specs.Prelude.{◌≡◌, ◌+◌, ◌*◌, ◌^◌}
+use Rattle.fx_lasting.specs.Words.{ℕ, Identity, Mark, Registered, Submitted, Placement, Written}
+use Rattle.fx_lasting.specs.Words.{Nothing, Tag, Label}
 
 -- the number of a mark, which a registration chooses; the marks of submissions have 0
 abbrev pub number_of_mark : Mark → ℕ

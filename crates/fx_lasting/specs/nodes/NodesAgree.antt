@@ -1,9 +1,9 @@
 -- The rule of nodes: the word, the place and the label of each, who works with it, and where it
 -- is.
-use Rattle.fx_lasting.specs.Words.{◌≡◌, ℕ, ◌+◌, ◌^◌, ◌<◌, ◌≤◌, true, List, Option, Some, Contains}
-use Rattle.fx_lasting.specs.Words.{sum_by, slice_index, Identity, Event, File, Log, Round, Start}
-use Rattle.fx_lasting.specs.Words.{View, Work, Written, Placing, Emptying, Keeping}
-use Rattle.std.specs.Prelude.{None}
+use Rattle.std.specs.Prelude.{◌≡◌, ◌+◌, ◌^◌, ◌<◌, ◌≤◌, None}
+use Rattle.fx_lasting.specs.Words.{ℕ, true, List, Option, Some, Contains, sum_by, slice_index}
+use Rattle.fx_lasting.specs.Words.{Identity, Event, File, Log, Round, Start, View, Work, Written}
+use Rattle.fx_lasting.specs.Words.{Placing, Emptying, Keeping}
 use Rattle.fx_lasting.specs.Counts.{owed}
 use Rattle.fx_lasting.specs.nodes.Labels.{HasWritten}
 use Rattle.fx_lasting.specs.life.Layout.{slot_place}

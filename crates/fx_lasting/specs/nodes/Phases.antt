@@ -1,7 +1,6 @@
 -- Where each node is in its life.
-use Rattle.fx_lasting.specs.Words.{ℕ, ◌+◌, ◌==◌, if◌then◌else◌, Option, Some, File, Placement}
-use Rattle.fx_lasting.specs.Words.{Round, Written, Nothing}
-use Rattle.std.specs.Prelude.{None}
+use Rattle.std.specs.Prelude.{◌+◌, ◌==◌, if◌then◌else◌, None}
+use Rattle.fx_lasting.specs.Words.{ℕ, Option, Some, File, Placement, Round, Written, Nothing}
 use Rattle.fx_lasting.specs.nodes.Labels.{label_of}
 
 -- where a node is

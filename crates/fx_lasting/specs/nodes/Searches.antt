@@ -1,5 +1,5 @@
 -- The search of a stock.
-use Rattle.fx_lasting.specs.Words.{ℕ, ◌+◌, ◌==◌, if◌then◌else◌}
+use Rattle.std.specs.Prelude.{◌+◌, ◌==◌, if◌then◌else◌, ℕ}
 
 -- the entry after this one in a stock of `len` nodes; the last one's is the first
 abbrev pub next_of : ℕ → ℕ → ℕ

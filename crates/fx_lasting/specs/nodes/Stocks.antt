@@ -1,6 +1,7 @@
 -- The nodes that slots name, and those that passes have in stock. Each node is at one of these
 -- places alone, so the nodes of a pass's stock are at no slot.
-use Rattle.fx_lasting.specs.Words.{◌≡◌, ℕ, ◌+◌, ◌<◌, List, length, name_in, Start}
+use Rattle.std.specs.Prelude.{◌≡◌, ◌+◌, ◌<◌}
+use Rattle.fx_lasting.specs.Words.{ℕ, List, length, name_in, Start}
 use Rattle.fx_lasting.specs.Passes.{nodes_of, stock_len}
 use mathlib.Core.Option.{some}
 use lib.ListN.{get_elem?}

@@ -1,6 +1,6 @@
 -- A pass that asks whether the allocation range is full.
-use Rattle.fx_lasting.specs.Words.{ℕ, ◌+◌, ◌≤◌, Bool, true, false, [], if◌then◌else◌, ◌▷◌, Adds}
-use Rattle.fx_lasting.specs.Words.{no_use, LastingPass, Survey, Covered}
+use Rattle.std.specs.Prelude.{◌+◌, ◌≤◌, if◌then◌else◌, ℕ, Bool, true, false, []}
+use Rattle.fx_lasting.specs.Words.{◌▷◌, Adds, no_use, LastingPass, Survey, Covered}
 use Rattle.fx_plain.specs.declared.event.Action.TheVariants.{Full}
 use Rattle.fx_lasting.specs.Passes.{Sat}
 use Rattle.fx_lasting.specs.Runs.{Runs}

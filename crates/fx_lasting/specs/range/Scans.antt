@@ -1,5 +1,6 @@
 -- A scan of the allocation range, which goes once through its groups, and finds no empty slot.
-use Rattle.fx_lasting.specs.Words.{◌≡◌, ℕ, ◌+◌, ◌*◌, ◌%◌, ◌<◌, ◌≤◌, true, group_of, Start}
+use Rattle.std.specs.Prelude.{◌≡◌, ◌+◌, ◌*◌, ◌%◌, ◌<◌, ◌≤◌}
+use Rattle.fx_lasting.specs.Words.{ℕ, true, group_of, Start}
 use Rattle.fx_lasting.specs.Effects.{pass_in}
 use Rattle.fx_lasting.specs.Laws.{IsInRange}
 use Rattle.fx_lasting.specs.Passes.{Sat, range_at_start}

@@ -1,9 +1,8 @@
 -- A pass that searches the allocation range for an empty slot.
-use Rattle.fx_lasting.specs.Words.{◌≡◌, ℕ, ◌+◌, ◌*◌, ◌<◌, ◌≤◌, [], ◌∷◌, Option, Some, Result, Ok}
-use Rattle.fx_lasting.specs.Words.{Err, Identity, ◌▷◌, numbered, File, Allocate, Adds, IsNewFile}
-use Rattle.fx_lasting.specs.Words.{no_use, one_number, Opening, size_of, PassView, group_size}
-use Rattle.fx_lasting.specs.Words.{groups_in, TriedPut, At, Placing}
-use Rattle.std.specs.Prelude.{None}
+use Rattle.std.specs.Prelude.{◌≡◌, ◌+◌, ◌*◌, ◌<◌, ◌≤◌, ◌∷◌, None}
+use Rattle.fx_lasting.specs.Words.{ℕ, [], Option, Some, Result, Ok, Err, Identity, ◌▷◌, numbered}
+use Rattle.fx_lasting.specs.Words.{File, Allocate, Adds, IsNewFile, no_use, one_number, Opening}
+use Rattle.fx_lasting.specs.Words.{size_of, PassView, group_size, groups_in, TriedPut, At, Placing}
 use Rattle.fx_plain.specs.declared.event.Action.TheVariants.{Full}
 use Rattle.fx_table.specs.declared.values.Doing.TheVariants.{Idle as DoesNothing}
 use Rattle.fx_lasting.specs.Ends.{Does}

@@ -1,8 +1,7 @@
 -- The call that installs a file at a slot if it is empty, and the search for one.
-use Rattle.fx_lasting.specs.Words.{◌≡◌, ℕ, ◌≤◌, ◌⊎◌, Bool, true, false, List, [], Option, Some}
+use Rattle.std.specs.Prelude.{◌≡◌, ◌≤◌, ◌⊎◌, None, ℕ, Bool, true, false, List, [], Option, Some}
 use Rattle.fx_lasting.specs.Words.{Identity, ◌▷◌, IsSeenBy, Event, Allocate, File, Adds, IsNewFile}
 use Rattle.fx_lasting.specs.Words.{no_use, one_number, PassView, TriedPut, At, LastingPass, Start}
-use Rattle.std.specs.Prelude.{None}
 use Rattle.fx_plain.specs.declared.event.Action.TheVariants.{Full}
 use Rattle.fx_table.specs.declared.values.Doing.TheVariants.{Idle as DoesNothing}
 use Rattle.fx_lasting.specs.Ends.{Does}

@@ -1,10 +1,9 @@
 -- Keys: the name of a file by its slot and the number of its mark, and the calls that take one.
-use Rattle.fx_lasting.specs.Words.{◌≡◌, ◌≢◌, ℕ, ◌+◌, ◌*◌, ◌/◌, ◌%◌, ◌^◌, ◌<◌, ◌≤◌, ◌⊎◌, ◌==◌}
-use Rattle.fx_lasting.specs.Words.{nat_lt, if◌then◌else◌, List, Contains, Option, Some, Result, Ok}
-use Rattle.fx_lasting.specs.Words.{Err, Identity, Mark, Registered, Submitted, File, LookedUp}
+use Rattle.std.specs.Prelude.{◌≡◌, ◌≢◌, ◌+◌, ◌*◌, ◌/◌, ◌%◌, ◌^◌, ◌<◌, ◌≤◌, ◌⊎◌, ◌==◌, if◌then◌else◌}
+use Rattle.std.specs.Prelude.{None, ℕ, nat_lt, List, Contains, Option, Some, Result, Ok, Err}
+use Rattle.fx_lasting.specs.Words.{Identity, Mark, Registered, Submitted, File, LookedUp}
 use Rattle.fx_lasting.specs.Words.{ReleasesFile, PassView, Holding, Hold, Miss, Key, KeyFault}
 use Rattle.fx_lasting.specs.Words.{LastingPass, Start}
-use Rattle.std.specs.Prelude.{None}
 use Rattle.fx_table.specs.declared.values.LookFault.TheVariants.{Empty as EmptySlot}
 use Rattle.fx_lasting.specs.slots.ByNode.{HasMet, IsOn}
 use Rattle.fx_lasting.specs.nodes.Labels.{number_of_mark}

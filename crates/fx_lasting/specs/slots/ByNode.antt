@@ -1,8 +1,7 @@
 -- The exchanges that empty or replace a slot while its word names the node of a held file.
-use Rattle.fx_lasting.specs.Words.{◌≡◌, ◌≢◌, ℕ, ◌+◌, ◌<◌, List, [], Option, Some, Result, Ok, Err}
-use Rattle.fx_lasting.specs.Words.{◌⊎◌, ◌==◌, step, Allows, IsSeenBy, Event, File, Retired}
-use Rattle.fx_lasting.specs.Words.{LastingPass, Miss, Start}
-use Rattle.std.specs.Prelude.{None}
+use Rattle.std.specs.Prelude.{◌≡◌, ◌≢◌, ◌+◌, ◌<◌, ◌⊎◌, ◌==◌, None}
+use Rattle.fx_lasting.specs.Words.{ℕ, List, [], Option, Some, Result, Ok, Err, step, Allows}
+use Rattle.fx_lasting.specs.Words.{IsSeenBy, Event, File, Retired, LastingPass, Miss, Start}
 use Rattle.fx_lasting.specs.Ends.{Does}
 use Rattle.fx_lasting.specs.Fields.{full_name_in, without_file}
 use Rattle.fx_lasting.specs.Agrees.{Agrees}

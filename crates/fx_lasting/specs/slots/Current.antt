@@ -1,7 +1,8 @@
 -- The check whether a slot has the file that a pass holds.
-use Rattle.fx_lasting.specs.Words.{◌≡◌, ◌⊎◌, ◌↔◌, ℕ, Bool, true, false, IsTrue, List, [], Contains}
-use Rattle.fx_lasting.specs.Words.{Option, Some, ◌▷◌, ◌▷▷◌, Event, File, Adds, no_use, Opening}
-use Rattle.fx_lasting.specs.Words.{state_at, PassView, Holding, Hold}
+use Rattle.std.specs.Prelude.{◌≡◌, ◌⊎◌, ◌↔◌}
+use Rattle.fx_lasting.specs.Words.{ℕ, Bool, true, false, IsTrue, List, [], Contains, Option, Some}
+use Rattle.fx_lasting.specs.Words.{◌▷◌, ◌▷▷◌, Event, File, Adds, no_use, Opening, state_at}
+use Rattle.fx_lasting.specs.Words.{PassView, Holding, Hold}
 use Rattle.fx_table.specs.Finding.{LeavesAt}
 
 -- the pass holds a file by a hold of this node

@@ -1,9 +1,8 @@
 -- The kinds of step of a replacement by a key by one pass: it sees whether the slot is cold, takes
 -- the slot's file beside the file that it has placed, and puts its own there. Its hold ends then.
-use Rattle.fx_lasting.specs.Words.{◌≡◌, ◌≢◌, ℕ, ◌+◌, ◌-◌, ◌<◌, [], ◌∷◌, Some, Identity, ◌▷◌}
-use Rattle.fx_lasting.specs.Words.{numbered, File, Look, Put, Release, rest, name_in, account, Cold}
-use Rattle.fx_lasting.specs.Words.{Hot, Placement, Placing, Renewing}
-use Rattle.std.specs.Prelude.{None}
+use Rattle.std.specs.Prelude.{◌≡◌, ◌≢◌, ◌+◌, ◌-◌, ◌<◌, ◌∷◌, None}
+use Rattle.fx_lasting.specs.Words.{ℕ, [], Some, Identity, ◌▷◌, numbered, File, Look, Put, Release}
+use Rattle.fx_lasting.specs.Words.{rest, name_in, account, Cold, Hot, Placement, Placing, Renewing}
 use Rattle.fx_lasting.specs.slots.SlotAgrees.{Names}
 use Rattle.fx_lasting.specs.nodes.Labels.{label_of, as_written}
 use Rattle.fx_lasting.specs.Fields.{full_name_in, IsHot}

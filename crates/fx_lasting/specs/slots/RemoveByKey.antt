@@ -1,10 +1,9 @@
 -- The removal by a key that one pass makes: the pass holds the file of the key, and its hold ends
 -- with the step that empties the slot.
-use Rattle.fx_lasting.specs.Words.{◌≡◌, ℕ, ◌+◌, ◌⊎◌, List, [], Option, Some, Result, Ok, Err}
+use Rattle.std.specs.Prelude.{◌≡◌, ◌+◌, ◌⊎◌, None, ℕ, List, [], Option, Some, Result, Ok, Err}
 use Rattle.fx_lasting.specs.Words.{Identity, ◌▷◌, Release, Take, File, Adds, no_use, PassView}
 use Rattle.fx_lasting.specs.Words.{IsFileRemoval, Holding, Hold, Retired, Miss, Key, KeyFault}
 use Rattle.fx_lasting.specs.Words.{LastingPass, Outside, Start}
-use Rattle.std.specs.Prelude.{None}
 use Rattle.fx_table.specs.declared.values.Doing.TheVariants.{Retiring as Retires}
 use Rattle.fx_lasting.specs.slots.SlotAgrees.{Names}
 use Rattle.fx_lasting.specs.Ends.{Does}

@@ -1,12 +1,12 @@
 -- The replacement by a key that one pass makes: the pass places the new file, holds the file of the
 -- key, and its hold ends with the step that puts the new file at the slot.
-use Rattle.fx_lasting.specs.Words.{◌≡◌, ℕ, ◌+◌, ◌<◌, ◌≤◌, ◌⊎◌, true, false, [], ◌∷◌, Option, Some}
-use Rattle.fx_lasting.specs.Words.{Result, Ok, Err, is_some, TableId, Identity, ◌▷◌, numbered}
-use Rattle.fx_lasting.specs.Words.{Close, Look, Put, Release, File, Adds, IsHandedOut, no_use}
-use Rattle.fx_lasting.specs.Words.{one_number, Opening, PassView, IsFileRemoval, Hold, Retired}
-use Rattle.fx_lasting.specs.Words.{Miss, Key, Replaced, Missed, LastingPass, Outside, Glance, Cold}
-use Rattle.fx_lasting.specs.Words.{Hot, Placement, Start, Work, Nearing, Placing}
-use Rattle.std.specs.Prelude.{None}
+use Rattle.std.specs.Prelude.{◌≡◌, ◌+◌, ◌<◌, ◌≤◌, ◌⊎◌, ◌∷◌, None}
+use Rattle.fx_lasting.specs.Words.{ℕ, true, false, [], Option, Some, Result, Ok, Err, is_some}
+use Rattle.fx_lasting.specs.Words.{TableId, Identity, ◌▷◌, numbered, Close, Look, Put, Release}
+use Rattle.fx_lasting.specs.Words.{File, Adds, IsHandedOut, no_use, one_number, Opening, PassView}
+use Rattle.fx_lasting.specs.Words.{IsFileRemoval, Hold, Retired, Miss, Key, Replaced, Missed}
+use Rattle.fx_lasting.specs.Words.{LastingPass, Outside, Glance, Cold, Hot, Placement, Start, Work}
+use Rattle.fx_lasting.specs.Words.{Nearing, Placing}
 use Rattle.fx_table.specs.declared.values.Doing.TheVariants.{Idle as DoesNothing}
 use Rattle.fx_table.specs.declared.values.Doing.TheVariants.{Retiring as Retires}
 use Rattle.fx_lasting.specs.slots.SlotAgrees.{Names}

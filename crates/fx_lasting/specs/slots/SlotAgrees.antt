@@ -1,6 +1,6 @@
 -- The rule of a slot: its word and the file at it.
-use Rattle.fx_lasting.specs.Words.{◌≡◌, ℕ, ◌+◌, ◌<◌, ◌≤◌, Option, Some, File, entry_in, Start}
-use Rattle.std.specs.Prelude.{None}
+use Rattle.std.specs.Prelude.{◌≡◌, ◌+◌, ◌<◌, ◌≤◌, None}
+use Rattle.fx_lasting.specs.Words.{ℕ, Option, Some, File, entry_in, Start}
 use Rattle.fx_lasting.specs.Counts.{tally}
 use Rattle.fx_lasting.specs.slots.Deeds.{Deed, has_acted, has_heated}
 use Rattle.fx_lasting.specs.Fields.{full_name_in, count_in, heat_in, cold_takes}

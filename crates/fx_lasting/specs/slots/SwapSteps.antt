@@ -1,9 +1,8 @@
 -- The kinds of step that empty a slot by an exchange of names: the slot's word names a node of the
 -- pass's stock then, and the node that it named takes that node's place in the stock.
-use Rattle.fx_lasting.specs.Words.{◌≡◌, ◌≢◌, ℕ, ◌-◌, List, [], Option, Some, ◌▷◌, File, Release}
-use Rattle.fx_lasting.specs.Words.{Take, Adds, no_use, Opening, IsFileRemoval, PassView, Retired}
-use Rattle.fx_lasting.specs.Words.{name_in, account, Start}
-use Rattle.std.specs.Prelude.{None}
+use Rattle.std.specs.Prelude.{◌≡◌, ◌≢◌, ◌-◌, None, ℕ, List, [], Option, Some}
+use Rattle.fx_lasting.specs.Words.{◌▷◌, File, Release, Take, Adds, no_use, Opening, IsFileRemoval}
+use Rattle.fx_lasting.specs.Words.{PassView, Retired, name_in, account, Start}
 use Rattle.fx_table.specs.declared.values.Doing.TheVariants.{Idle as DoesNothing}
 use Rattle.fx_table.specs.declared.values.Doing.TheVariants.{Retiring as Retires}
 use Rattle.fx_lasting.specs.slots.SlotAgrees.{Names}

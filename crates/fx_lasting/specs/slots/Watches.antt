@@ -1,7 +1,7 @@
 -- The words that a pass watches: that of a slot, and its own bit in the question word.
-use Rattle.fx_lasting.specs.Words.{◌≡◌, ◌≢◌, ℕ, ◌<◌, ◌⊎◌, true, List, slice_index, ◌▷◌, IsSeenBy}
-use Rattle.fx_lasting.specs.Words.{Action, Look, Put, Clear, Take, Allocate, Event, question_place}
-use Rattle.fx_lasting.specs.Words.{HasQuestionOf, Start, Watch}
+use Rattle.std.specs.Prelude.{◌≡◌, ◌≢◌, ◌<◌, ◌⊎◌, ℕ, true, List, slice_index}
+use Rattle.fx_lasting.specs.Words.{◌▷◌, IsSeenBy, Action, Look, Put, Clear, Take, Allocate, Event}
+use Rattle.fx_lasting.specs.Words.{question_place, HasQuestionOf, Start, Watch}
 use Rattle.fx_lasting.specs.life.Layout.{slot_place}
 use Rattle.fx_lasting.specs.Fields.{heat_in}
 use Rattle.fx_lasting.specs.Passes.{slots_of}

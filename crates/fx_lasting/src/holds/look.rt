@@ -1,6 +1,7 @@
 //! The announcement of a hot file in the pass's hold word, and the heat of a slot that had its
 //! takes.
-ghost use Rattle.fx_lasting.specs.Words.{◌≡◌, ℕ, ◌<◌, [], Hot};
+ghost use Rattle.std.specs.Prelude.{◌≡◌, ◌<◌};
+ghost use Rattle.fx_lasting.specs.Words.{ℕ, [], Hot};
 ghost use Rattle.fx_lasting.specs.AtWork.{IsAtWork};
 ghost use Rattle.fx_lasting.specs.Ends.{Guards};
 ghost use Rattle.fx_lasting.specs.Laws.{MayAnnounce};

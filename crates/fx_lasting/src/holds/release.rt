@@ -1,5 +1,6 @@
 //! Letting a file go: the charge of an announcement that came too late, and the hold of a file.
-ghost use Rattle.fx_lasting.specs.Words.{◌≡◌, ℕ, [], File, Announced, Guarded, Owing};
+ghost use Rattle.std.specs.Prelude.{◌≡◌};
+ghost use Rattle.fx_lasting.specs.Words.{ℕ, [], File, Announced, Guarded, Owing};
 ghost use Rattle.fx_lasting.specs.AtWork.{IsAtWork, IsReleasing};
 ghost use Rattle.fx_lasting.specs.Ends.{LetsChargeGo, LetsFileGo};
 ghost use Rattle.fx_lasting.specs.Laws.{HasToLetGo};

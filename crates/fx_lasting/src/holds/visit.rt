@@ -1,6 +1,7 @@
 //! The round of a retirement through the other passes: each announcement of the removed file is
 //! charged. A pass that isn't listed announces nothing, and isn't visited.
-ghost use Rattle.fx_lasting.specs.Words.{◌≡◌, ◌+◌, ◌*◌, ◌≤◌, ◌⊎◌, ℕ, File};
+ghost use Rattle.std.specs.Prelude.{◌≡◌, ◌+◌, ◌*◌, ◌≤◌, ◌⊎◌};
+ghost use Rattle.fx_lasting.specs.Words.{ℕ, File};
 ghost use Rattle.fx_lasting.specs.AtWork.{IsAtWork};
 ghost use Rattle.fx_lasting.specs.Passes.{Sat};
 ghost use Rattle.fx_lasting.specs.Effects.{new_round};

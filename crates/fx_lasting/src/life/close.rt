@@ -1,5 +1,6 @@
 //! Closing a table, or letting it go.
-ghost use Rattle.fx_lasting.specs.Words.{◌≡◌, ◌≤◌, ◌++◌, false, [], length, map, reverse, vec_len, vec_capacity, All, size_of, IsIdle};
+ghost use Rattle.std.specs.Prelude.{◌≡◌, ◌≤◌, ◌++◌};
+ghost use Rattle.fx_lasting.specs.Words.{false, [], length, map, reverse, vec_len, vec_capacity, All, size_of, IsIdle};
 ghost use Rattle.fx_lasting.specs.life.Closing.{ClosesInto};
 ghost use Rattle.fx_lasting.specs.life.Lives.{IsIdleSeatOf, logs_in, AllAreIdle, Leaves};
 ghost use Rattle.fx_lasting.specs.Tables.{view_of, opening_of_table, IsPassOfTable};

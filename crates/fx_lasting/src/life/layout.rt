@@ -7,7 +7,7 @@
 //! line. The table's memory begins with the third word of a line. The malloc of glibc returns a
 //! large block 16 bytes after the beginning of a page, so that a line is a cache line there. It
 //! aligns a small block to 16 bytes alone, and then the words of a node may be in two cache lines.
-ghost use Rattle.fx_lasting.specs.Words.{◌≡◌, ◌<◌, ◌≤◌};
+ghost use Rattle.std.specs.Prelude.{◌≡◌, ◌<◌, ◌≤◌};
 ghost use Rattle.fx_lasting.specs.life.Layout.{list_place, slot_place, node_place, words_for, slot_words, slot_lines, node_words, stock_start};
 ghost use Rattle.fx_lasting.specs.life.Layout.{nodes_for};
 

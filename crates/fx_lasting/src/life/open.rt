@@ -1,6 +1,7 @@
 //! Opening a table.
-ghost use Rattle.fx_lasting.specs.Words.{◌≡◌, ℕ, ◌+◌, ◌<◌, ◌≤◌, [], length, map, All, IfOk, vec_len, vec_capacity, vacant, state_of, lasting_opening};
-ghost use Rattle.fx_lasting.specs.Words.{size_of, IsIdle, range_with_len, MOST_SLOTS, MOST_NODES, MOST_PASSES, MOST_INSTALLING, STOCK_SPACING};
+ghost use Rattle.std.specs.Prelude.{◌≡◌, ◌+◌, ◌<◌, ◌≤◌};
+ghost use Rattle.fx_lasting.specs.Words.{ℕ, [], length, map, All, IfOk, vec_len, vec_capacity, vacant, state_of, lasting_opening, size_of, IsIdle};
+ghost use Rattle.fx_lasting.specs.Words.{range_with_len, MOST_SLOTS, MOST_NODES, MOST_PASSES, MOST_INSTALLING, STOCK_SPACING};
 ghost use Rattle.fx_lasting.specs.life.Opens.{AreNamed};
 ghost use Rattle.fx_lasting.specs.life.Layout.{slot_place, stock_of, stocks_back};
 ghost use Rattle.fx_lasting.specs.life.Lives.{ArePasses, HasAllPasses};

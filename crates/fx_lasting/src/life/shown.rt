@@ -1,6 +1,7 @@
 //! The order between the calls of two threads: a pass shows what it has seen, and another pass
 //! learns it. Neither call makes an atomic step.
-ghost use Rattle.fx_lasting.specs.Words.{◌≡◌, ◌≢◌, ◌<◌, Err, size_of, IsIdle, Spent};
+ghost use Rattle.std.specs.Prelude.{◌≡◌, ◌≢◌, ◌<◌};
+ghost use Rattle.fx_lasting.specs.Words.{Err, size_of, IsIdle, Spent};
 ghost use Rattle.fx_table.specs.Showing.{Learns, LooksUpAfter};
 ghost use Rattle.fx_lasting.specs.Tables.{view_of, opening_of_table, IsPassOfTable};
 ghost use Rattle.fx_lasting.specs.life.Showing.{shown_of, IsSeenOf};

@@ -5,8 +5,8 @@
 //! installation then needs neither a search nor a birth: the slot's word begins with as many takes
 //! as the node's word has lost, as if the next file had had them too. A call that needs a pass
 //! without a node settles first: it frees the node.
-ghost use Rattle.fx_lasting.specs.Words.{◌≡◌, ◌+◌, ◌<◌, ◌≤◌, ℕ, ◌∷◌, [], true, false, Some, Closed, Emptying, Placing};
-ghost use Rattle.std.specs.Prelude.{None};
+ghost use Rattle.std.specs.Prelude.{◌≡◌, ◌+◌, ◌<◌, ◌≤◌, ◌∷◌, None};
+ghost use Rattle.fx_lasting.specs.Words.{ℕ, [], true, false, Some, Closed, Emptying, Placing};
 ghost use Rattle.fx_lasting.specs.AtWork.{IsAtWork, HasPlace, MayPlace};
 ghost use Rattle.fx_lasting.specs.Ends.{Does, Parked, TakenOut};
 ghost use Rattle.fx_lasting.specs.nodes.Labels.{label_of, as_written};

@@ -1,6 +1,7 @@
 //! The label of a file: its tag, and the number of its mark. An installation stores both in two
 //! words of the file's node before the file is at a slot. A pass that holds the file loads them.
-ghost use Rattle.fx_lasting.specs.Words.{◌≡◌, ◌+◌, ◌≤◌, File, IsHoldOf, Holding};
+ghost use Rattle.std.specs.Prelude.{◌≡◌, ◌+◌, ◌≤◌};
+ghost use Rattle.fx_lasting.specs.Words.{File, IsHoldOf, Holding};
 ghost use Rattle.fx_lasting.specs.nodes.Labels.{number_of_mark};
 ghost use Rattle.fx_lasting.specs.Passes.{node_of_number};
 ghost use Rattle.fx_lasting.specs.Tables.{view_of, MeetsMore, steps_taken, IsPassOfTable};

@@ -1,7 +1,7 @@
 //! Putting an open file into the place of its node, and taking it out, while the seat's pass has
 //! the place.
-ghost use Rattle.fx_lasting.specs.Words.{◌≡◌, ℕ, ◌∷◌, [], Some, Closed, Placing, Nothing, Tag};
-ghost use Rattle.std.specs.Prelude.{None};
+ghost use Rattle.std.specs.Prelude.{◌≡◌, ◌∷◌, None};
+ghost use Rattle.fx_lasting.specs.Words.{ℕ, [], Some, Closed, Placing, Nothing, Tag};
 ghost use Rattle.fx_lasting.specs.AtWork.{IsAtWork, HasPlace};
 ghost use Rattle.fx_lasting.specs.Ends.{Does};
 ghost use Rattle.fx_lasting.specs.nodes.Labels.{label_of, as_written};

@@ -1,6 +1,7 @@
 //! The search for a free node of a pass's own stock. One is always free, and none of them goes away
 //! while the pass looks.
-ghost use Rattle.fx_lasting.specs.Words.{◌≡◌, ◌<◌, ◌≤◌, [], Searching};
+ghost use Rattle.std.specs.Prelude.{◌≡◌, ◌<◌, ◌≤◌};
+ghost use Rattle.fx_lasting.specs.Words.{[], Searching};
 ghost use Rattle.fx_lasting.specs.AtWork.{IsAtWork};
 ghost use Rattle.fx_lasting.specs.Ends.{Does};
 ghost use Rattle.fx_lasting.specs.Passes.{HasNoFile, nodes_of};

@@ -1,7 +1,7 @@
 //! The search for an empty slot of the allocation range, for a caller that installs a file there
 //! later (`put_empty`). It looks where an allocation looks, and changes no word.
-ghost use Rattle.fx_lasting.specs.Words.{◌≡◌, ℕ, ◌+◌, ◌-◌, ◌*◌, ◌<◌, ◌≤◌, IsIdle, groups_in, MOST_PASSES};
-ghost use Rattle.std.specs.Prelude.{None};
+ghost use Rattle.std.specs.Prelude.{◌≡◌, ◌+◌, ◌-◌, ◌*◌, ◌<◌, ◌≤◌, None};
+ghost use Rattle.fx_lasting.specs.Words.{ℕ, IsIdle, groups_in, MOST_PASSES};
 ghost use Rattle.fx_lasting.specs.AtWork.{IsAtWork};
 ghost use Rattle.fx_lasting.specs.Tables.{MeetsMore, view_of, steps_taken, IsPassOfTable};
 ghost use Rattle.fx_lasting.specs.Laws.{IsInRange};

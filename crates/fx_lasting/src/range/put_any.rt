@@ -1,7 +1,6 @@
 //! The search for an empty slot of the allocation range.
-ghost use Rattle.fx_lasting.specs.Words.{◌≡◌, ℕ, ◌+◌, ◌-◌, ◌*◌, ◌<◌, ◌≤◌, true, false, IfSome, IfErr, IsIdle, groups_in, MOST_GROUPS, MOST_PASSES};
-ghost use Rattle.fx_lasting.specs.Words.{Outside};
-ghost use Rattle.std.specs.Prelude.{None};
+ghost use Rattle.std.specs.Prelude.{◌≡◌, ◌+◌, ◌-◌, ◌*◌, ◌<◌, ◌≤◌, None};
+ghost use Rattle.fx_lasting.specs.Words.{ℕ, true, false, IfSome, IfErr, IsIdle, groups_in, MOST_GROUPS, MOST_PASSES, Outside};
 ghost use Rattle.fx_lasting.specs.AtWork.{IsAtWork};
 ghost use Rattle.fx_lasting.specs.Laws.{IsInRange};
 ghost use Rattle.fx_lasting.specs.range.Questions.{HasAsked};

@@ -3,7 +3,8 @@
 //! clears the word after it has taken its slot off the count, and before it empties the slot: so
 //! no group that was found full loses a file while the bit is there. Nobody else sets the bit of a
 //! pass, so a bit that is there was never cleared since.
-ghost use Rattle.fx_lasting.specs.Words.{◌≡◌, ℕ, ◌+◌, ◌<◌, ◌≤◌, true, false, groups_in, Outside, MOST_INSTALLING, Covered};
+ghost use Rattle.std.specs.Prelude.{◌≡◌, ◌+◌, ◌<◌, ◌≤◌};
+ghost use Rattle.fx_lasting.specs.Words.{ℕ, true, false, groups_in, Outside, MOST_INSTALLING, Covered};
 ghost use Rattle.fx_lasting.specs.AtWork.{IsAtWork};
 ghost use Rattle.fx_lasting.specs.range.Questions.{DecidesIf, AsksSo, VisitsGroup};
 ghost use Rattle.fx_lasting.specs.Effects.{pass_in, MeetsOne};

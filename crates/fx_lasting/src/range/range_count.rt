@@ -1,6 +1,7 @@
 //! The steps that take a slot off its group's count, clear the questions of other passes, and add a
 //! slot to the count. `table_range` has what the counts mean.
-ghost use Rattle.fx_lasting.specs.Words.{◌≡◌, ℕ, ◌<◌, [], true, is_in, group_of, groups_in, uncounted, Outside};
+ghost use Rattle.std.specs.Prelude.{◌≡◌, ◌<◌};
+ghost use Rattle.fx_lasting.specs.Words.{ℕ, [], true, is_in, group_of, groups_in, uncounted, Outside};
 ghost use Rattle.fx_lasting.specs.AtWork.{IsAtWork};
 ghost use Rattle.fx_lasting.specs.Laws.{IsInRange};
 ghost use Rattle.fx_lasting.specs.Passes.{range_at_start};

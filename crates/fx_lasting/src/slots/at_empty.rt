@@ -1,6 +1,7 @@
 //! The call for a caller that looks for an empty slot by itself: `put_empty` installs a file at a
 //! slot of the allocation range if it is empty.
-ghost use Rattle.fx_lasting.specs.Words.{◌≡◌, ℕ, ◌+◌, ◌<◌, ◌≤◌, true, false, IsIdle};
+ghost use Rattle.std.specs.Prelude.{◌≡◌, ◌+◌, ◌<◌, ◌≤◌};
+ghost use Rattle.fx_lasting.specs.Words.{ℕ, true, false, IsIdle};
 ghost use Rattle.fx_lasting.specs.AtWork.{IsAtWork};
 ghost use Rattle.fx_lasting.specs.Laws.{IsInRange};
 ghost use Rattle.fx_lasting.specs.Tables.{view_of, steps_taken, IsPassOfTable};

@@ -1,5 +1,6 @@
 //! The look-up by key, which compares the number of the file that it holds.
-ghost use Rattle.fx_lasting.specs.Words.{◌≡◌, ◌+◌, ◌<◌, ◌≤◌, IsIdle};
+ghost use Rattle.std.specs.Prelude.{◌≡◌, ◌+◌, ◌<◌, ◌≤◌};
+ghost use Rattle.fx_lasting.specs.Words.{IsIdle};
 ghost use Rattle.fx_lasting.specs.slots.ByKey.{LookedByKey, fault_for};
 ghost use Rattle.fx_lasting.specs.Tables.{view_of, MeetsMore, steps_taken, IsPassOfTable};
 

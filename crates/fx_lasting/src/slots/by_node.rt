@@ -7,7 +7,8 @@
 //! four times in all. It returns `Again` only if the slot's word changed meanwhile.
 //! While a file stays at its slot, look-ups change the word at most 16 times, and twice for each
 //! pass (`words_are_bounded`).
-ghost use Rattle.fx_lasting.specs.Words.{◌≡◌, ℕ, ◌+◌, ◌<◌, entry_in};
+ghost use Rattle.std.specs.Prelude.{◌≡◌, ◌+◌, ◌<◌};
+ghost use Rattle.fx_lasting.specs.Words.{ℕ, entry_in};
 ghost use Rattle.fx_lasting.specs.AtWork.{IsAtWork};
 ghost use Rattle.fx_lasting.specs.slots.ByNode.{SawIf, SaysIf, MayExchange, SeesIfLost, TriedExchange, word_put};
 ghost use Rattle.fx_lasting.specs.Fields.{count_in, full_name_in};

@@ -1,6 +1,7 @@
 //! The check whether a slot still has the file that a pass holds. A held file keeps its node
 //! (`held_nodes_name_files`), so the slot has that file if and only if its word names the node.
-ghost use Rattle.fx_lasting.specs.Words.{◌+◌, ◌<◌, ◌≤◌, size_of};
+ghost use Rattle.std.specs.Prelude.{◌+◌, ◌<◌, ◌≤◌};
+ghost use Rattle.fx_lasting.specs.Words.{size_of};
 ghost use Rattle.fx_lasting.specs.Tables.{view_of, MeetsMore, steps_taken, opening_of_table, IsPassOfTable};
 ghost use Rattle.fx_lasting.specs.slots.Current.{HoldsNode, ChecksCurrent};
 

@@ -3,7 +3,8 @@
 //! counts one take less, and nothing is dropped. If it held it by its hold word, the next step
 //! stores 0 there: a retirement visits the other passes only, so nobody has charged it. So the pass
 //! keeps the node, as after a removal by slot.
-ghost use Rattle.fx_lasting.specs.Words.{◌≡◌, ℕ, ◌+◌, ◌<◌, ◌≤◌, [], Some, File, size_of, IsHoldOf, IsIdle, entry_in};
+ghost use Rattle.std.specs.Prelude.{◌≡◌, ◌+◌, ◌<◌, ◌≤◌};
+ghost use Rattle.fx_lasting.specs.Words.{ℕ, [], Some, File, size_of, IsHoldOf, IsIdle, entry_in};
 ghost use Rattle.fx_lasting.specs.Laws.{IsOffCount};
 ghost use Rattle.fx_lasting.specs.Passes.{HoldsAlone};
 ghost use Rattle.fx_lasting.specs.slots.RemoveByKey.{HasTakenHeld, TakesAlone, TriedOutHeld};

@@ -3,8 +3,8 @@
 //! by its hold word. Its hold ends with the step that puts the new file there, as that of a removal
 //! does (`slots/remove_by_key.rt`). So the pass keeps the old file's node, as after a replacement
 //! by slot.
-ghost use Rattle.fx_lasting.specs.Words.{◌≡◌, ◌≢◌, ℕ, ◌+◌, ◌*◌, ◌<◌, ◌≤◌, [], true, false, Some, is_some, Closed, File, Adds, no_use, IsIdle};
-ghost use Rattle.fx_lasting.specs.Words.{Outside, Cold, Placement, Placing};
+ghost use Rattle.std.specs.Prelude.{◌≡◌, ◌≢◌, ◌+◌, ◌*◌, ◌<◌, ◌≤◌};
+ghost use Rattle.fx_lasting.specs.Words.{ℕ, [], true, false, Some, is_some, Closed, File, Adds, no_use, IsIdle, Outside, Cold, Placement, Placing};
 ghost use Rattle.fx_table.specs.declared.values.Doing.TheVariants.{Idle as DoesNothing};
 ghost use Rattle.fx_lasting.specs.AtWork.{IsAtWork, MayPlace};
 ghost use Rattle.fx_lasting.specs.Effects.{IsOnList};

@@ -1,7 +1,7 @@
 //! The step that empties a slot. It puts the name of a node of the pass's stock into the slot's
 //! word, and the node that the slot named into the stock, as an installation does. So the removed
 //! file's node is in the stock of the pass that removed it.
-ghost use Rattle.fx_lasting.specs.Words.{◌≡◌, ℕ, ◌<◌};
+ghost use Rattle.std.specs.Prelude.{◌≡◌, ◌<◌, ℕ};
 ghost use Rattle.fx_lasting.specs.AtWork.{IsAtWork};
 ghost use Rattle.fx_lasting.specs.Laws.{IsOffCount};
 ghost use Rattle.fx_lasting.specs.Passes.{HasNoFile};
