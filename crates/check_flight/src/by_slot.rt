@@ -111,7 +111,7 @@ impl SlotLog {
     fn first_wrong(&self, log: &JudgedLog<'_>, count: usize) -> Result<Option<usize>, NoMemory> {
         let mut run = SlotRun::new(log.setting.alloc, self.slot, self.file, count)?;
         for at in &self.positions {
-            if *at >= count || run.is_over {
+            if *at >= count || run.is_over || !log.moves.spend() {
                 break;
             }
             run.go_on(log, *at)?;
@@ -153,6 +153,9 @@ pub(crate) fn wrong_by_slot(log: &JudgedLog<'_>, slots: &Slots) -> Result<usize,
     let events = SlotEvents::of(log)?;
     let (mut count, mut followed) = (log.events.len().saturating_add(1), 0usize);
     for (slot, own) in events.own.iter().enumerate() {
+        if log.moves.are_lacking() {
+            break;
+        }
         followed = followed.saturating_add(events.every.len());
         if own.is_empty() || followed > MOST_EVENTS {
             continue;

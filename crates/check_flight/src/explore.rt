@@ -151,7 +151,7 @@ fn follow(
 }
 
 /// Adds each state that accesses reach. Returns whether each access is followed, and there are at
-/// most `most` states.
+/// most `most` states, and moves for them.
 pub(crate) fn follow_all(
     log: &JudgedLog<'_>,
     calls: &[ChainCall<'_>],
@@ -168,6 +168,9 @@ pub(crate) fn follow_all(
         let Some(state) = front.states.get(number) else {
             return Ok(true);
         };
+        if !log.moves.spend() {
+            return Ok(false);
+        }
         let state = state.copy(log.setting.alloc, state.base, 0)?;
         if !follow(log, calls, &state, front)? {
             return Ok(false);

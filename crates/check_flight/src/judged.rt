@@ -5,6 +5,7 @@ ghost use Rattle.fx_chain.specs.Accepted.{IsWithinLimits};
 ghost use Rattle.fx_chain.specs.Operation.{asked_of};
 ghost use Rattle.fx_chain.specs.declared.fault.TheConstants.{MOST_MEMBERS};
 
+use crate::limits::MovesLeft;
 use crate::positions::LogPositions;
 use fx_chain::Request;
 use fx_flight::LogEvent;
@@ -21,6 +22,8 @@ pub(crate) struct JudgedLog<'a> {
     pub(crate) whole: bool,
     /// The positions of answers, closes and holds among the events. Each is a hint.
     pub(crate) positions: &'a LogPositions,
+    /// The moves that searches of it may still make.
+    pub(crate) moves: &'a MovesLeft,
     pub ghost catalogued: { IsCatalogue setting.catalogue.now },
     pub ghost few_slots: { setting.size < 2 ^ 31 },
 }

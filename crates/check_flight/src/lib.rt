@@ -12,6 +12,7 @@ mod explore;
 mod front;
 mod judged;
 pub mod laws;
+mod limits;
 mod log;
 mod made;
 mod passage;
@@ -29,4 +30,5 @@ mod turn;
 mod verdict;
 mod wrong;
 
+pub use limits::LogLimits;
 pub use verdict::{FlightVerdict, judge_events};

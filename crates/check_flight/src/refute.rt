@@ -26,6 +26,7 @@ pub(crate) fn beginning_of<'a>(log: &JudgedLog<'a>, count: usize) -> JudgedLog<'
         events: &log.events[..count],
         whole: log.whole,
         positions: log.positions,
+        moves: log.moves,
     }
 }
 

@@ -377,7 +377,7 @@ impl Search {
                 tries = 0;
                 self.save(log.setting.alloc)?;
             }
-            if tries >= most {
+            if tries >= most || !log.moves.spend() {
                 return Ok(false);
             }
             tries += 1;

@@ -50,7 +50,7 @@ pub(crate) struct SlotRun<'a> {
     front: Vec<SlotState>,
     // The number of files that answered calls installed here and that aren't closed.
     unclosed: usize,
-    /// True if there were too many states.
+    /// True if there were too many states, or no move was left.
     pub(crate) is_over: bool,
 }
 
@@ -189,6 +189,9 @@ impl<'a> SlotRun<'a> {
             let Some(state) = all.get(at) else {
                 return Ok(());
             };
+            if !log.moves.spend() {
+                break;
+            }
             if state.meets(need) {
                 let (file, made) = (state.file, Vec::from_slice(self.alloc, &state.made)?);
                 self.front.push(SlotState { file, made })?;

@@ -14,6 +14,7 @@ ghost use Rattle.check_reason.specs.declared.reason.LogReason.{LogReason};
 
 use crate::by_slot::wrong_by_slot;
 use crate::judged::JudgedLog;
+use crate::limits::{LogLimits, MovesLeft};
 use crate::player::is_flight;
 use crate::positions::positions_in;
 use crate::propose::propose;
@@ -200,6 +201,7 @@ fn has_flight(
 }
 
 // Returns the verdict on a log whose first `count` events are refuted, or are if a reason is found.
+// If a search lacked a move, they may not be the shortest beginning: the log is undecided.
 fn explained(
     log: &JudgedLog<'_>,
     slots: &Slots,
@@ -210,6 +212,9 @@ fn explained(
     ensures { IfOk result (IsRight log.now slots.now) }
 {
     if count == 0 {
+        return Ok(FlightVerdict::Undecided);
+    }
+    if log.moves.are_lacking() {
         return Ok(FlightVerdict::Undecided);
     }
     let setting = &log.setting;
@@ -285,6 +290,9 @@ fn decide_quickly(
     if yes {
         return Ok(FlightVerdict::Legal);
     }
+    if log.moves.are_lacking() {
+        return Ok(FlightVerdict::Undecided);
+    }
     let (by_slot, all) = (wrong_by_slot(log, slots)?, log.events.len());
     let is_by_slot = search.furthest < by_slot && by_slot <= all;
     let high = if is_by_slot { by_slot } else { all };
@@ -299,11 +307,11 @@ fn decide(log: &JudgedLog<'_>, slots: &Slots, most: usize) -> Result<FlightVerdi
 {
     let mut hint = 0;
     let first = decide_quickly(log, slots, most.min(FIRST_STATES), &mut hint)?;
-    if !matches!(first, FlightVerdict::Undecided) {
+    if !matches!(first, FlightVerdict::Undecided) || log.moves.are_lacking() {
         return Ok(first);
     }
     let second = decide_quickly(log, slots, most.min(SECOND_STATES), &mut hint)?;
-    if !matches!(second, FlightVerdict::Undecided) {
+    if !matches!(second, FlightVerdict::Undecided) || log.moves.are_lacking() {
         return Ok(second);
     }
     decide_wholly(log, slots, hint, most)
@@ -322,7 +330,8 @@ fn lacks_memory(events: &[LogEvent]) -> bool {
 
 /// Judges the events of a log whose table has these slots at first: its size is constant, and no
 /// file of it is closed. With `whole` each update is one step, not one for each entry. A log with
-/// an answer -12 is undecided.
+/// an answer -12 is undecided. Whatever the number of moves is, the verdict is that of a judgement
+/// without such a limit, or undecided.
 ///
 /// # Errors
 /// `NoMemory` if an allocation fails.
@@ -332,7 +341,7 @@ pub fn judge_events(
     slots: &Slots,
     events: &[LogEvent],
     whole: bool,
-    limits: Limits,
+    limits: LogLimits,
 ) -> Result<FlightVerdict, NoMemory>
     requires catalogue { IsCatalogue catalogue.now }
     requires slots { length slots.now.at.items < 2 ^ 31 }
@@ -357,6 +366,7 @@ pub fn judge_events(
         return Ok(FlightVerdict::Undecided);
     }
     let positions = positions_in(alloc, events)?;
+    let moves = MovesLeft::new(limits.moves);
     let log = JudgedLog {
         setting: OrderSetting {
             alloc,
@@ -366,7 +376,8 @@ pub fn judge_events(
         events,
         whole,
         positions: &positions,
+        moves: &moves,
     };
-    let most = room_for(slots, limits);
+    let most = room_for(slots, limits.search);
     decide(&log, slots, most)
 }

@@ -3,7 +3,7 @@
 ghost use Rattle.fx_base.specs.Catalogue.{IsCatalogue};
 
 use bitflags::Flags;
-use check_flight::{FlightVerdict, judge_events};
+use check_flight::{FlightVerdict, LogLimits, judge_events};
 use check_search::Limits;
 use fx_base::{AddFault, Catalogue, NoMemory};
 use fx_chain::{Completion, Op, Place, Request, SqeFlags, Target};
@@ -85,8 +85,9 @@ fn verdict_on(
     let mut log = Vec::new(alloc);
     play(alloc, &mut log, reads_first)?;
     let (range, at) = ((0, 1), vec![in alloc; None; 1]?);
-    let (states, bytes) = (1000, 1 << 20);
-    let limits = Limits { states, bytes };
+    let (states, bytes, moves) = (1000, 1 << 20, 1_000_000);
+    let search = Limits { states, bytes };
+    let limits = LogLimits { search, moves };
     judge_events(alloc, catalogue, &Slots { range, at }, &log, false, limits)
 }
 

@@ -11,8 +11,7 @@ use crate::codes::{
 use crate::logs::CallLog;
 use crate::steps::{YachtStep, write_steps};
 use crate::unread::{LogRefusal, Unread};
-use check_flight::{FlightVerdict, judge_events};
-use check_search::Limits;
+use check_flight::{FlightVerdict, LogLimits, judge_events};
 use fx_flight::EventFault;
 use std::alloc::Global;
 
@@ -94,7 +93,7 @@ pub fn judge_log(
     alloc: Global,
     log: &CallLog<'_>,
     whole: bool,
-    limits: Limits,
+    limits: LogLimits,
     steps: &mut [YachtStep],
     judgement: &mut YachtJudgement,
 ) -> u32

@@ -19,7 +19,7 @@ mod unread;
 pub use events::{YachtEvent, YachtFile, YachtRequest};
 pub use flights::{YachtJudgement, judge_log};
 pub use judge::{YachtVerdict, judge_text};
-pub use limits::limits_of;
+pub use limits::{limits_of, log_limits_of};
 pub use logs::CallLog;
 pub use outcomes::{YachtTexts, list_texts};
 pub use steps::{YachtPoint, YachtStep};

@@ -8,7 +8,7 @@ ghost use Rattle.fx_judge.specs.Verdicts.{IsTextVerdict};
 
 use fx_judge::{
     CallLog, YachtEvent, YachtFile, YachtJudgement, YachtRequest, YachtStep, YachtTexts,
-    YachtVerdict, judge_log, judge_text, limits_of, list_texts,
+    YachtVerdict, judge_log, judge_text, limits_of, list_texts, log_limits_of,
 };
 use std::alloc::Global;
 
@@ -48,8 +48,8 @@ pub extern "C" fn yacht_outcomes_6(
     list_texts(alloc, script, limits, texts, lengths, found)
 }
 
-/// Judges a log of calls in flight, by searches of at most `states` states and `memory` MiB, and
-/// writes the first steps of the reason: `fx_judge::judge_log`.
+/// Judges a log of calls in flight, by searches of at most `states` states and `memory` MiB, and of
+/// at most `moves` moves together, and writes the first steps of the reason: `fx_judge::judge_log`.
 #[unsafe(no_mangle)]
 pub extern "C" fn yacht_judge_events_6(
     alloc: Global,
@@ -61,6 +61,7 @@ pub extern "C" fn yacht_judge_events_6(
     events: &[YachtEvent],
     states: u32,
     memory: u32,
+    moves: u64,
     steps: &mut [YachtStep],
     judgement: &mut YachtJudgement,
 ) -> u32
@@ -76,7 +77,7 @@ pub extern "C" fn yacht_judge_events_6(
         bytes,
         events,
     };
-    let limits = limits_of(states, memory);
+    let limits = log_limits_of(states, memory, moves);
     judge_log(alloc, &log, false, limits, steps, judgement)
 }
 
@@ -93,6 +94,7 @@ pub extern "C" fn yacht_judge_whole_updates_6(
     events: &[YachtEvent],
     states: u32,
     memory: u32,
+    moves: u64,
     steps: &mut [YachtStep],
     judgement: &mut YachtJudgement,
 ) -> u32
@@ -108,6 +110,6 @@ pub extern "C" fn yacht_judge_whole_updates_6(
         bytes,
         events,
     };
-    let limits = limits_of(states, memory);
+    let limits = log_limits_of(states, memory, moves);
     judge_log(alloc, &log, true, limits, steps, judgement)
 }
