@@ -64,6 +64,9 @@ enum {
  * them. */
 enum { YACHT_STATES = 1000000, YACHT_MEMORY = 1024 };
 
+/* The number of moves of a judgement of a log that is no limit. */
+#define YACHT_ANY_MOVES UINT64_MAX
+
 /* The details of a verdict. A field is 0 unless its number is returned; after
  * YACHT_JUDGE_NO_MEMORY, `line` and `note` say nothing. */
 typedef struct yacht_verdict {
@@ -302,8 +305,12 @@ typedef struct yacht_judgement {
  * the allocation range. The events name ranges of the other arrays: the requests of chains, the
  * entries of updates (-1 empties a slot, -2 leaves it as it is, any other number is a file), and
  * the bytes that reads returned, which stand in `bytes` beside the names and the bytes of files.
- * Each search of states keeps at most `states` states and `memory` MiB of them. A log with an
- * answer -12 is undecided.
+ * Each search of states keeps at most `states` states and `memory` MiB of them. All searches
+ * together make at most `moves` moves: states that a search tries or follows, the same one perhaps
+ * more than once. If they need more, the log is undecided, and else the verdict is that of a
+ * judgement without this limit. With 0 moves, a log that needs a search is undecided;
+ * YACHT_ANY_MOVES is no limit. The search for the reason makes no move. A log with an answer -12 is
+ * undecided.
  * For a log that isn't legal, it looks for the reason why the log has no flight up to and with the
  * event judgement->at. The first steps of the reason are written to `steps`, at most steps_length.
  * Each follows from the log and from steps before it.
@@ -313,7 +320,7 @@ uint32_t yacht_judge_events(const yacht_file *files, size_t files_length, uint32
                             const yacht_request *requests, size_t requests_length,
                             const int32_t *entries, size_t entries_length, const uint8_t *bytes,
                             size_t bytes_length, const yacht_event *events, size_t events_length,
-                            uint32_t states, uint32_t memory, yacht_step *steps,
+                            uint32_t states, uint32_t memory, uint64_t moves, yacht_step *steps,
                             size_t steps_length, yacht_judgement *judgement);
 
 /* Judges a log as yacht_judge_events does, by whole updates: each update is one step, as on Linux,
@@ -324,8 +331,8 @@ uint32_t yacht_judge_whole_updates(const yacht_file *files, size_t files_length,
                                    const int32_t *entries, size_t entries_length,
                                    const uint8_t *bytes, size_t bytes_length,
                                    const yacht_event *events, size_t events_length, uint32_t states,
-                                   uint32_t memory, yacht_step *steps, size_t steps_length,
-                                   yacht_judgement *judgement);
+                                   uint32_t memory, uint64_t moves, yacht_step *steps,
+                                   size_t steps_length, yacht_judgement *judgement);
 
 /* The details of a verdict on the text of a log. Lines are numbered from 1. A field is 0 unless its
  * number is returned. */
@@ -350,8 +357,9 @@ typedef struct yacht_reading {
  * Returns YACHT_LEGAL, YACHT_NOT_LEGAL, YACHT_UNDECIDED, YACHT_JUDGE_NO_MEMORY, YACHT_NOT_A_LOG,
  * YACHT_KERNEL_LOG or YACHT_LONG_LOG, and writes *reading. */
 uint32_t yacht_judge_log(const uint8_t *text, size_t text_length, uint32_t whole_updates,
-                         uint32_t states, uint32_t memory, uint8_t *note, size_t note_length,
-                         yacht_step *steps, size_t steps_length, yacht_reading *reading);
+                         uint32_t states, uint32_t memory, uint64_t moves, uint8_t *note,
+                         size_t note_length, yacht_step *steps, size_t steps_length,
+                         yacht_reading *reading);
 
 #ifdef __cplusplus
 }

@@ -447,8 +447,8 @@ static void to_text(const reader *it, size_t before, yacht_step *steps, size_t c
     }
 }
 
-uint32_t yacht_judge_log(const uint8_t *text, size_t text_length, uint32_t whole_updates, uint32_t states, uint32_t memory, uint8_t *note,
-                         size_t note_length, yacht_step *steps, size_t steps_length, yacht_reading *reading) {
+uint32_t yacht_judge_log(const uint8_t *text, size_t text_length, uint32_t whole_updates, uint32_t states, uint32_t memory, uint64_t moves,
+                         uint8_t *note, size_t note_length, yacht_step *steps, size_t steps_length, yacht_reading *reading) {
     static const uint64_t nothing;
     reader it = {0};
     yacht_judgement of;
@@ -460,7 +460,7 @@ uint32_t yacht_judge_log(const uint8_t *text, size_t text_length, uint32_t whole
         for (int nth = 0; nth < 5; nth++) all[nth] = all[nth] ? all[nth] : &nothing;
         it.number = (whole_updates ? yacht_judge_whole_updates : yacht_judge_events)(
             all[0], it.files.length, it.slots, all[1], it.requests.length, all[2], it.entries.length, all[3], it.bytes.length, all[4],
-            it.judged, states, memory, steps, steps_length, &of);
+            it.judged, states, memory, moves, steps, steps_length, &of);
     }
     /* after the files, the registration and its answer, each line is an event */
     size_t before = it.files.length + 3;

@@ -35,10 +35,11 @@ LEGAL, NOT_LEGAL, UNDECIDED, BAD_SCRIPT, NO_MEMORY = range(5)
 NOT_A_LOG, KERNEL_LOG, LONG_LOG = range(9, 12)
 ALL, SOME, NO_ROOM = range(3)
 
-# fixcheck's own defaults, and the largest number of each
+# fixcheck's own defaults, and the largest number of each; and the largest number of moves, which is no limit
 STATES = 1_000_000
 MEMORY = 1_024
 MOST = 2**32 - 1
+MOVES = 2**64 - 1
 # the largest number of steps of a reason that the judge has room for at first, and room for the fault of a line
 ROOM, FAULT_ROOM = 4_096, 400
 
@@ -167,7 +168,7 @@ _REASON = POINTER(_Step), c_size_t
 for _function, _given in (
     (_library.yacht_judge_6, (*_BYTES, *_BYTES, *_LIMITS, *_BYTES, POINTER(_Verdict))),
     (_library.yacht_outcomes_6, (*_BYTES, *_LIMITS, *_BYTES, POINTER(c_uint64), c_size_t, POINTER(_Texts))),
-    (_library.yacht_judge_log_6, (*_BYTES, c_uint32, *_LIMITS, *_BYTES, *_REASON, POINTER(_Reading))),
+    (_library.yacht_judge_log_6, (*_BYTES, c_uint32, *_LIMITS, c_uint64, *_BYTES, *_REASON, POINTER(_Reading))),
 ):
     _function.restype, _function.argtypes = c_uint32, _given
 
@@ -180,12 +181,13 @@ def _bytes(of: Words, name: str) -> tuple[Any, int]:
     return ctypes.cast(ctypes.c_char_p(data), POINTER(c_uint8)), len(data)
 
 
-def _limits(states: int, memory: int) -> tuple[int, int]:
-    """Checks that both limits are numbers from 0 to MOST."""
-    numbers = operator.index(states), operator.index(memory)
-    for name, number in zip(("states", "memory"), numbers):
-        if not 0 <= number <= MOST:
-            raise ValueError(f"{name} must be from 0 to {MOST}, not {number}")
+def _limits(**limits: int) -> list[int]:
+    """Checks that each limit is a number from 0 to MOST, or to MOVES."""
+    numbers = [operator.index(it) for it in limits.values()]
+    for name, number in zip(limits, numbers):
+        most = MOVES if name == "moves" else MOST
+        if not 0 <= number <= most:
+            raise ValueError(f"{name} must be from 0 to {most}, not {number}")
     return numbers
 
 
@@ -195,7 +197,7 @@ def judge(script: Words, text: Words, states: int = STATES, memory: int = MEMORY
 
     Raises BadScript if `script` is not a script, NoMemory if an allocation fails, TypeError if an argument has another type, and
     ValueError if a limit is negative or above 2**32 - 1."""
-    given, printed, limits = _bytes(script, "script"), _bytes(text, "text"), _limits(states, memory)
+    given, printed, limits = _bytes(script, "script"), _bytes(text, "text"), _limits(states=states, memory=memory)
     verdict, room = _Verdict(), 65_536
     while True:
         note = (c_uint8 * room)()
@@ -217,7 +219,7 @@ def outcomes(script: Words, states: int = STATES, memory: int = MEMORY) -> Outco
     in all.
 
     Raises what `judge` raises."""
-    given, limits = _bytes(script, "script"), _limits(states, memory)
+    given, limits = _bytes(script, "script"), _limits(states=states, memory=memory)
     found, room, count = _Texts(), 1 << 20, 4_096
     while True:
         texts, lengths = (c_uint8 * room)(), (c_uint64 * count)()
@@ -238,10 +240,12 @@ def outcomes(script: Words, states: int = STATES, memory: int = MEMORY) -> Outco
     return Outcomes(tuple(listed), code == ALL)
 
 
-def read_log(text: Words, states: int = STATES, memory: int = MEMORY, whole_updates: bool = False, lines: Sequence[int] = ()) -> LogVerdict | None:
+def read_log(text: Words, states: int = STATES, memory: int = MEMORY, moves: int = MOVES, whole_updates: bool = False,
+             lines: Sequence[int] = ()) -> LogVerdict | None:
     """Returns what `judge_log` returns, or None if the log has lines of the kernel's recorder. With `lines` each line of the text is one of
     another text."""
-    given, limits, reading, note = _bytes(text, "text"), _limits(states, memory), _Reading(), (c_uint8 * FAULT_ROOM)()
+    given, limits = _bytes(text, "text"), _limits(states=states, memory=memory, moves=moves)
+    reading, note = _Reading(), (c_uint8 * FAULT_ROOM)()
 
     def line_of(number: int) -> int:
         return lines[number - 1] if number and lines else number
@@ -268,25 +272,28 @@ def read_log(text: Words, states: int = STATES, memory: int = MEMORY, whole_upda
 _WORDS: dict[int, Literal["legal", "undecided"]] = {LEGAL: "legal", UNDECIDED: "undecided"}
 
 
-def judge_log(text: Words, states: int = STATES, memory: int = MEMORY, *, whole_updates: bool = False) -> LogVerdict:
-    """Decides whether the text of a log of calls in flight is legal, by searches of at most `states` states and `memory` MiB. With
-    `whole_updates` each update is one step, not one for each entry. Of a log with an answer -12 only what comes before may be refused.
+def judge_log(text: Words, states: int = STATES, memory: int = MEMORY, moves: int = MOVES, *, whole_updates: bool = False) -> LogVerdict:
+    """Decides whether the text of a log of calls in flight is legal, by searches of at most `states` states and `memory` MiB, and of at most
+    `moves` moves together: states that a search tries or follows, the same one perhaps more than once. If they need more, the log is
+    undecided, and else the verdict is that of a judgement without this limit. The search for the reason makes no move; 2**64 - 1 moves are no
+    limit. With `whole_updates` each update is one step, not one for each entry. Of a log with an answer -12 only what comes before may be
+    refused.
 
     Raises BadLog if the text is not a log, NoMemory if an allocation fails, and TypeError or ValueError if a limit is none or the text is too
     long."""
-    verdict = read_log(text, states, memory, whole_updates)
+    verdict = read_log(text, states, memory, moves, whole_updates)
     if verdict is not None:
         return verdict
     from yachtlog import Log
 
-    return Log(text if isinstance(text, str) else bytes(text)).judge(states, memory, whole_updates=whole_updates)
+    return Log(text if isinstance(text, str) else bytes(text)).judge(states, memory, moves, whole_updates=whole_updates)
 
 
-def judge_events(log: Lines, events: Iterable[Event] | None = None, states: int = STATES, memory: int = MEMORY, *,
+def judge_events(log: Lines, events: Iterable[Event] | None = None, states: int = STATES, memory: int = MEMORY, moves: int = MOVES, *,
                  whole_updates: bool = False) -> LogVerdict:
     """Decides by `judge_log` whether a log that yachtlog has read is legal: the events of the log, without its tags, or others of the same
     calls. The lines of the verdict are those of the events."""
     text, lines = log.plain((it for it in log.events if it.word != "tag") if events is None else events)
-    verdict = read_log(text, states, memory, whole_updates, lines)
+    verdict = read_log(text, states, memory, moves, whole_updates, lines)
     assert verdict is not None
     return verdict

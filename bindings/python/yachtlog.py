@@ -1,7 +1,7 @@
 """Logs of calls in flight (docs/inside/FLIGHT.md): reads a log as the recorders print it, and has the verified judge decide whether it is legal
 (yachtjudge.judge_events). That the lines are read rightly is tested.
 
-    python3 yachtlog.py [--full-reason] [--whole-updates] [--states N] [--memory MIB] [--seconds N] [--draw SVG] LOG..
+    python3 yachtlog.py [--full-reason] [--whole-updates] [--states N] [--memory MIB] [--moves N] [--seconds N] [--draw SVG] LOG..
 
 prints for each log `legal`, `not legal` with the line at which no flight is left and the reason, `undecided`, or `not a log` with the first
 line that no log has there. Of a long reason the last sentences are printed, and with --full-reason all of them. With --whole-updates each
@@ -42,28 +42,29 @@ SENTENCES = 12
 
 __all__ = ["Answer", "BadLog", "Event", "Log", "Request"]
 
-# the defaults of fixcheck, and the largest number of each
-STATES, MEMORY, MOST = 1_000_000, 1_024, 2**32 - 1
+# the defaults of fixcheck, and the largest number of each; and the largest number of moves, which is no limit
+STATES, MEMORY, MOST, MOVES = 1_000_000, 1_024, 2**32 - 1, 2**64 - 1
 
 
 class Log(Lines):
     """A log: its catalogue, its slots, its calls and its events. Raises BadLog for a text that is not a log."""
 
-    def judge(self, states: int = STATES, memory: int = MEMORY, *, whole_updates: bool = False) -> LogVerdict:
-        """Judges the log by the verified judge, with at most `states` states and `memory` MiB in a search; with `whole_updates` each update
-        must be one step. If it is legal and has tags, it is judged again with the tag of each file in place of its close. The line of an
-        undecided log is one that the judge leaves undecided whatever its limits are, or 0.
+    def judge(self, states: int = STATES, memory: int = MEMORY, moves: int = MOVES, *, whole_updates: bool = False) -> LogVerdict:
+        """Judges the log by the verified judge, with at most `states` states and `memory` MiB in a search, and at most `moves` moves of all
+        searches together; with `whole_updates` each update must be one step. If it is legal and has tags, it is judged again with the tag of
+        each file in place of its close, and with as many moves. The line of an undecided log is one that the judge leaves undecided whatever
+        its limits are, or 0.
 
         Raises ImportError if the library yachtjudge is missing, and what yachtjudge.judge_events raises."""
         import yachtjudge
 
-        verdict = yachtjudge.read_log(self.source, states, memory, whole_updates)
+        verdict = yachtjudge.read_log(self.source, states, memory, moves, whole_updates)
         if verdict is not None:
             return verdict
         for events in self.readings():
             # the answer -12 of a pipe is not one of a look
             before = [it for it in events if it.line < self.lacking] if self.lacking else events
-            verdict = yachtjudge.judge_events(self, before, states, memory, whole_updates=whole_updates)
+            verdict = yachtjudge.judge_events(self, before, states, memory, moves, whole_updates=whole_updates)
             if self.lacking and verdict.word != "not legal":
                 return yachtjudge.LogVerdict("undecided", self.lacking)
             if verdict.word != "legal":
@@ -78,13 +79,13 @@ class Log(Lines):
 
         return Words(self, self.events, verdict.reason).sentences() if verdict.reason else []
 
-    def shortened(self, verdict: LogVerdict, states: int = STATES, memory: int = MEMORY, *, whole_updates: bool = False) -> str:
+    def shortened(self, verdict: LogVerdict, states: int = STATES, memory: int = MEMORY, moves: int = MOVES, *, whole_updates: bool = False) -> str:
         """Returns the log up to the line of its verdict, 'not legal', with fewer calls: a log of which this is the first wrong line, too. After
         50 seconds no further log is tried."""
         from yachtshorten import Shortening
 
         def is_wrong(text: str) -> bool:
-            found = Log(text).judge(states, memory, whole_updates=whole_updates)
+            found = Log(text).judge(states, memory, moves, whole_updates=whole_updates)
             return (found.word, found.line) == ("not legal", text.count("\n"))
 
         shortening = Shortening(self, self.source, verdict.line)
@@ -97,12 +98,17 @@ STATUSES = {"legal": 0, "not legal": 1, "undecided": 6}
 ORDER = (STATUSES["not legal"], NO_MEMORY, MISSING, NOT_A_LOG, STATUSES["undecided"])
 
 
-def limit(word: str) -> int:
+def limit(word: str, most: int = MOST) -> int:
     """Reads a limit of the judge."""
     number = int(word) if word.isascii() and word.isdigit() else -1
-    if not 0 <= number <= MOST:
-        raise argparse.ArgumentTypeError(f"a limit is a number from 0 to {MOST}, not {word}")
+    if not 0 <= number <= most:
+        raise argparse.ArgumentTypeError(f"a limit is a number from 0 to {most}, not {word}")
     return number
+
+
+def limit_of_moves(word: str) -> int:
+    """Reads a number of moves."""
+    return limit(word, MOVES)
 
 
 def arguments() -> argparse.Namespace:
@@ -114,6 +120,7 @@ def arguments() -> argparse.Namespace:
     parser.add_argument("--shorten", action="store_true", help="print a log with fewer calls and the same wrong line, and the verdict on standard error")
     parser.add_argument("--draw", metavar="SVG", help="write a picture of the log, of at most 120 lines, to this file")
     parser.add_argument("--memory", type=limit, default=MEMORY, metavar="MIB", help=f"largest number of MiB for the states (default {MEMORY})")
+    parser.add_argument("--moves", type=limit_of_moves, default=MOVES, metavar="N", help="largest number of moves of all searches (default: no limit)")
     parser.add_argument("--seconds", type=limit, default=0, metavar="N", help="largest number of seconds to judge each log (default 0: no limit)")
     options = parser.parse_args()
     if (options.shorten or options.draw) and len(options.logs) > 1:
@@ -138,13 +145,14 @@ def judged(path: str, options: argparse.Namespace) -> tuple[Log | None, LogVerdi
         raise
     # the time to load a log doesn't count
     signal.setitimer(signal.ITIMER_REAL, options.seconds)
-    verdict = judge_log(content, options.states, options.memory, whole_updates=options.whole_updates)
+    limits = options.states, options.memory, options.moves
+    verdict = judge_log(content, *limits, whole_updates=options.whole_updates)
     lines = content.split(b"\n")
     if verdict.word == "not legal":
         log = Log(content if options.draw else b"\n".join([*lines[: verdict.line], b""]))
         if options.shorten:
-            log = Log(log.shortened(verdict, options.states, options.memory, whole_updates=options.whole_updates))
-            verdict = log.judge(options.states, options.memory, whole_updates=options.whole_updates)
+            log = Log(log.shortened(verdict, *limits, whole_updates=options.whole_updates))
+            verdict = log.judge(*limits, whole_updates=options.whole_updates)
         return log, verdict, log.line(verdict.line)
     return Log(content) if options.draw else None, verdict, lines[verdict.line - 1].decode("ascii")
 

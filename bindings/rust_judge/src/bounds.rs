@@ -3,12 +3,12 @@
 //!
 //! ```
 //! use std::panic::{RefUnwindSafe, UnwindSafe};
-//! use yachtjudge::{File, JudgeError, Limits, LogVerdict, Outcomes};
+//! use yachtjudge::{File, JudgeError, Limits, LogLimits, LogVerdict, Outcomes};
 //! use yachtjudge::{Point, Rule, Step, Verdict};
 //!
 //! fn plain<T: Clone + Send + Sync + UnwindSafe + RefUnwindSafe + Unpin + 'static>() {}
 //! fn error<T: std::error::Error>() {}
-//! plain::<(File, JudgeError, Limits, LogVerdict, Outcomes)>();
+//! plain::<(File, JudgeError, Limits, LogLimits, LogVerdict, Outcomes)>();
 //! plain::<(Point, Rule, Step, Verdict)>();
 //! error::<JudgeError>();
 //! ```

@@ -44,7 +44,7 @@ functions! {
                   note: *mut u8, note_length: usize, verdict: *mut Verdict);
     yacht_outcomes_6(text, states: u32, memory: u32, texts: *mut u8, texts_length: usize,
                      lengths: *mut u64, lengths_length: usize, found: *mut Texts);
-    yacht_judge_log_6(text, whole_updates: u32, states: u32, memory: u32, note: *mut u8,
-                      note_length: usize, steps: *mut Step, steps_length: usize,
+    yacht_judge_log_6(text, whole_updates: u32, states: u32, memory: u32, moves: u64,
+                      note: *mut u8, note_length: usize, steps: *mut Step, steps_length: usize,
                       reading: *mut Reading);
 }

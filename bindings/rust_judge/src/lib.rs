@@ -27,11 +27,11 @@ mod reason;
 mod script;
 
 pub use errors::JudgeError;
-pub use log::{judge_log, judge_log_by_whole_updates, File, LogVerdict};
+pub use log::{judge_log, judge_log_by_whole_updates, File, LogLimits, LogVerdict};
 pub use reason::{Point, Rule, Step};
 pub use script::{judge, outcomes, Outcomes, Verdict};
 
-/// The limits of a search. [`Limits::default`] are those of `fixcheck`.
+/// The limits of a search for a script. [`Limits::default`] are those of `fixcheck`.
 #[derive(Clone, Copy, Debug, PartialEq, Eq)]
 pub struct Limits {
     /// The largest number of states.

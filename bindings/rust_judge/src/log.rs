@@ -1,7 +1,7 @@
 //! Logs of calls in flight.
 use crate::core;
 use crate::errors::JudgeError;
-use crate::{Limits, Step};
+use crate::Step;
 
 /// A file: the request that installed it, and its number in the catalogue.
 #[derive(Clone, Copy, Debug, PartialEq, Eq)]
@@ -14,6 +14,27 @@ pub struct File {
     pub entry: u32,
     /// The number of the file in the catalogue, from 0.
     pub file: u8,
+}
+
+/// The limits of a judgement of a log. [`LogLimits::default`] are those of `fixcheck`, with any
+/// number of moves.
+#[derive(Clone, Copy, Debug, PartialEq, Eq)]
+pub struct LogLimits {
+    /// The largest number of states of a search.
+    pub states: u32,
+    /// The largest number of MiB for the states of a search.
+    pub memory: u32,
+    /// The largest number of moves of all searches together: states that a search tries or
+    /// follows, the same one perhaps more than once. If they need more, the log is undecided, and
+    /// else the verdict is that of a judgement without this limit. The search for the reason makes
+    /// no move. `u64::MAX` is no limit.
+    pub moves: u64,
+}
+
+impl Default for LogLimits {
+    fn default() -> LogLimits {
+        LogLimits { states: 1_000_000, memory: 1_024, moves: u64::MAX }
+    }
 }
 
 /// A verdict on a log.
@@ -46,13 +67,13 @@ const FAULT_ROOM: usize = 400;
 /// after the answer of the close can't find it.
 ///
 /// ```
-/// use yachtjudge::{judge_log, JudgeError, Limits, LogVerdict};
+/// use yachtjudge::{judge_log, JudgeError, LogLimits, LogVerdict};
 ///
 /// let head = "file page.html 68656c6c6f\ncall 1 sparse 1\ndone 1.1 0\n";
 /// let open = "call 2 open page.html at 0\ndone 2.1 0\n";
 /// let close = "call 4 close 0\ndone 4.1 0\n";
 /// let read = ["call 3 read 0 0 5\n", "done 3.1 5 68656c6c6f\n"];
-/// let judge = |text: String| judge_log(text.as_bytes(), Limits::default());
+/// let judge = |text: String| judge_log(text.as_bytes(), LogLimits::default());
 ///
 /// let beside = format!("{head}{open}{}{close}{}", read[0], read[1]);
 /// assert_eq!(judge(beside), Ok(LogVerdict::Legal));
@@ -69,7 +90,7 @@ const FAULT_ROOM: usize = 400;
 ///
 /// # Errors
 /// Any [`JudgeError`] but [`JudgeError::BadScript`].
-pub fn judge_log(text: &[u8], limits: Limits) -> Result<LogVerdict, JudgeError> {
+pub fn judge_log(text: &[u8], limits: LogLimits) -> Result<LogVerdict, JudgeError> {
     judge_by(text, false, limits)
 }
 
@@ -78,11 +99,14 @@ pub fn judge_log(text: &[u8], limits: Limits) -> Result<LogVerdict, JudgeError> 
 ///
 /// # Errors
 /// Those of [`judge_log`].
-pub fn judge_log_by_whole_updates(text: &[u8], limits: Limits) -> Result<LogVerdict, JudgeError> {
+pub fn judge_log_by_whole_updates(
+    text: &[u8],
+    limits: LogLimits,
+) -> Result<LogVerdict, JudgeError> {
     judge_by(text, true, limits)
 }
 
-fn judge_by(text: &[u8], is_whole: bool, limits: Limits) -> Result<LogVerdict, JudgeError> {
+fn judge_by(text: &[u8], is_whole: bool, limits: LogLimits) -> Result<LogVerdict, JudgeError> {
     let mut room = ROOM;
     let (number, reading, note, mut steps) = loop {
         let (number, reading, note, steps) = judged(text, is_whole, limits, room);
@@ -112,7 +136,7 @@ fn judge_by(text: &[u8], is_whole: bool, limits: Limits) -> Result<LogVerdict, J
 fn judged(
     text: &[u8],
     is_whole: bool,
-    limits: Limits,
+    limits: LogLimits,
     room: usize,
 ) -> (u32, core::Reading, [u8; FAULT_ROOM], Vec<core::Step>) {
     let (mut reading, mut note) = (core::Reading::default(), [0; FAULT_ROOM]);
@@ -125,6 +149,7 @@ fn judged(
             u32::from(is_whole),
             limits.states,
             limits.memory,
+            limits.moves,
             note.as_mut_ptr(),
             FAULT_ROOM,
             steps.as_mut_ptr(),

@@ -3,7 +3,7 @@
 //! names the table to a stand-in for the library, adds the rows that only that answers.
 use std::collections::HashMap;
 use yachtjudge::{
-    judge, judge_log, judge_log_by_whole_updates, outcomes, File, JudgeError, Limits,
+    judge, judge_log, judge_log_by_whole_updates, outcomes, File, JudgeError, Limits, LogLimits,
 };
 use yachtjudge::{LogVerdict, Outcomes, Point, Verdict};
 
@@ -18,10 +18,10 @@ fn numbers(bytes: &[u8]) -> Vec<usize> {
     bytes.chunks_exact(8).map(|it| u64::from_le_bytes(it.try_into().unwrap()) as usize).collect()
 }
 
-/// A row: its kind, whether only a stand-in answers it, slots, states, memory, number, commands,
-/// at, submission, line and fault; and the bytes of its parts.
+/// A row: its kind, whether only a stand-in answers it, slots, states, memory, moves, number,
+/// commands, at, submission, line and fault; and the bytes of its parts.
 struct Row<'a> {
-    head: [usize; 11],
+    head: [usize; 12],
     parts: [&'a [u8]; 9],
 }
 
@@ -33,10 +33,10 @@ fn table() -> Vec<u8> {
 
 fn rows(data: &[u8]) -> Vec<Row<'_>> {
     let count = numbers(&data[..8])[0];
-    let all = data[8..].chunks(8 * 29).take(count).map(numbers).map(|row| Row {
-        head: row[..11].try_into().unwrap(),
+    let all = data[8..].chunks(8 * 30).take(count).map(numbers).map(|row| Row {
+        head: row[..12].try_into().unwrap(),
         parts: std::array::from_fn(|nth| {
-            &data[row[11 + 2 * nth]..][..SIZES[nth] * row[12 + 2 * nth]]
+            &data[row[12 + 2 * nth]..][..SIZES[nth] * row[13 + 2 * nth]]
         }),
     });
     all.filter(|it| it.head[1] == 0 || is_stand_in()).collect()
@@ -48,6 +48,11 @@ impl Row<'_> {
         Limits { states: states as u32, memory: memory as u32 }
     }
 
+    fn log_limits(&self) -> LogLimits {
+        let Limits { states, memory } = self.limits();
+        LogLimits { states, memory, moves: self.head[5] as u64 }
+    }
+
     fn note(&self) -> String {
         String::from_utf8_lossy(self.parts[2]).into_owned()
     }
@@ -55,9 +60,9 @@ impl Row<'_> {
 
 /// Returns the fault of a script as the row of the judge has it that has the same script.
 fn bad_script(rows: &[Row], row: &Row) -> JudgeError {
-    let is_same = |it: &&Row| (it.head[0], it.head[5], it.parts[0]) == (0, 3, row.parts[0]);
+    let is_same = |it: &&Row| (it.head[0], it.head[6], it.parts[0]) == (0, 3, row.parts[0]);
     let it = rows.iter().find(is_same).unwrap();
-    JudgeError::BadScript { line: it.head[9] as u32, fault: it.note() }
+    JudgeError::BadScript { line: it.head[10] as u32, fault: it.note() }
 }
 
 fn judged(rows: &[Row], row: &Row) {
@@ -74,7 +79,7 @@ fn judged(rows: &[Row], row: &Row) {
 }
 
 fn listed(rows: &[Row], row: &Row) {
-    let ([script, mut rest, ..], number) = (row.parts, row.head[5]);
+    let ([script, mut rest, ..], number) = (row.parts, row.head[6]);
     let found = outcomes(script, row.limits()).map(sorted);
     let split = |length| {
         let (text, others) = rest.split_at(length);
@@ -112,7 +117,7 @@ fn judged_log(row: &Row) {
         2 => Ok(LogVerdict::Undecided),
         _ => Err(JudgeError::NoMemory),
     };
-    let found = judge_log(text, row.limits()).map(|it| match it {
+    let found = judge_log(text, row.log_limits()).map(|it| match it {
         LogVerdict::NotLegal { line, .. } => LogVerdict::NotLegal { line, reason: vec![] },
         other => other,
     });
@@ -121,7 +126,7 @@ fn judged_log(row: &Row) {
 
 #[test]
 fn what_is_not_a_log_has_a_line_and_a_fault() {
-    let found = |text: &str| judge_log(text.as_bytes(), Limits::default());
+    let found = |text: &str| judge_log(text.as_bytes(), LogLimits::default());
     let fault = "the first call registers the table, as in `sparse 3`, not 'x'".to_string();
     assert_eq!(found("file a 61\ncall 1 x\n"), Err(JudgeError::NotALog { line: 2, fault }));
     assert_eq!(found("file a 61\nfile b 62\ntag 2.1.0\n"), Err(JudgeError::KernelLog { line: 3 }));
@@ -145,6 +150,8 @@ fn each_answer_is_that_of_its_row() {
 fn the_limits_are_those_of_fixcheck() {
     let Limits { states, memory } = Limits::default();
     assert_eq!((states, memory), (1_000_000, 1_024));
+    let moves = u64::MAX;
+    assert_eq!(LogLimits::default(), LogLimits { states, memory, moves });
 }
 
 fn point(nth: u32) -> Point {
@@ -171,7 +178,7 @@ fn each_step_has_the_numbers_of_the_library() {
     let mut rules = HashMap::new();
     for count in [1, 32, 4_096, 5_000] {
         let text = format!("call 1 sparse {count}\ndone 1.1 0\n");
-        let found = judge_log_by_whole_updates(text.as_bytes(), Limits::default());
+        let found = judge_log_by_whole_updates(text.as_bytes(), LogLimits::default());
         let Ok(LogVerdict::NotLegal { line: 10, reason: steps }) = found else {
             panic!("{found:?} of a log without events");
         };
@@ -191,6 +198,6 @@ fn each_step_has_the_numbers_of_the_library() {
     let verdict = rows(&table)
         .iter()
         .find(|it| !it.parts[8].is_empty())
-        .map(|it| judge_log_by_whole_updates(it.parts[1], it.limits()));
+        .map(|it| judge_log_by_whole_updates(it.parts[1], it.log_limits()));
     assert_eq!(verdict, Some(Ok(LogVerdict::Undecided)));
 }
