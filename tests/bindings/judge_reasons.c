@@ -17,7 +17,7 @@ static uint8_t note[1];
 
 static uint32_t judge(const char *text, size_t room, int is_whole) {
     memset(steps, '?', sizeof steps), memset(&reading, '?', sizeof reading);
-    return yacht_judge_log((const uint8_t *)text, strlen(text), (uint32_t)is_whole, YACHT_STATES, YACHT_MEMORY, note, 0, steps, room, &reading);
+    return yacht_judge_log((const uint8_t *)text, strlen(text), (uint32_t)is_whole, YACHT_STATES, YACHT_MEMORY, YACHT_ANY_MOVES, note, 0, steps, room, &reading);
 }
 
 static int is_untouched(size_t nth) { return steps[nth].rule == 0x3f3f3f3f; }

@@ -23,10 +23,10 @@ static uint32_t call(size_t room, size_t count) {
     switch (it->kind) {
     case JUDGE: return yacht_judge(it->script, it->script_length, it->text, it->text_length, states, memory, words, room, &verdict);
     case LIST: return yacht_outcomes(it->script, it->script_length, states, memory, words, room, lengths, count, &found);
-    case TEXT: return yacht_judge_log(copy, it->text_length, 0, states, memory, words, room, steps, MOST_STEPS, &reading);
+    case TEXT: return yacht_judge_log(copy, it->text_length, 0, states, memory, it->moves, words, room, steps, MOST_STEPS, &reading);
     default:
         return yacht_judge_events(it->files, it->files_length, (uint32_t)it->slots, it->requests, it->requests_length, it->entries, it->entries_length,
-                                  it->bytes, it->bytes_length, it->events, it->events_length, states, memory, steps, MOST_STEPS, &judgement);
+                                  it->bytes, it->bytes_length, it->events, it->events_length, states, memory, it->moves, steps, MOST_STEPS, &judgement);
     }
 }
 

@@ -18,7 +18,7 @@ enum { MOST_BYTES = 64 << 20 };
     uint64_t name##_length
 
 typedef struct judge_row {
-    uint64_t kind, is_refused, slots, states, memory, number, commands, at, submission, line, fault;
+    uint64_t kind, is_refused, slots, states, memory, moves, number, commands, at, submission, line, fault;
     PART(uint8_t, script);
     PART(uint8_t, text);
     PART(uint8_t, note);

@@ -93,7 +93,7 @@ def command(text, limits):
     """Returns what the command prints of a log, without the reason, which log_rows.py looks at; and its status."""
     with tempfile.TemporaryDirectory() as room, contextlib.redirect_stdout(io.StringIO()) as printed, contextlib.redirect_stderr(printed):
         Path(room, "log").write_text(text)
-        sys.argv[1:], given = ["--states", str(limits[0]), "--memory", str(limits[1]), f"{room}/log"], sys.argv[1:]
+        sys.argv[1:], given = ["--states", str(limits[0]), "--memory", str(limits[1]), "--moves", str(limits[2]), f"{room}/log"], sys.argv[1:]
         status = yachtlog.main()
         sys.argv[1:] = given
         return re.sub(r"^ {4}.*\n", "", printed.getvalue().replace(f"{room}/", ""), flags=re.MULTILINE), status
@@ -133,6 +133,9 @@ for call in (lambda **limit: judge("", "", **limit), lambda **limit: outcomes(""
     raises(ValueError, "states must be from 0 to 4294967295, not 4294968296", lambda call=call: call(states=2**32 + 1000))
     raises(ValueError, "memory must be from 0 to 4294967295, not -1", lambda call=call: call(memory=-1))
     raises(ValueError, "memory must be from 0 to 4294967295, not 4294967296", lambda call=call: call(memory=2**32))
+raises(ValueError, "moves must be from 0 to 18446744073709551615, not -1", lambda: judge_events(log, moves=-1))
+raises(ValueError, "moves must be from 0 to 18446744073709551615, not 18446744073709551616", lambda: judge_log(log.source, moves=2**64))
+raises(TypeError, "str", lambda: judge_log(log.source, moves="5"))
 
 # hints, and the version
 for function in (judge, outcomes):

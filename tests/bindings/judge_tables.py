@@ -8,8 +8,10 @@ from pathlib import Path
 ROWS = (Path(__file__).resolve().parents[2] / "bindings/rust_judge/tests/rows.txt").read_text().splitlines()
 CALL, DONE, LOOK, FOUND, EMPTY, FREE, CLOSED, SETTLED = range(1, 9)
 OPEN, OPEN_ANY, OPEN_MISSING, READ, CLOSE, UPDATE = range(1, 7)
+# no limit of moves
+ANY_MOVES = 2**64 - 1
 # the structs of the library and of judge_rows.h: numbers, and where each part is and its length
-EVENT, REQUEST, FILE, ROW = struct.Struct("<IIIiIIIIIIB3x"), struct.Struct("<IIIIBB2x"), struct.Struct("<4I"), struct.Struct("<11Q18Q")
+EVENT, REQUEST, FILE, ROW = struct.Struct("<IIIiIIIIIIB3x"), struct.Struct("<IIIIBB2x"), struct.Struct("<4I"), struct.Struct("<12Q18Q")
 
 
 def expanded(field):
@@ -29,7 +31,8 @@ def rows():
         elif kind in ("judge", "list", "log"):
             if kind == "log":
                 above = fields[3] = above if fields[3] == "=" else fields[3]
-            yield kind, is_refused, script, [int(it) for it in fields[0].split()], int(fields[1]), fields[2:]
+            limits = [int(it) for it in fields[0].split()]
+            yield kind, is_refused, script, [*limits, ANY_MOVES] if kind == "log" and len(limits) < 4 else limits, int(fields[1]), fields[2:]
 
 
 class Log:
@@ -108,7 +111,7 @@ class Log:
 def packed(kind, is_refused, script, numbers, number, fields):
     """Returns the numbers of a row, and its parts, each with its length: the script, the text, the note, the lengths of texts, and those of a
     log."""
-    slots, states, memory = [0] * (3 - len(numbers)) + numbers
+    slots, states, memory, moves = numbers if kind == "log" else (0, *numbers, 0)
     values = [int(it) for it in fields[0].split()]
     commands, at, submission, line, fault, note, lengths, log = 0, 0, 0, values[-1], 0, b"", [], [(b"", 0)] * 5
     if kind == "judge":
@@ -123,7 +126,7 @@ def packed(kind, is_refused, script, numbers, number, fields):
         is_log = is_refused or number < 3 and b" -12\n" not in lines and 0 < slots <= 1_048_576
         text = b"%scall 1 sparse %d\ndone 1.1 0\n%s" % (script, slots, lines) if is_log else b""
         line, script = script.count(b"\n") + 3 + at if number == 1 else 0, b""
-    head = [("judge", "list", "log").index(kind), is_refused, slots, states, memory, number, commands, at, submission, line, fault]
+    head = [("judge", "list", "log").index(kind), is_refused, slots, states, memory, moves, number, commands, at, submission, line, fault]
     return head, [(script, len(script)), (text, len(text)), (note, len(note)), (struct.pack(f"<{len(lengths)}Q", *lengths), len(lengths)), *log]
 
 

@@ -76,6 +76,18 @@ with mock.patch.object(yachtjudge, "ROOM", 1):
 want(judge_events(stale, whole_updates=True).reason == steps, "the reason by whole updates is another one")
 
 
+# with too few moves a log is undecided, and else it is judged as without a limit
+STEPS = [0, 1, 2, 3, 5, 8, 13, 21, 34, 55, 89, 144, 233, 377, 610, 987, 10_000]
+for it, is_whole in ((between, False), (between, True), (stale, False), (stale, True), (tagged, False)):
+    wanted = judge_events(it, whole_updates=is_whole)
+    those = [judge_events(it, moves=moves, whole_updates=is_whole) for moves in STEPS]
+    few = sum(found == LogVerdict("undecided") for found in those)
+    rest = [(found, found.reason) for found in those[few:]]
+    want(2 < few < len(those) and rest == [(wanted, wanted.reason)] * len(rest), f"a limit of moves gives {those} in place of {wanted}")
+want(tagged.judge(moves=0) == LogVerdict("undecided") and tagged.judge(moves=10_000) == LogVerdict("not legal", 12), "a log of the kernel has no limit of moves")
+want(log().judge(moves=0) == LogVerdict("legal"), "a log that needs no search isn't judged without moves")
+
+
 def reason_of(it):
     """Returns the reason of the verdict on a log, in sentences."""
     return it.reason(it.judge())

@@ -64,9 +64,9 @@ wrong_module() {
 }
 
 in_python() {
-    want 'the judge from Python is wrong' judges_rows judge_rows 267
+    want 'the judge from Python is wrong' judges_rows judge_rows 294
     want 'the judge from Python is wrong over the stand-in' over_the_stand_in_of_rows
-    want 'the judge of logs from Python is wrong' judges_rows log_rows 79
+    want 'the judge of logs from Python is wrong' judges_rows log_rows 86
     want 'the verified judge of yachtlog is wrong' proved_logs
     want 'a missing library is not explained' without_library "$room" "$room/libyachtjudge.so.6 was not found."
     echo > "$room/libyachtjudge.so.6"
@@ -89,7 +89,7 @@ yachtjudge s/else "undecided"$/else "legal"/
 yachtjudge s/word: Literal\[.*\] = "legal" if code == LEGAL/word = "legal" if code != NOT_LEGAL/
 yachtjudge s/return self.word == "legal"/return self.word != "not legal"/
 yachtjudge s/Outcomes(tuple(listed), code == ALL)/Outcomes(tuple(listed), True)/
-yachtjudge s/    return numbers$/    return (STATES, numbers[1])/
+yachtjudge s/    return numbers$/    return [STATES, *numbers[1:]]/
 yachtjudge s/data = of.encode() if isinstance(of, str) else bytes(of)/data = (of.encode() if isinstance(of, str) else bytes(of)).split(b"\\0")[0]/
 yachtjudge s/verdict.submission, words)/0, words)/
 yachtjudge s/verdict.submission, words)/verdict.submission, "")/
@@ -97,8 +97,9 @@ yachtjudge s/"legal" if code == LEGAL else/"legal" if code == LEGAL or verdict.a
 yachtjudge s/BadScript(verdict.line, words)/BadScript(verdict.line, "")/
 yachtjudge s/room, count = max(found.bytes, 1), max(found.count, 1)/break/
 yachtjudge s/        raise TypeError(f"{name} must/        of = bytes(of)\n    if not isinstance(of, (str, bytes, bytearray, memoryview)):\n&/
-yachtjudge s/    numbers = operator.index(states), operator.index(memory)/    numbers = int(states), int(memory)/
-yachtjudge s/        if not 0 <= number <= MOST:/        if number < 0:/
+yachtjudge s/    numbers = \[operator.index(it)/    numbers = [int(it)/
+yachtjudge s/        if not 0 <= number <= most:/        if number < 0:/
+yachtjudge s/        most = MOVES if name == "moves" else MOST/        most = MOVES/
 yachtjudge s/        if verdict.note <= room:/        if room:/
 yachtjudge s/        at += length/        at += 1/
 yachtjudge s/    if code == NO_MEMORY:/    if code == LONG_LOG:/
@@ -117,7 +118,9 @@ yachtjudge s/steps\[: reading.steps\]/steps[: reading.steps - 1]/
 yachtjudge s/return lines\[number - 1\] if number and lines else number/return number/
 yachtjudge s/_judge_log_6(\*given, whole_updates, /_judge_log_6(*given, 0, /
 yachtjudge s/bytes(note\[: reading.note\])/bytes(note[: reading.note - 1])/
-yachtjudge s/read_log(text, states, memory, whole_updates, lines)/read_log(text, whole_updates=whole_updates, lines=lines)/
+yachtjudge s/read_log(text, states, memory, moves, whole_updates, lines)/read_log(text, whole_updates=whole_updates, lines=lines)/
+yachtjudge s/read_log(text, states, memory, moves, whole_updates, lines)/read_log(text, states, memory, MOVES, whole_updates, lines)/
+yachtjudge s/memory=memory, moves=moves)/memory=memory, moves=moves % (MOST + 1))/
 yachtsteps s/lines = tuple(line_of(at) for at/lines = tuple(at for at/
 yachtsteps s/"finds": (2, False, 0)/"finds": (2, False, 1)/
 yachtsteps s/bool(it.is_strict)/not it.is_strict/
@@ -131,6 +134,7 @@ yachtlog s/if verdict.reason else \[\]$/if verdict.reason else ["none"]/
 yachtlog s/len(sentences) - SENTENCES, 0/len(sentences) - SENTENCES, 1/
 yachtlog s/left = 0 if is_full/left = 1 if is_full/
 yachtlog s/        return NO_MEMORY$/        return MISSING/
-yachtlog s/judge_log(content, options.states, options.memory, /judge_log(content, options.memory, options.states, /
+yachtlog s/limits = options.states, options.memory, /limits = options.memory, options.states, /
+yachtlog s/options.memory, options.moves$/options.memory, MOVES/
 END
 }

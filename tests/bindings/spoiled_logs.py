@@ -5,7 +5,7 @@ import re
 import sys
 
 import yachtlines
-from judge_tables import Log, write
+from judge_tables import ANY_MOVES, Log, write
 from model import flight_logs, tiny_flights
 from tests import log_lines
 
@@ -72,7 +72,7 @@ def row(text, nth):
         parts, line = log.parts(), head + 1 + at if number == 1 else read.lacking
         log = [*parts[:4], (parts[4][0], len(log.events))]
     slots, said = (0, number) if kernel else (read.slots, 2 if number != 1 and read.lacking else number)
-    return [3, 0, slots, nth, nth, said, number, at, 0, line, 0], [(b"", 0), (text, len(text)), (note, len(note)), (b"", 0), *log]
+    return [3, 0, slots, nth, nth, ANY_MOVES - nth, said, number, at, 0, line, 0], [(b"", 0), (text, len(text)), (note, len(note)), (b"", 0), *log]
 
 
 if __name__ == "__main__":
