@@ -1,9 +1,8 @@
 -- Laws of a whole life.
 use Rattle.fx_direct.proofs.Words.{arith, ◌≡◌, ◌≢◌, ℕ, ◌+◌, ◌<◌, ◌≤◌, ◌&&◌, ◌⊎◌, inl, Bool, List, [], ◌∷◌, refl, ap, ◌∙◌, get_or-set_other}
-use Rattle.fx_direct.proofs.Words.{key_concerned, IsEnabled, AreEnabled, slots_left_by, AdvancesAndAsks, with_phase}
-use Rattle.fx_direct.proofs.Words.{Option, Some, None, ◌▷▷◌, Transition, LifeKey, Phase, Slot, Free, Ending, Closing, slot_numbered}
-use Rattle.fx_direct.proofs.Words.{phase_at, is_chained, bit, DirectMachine, becomes_live, and_ends}
-use Rattle.fx_direct.proofs.Words.{get_or_past, set-set}
+use Rattle.fx_direct.proofs.Words.{key_concerned, IsEnabled, AreEnabled, slots_left_by, AdvancesAndAsks, with_phase, Option, Some, None, ◌▷▷◌}
+use Rattle.fx_direct.proofs.Words.{Transition, LifeKey, Phase, Slot, Free, Ending, Closing, slot_numbered, phase_at, is_chained, bit, DirectMachine}
+use Rattle.fx_direct.proofs.Words.{becomes_live, and_ends, get_or_past, set-set}
 use Rattle.fx_direct.specs.Counts.{times, chains, opens, starts, finishes, holds, releases, ends, asks, closes, fails, IsBalanced}
 use Rattle.fx_direct.specs.Lives.{NoCloseIsDue, IsMachineCall, NoCloseIsLate, EachCloseIsAskedForOnce, StaleKeysStayStale}
 use Rattle.fx_direct.proofs.Counting.{Kept, kept_always}

@@ -1,20 +1,14 @@
 -- The transitions of a key, counted.
-use Rattle.std.specs.Prelude.{◌≡◌, ℕ, ◌+◌, ◌<◌, ◌≤◌, ◌==◌, Bool, true, false, List, [], ◌∷◌}
-use Rattle.std.specs.Prelude.{if◌then◌else◌}
+use Rattle.std.specs.Prelude.{◌≡◌, ◌+◌, ◌<◌, ◌≤◌, ◌==◌, ◌∷◌, if◌then◌else◌}
+use Rattle.fx_direct.specs.Words.{ℕ, Bool, true, false, List, [], ChainEnd, ChainOpen, LifeKey}
+use Rattle.fx_direct.specs.Words.{Phase, Slot, Transition}
 use Rattle.fx_direct.specs.Living.{same_key}
 use Rattle.fx_direct.specs.Phases.{Chained, Free, Installed, Later, Due, AllFree, bit}
 use Rattle.fx_direct.specs.Phases.{slot_numbered, phase_at, requests_in, users_in, is_installed}
 use Rattle.fx_direct.specs.Phases.{is_closing, is_live, is_opening}
 use Rattle.fx_direct.specs.Transitions.{Reserves, Adopts, Chains, Opens, Starts, Finishes, Holds}
-use Rattle.fx_direct.specs.Transitions.{Releases}
-use Rattle.fx_direct.specs.Transitions.{Ends, Asks, Closes, FailsToClose, IsEnabled, AreEnabled}
-use Rattle.fx_direct.specs.Transitions.{slots_left_by}
-use Rattle.fx_direct.specs.declared.chain.ChainEnd.{ChainEnd}
-use Rattle.fx_direct.specs.declared.chain.ChainOpen.{ChainOpen}
-use Rattle.fx_direct.specs.declared.key.LifeKey.{LifeKey}
-use Rattle.fx_direct.specs.declared.phase.Phase.{Phase}
-use Rattle.fx_direct.specs.declared.phase.Slot.{Slot}
-use Rattle.fx_direct.specs.declared.transition.Transition.{Transition}
+use Rattle.fx_direct.specs.Transitions.{Releases, Ends, Asks, Closes, FailsToClose, IsEnabled}
+use Rattle.fx_direct.specs.Transitions.{AreEnabled, slots_left_by}
 
 -- the transitions, each counted as often as `each` says
 abbrev pub times : (Transition → ℕ) → List Transition → ℕ

@@ -1,23 +1,15 @@
 -- Flights: the transitions of the machine, and between them the accesses that the kernel makes for
 -- its calls. The table is the one of the model. A flight has its newest moment first.
-use Rattle.std.specs.Prelude.{◌≡◌, ℕ, zero, suc, ◌≤◌, ◌||◌, Bool, true, false, List, [], ◌∷◌}
-use Rattle.std.specs.Prelude.{◌+◌, ◌<◌, ◌++◌, length, Some, None, if◌then◌else◌}
-use Rattle.std.specs.List.{AllByRecursion}
+use Rattle.std.specs.Prelude.{◌≡◌, ◌≤◌, ◌||◌, ◌∷◌, ◌+◌, ◌<◌, ◌++◌, if◌then◌else◌}
+use Rattle.fx_direct.specs.Words.{ℕ, zero, suc, Bool, true, false, List, [], length, Some, None}
+use Rattle.fx_direct.specs.Words.{AllByRecursion, Action, Look, Release, Put, Clear, Take, Allocate}
+use Rattle.fx_direct.specs.Words.{File, LifeKey, Slot, Transition}
 use Rattle.fx_plain.specs.State.{State, IsInRange}
-use Rattle.fx_plain.specs.Step.{Allows}
-use Rattle.fx_plain.specs.Step.{after as table_after}
-use Rattle.fx_plain.specs.declared.event.Action.{Action}
-use Rattle.fx_plain.specs.declared.event.Action.TheVariants.{Look, Release, Put, Clear, Take}
-use Rattle.fx_plain.specs.declared.event.Action.TheVariants.{Allocate}
-use Rattle.fx_plain.specs.declared.event.File.{File}
+use Rattle.fx_plain.specs.Step.{Allows, after as table_after}
 use Rattle.fx_direct.specs.Living.{same_key}
 use Rattle.fx_direct.specs.Phases.{slot_numbered}
 use Rattle.fx_direct.specs.Transitions.{Reserves, Adopts, Chains, Opens, Starts, Finishes, Asks}
-use Rattle.fx_direct.specs.Transitions.{Closes}
-use Rattle.fx_direct.specs.Transitions.{FailsToClose, IsEnabled, slots_with}
-use Rattle.fx_direct.specs.declared.key.LifeKey.{LifeKey}
-use Rattle.fx_direct.specs.declared.phase.Slot.{Slot}
-use Rattle.fx_direct.specs.declared.transition.Transition.{Transition}
+use Rattle.fx_direct.specs.Transitions.{Closes, FailsToClose, IsEnabled, slots_with}
 
 -- a call that was submitted. The kernel knows only the slot of its key, and returns the key as user
 -- data

@@ -1,16 +1,11 @@
 -- Three flights that go wrong: a close doesn't wait, a slot is free before its chain is over, and a
 -- life is reserved where the kernel chooses slots.
-use Rattle.std.specs.Prelude.{◌≡◌, ℕ, ◌+◌, ◌<◌, ◌≤◌, Bool, true, false, List, [], length}
-use Rattle.std.specs.Prelude.{Some, None}
-use Rattle.fx_plain.specs.History.{◌▷◌}
-use Rattle.fx_plain.specs.declared.event.Action.TheVariants.{Look, Put, Take}
+use Rattle.std.specs.Prelude.{◌≡◌, ◌+◌, ◌<◌, ◌≤◌}
+use Rattle.fx_direct.specs.Words.{ℕ, Bool, true, false, List, [], length, Some, None, ◌▷◌, Look}
+use Rattle.fx_direct.specs.Words.{Put, Take, ChainOpen, MOST_LIVES, Phase, Transition}
 use Rattle.fx_direct.specs.Phases.{Chained, Ending, Failed, Free, phase_at, slot_numbered}
 use Rattle.fx_direct.specs.Transitions.{Reserves, Chains, Opens, Starts, Ends, Asks, Closes}
 use Rattle.fx_direct.specs.Transitions.{IsEnabled, NamesLastLife}
-use Rattle.fx_direct.specs.declared.chain.ChainOpen.{ChainOpen}
-use Rattle.fx_direct.specs.declared.key.TheConstants.{MOST_LIVES}
-use Rattle.fx_direct.specs.declared.phase.Phase.{Phase}
-use Rattle.fx_direct.specs.declared.transition.Transition.{Transition}
 use Rattle.fx_direct.specs.Flight.{World, OpenAt, UseOf, CloseOf, DirectMoment, Does, Accesses}
 use Rattle.fx_direct.specs.Flight.{Quits, Chooses, CanDo, FitsRange, IsDirectFlightBy}
 use Rattle.fx_direct.specs.Round.{two_slots, some_file, next_file, first_key, second_key}

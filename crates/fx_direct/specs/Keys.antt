@@ -1,7 +1,6 @@
 -- The bits of keys.
-use Rattle.std.specs.Prelude.{◌≡◌, ℕ, ◌+◌, ◌*◌, ◌/◌, ◌%◌, ◌<◌, ◌≤◌, ◌^◌}
-use Rattle.fx_direct.specs.declared.key.LifeKey.{LifeKey}
-use Rattle.fx_direct.specs.declared.key.TheConstants.{KINDS, MOST_LIVES, MOST_SLOTS}
+use Rattle.std.specs.Prelude.{◌≡◌, ◌+◌, ◌*◌, ◌/◌, ◌%◌, ◌<◌, ◌≤◌, ◌^◌}
+use Rattle.fx_direct.specs.Words.{ℕ, LifeKey, KINDS, MOST_LIVES, MOST_SLOTS}
 
 -- the key has bits: 20 for its slot, 40 for its number
 abbrev pub FitsBits : LifeKey → Type 0

@@ -1,17 +1,12 @@
 -- Laws of flights.
-use Rattle.std.specs.Prelude.{◌≡◌, ◌≢◌, ◌⊎◌, ℕ, ◌≤◌, ◌<◌, true, List, [], ◌∷◌, length, Option}
-use Rattle.std.specs.Prelude.{Some, None}
-use Rattle.std.specs.List.{AllByRecursion}
-use Rattle.fx_plain.specs.History.{◌▷◌, ◌▷▷◌}
-use Rattle.fx_plain.specs.declared.event.Action.{Action}
-use Rattle.fx_plain.specs.declared.event.Action.TheVariants.{Look, Put, Take}
-use Rattle.fx_plain.specs.declared.event.File.{File}
-use Rattle.fx_direct.specs.declared.key.LifeKey.{LifeKey}
+use Rattle.std.specs.Prelude.{◌≡◌, ◌≢◌, ◌⊎◌, ◌≤◌, ◌<◌, ◌∷◌}
+use Rattle.fx_direct.specs.Words.{ℕ, true, List, [], length, Option, Some, None, AllByRecursion}
+use Rattle.fx_direct.specs.Words.{◌▷◌, ◌▷▷◌, Action, Look, Put, Take, File, LifeKey}
 use Rattle.fx_direct.specs.Phases.{AllFree}
 use Rattle.fx_direct.specs.Transitions.{Reserves, Asks, IsEnabled}
 use Rattle.fx_direct.specs.Flight.{World, DirectCall, OpenAt, UseOf, CloseOf, DirectMoment}
-use Rattle.fx_direct.specs.Flight.{Accesses, CanDo}
-use Rattle.fx_direct.specs.Flight.{IsDirectFlight, files_under, has_chain, key_of_call}
+use Rattle.fx_direct.specs.Flight.{Accesses, CanDo, IsDirectFlight, files_under, has_chain}
+use Rattle.fx_direct.specs.Flight.{key_of_call}
 
 -- no slot has begun a life that isn't over, the machine's slots are in the table, those are empty,
 -- and no call is in flight

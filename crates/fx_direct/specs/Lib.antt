@@ -11,3 +11,4 @@ pub mod Phases
 pub mod Refusals
 pub mod Round
 pub mod Transitions
+pub mod Words

@@ -1,17 +1,13 @@
 -- Laws of a whole life.
-use Rattle.std.specs.Prelude.{◌≡◌, ◌⊎◌, ℕ, ◌+◌, ◌≤◌, ◌<◌, true, List, [], ◌∷◌, Option}
-use Rattle.fx_plain.specs.History.{◌▷▷◌}
+use Rattle.std.specs.Prelude.{◌≡◌, ◌⊎◌, ◌+◌, ◌≤◌, ◌<◌, ◌∷◌}
+use Rattle.fx_direct.specs.Words.{ℕ, true, List, [], Option, ◌▷▷◌, LifeKey, Slot, Transition}
 use Rattle.fx_direct.specs.Counts.{times, reserves, chains, opens, starts, finishes, holds}
 use Rattle.fx_direct.specs.Counts.{releases, ends, asks, closes, fails, phase_of}
 use Rattle.fx_direct.specs.Phases.{Ending, AllFree, bit, is_chained, is_live, phase_at, users_in}
 use Rattle.fx_direct.specs.Phases.{calls_in_flight, lives_of}
-use Rattle.fx_direct.specs.Transitions.{Reserves, Chains, Starts, Holds, key_concerned}
-use Rattle.fx_direct.specs.Transitions.{HasLife}
+use Rattle.fx_direct.specs.Transitions.{Reserves, Chains, Starts, Holds, key_concerned, HasLife}
 use Rattle.fx_direct.specs.Transitions.{IsEnabled, AreEnabled, slots_left_by, Advances}
 use Rattle.fx_direct.specs.Transitions.{AdvancesAndAsks, DirectMachine, machine_with}
-use Rattle.fx_direct.specs.declared.key.LifeKey.{LifeKey}
-use Rattle.fx_direct.specs.declared.phase.Slot.{Slot}
-use Rattle.fx_direct.specs.declared.transition.Transition.{Transition}
 
 -- no slot waits for its close to be asked for
 abbrev pub NoCloseIsDue : List Slot → Type 0

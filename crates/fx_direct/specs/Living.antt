@@ -1,17 +1,14 @@
 -- Keys, and the lives under way.
-use Rattle.std.specs.Prelude.{◌≡◌, ℕ, ◌<◌, ◌≤◌, ◌==◌, ◌&&◌, Bool, List, Option, Some, None}
-use Rattle.fx_direct.specs.Phases.{Free, Opening, Live, Ending, Closing, Chained}
-use Rattle.fx_direct.specs.Phases.{phase_at}
+use Rattle.std.specs.Prelude.{◌≡◌, ◌<◌, ◌≤◌, ◌==◌, ◌&&◌}
+use Rattle.fx_direct.specs.Words.{ℕ, Bool, List, Option, Some, None, LifeKey, Phase, Slot}
+use Rattle.fx_direct.specs.Phases.{Free, Opening, Live, Ending, Closing, Chained, phase_at}
 use Rattle.fx_direct.specs.Transitions.{HasLife}
-use Rattle.fx_direct.specs.declared.key.LifeKey.{LifeKey}
-use Rattle.fx_direct.specs.declared.phase.Phase.{Phase}
 use Rattle.fx_direct.specs.declared.phase.PhaseName.{PhaseName}
 use Rattle.fx_direct.specs.declared.phase.PhaseName.TheVariants.{Opening as OpeningName}
 use Rattle.fx_direct.specs.declared.phase.PhaseName.TheVariants.{Live as LiveName}
 use Rattle.fx_direct.specs.declared.phase.PhaseName.TheVariants.{Ending as EndingName}
 use Rattle.fx_direct.specs.declared.phase.PhaseName.TheVariants.{Closing as ClosingName}
 use Rattle.fx_direct.specs.declared.phase.PhaseName.TheVariants.{Chained as ChainedName}
-use Rattle.fx_direct.specs.declared.phase.Slot.{Slot}
 
 abbrev pub same_key : LifeKey → LifeKey → Bool
 same_key j k = (j.slot == k.slot) && (j.number == k.number)

@@ -1,15 +1,11 @@
 -- The invariants of the machine's fields.
-use Rattle.std.specs.Prelude.{◌≡◌, ℕ, ◌+◌, ◌<◌, ◌≤◌, ◌&&◌, ◌^◌, Bool, nat_lt, List, length}
-use Rattle.std.specs.Prelude.{Option, Some, None, not}
+use Rattle.std.specs.Prelude.{◌≡◌, ◌+◌, ◌<◌, ◌≤◌, ◌&&◌, ◌^◌}
+use Rattle.fx_direct.specs.Words.{ℕ, Bool, nat_lt, List, length, Option, Some, None, not, LifeKey}
+use Rattle.fx_direct.specs.Words.{MOST_LIVES, MOST_SLOTS, Phase, Slot}
 use Rattle.fx_direct.specs.Order.{Order, is_among_vacant, is_ranged}
 use Rattle.fx_direct.specs.Phases.{Ending, Closing, slot_numbered, phase_at, is_free, calls_in}
-use Rattle.fx_direct.specs.Phases.{calls_in_flight}
-use Rattle.fx_direct.specs.Phases.{lives_of}
+use Rattle.fx_direct.specs.Phases.{calls_in_flight, lives_of}
 use Rattle.fx_direct.specs.Transitions.{with_phase}
-use Rattle.fx_direct.specs.declared.key.LifeKey.{LifeKey}
-use Rattle.fx_direct.specs.declared.key.TheConstants.{MOST_LIVES, MOST_SLOTS}
-use Rattle.fx_direct.specs.declared.phase.Phase.{Phase}
-use Rattle.fx_direct.specs.declared.phase.Slot.{Slot}
 
 -- these are the lives under way and the calls in flight
 pub record AreCounted (slots : List Slot) (lives calls : ℕ) : Type 0 where

@@ -1,8 +1,7 @@
 -- The vacant slots, and the slots that the kernel chooses.
-use Rattle.std.specs.Prelude.{◌≡◌, ℕ, ◌-◌, ◌<◌, ◌==◌, ◌&&◌, nat_le, nat_lt, Bool, true, false, List}
-use Rattle.std.specs.Prelude.{[], ◌∷◌}
-use Rattle.std.specs.List.{list_any}
-use Rattle.fx_direct.specs.declared.slot_order.SlotRange.{SlotRange}
+use Rattle.std.specs.Prelude.{◌≡◌, ◌-◌, ◌<◌, ◌==◌, ◌&&◌, ◌∷◌}
+use Rattle.fx_direct.specs.Words.{ℕ, nat_le, nat_lt, Bool, true, false, List, [], list_any}
+use Rattle.fx_direct.specs.Words.{SlotRange}
 
 -- the slot is in the ring's allocation range, where the kernel chooses slots
 abbrev pub is_ranged : SlotRange → ℕ → Bool

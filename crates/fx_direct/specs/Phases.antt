@@ -1,17 +1,11 @@
 -- The slots of the machine, and their phases.
-use Rattle.std.specs.Prelude.{◌≡◌, ℕ, ◌+◌, ◌==◌, Bool, true, false, List, slice_index_or}
-use Rattle.std.specs.Prelude.{if◌then◌else◌}
-use Rattle.std.specs.List.{sum_by}
-use Rattle.fx_direct.specs.declared.chain.LifeChain.{LifeChain}
-use Rattle.fx_direct.specs.declared.chain.ChainEnd.{ChainEnd}
-pub use Rattle.fx_direct.specs.declared.chain.ChainEnd.TheVariants.{Later, Due, Awaited, Took}
-pub use Rattle.fx_direct.specs.declared.chain.ChainEnd.TheVariants.{Left}
-use Rattle.fx_direct.specs.declared.chain.ChainOpen.{ChainOpen}
+use Rattle.std.specs.Prelude.{◌≡◌, ◌+◌, ◌==◌, if◌then◌else◌}
+use Rattle.fx_direct.specs.Words.{ℕ, Bool, true, false, List, slice_index_or, sum_by, LifeChain}
+use Rattle.fx_direct.specs.Words.{ChainEnd, ChainOpen, Phase, Slot}
+pub use Rattle.fx_direct.specs.declared.chain.ChainEnd.TheVariants.{Later, Due, Awaited, Took, Left}
 pub use Rattle.fx_direct.specs.declared.chain.ChainOpen.TheVariants.{Unseen, Installed, Failed}
-use Rattle.fx_direct.specs.declared.phase.Phase.{Phase}
 pub use Rattle.fx_direct.specs.declared.phase.Phase.TheVariants.{Free, Opening, Live, Ending}
 pub use Rattle.fx_direct.specs.declared.phase.Phase.TheVariants.{Closing, Chained}
-use Rattle.fx_direct.specs.declared.phase.Slot.{Slot}
 
 abbrev pub bit : Bool → ℕ
 bit true = 1

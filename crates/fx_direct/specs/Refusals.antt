@@ -1,22 +1,18 @@
 -- Why the machine refuses a transition.
-use Rattle.std.specs.Prelude.{◌≡◌, ℕ, ◌-◌, ◌^◌, ◌<◌, ◌≤◌, true, false, List, length}
+use Rattle.std.specs.Prelude.{◌≡◌, ◌-◌, ◌^◌, ◌<◌, ◌≤◌}
+use Rattle.fx_direct.specs.Words.{ℕ, true, false, List, length, LifeKey, MOST_LIVES, Slot, Stale}
+use Rattle.fx_direct.specs.Words.{Is, TooManyRequests, TooManyUsers, Transition}
 use Rattle.fx_direct.specs.Order.{is_ranged}
 use Rattle.fx_direct.specs.Phases.{slot_numbered, phase_at, requests_in, users_in, is_adoptable}
 use Rattle.fx_direct.specs.Phases.{is_chained, ends_anyway}
 use Rattle.fx_direct.specs.Transitions.{Reserves, Starts, Holds, Ends, HasLife, IsEnabled}
 use Rattle.fx_direct.specs.Transitions.{DirectMachine, key_concerned}
-use Rattle.fx_direct.specs.declared.key.LifeKey.{LifeKey}
-use Rattle.fx_direct.specs.declared.key.TheConstants.{MOST_LIVES}
-use Rattle.fx_direct.specs.declared.phase.Slot.{Slot}
 use Rattle.fx_direct.specs.declared.refusal.AdoptRefusal.{AdoptRefusal}
 use Rattle.fx_direct.specs.declared.refusal.AdoptRefusal.TheVariants.{OutOfRange, NotFree}
 use Rattle.fx_direct.specs.declared.refusal.AdoptRefusal.TheVariants.{NoMoreLives}
 use Rattle.fx_direct.specs.declared.refusal.LifeRefusal.{LifeRefusal}
-use Rattle.fx_direct.specs.declared.refusal.LifeRefusal.TheVariants.{Stale, Is, TooManyRequests}
-use Rattle.fx_direct.specs.declared.refusal.LifeRefusal.TheVariants.{TooManyUsers}
 use Rattle.fx_direct.specs.declared.refusal.ReserveRefusal.{ReserveRefusal}
 use Rattle.fx_direct.specs.declared.refusal.ReserveRefusal.TheVariants.{Full, Stopped}
-use Rattle.fx_direct.specs.declared.transition.Transition.{Transition}
 
 -- the life of the key isn't under way; or its slot is in this phase, in which the transition is
 -- impossible; or it would raise a count that is at its limit

@@ -1,17 +1,13 @@
 -- A flight with all kinds of moments and transitions.
-use Rattle.std.specs.Prelude.{List, [], ◌∷◌, true, false, Some, None}
+use Rattle.std.specs.Prelude.{◌∷◌, List, [], true, false, Some, None}
+use Rattle.fx_direct.specs.Words.{◌▷◌, Look, Release, Put, Take, File, LifeKey}
 use Rattle.fx_base.specs.declared.mark.Mark.TheVariants.{Registered}
-use Rattle.fx_plain.specs.History.{◌▷◌}
-use Rattle.fx_plain.specs.declared.event.Action.TheVariants.{Look, Release, Put, Take, Close}
-use Rattle.fx_plain.specs.declared.event.File.{File}
-use Rattle.fx_direct.specs.declared.key.LifeKey.{LifeKey}
+use Rattle.fx_plain.specs.declared.event.Action.TheVariants.{Close}
 use Rattle.fx_direct.specs.Phases.{unused}
 use Rattle.fx_direct.specs.Transitions.{Reserves, Adopts, Chains, Opens, Starts, Finishes, Holds}
-use Rattle.fx_direct.specs.Transitions.{Releases}
-use Rattle.fx_direct.specs.Transitions.{Ends, Asks, Closes, FailsToClose}
+use Rattle.fx_direct.specs.Transitions.{Releases, Ends, Asks, Closes, FailsToClose}
 use Rattle.fx_direct.specs.Flight.{World, OpenAt, UseOf, CloseOf, DirectMoment, Does, Accesses}
-use Rattle.fx_direct.specs.Flight.{Quits, Chooses, Others}
-use Rattle.fx_direct.specs.Flight.{IsDirectFlight}
+use Rattle.fx_direct.specs.Flight.{Quits, Chooses, Others, IsDirectFlight}
 use Rattle.fx_direct.specs.Laws.{IsEmptyStart}
 
 -- two empty slots, of which the kernel may choose the second one

@@ -1,21 +1,14 @@
 -- The transitions of the machine: when each one is possible, and the slots after it.
-use Rattle.std.specs.Prelude.{◌≡◌, ◌≢◌, ℕ, ◌+◌, ◌-◌, ◌<◌, ◌≤◌, Bool, true, false, List, [], ◌∷◌}
-use Rattle.std.specs.Prelude.{length, slice_set, Option, Some, None, ◌⊎◌, ◌&&◌, not}
+use Rattle.std.specs.Prelude.{◌≡◌, ◌≢◌, ◌+◌, ◌-◌, ◌<◌, ◌≤◌, ◌∷◌, ◌⊎◌, ◌&&◌}
+use Rattle.fx_direct.specs.Words.{ℕ, Bool, true, false, List, [], length, slice_set, Option, Some}
+use Rattle.fx_direct.specs.Words.{None, not, ChainEnd, ChainOpen, LifeChain, LifeKey, MOST_LIVES}
+use Rattle.fx_direct.specs.Words.{Phase, Slot, SlotRange, Transition}
 use Rattle.fx_direct.specs.Phases.{Free, Opening, Live, Ending, Closing, Chained, Installed, Failed}
 use Rattle.fx_direct.specs.Phases.{Unseen, Later, Due, Awaited, Took, Left, chain, chain_of}
 use Rattle.fx_direct.specs.Phases.{chain_phase, slot_numbered, phase_at, requests_in, users_in}
 use Rattle.fx_direct.specs.Phases.{calls_of_chain, is_live, is_closing, ends_anyway}
-use Rattle.fx_direct.specs.declared.chain.ChainEnd.{ChainEnd}
-use Rattle.fx_direct.specs.declared.chain.ChainOpen.{ChainOpen}
-use Rattle.fx_direct.specs.declared.chain.LifeChain.{LifeChain}
 use Rattle.fx_direct.specs.declared.chain.Member.{Member}
 use Rattle.fx_direct.specs.declared.chain.Member.TheVariants.{Open, Request, Close}
-use Rattle.fx_direct.specs.declared.key.LifeKey.{LifeKey}
-use Rattle.fx_direct.specs.declared.key.TheConstants.{MOST_LIVES}
-use Rattle.fx_direct.specs.declared.phase.Phase.{Phase}
-use Rattle.fx_direct.specs.declared.phase.Slot.{Slot}
-use Rattle.fx_direct.specs.declared.slot_order.SlotRange.{SlotRange}
-use Rattle.fx_direct.specs.declared.transition.Transition.{Transition}
 pub use Rattle.fx_direct.specs.declared.transition.Transition.TheVariants.{Reserves, Chains, Opens}
 pub use Rattle.fx_direct.specs.declared.transition.Transition.TheVariants.{Starts, Adopts}
 pub use Rattle.fx_direct.specs.declared.transition.Transition.TheVariants.{Finishes, Holds}

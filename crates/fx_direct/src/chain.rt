@@ -2,13 +2,11 @@
 //!
 //! Their completions come in any order, and each of them comes once. Until the last one the slot
 //! is taken: a hard link's close runs although the open failed.
-ghost use Rattle.std.specs.Prelude.{◌≡◌, ◌≢◌, ◌≤◌, ◌+◌, ◌^◌, Decides, MatchOption, true, false};
+ghost use Rattle.std.specs.Prelude.{◌≡◌, ◌≢◌, ◌≤◌, ◌+◌, ◌^◌};
+ghost use Rattle.fx_direct.specs.Words.{Decides, MatchOption, true, false, LifeKey};
 ghost use Rattle.fx_direct.specs.Phases.{Chained, calls_of_chain, chain_of, phase_of_chain};
-ghost use Rattle.fx_direct.specs.Transitions.{FitsPhase, IsUsual, KeepsChain, completion};
-ghost use Rattle.fx_direct.specs.Transitions.{phase_after};
-ghost use Rattle.fx_direct.specs.Transitions.{when_closed, when_left, when_opened};
+ghost use Rattle.fx_direct.specs.Transitions.{FitsPhase, IsUsual, KeepsChain, completion, phase_after, when_closed, when_left, when_opened};
 ghost use Rattle.fx_direct.specs.declared.chain.Member.TheVariants.{Close};
-ghost use Rattle.fx_direct.specs.declared.key.LifeKey.{LifeKey};
 
 use crate::phase::Phase;
 

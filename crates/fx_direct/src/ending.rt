@@ -1,12 +1,10 @@
 //! The last step of a call: its slot becomes free, its close is asked for, or its phase is written.
-ghost use Rattle.std.specs.Prelude.{◌≡◌, ℕ, ◌&&◌, ◌<◌, ◌==◌, not, false, nat_lt, length};
-ghost use Rattle.std.specs.Prelude.{if◌then◌else◌};
+ghost use Rattle.std.specs.Prelude.{◌≡◌, ◌&&◌, ◌<◌, ◌==◌, if◌then◌else◌};
+ghost use Rattle.fx_direct.specs.Words.{ℕ, not, false, nat_lt, length, MOST_LIVES};
 ghost use Rattle.fx_direct.specs.Machine.{WritesPhase};
 ghost use Rattle.fx_direct.specs.Order.{is_among_vacant, is_ranged};
-ghost use Rattle.fx_direct.specs.Phases.{Closing, Ending, Free, calls_in, is_free, lives_in};
-ghost use Rattle.fx_direct.specs.Phases.{phase_at};
+ghost use Rattle.fx_direct.specs.Phases.{Closing, Ending, Free, calls_in, is_free, lives_in, phase_at};
 ghost use Rattle.fx_direct.specs.Transitions.{with_phase};
-ghost use Rattle.fx_direct.specs.declared.key.TheConstants.{MOST_LIVES};
 
 use crate::key::{LifeKey, MOST_LIVES};
 use crate::phase::Phase;

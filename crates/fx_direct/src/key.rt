@@ -1,7 +1,7 @@
 //! Keys: the names of lives, and their bits.
 ghost use Rattle.std.specs.Prelude.{◌≡◌, ◌%◌, ◌<◌};
+ghost use Rattle.fx_direct.specs.Words.{KINDS};
 ghost use Rattle.fx_direct.specs.Keys.{FitsBits, bits_of, key_in_bits};
-ghost use Rattle.fx_direct.specs.declared.key.TheConstants.{KINDS};
 
 /// The greatest number of slots of a ring, as in the kernel.
 pub const MOST_SLOTS: u32 = 1 << 20;

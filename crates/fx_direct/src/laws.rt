@@ -7,14 +7,13 @@
 //! predecessor, or makes none; the kernel chooses slots in its allocation range alone, and a slot
 //! is adopted where it has put a file; and nobody else writes these slots.
 ghost use Rattle.std.specs.Prelude.{◌≡◌, ◌-◌, ◌^◌};
+ghost use Rattle.fx_direct.specs.Words.{KINDS, MOST_LIVES, MOST_SLOTS};
 ghost use Rattle.fx_direct.specs.Counts.{EachKeyIsBalanced, NothingIsLeftOfALife, KeysAreGivenOnce};
 ghost use Rattle.fx_direct.specs.Haste.{ChainIsNotAnOpen, HasteIsWrong, RangeIsTheKernels};
 ghost use Rattle.fx_direct.specs.Keys.{KeyBitsComeBack};
 ghost use Rattle.fx_direct.specs.Laws.{EachAccessFindsItsOwn, NothingIsLeft};
-ghost use Rattle.fx_direct.specs.Lives.{AStopLeavesNothing, EachCloseIsAskedForOnce, NoCloseIsLate};
-ghost use Rattle.fx_direct.specs.Lives.{StaleKeysStayStale};
+ghost use Rattle.fx_direct.specs.Lives.{AStopLeavesNothing, EachCloseIsAskedForOnce, NoCloseIsLate, StaleKeysStayStale};
 ghost use Rattle.fx_direct.specs.Round.{GoesRound};
-ghost use Rattle.fx_direct.specs.declared.key.TheConstants.{KINDS, MOST_LIVES, MOST_SLOTS};
 
 /// States that a ring has at most 1,048,576 slots, that a slot has at most 2^40 - 1 lives, and that
 /// user data distinguishes 16 kinds of calls.

@@ -1,8 +1,7 @@
 //! The phases of a slot's life.
 ghost use Rattle.std.specs.Prelude.{◌≡◌, ◌≤◌, ◌+◌, ◌^◌, ◌&&◌};
 ghost use Rattle.fx_direct.specs.Living.{phase_name};
-ghost use Rattle.fx_direct.specs.Phases.{calls_in, is_adoptable, is_live, lives_in, requests_in};
-ghost use Rattle.fx_direct.specs.Phases.{users_in};
+ghost use Rattle.fx_direct.specs.Phases.{calls_in, is_adoptable, is_live, lives_in, requests_in, users_in};
 ghost use Rattle.fx_direct.specs.Transitions.{unless_live};
 
 use crate::chain::LifeChain;

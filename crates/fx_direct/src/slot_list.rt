@@ -1,14 +1,10 @@
 //! The slots, with the counts of their lives and of their calls.
-ghost use Rattle.std.specs.Prelude.{◌≡◌, ◌+◌, ◌^◌, ◌≤◌, ◌<◌, true, false, length, IfOk};
-ghost use Rattle.std.specs.Prelude.{◌≢◌, Decides, MatchOption, MatchResult};
+ghost use Rattle.std.specs.Prelude.{◌≡◌, ◌+◌, ◌^◌, ◌≤◌, ◌<◌, ◌≢◌};
+ghost use Rattle.fx_direct.specs.Words.{true, false, length, IfOk, Decides, MatchOption, MatchResult, MOST_SLOTS, Stale};
 ghost use Rattle.fx_direct.specs.Living.{IsFirstFrom};
-ghost use Rattle.fx_direct.specs.Phases.{AllUnused, Free, Opening};
-ghost use Rattle.fx_direct.specs.Phases.{calls_in, calls_in_flight, lives_in, lives_of};
-ghost use Rattle.fx_direct.specs.Phases.{phase_at, slot_numbered};
+ghost use Rattle.fx_direct.specs.Phases.{AllUnused, Free, Opening, calls_in, calls_in_flight, lives_in, lives_of, phase_at, slot_numbered};
 ghost use Rattle.fx_direct.specs.Transitions.{GoesOn, HasLife, IsUsualAt, with_phase};
 ghost use Rattle.fx_direct.specs.declared.chain.Member.TheVariants.{Close};
-ghost use Rattle.fx_direct.specs.declared.key.TheConstants.{MOST_SLOTS};
-ghost use Rattle.fx_direct.specs.declared.refusal.LifeRefusal.TheVariants.{Stale};
 
 use crate::chain::{ChainEnd, ChainOpen, LifeChain, Member};
 use crate::key::LifeKey;
@@ -28,8 +24,7 @@ pub(crate) struct SlotList {
 }
 
 impl Model for SlotList {
-    ghost use Rattle.std.specs.Prelude.{List};
-    ghost use Rattle.fx_direct.specs.declared.phase.Slot.{Slot};
+    ghost use Rattle.fx_direct.specs.Words.{List, Slot};
     ghost use Rattle.fx_direct.specs.Machine.{AreCounted};
 
     ghost Value = { List Slot };

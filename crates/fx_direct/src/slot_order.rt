@@ -1,6 +1,5 @@
 //! The slots that may begin a life. Each call takes constant time.
-ghost use Rattle.std.specs.Prelude.{◌≡◌, ℕ, ◌<◌, ◌==◌, not, true, false, if◌then◌else◌, IfOk};
-ghost use Rattle.std.specs.Prelude.{IfSome, IfNone};
+ghost use Rattle.std.specs.Prelude.{◌≡◌, ◌<◌, ◌==◌, if◌then◌else◌, ℕ, not, true, false, IfOk, IfSome, IfNone};
 ghost use Rattle.fx_direct.specs.Order.{is_among_vacant, is_ranged};
 
 use fx_base::NoMemory;

@@ -1,21 +1,14 @@
 //! The machine: the life of each slot of one ring's table of direct descriptors.
-ghost use Rattle.std.specs.Prelude.{◌≡◌, ◌≤◌, true, false, length, MatchOption, MatchResult};
-ghost use Rattle.std.specs.Prelude.{Decides, IfOk, IfSome, None, Some};
+ghost use Rattle.std.specs.Prelude.{◌≡◌, ◌≤◌};
+ghost use Rattle.fx_direct.specs.Words.{true, false, length, MatchOption, MatchResult, Decides, IfOk, IfSome, None, Some, MOST_SLOTS};
 ghost use Rattle.fx_direct.specs.Keys.{FitsBits};
 ghost use Rattle.fx_direct.specs.Living.{IsFirstFrom};
 ghost use Rattle.fx_direct.specs.Phases.{AllFree, AllUnused, calls_in_flight, lives_of, phase_at};
 ghost use Rattle.fx_direct.specs.Order.{is_ranged};
-ghost use Rattle.fx_direct.specs.Refusals.{RefusesAdopt, RefusesEnd, RefusesReserve};
-ghost use Rattle.fx_direct.specs.Refusals.{RefusesTransition};
-ghost use Rattle.fx_direct.specs.Refusals.{RefusesUnchained};
-ghost use Rattle.fx_direct.specs.Transitions.{HasLife, AdoptsFile, Advances, AdvancesAndAsks};
-ghost use Rattle.fx_direct.specs.Transitions.{EndsLife, IsUsualAt, completion, machine_with};
-ghost use Rattle.fx_direct.specs.declared.key.TheConstants.{MOST_SLOTS};
-ghost use Rattle.fx_direct.specs.declared.transition.Transition.TheVariants.{Reserves, Chains};
-ghost use Rattle.fx_direct.specs.declared.transition.Transition.TheVariants.{Opens};
-ghost use Rattle.fx_direct.specs.declared.transition.Transition.TheVariants.{Starts, Finishes};
-ghost use Rattle.fx_direct.specs.declared.transition.Transition.TheVariants.{Holds, Releases};
-ghost use Rattle.fx_direct.specs.declared.transition.Transition.TheVariants.{Closes, FailsToClose};
+ghost use Rattle.fx_direct.specs.Refusals.{RefusesAdopt, RefusesEnd, RefusesReserve, RefusesTransition, RefusesUnchained};
+ghost use Rattle.fx_direct.specs.Transitions.{HasLife, AdoptsFile, Advances, AdvancesAndAsks, EndsLife, IsUsualAt, completion, machine_with};
+ghost use Rattle.fx_direct.specs.declared.transition.Transition.TheVariants.{Reserves, Chains, Opens, Starts, Finishes, Holds, Releases, Closes};
+ghost use Rattle.fx_direct.specs.declared.transition.Transition.TheVariants.{FailsToClose};
 
 use crate::chain::{ChainEnd, LifeChain, Member};
 use crate::ending::{ask, free, set_ending, write};

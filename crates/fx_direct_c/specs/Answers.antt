@@ -1,19 +1,15 @@
 -- The numbers that the functions return for C, and what they write.
 use Rattle.std.specs.Ordering.{int_eq}
-use Rattle.std.specs.Prelude.{◌≡◌, ◌⊎◌, ℕ, ℤ, false, List, length, Option}
-use Rattle.std.specs.Prelude.{Some, None, Result, Ok, Err, MatchResult, MatchOption, Bool, ◌==◌}
-use Rattle.std.specs.Prelude.{if◌then◌else◌}
+use Rattle.std.specs.Prelude.{◌≡◌, ◌⊎◌, ℕ, ℤ, false, List, length, Option, Some, None, Result, Ok}
+use Rattle.std.specs.Prelude.{Err, MatchResult, MatchOption, Bool, ◌==◌, if◌then◌else◌}
 use Rattle.fx_direct.specs.Keys.{FitsBits, bits_of}
 use Rattle.fx_direct.specs.Living.{IsFirstFrom}
-use Rattle.fx_direct.specs.Phases.{AllUnused, phase_at}
+use Rattle.fx_direct.specs.Phases.{AllUnused, phase_at, requests_in, users_in}
 use Rattle.fx_direct.specs.declared.chain.Member.{Member}
-use Rattle.fx_direct.specs.declared.chain.Member.TheVariants.{Open, Request}
-use Rattle.fx_direct.specs.declared.chain.Member.TheVariants.{Close as CloseOfChain}
+use Rattle.fx_direct.specs.declared.chain.Member.TheVariants.{Open, Request, Close as CloseOfChain}
 use Rattle.fx_direct.specs.declared.phase.Phase.TheVariants.{Free, Opening, Live, Ending, Closing}
 use Rattle.fx_direct.specs.declared.phase.Phase.TheVariants.{Chained}
-use Rattle.fx_direct.specs.Phases.{requests_in, users_in}
-use Rattle.fx_direct.specs.Refusals.{RefusesAdopt, RefusesEnd, RefusesReserve}
-use Rattle.fx_direct.specs.Refusals.{RefusesTransition}
+use Rattle.fx_direct.specs.Refusals.{RefusesAdopt, RefusesEnd, RefusesReserve, RefusesTransition}
 use Rattle.fx_direct.specs.Refusals.{RefusesUnchained}
 use Rattle.fx_direct.specs.Transitions.{DirectMachine, HasLife, Advances, AdvancesAndAsks}
 use Rattle.fx_direct.specs.Transitions.{AdoptsFile, EndsLife, completion, key_concerned}

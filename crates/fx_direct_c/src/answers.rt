@@ -1,8 +1,6 @@
 //! The numbers of the machine's answers.
 ghost use Rattle.std.specs.Prelude.{◌≡◌};
-ghost use Rattle.fx_direct_c.specs.Answers.{close_code, close_slot, code_of_refusal};
-ghost use Rattle.fx_direct_c.specs.Answers.{code_of_adopt, code_of_reserve};
-ghost use Rattle.fx_direct_c.specs.Answers.{member_numbered, name_numbered};
+ghost use Rattle.fx_direct_c.specs.Answers.{close_code, close_slot, code_of_refusal, code_of_adopt, code_of_reserve, member_numbered, name_numbered};
 ghost use Rattle.fx_direct_c.specs.Answers.{phase_code};
 
 use crate::codes::{

@@ -6,14 +6,9 @@ ghost use Rattle.fx_direct.specs.Keys.{key_in_bits};
 ghost use Rattle.fx_direct.specs.Phases.{calls_in_flight, lives_of};
 ghost use Rattle.fx_direct.specs.Transitions.{completion, machine_with};
 ghost use Rattle.fx_direct.specs.declared.key.TheConstants.{MOST_SLOTS};
-ghost use Rattle.fx_direct.specs.declared.transition.Transition.TheVariants.{Chains, Opens};
-ghost use Rattle.fx_direct.specs.declared.transition.Transition.TheVariants.{Starts, Finishes};
-ghost use Rattle.fx_direct.specs.declared.transition.Transition.TheVariants.{Holds, Releases};
-ghost use Rattle.fx_direct.specs.declared.transition.Transition.TheVariants.{Closes, FailsToClose};
-ghost use Rattle.fx_direct_c.specs.Answers.{AdoptsAs};
-ghost use Rattle.fx_direct_c.specs.Answers.{ChainedAs, ClosesAs, CompletesAs, EndsAs, FinishesAs};
-ghost use Rattle.fx_direct_c.specs.Answers.{MakesAs, OpensMachine, ReservesAs, ShowsFirst};
-ghost use Rattle.fx_direct_c.specs.Answers.{ShowsKey, ShowsPhase, StartsAs};
+ghost use Rattle.fx_direct.specs.declared.transition.Transition.TheVariants.{Chains, Opens, Starts, Finishes, Holds, Releases, Closes, FailsToClose};
+ghost use Rattle.fx_direct_c.specs.Answers.{AdoptsAs, ChainedAs, ClosesAs, CompletesAs, EndsAs, FinishesAs, MakesAs, OpensMachine, ReservesAs};
+ghost use Rattle.fx_direct_c.specs.Answers.{ShowsFirst, ShowsKey, ShowsPhase, StartsAs};
 ghost use Rattle.fx_direct_c.specs.declared.codes.TheConstants.{BAD_ARGUMENT, DONE, NO_MEMORY};
 
 use crate::answers::{member_of, name_of, of_adopt, of_close, of_phase, of_refusal, of_reserve};

@@ -1,8 +1,7 @@
 //! A machine as C has it: the pointer of its box.
 ghost use Rattle.std.specs.Prelude.{◌≡◌, Option, Some};
 ghost use Rattle.fx_direct.specs.declared.slots.DirectSlots.{DirectSlots};
-ghost use Rattle.fx_direct_c.specs.MachineMemory.{machine_owns, machine_place_coded};
-ghost use Rattle.fx_direct_c.specs.MachineMemory.{machine_place_owns, slots_coded};
+ghost use Rattle.fx_direct_c.specs.MachineMemory.{machine_owns, machine_place_coded, machine_place_owns, slots_coded};
 
 use fx_box::BoxParts;
 use fx_direct::DirectSlots;
