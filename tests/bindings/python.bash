@@ -129,7 +129,7 @@ yachtlines s/\[\*words, it.link\]/words/
 yachtlines s/names\[max(self.file_of(it.mark), 0)\]/names[0]/
 yachtlines s/            numbers.append(it.line)/            numbers.append(0)/
 yachtreason s/todo += reversed(step.premises)/todo += step.premises/
-yachtreason s/ and (it.premises or self._why(it))\]/]/
+yachtreason s/ and (it.premises or it.rule in ("suppose", "otherwise") or self._why(it))\]/]/
 yachtlog s/if verdict.reason else \[\]$/if verdict.reason else ["none"]/
 yachtlog s/len(sentences) - SENTENCES, 0/len(sentences) - SENTENCES, 1/
 yachtlog s/left = 0 if is_full/left = 1 if is_full/
