@@ -1,7 +1,7 @@
 -- The names that most proofs of this crate use.
 pub use Rattle.fx_plain.proofs.Cells.{by_equality}
 pub use Rattle.check_search.specs.AtSlots.{has_slot, slot_claimed}
-pub use Rattle.check_search.specs.Counted.{IsUneven, changes, is_change, is_something, leaving_files, to_come}
+pub use Rattle.check_search.specs.Counted.{IsUneven, changes, is_change, to_come}
 pub use Rattle.check_search.specs.Dead.{IsHopeless, NoneHelps, no_help}
 pub use Rattle.check_search.specs.Machine.{Ends, HasNoEnd, IsEndOfClaims, IsLookedThrough, Standing, StepLeadsInside, allows, cell_at, cell_with}
 pub use Rattle.check_search.specs.Machine.{cells_after, claim_at, is_staying, is_test, made, may_find, may_leave, may_stay, next, suits}
@@ -15,14 +15,13 @@ pub use Rattle.check_search.specs.declared.claim.Leaves.{Leaves}
 pub use Rattle.check_search.specs.declared.claim.Leaves.TheVariants.{Empty, File, Same}
 pub use Rattle.check_search.specs.declared.claim.Resident.{Resident}
 pub use Rattle.check_search.specs.declared.claim.Condition.{Condition}
-pub use Rattle.check_search.specs.declared.claim.Condition.TheVariants.{Something}
 pub use Rattle.check_search.specs.declared.node.Packing.{Packing}
 pub use Rattle.check_search.specs.declared.claim.Strand.{Strand}
 pub use Rattle.std.proofs.Common.{All, Bool, Contains, IsTrue, List, None, Option, Some, [], ap, arith, cond, drop, drop-cons, eq-eqb, false, get_or}
-pub use Rattle.std.proofs.Common.{if◌then◌else◌, inl, inr, is_some, length, map, not, option_copied, refl, slice_get, slice_index, slice_index_or}
-pub use Rattle.std.proofs.Common.{slice_set, subst, suc, sym, take, true, zero, ℕ, ⊎_elim, ◌&&◌, ◌++◌, ◌+◌, ◌<◌, ◌==◌, ◌||◌, ◌∙◌, ◌∷◌, ◌≡◌, ◌≢◌, ◌≤◌}
-pub use Rattle.std.proofs.Common.{◌⊎◌, ne_eqb, rules}
-pub use Rattle.std.proofs.lemmas.Bool.{cases_lt, and_parts, not-true, true≢false}
+pub use Rattle.std.proofs.Common.{if◌then◌else◌, inl, inr, length, map, not, option_copied, refl, slice_get, slice_index, slice_index_or, slice_set}
+pub use Rattle.std.proofs.Common.{subst, suc, sym, take, true, zero, ℕ, ⊎_elim, ◌&&◌, ◌++◌, ◌+◌, ◌<◌, ◌==◌, ◌||◌, ◌∙◌, ◌∷◌, ◌≡◌, ◌≢◌, ◌≤◌, ◌⊎◌}
+pub use Rattle.std.proofs.Common.{ne_eqb, rules}
+pub use Rattle.std.proofs.lemmas.Bool.{cases_lt, and_parts, true≢false}
 pub use Rattle.std.proofs.lemmas.List.{same_lists, get_or-map, get_or-set_other, length-map, length-set, drop_all, set_comm}
 pub use Rattle.std.proofs.lemmas.List.Elements.{All-contains, All-map}
 pub use Rattle.std.proofs.lemmas.Option.{get_or_from_slice_get, same_Some, slice_get-get_or, slice_get_read, slice_get_within}

@@ -1,9 +1,6 @@
 -- The files at some slots alone.
-use Rattle.std.specs.Prelude.{ℕ, ◌==◌, Bool, List, Option, Some, None}
-use Rattle.std.specs.List.{list_any}
-use Rattle.check_search.specs.declared.cell.Cell.{Cell}
-use Rattle.check_search.specs.declared.claim.Claim.{Claim}
-use Rattle.check_search.specs.declared.claim.Claim.TheVariants.{At, Full}
+use Rattle.std.specs.Prelude.{◌==◌, ℕ, Bool, List, Option, Some, None}
+use Rattle.check_search.specs.Words.{list_any, Cell, Claim, At, Full}
 
 -- a claim or an access of this slot, or of the allocation range where there is none, is of one of
 -- these slots

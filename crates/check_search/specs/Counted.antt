@@ -1,17 +1,12 @@
 -- Counts of the files that are installed at a slot and that leave it.
-use Rattle.std.specs.Prelude.{◌≡◌, ◌⊎◌, ℕ, ◌+◌, ◌<◌, ◌≤◌, ◌==◌, ◌&&◌, not, Bool, true, false}
-use Rattle.std.specs.Prelude.{List, [], ◌∷◌, count_by, cond, drop, slice_index}
+use Rattle.std.specs.Prelude.{◌≡◌, ◌⊎◌, ◌+◌, ◌<◌, ◌≤◌, ◌==◌, ◌&&◌, ◌∷◌}
+use Rattle.check_search.specs.Words.{ℕ, not, Bool, true, false, List, [], count_by, cond, drop}
+use Rattle.check_search.specs.Words.{slice_index, Claim, At, Full, Leaves, Empty, File, Condition}
+use Rattle.check_search.specs.Words.{Something, Strand}
 use Rattle.check_search.specs.Machine.{Standing, cell_at, may_leave, may_stay}
-use Rattle.check_search.specs.declared.claim.Claim.{Claim}
-use Rattle.check_search.specs.declared.claim.Claim.TheVariants.{At, Full}
-use Rattle.check_search.specs.declared.claim.Leaves.{Leaves}
-use Rattle.check_search.specs.declared.claim.Leaves.TheVariants.{Empty, File}
-use Rattle.check_search.specs.declared.claim.Condition.{Condition}
-use Rattle.check_search.specs.declared.claim.Condition.TheVariants.{Something}
 use Rattle.check_search.specs.declared.dead.SlotChange.{SlotChange}
 use Rattle.check_search.specs.declared.dead.SlotChange.TheVariants.{Takes, Empties, Leaving}
 use Rattle.check_search.specs.declared.dead.SlotChange.TheVariants.{Staying}
-use Rattle.check_search.specs.declared.claim.Strand.{Strand}
 
 abbrev pub is_something : Condition → Bool
 is_something Something = true

@@ -1,11 +1,8 @@
 -- A claim that waits for a file that doesn't come.
-use Rattle.std.specs.Prelude.{◌≡◌, ◌⊎◌, ℕ, ◌≤◌, ◌==◌, ◌||◌, not, Bool, true, false, List}
-use Rattle.std.specs.Prelude.{slice_get, slice_index, Some, None}
+use Rattle.std.specs.Prelude.{◌≡◌, ◌⊎◌, ◌≤◌, ◌==◌, ◌||◌}
+use Rattle.check_search.specs.Words.{ℕ, not, Bool, true, false, List, slice_get, slice_index, Some}
+use Rattle.check_search.specs.Words.{None, Claim, At, Full, Same, Empty, File, Strand}
 use Rattle.check_search.specs.Machine.{Standing, cell_at, may_find, may_leave}
-use Rattle.check_search.specs.declared.claim.Claim.{Claim}
-use Rattle.check_search.specs.declared.claim.Claim.TheVariants.{At, Full}
-use Rattle.check_search.specs.declared.claim.Leaves.TheVariants.{Same, Empty, File}
-use Rattle.check_search.specs.declared.claim.Strand.{Strand}
 
 -- the other claim changes nothing at the slot, or leaves what the claim may not be made with
 abbrev pub no_help : ℕ → Claim → Claim → Bool

@@ -5,3 +5,4 @@ pub mod Starts
 pub mod Dead
 pub mod Counted
 pub mod Packed
+pub mod Words

@@ -1,21 +1,12 @@
 -- The claims of chains as a machine: how many claims of each chain were made, and the files
 -- at slots.
-use Rattle.std.specs.Prelude.{◌≡◌, ◌⊎◌, ℕ, ◌+◌, ◌==◌, ◌&&◌, ◌||◌, not, Bool, true, false, List, []}
-use Rattle.std.specs.Prelude.{◌∷◌, map, slice_get, slice_index, slice_index_or, slice_set, Option}
-use Rattle.std.specs.Prelude.{Some, None, option_and_then, if◌then◌else◌, is_some, Contains}
-use Rattle.std.specs.List.{list_all}
-use Rattle.check_search.specs.declared.claim.Resident.{Resident}
-use Rattle.check_search.specs.declared.claim.Condition.{Condition}
-use Rattle.check_search.specs.declared.claim.Condition.TheVariants.{Anything, Nothing}
-use Rattle.check_search.specs.declared.claim.Condition.TheVariants.{NothingToTake}
-use Rattle.check_search.specs.declared.claim.Condition.TheVariants.{Something, Bytes}
-use Rattle.check_search.specs.declared.claim.Leaves.{Leaves}
-use Rattle.check_search.specs.declared.claim.Leaves.TheVariants.{Same, Empty, File}
-use Rattle.check_search.specs.declared.claim.Claim.{Claim}
-use Rattle.check_search.specs.declared.claim.Claim.TheVariants.{At, Full}
-use Rattle.check_search.specs.declared.cell.Cell.{Cell}
+use Rattle.std.specs.Prelude.{◌≡◌, ◌⊎◌, ◌+◌, ◌==◌, ◌&&◌, ◌||◌, ◌∷◌, if◌then◌else◌}
+use Rattle.check_search.specs.Words.{ℕ, not, Bool, true, false, List, [], map, slice_get}
+use Rattle.check_search.specs.Words.{slice_index, slice_index_or, slice_set, Option, Some, None}
+use Rattle.check_search.specs.Words.{option_and_then, is_some, Contains, list_all, Resident}
+use Rattle.check_search.specs.Words.{Condition, Anything, Nothing, NothingToTake, Something, Bytes}
+use Rattle.check_search.specs.Words.{Leaves, Same, Empty, File, Claim, At, Full, Cell, Strand}
 use Rattle.check_search.specs.declared.node.SearchNode.{SearchNode}
-use Rattle.check_search.specs.declared.claim.Strand.{Strand}
 
 -- the file at a slot
 abbrev pub cell_at : List Cell → ℕ → Option Resident

@@ -1,10 +1,9 @@
 -- The states that packed ones stand for.
-use Rattle.std.specs.Prelude.{ℕ, suc, List, [], ◌∷◌, map, take, drop, slice_get, slice_index}
-use Rattle.std.specs.Prelude.{Option, option_and_then}
+use Rattle.std.specs.Prelude.{◌∷◌}
+use Rattle.check_search.specs.Words.{ℕ, suc, List, [], map, take, drop, slice_get, slice_index}
+use Rattle.check_search.specs.Words.{Option, option_and_then, Cell, Resident}
 use Rattle.std.specs.Global.{Vec}
 use Rattle.check_search.specs.Machine.{Standing}
-use Rattle.check_search.specs.declared.cell.Cell.{Cell}
-use Rattle.check_search.specs.declared.claim.Resident.{Resident}
 use Rattle.check_search.specs.declared.node.Packing.{Packing}
 
 -- the file of this number among those of a slot

@@ -1,8 +1,8 @@
 -- Files, and whether the closes have them.
-use Rattle.std.specs.Prelude.{◌≡◌, List, IsTrue, ◌↔◌, Contains}
+use Rattle.std.specs.Prelude.{◌≡◌, ◌↔◌}
+use Rattle.check_search.specs.Words.{List, IsTrue, Contains, Resident}
 use Rattle.fx_base.specs.Identity.{Identity}
 use Rattle.fx_base.specs.declared.open_file.Closed.{Closed}
-use Rattle.check_search.specs.declared.claim.Resident.{Resident}
 
 -- a file, and whether the closes have it
 pub record IsResident (closes : List Closed) (file : Identity) (resident : Resident) : Type 0 where

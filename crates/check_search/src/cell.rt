@@ -1,8 +1,7 @@
 //! A slot as the states of a search have it.
-ghost use Rattle.std.specs.Prelude.{◌≡◌, IsTrue, ◌↔◌};
-ghost use Rattle.std.specs.List.{list_all};
-ghost use Rattle.check_search.specs.Machine.{allows, cell_at, cells_after, is_staying, is_taken};
-ghost use Rattle.check_search.specs.Machine.{may_find, may_leave, may_stay, suits, with_cell};
+ghost use Rattle.std.specs.Prelude.{◌≡◌};
+ghost use Rattle.check_search.specs.Words.{list_all};
+ghost use Rattle.check_search.specs.Machine.{allows, cell_at, cells_after, is_staying, is_taken, may_find, may_leave, may_stay, suits, with_cell};
 
 use crate::claim::{Claim, Condition, Leaves, Resident};
 

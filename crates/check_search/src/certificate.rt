@@ -1,7 +1,6 @@
 //! The check of a search that found no order: whether its states show that there is none.
-ghost use Rattle.std.specs.Prelude.{◌≡◌, ◌↔◌, IfOk, IfSome, IsTrue, All, Contains, Some};
-ghost use Rattle.check_search.specs.Machine.{HasNoEnd, IsExplored, IsLookedThrough, LeadsInside};
-ghost use Rattle.check_search.specs.Machine.{StepLeadsInside, TestLeadsInside, view};
+ghost use Rattle.std.specs.Prelude.{IfOk, IsTrue, All, Contains, Some};
+ghost use Rattle.check_search.specs.Machine.{HasNoEnd, IsExplored, IsLookedThrough, LeadsInside, StepLeadsInside, TestLeadsInside, view};
 ghost use Rattle.check_search.specs.Packed.{all_unpacked, unpacked};
 ghost use Rattle.check_search.specs.Starts.{starting};
 

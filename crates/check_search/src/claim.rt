@@ -1,7 +1,7 @@
 //! Claims: what a completion says of one access to the table; and the claims of a chain.
-ghost use Rattle.std.specs.Prelude.{◌≡◌, ◌↔◌, IsTrue, Contains, List, ◌==◌};
+ghost use Rattle.std.specs.Prelude.{◌≡◌, ◌↔◌, ◌==◌};
+ghost use Rattle.check_search.specs.Words.{IsTrue, Contains, list_any};
 ghost use Rattle.check_search.specs.Residents.{IsResident};
-ghost use Rattle.std.specs.List.{list_any};
 
 use crate::cell::Cell;
 use fx_base::Closed;

@@ -1,12 +1,10 @@
 //! States from which no end is reached: the files that are installed at a slot and leave it don't
 //! balance, or a claim waits for a file that is never installed.
-ghost use Rattle.std.specs.Prelude.{◌≡◌, ◌≤◌, IfSome, IsTrue, cond, count_by, drop, ℕ, Some, true};
-ghost use Rattle.std.specs.Prelude.{slice_get};
-ghost use Rattle.check_search.specs.Counted.{IsUneven, changes, is_change, leaving_files};
-ghost use Rattle.check_search.specs.Counted.{staying_files, to_come};
+ghost use Rattle.std.specs.Prelude.{◌≡◌, ◌≤◌};
+ghost use Rattle.check_search.specs.Words.{IfSome, IsTrue, cond, count_by, drop, ℕ, Some, true, slice_get, Claim as OneClaim};
+ghost use Rattle.check_search.specs.Counted.{IsUneven, changes, is_change, leaving_files, staying_files, to_come};
 ghost use Rattle.check_search.specs.Machine.{HasNoEnd, view};
 ghost use Rattle.check_search.specs.Dead.{IsHopeless, NoneHelps, no_help};
-ghost use Rattle.check_search.specs.declared.claim.Claim.{Claim as OneClaim};
 
 use crate::cell::{cell_at, may_find, may_leave, may_stay};
 use crate::claim::{Claim, Condition, Leaves, Strand, has_slot};

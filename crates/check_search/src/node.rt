@@ -1,6 +1,5 @@
 //! A state of a search, as it is and in few bytes.
-ghost use Rattle.std.specs.Prelude.{◌≡◌, ◌↔◌, ℕ, None, IfOk, IsTrue, option_map, option_copied};
-ghost use Rattle.std.specs.Prelude.{slice_index, take};
+ghost use Rattle.std.specs.Prelude.{◌≡◌, ℕ, None, IfOk, IsTrue, option_map, option_copied, slice_index};
 ghost use Rattle.check_search.specs.Machine.{IsEndOfClaims, claim_at, is_test, next, view};
 ghost use Rattle.check_search.specs.Starts.{starting};
 ghost use Rattle.check_search.specs.Packed.{packed_file, numbered_cells, unpacked};
