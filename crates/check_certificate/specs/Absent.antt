@@ -1,21 +1,14 @@
 -- Files that may be at a slot just before an access.
-use Rattle.std.specs.Prelude.{◌≡◌, ℕ, ◌+◌, ◌<◌, ◌≤◌, ℤ, pos, negsuc, Bool, true, false}
-use Rattle.std.specs.Prelude.{slice_index_or, None}
-use Rattle.fx_base.specs.Identity.{Identity}
-use Rattle.fx_chain.specs.declared.intent.Intent.{Intent}
-use Rattle.fx_chain.specs.declared.intent.Intent.TheVariants.{Put, Allocate}
+use Rattle.check_certificate.specs.Words.{ℕ, ℤ, pos, negsuc, Bool, true, false, slice_index_or}
+use Rattle.check_certificate.specs.Words.{None, Identity, Intent, Allocate, OnlyFile, Nothing}
+use Rattle.check_certificate.specs.Words.{PutBefore, GoneAfter, Holding, Point, Gone, Evidence}
+use Rattle.check_certificate.specs.Words.{Removes, Sees, Full}
+use Rattle.std.specs.Prelude.{◌≡◌, ◌+◌, ◌<◌, ◌≤◌}
+use Rattle.fx_chain.specs.declared.intent.Intent.TheVariants.{Put}
 use Rattle.check_certificate.specs.Evidence.{slot_count}
 use Rattle.check_certificate.specs.Forced.{TimedFlight}
 use Rattle.check_certificate.specs.declared.beginning.LogBeginning.{LogBeginning}
-use Rattle.check_certificate.specs.declared.certificate.OnlyFile.{OnlyFile}
-use Rattle.check_certificate.specs.declared.certificate.OnlyFile.TheVariants.{Nothing, PutBefore}
-use Rattle.check_certificate.specs.declared.certificate.OnlyFile.TheVariants.{GoneAfter}
-use Rattle.check_certificate.specs.declared.certificate.Holding.{Holding}
-use Rattle.check_certificate.specs.declared.certificate.Point.{Point}
-use Rattle.check_certificate.specs.declared.certificate.Point.TheVariants.{Access, Gone}
-use Rattle.check_certificate.specs.declared.certificate.Point.TheVariants.{Put as Installed}
-use Rattle.check_certificate.specs.declared.evidence.Evidence.{Evidence}
-use Rattle.check_certificate.specs.declared.evidence.Evidence.TheVariants.{Removes, Sees, Full}
+use Rattle.check_certificate.specs.declared.certificate.Point.TheVariants.{Access, Put as Installed}
 
 -- a number below 0
 abbrev pub is_negative : ℤ → Bool

@@ -1,13 +1,9 @@
 -- Answers that a request may have, and those that it can't have.
-use Rattle.std.specs.Prelude.{ℕ, ◌==◌, nat_lt, List, length, Bool, not, ◌&&◌, ◌||◌, Option, Some}
-use Rattle.std.specs.Prelude.{None}
+use Rattle.check_certificate.specs.Words.{ℕ, nat_lt, List, length, Bool, not, Option, Some, None}
+use Rattle.check_certificate.specs.Words.{ECANCELED, ENOMEM, FileEntry, Completed, is_error}
+use Rattle.check_certificate.specs.Words.{is_read, may_answer, Asked, Operation}
+use Rattle.std.specs.Prelude.{◌==◌, ◌&&◌, ◌||◌}
 use Rattle.fx_base.specs.declared.errno.Errno.{Errno}
-use Rattle.fx_base.specs.declared.errno.Errno.TheVariants.{ECANCELED, ENOMEM}
-use Rattle.fx_base.specs.Catalogue.{FileEntry}
-use Rattle.fx_chain.specs.Completed.{Completed, is_error}
-use Rattle.fx_chain.specs.Intents.{is_read}
-use Rattle.fx_chain.specs.MayAnswer.{may_answer}
-use Rattle.fx_chain.specs.Operation.{Asked, Operation}
 use Rattle.fx_chain.specs.Refusal.{refusal_of}
 use Rattle.fx_order.specs.declared.access.Access.{Access}
 use Rattle.check_certificate.specs.Times.{IsMemberDoneBy}

@@ -1,18 +1,12 @@
 -- The bytes that a read answers: a file of other bytes isn't the one that it finds.
-use Rattle.std.specs.Prelude.{ℕ, ◌==◌, Bool, false, not, ◌&&◌, List, Option}
+use Rattle.check_certificate.specs.Words.{ℕ, Bool, false, not, List, Option, FileEntry, Identity}
+use Rattle.check_certificate.specs.Words.{Completed, bytes_read, is_read, is_count, Asked, Holding}
+use Rattle.check_certificate.specs.Words.{Evidence, Sees}
+use Rattle.std.specs.Prelude.{◌==◌, ◌&&◌}
 use Rattle.std.specs.Str.{bytes_eq}
-use Rattle.fx_base.specs.Catalogue.{FileEntry}
-use Rattle.fx_base.specs.Identity.{Identity}
-use Rattle.fx_chain.specs.Completed.{Completed}
-use Rattle.fx_chain.specs.Intents.{bytes_read, is_read}
-use Rattle.fx_chain.specs.MayAnswer.{is_count}
-use Rattle.fx_chain.specs.Operation.{Asked}
 use Rattle.check_certificate.specs.Cut.{asked_by}
 use Rattle.check_certificate.specs.Made.{made}
 use Rattle.check_certificate.specs.Said.{◌>>=◌, Given, event_at, done_at, only_if}
-use Rattle.check_certificate.specs.declared.certificate.Holding.{Holding}
-use Rattle.check_certificate.specs.declared.evidence.Evidence.{Evidence}
-use Rattle.check_certificate.specs.declared.evidence.Evidence.TheVariants.{Sees}
 
 -- an access with this evidence finds some file at the slot
 abbrev pub is_seen : Evidence → ℕ → Bool

@@ -1,15 +1,11 @@
 -- The answers of two members of a chain that follow each other: the later one is canceled if and
 -- only if the earlier one severs the chain or is canceled itself.
-use Rattle.std.specs.Prelude.{ℕ, ◌+◌, ◌-◌, ◌==◌, nat_lt, Bool, not, ◌&&◌, ◌||◌, slice_get, Option}
-use Rattle.std.specs.Prelude.{None, if◌then◌else◌}
-use Rattle.fx_base.specs.declared.errno.Errno.TheVariants.{ECANCELED}
-use Rattle.fx_chain.specs.Completed.{Completed, is_error}
+use Rattle.check_certificate.specs.Words.{ℕ, nat_lt, Bool, not, slice_get, Option, None, ECANCELED}
+use Rattle.check_certificate.specs.Words.{Completed, is_error, Asked, Happening, Called, PointOrder}
+use Rattle.std.specs.Prelude.{◌+◌, ◌-◌, ◌==◌, ◌&&◌, ◌||◌, if◌then◌else◌}
 use Rattle.fx_chain.specs.Explains.{severs}
-use Rattle.fx_chain.specs.Operation.{Asked}
-use Rattle.fx_flight.specs.Events.{Happening, Called}
 use Rattle.check_certificate.specs.Rules.{never}
 use Rattle.check_certificate.specs.Said.{◌>>=◌, Given, event_at, done_at, only_if}
-use Rattle.check_certificate.specs.declared.certificate.PointOrder.{PointOrder}
 
 -- the member after a request with this answer is canceled
 abbrev pub is_cut : Asked → Completed → Bool

@@ -1,25 +1,18 @@
 -- Evidence in the answers of a log for accesses.
-use Rattle.std.specs.Prelude.{◌≡◌, ℕ, ◌-◌, ℤ, pos, negsuc, List, length, slice_get, Option}
-use Rattle.std.specs.Prelude.{Some, None}
-use Rattle.fx_base.specs.Catalogue.{FileEntry, IsCatalogue}
-use Rattle.fx_base.specs.Identity.{Identity}
-use Rattle.fx_chain.specs.Completed.{Completed}
-use Rattle.fx_chain.specs.Operation.{Asked}
-use Rattle.fx_chain.specs.declared.intent.Intent.{Intent}
-use Rattle.fx_chain.specs.declared.intent.Intent.TheVariants.{Look, Put, Clear, Take, Allocate}
-use Rattle.fx_order.specs.Access.{Table, Permits, table_with}
+use Rattle.check_certificate.specs.Words.{ℕ, ℤ, pos, negsuc, List, length, slice_get, Option, Some}
+use Rattle.check_certificate.specs.Words.{None, FileEntry, IsCatalogue, Identity, Completed, Asked}
+use Rattle.check_certificate.specs.Words.{Intent, Look, Clear, Take, Allocate, Table, Permits}
+use Rattle.check_certificate.specs.Words.{table_with, FindsFull, Looks, Takes, Happening, Called}
+use Rattle.check_certificate.specs.Words.{Answered, LookCalled, LookAnswered, IsLookDone, Evidence}
+use Rattle.check_certificate.specs.Words.{Empties, Full, Installs, Never, Removes, Sees}
+use Rattle.std.specs.Prelude.{◌≡◌, ◌-◌}
+use Rattle.fx_chain.specs.declared.intent.Intent.TheVariants.{Put}
 use Rattle.fx_order.specs.declared.access.Access.{Access}
-use Rattle.fx_order.specs.declared.access.Access.TheVariants.{FindsFull, Looks, Takes}
-use Rattle.fx_flight.specs.Events.{Happening, Called, Answered, LookCalled, LookAnswered}
-use Rattle.fx_flight.specs.Flight.{IsLookDone}
 use Rattle.fx_flight.specs.Laws.{IsCallOf}
 use Rattle.check_certificate.specs.Forced.{log_of_beginning}
 use Rattle.check_certificate.specs.Times.{IsPut, IsMemberDoneBy}
 use Rattle.check_certificate.specs.declared.beginning.LogBeginning.{LogBeginning}
-use Rattle.check_certificate.specs.declared.evidence.Evidence.{Evidence}
-use Rattle.check_certificate.specs.declared.evidence.Evidence.TheVariants.{Empties, Full, Installs}
-use Rattle.check_certificate.specs.declared.evidence.Evidence.TheVariants.{Finds, Never, Removes}
-use Rattle.check_certificate.specs.declared.evidence.Evidence.TheVariants.{Sees}
+use Rattle.check_certificate.specs.declared.evidence.Evidence.TheVariants.{Finds}
 
 -- it is so of this access
 abbrev pub IsEvident : Access → Evidence → Type 0

@@ -1,20 +1,12 @@
 -- The orders of points that every flight of a beginning keeps.
-use Rattle.std.specs.Prelude.{◌≡◌, ℕ, ◌+◌, ◌≤◌, Bool, true, false, List, Option, Some, None, IfSome}
-use Rattle.std.specs.Prelude.{IsTrue}
-use Rattle.std.specs.List.{list_all}
-use Rattle.fx_base.specs.Catalogue.{IsCatalogue}
-use Rattle.fx_base.specs.Identity.{Identity}
-use Rattle.fx_base.specs.declared.mark.Mark.{Mark}
-use Rattle.fx_base.specs.declared.mark.Mark.TheVariants.{Registered, Submitted}
-use Rattle.fx_order.specs.Slots.{ring_of_slots}
+use Rattle.check_certificate.specs.Words.{ℕ, Bool, true, false, List, Option, Some, None, IfSome}
+use Rattle.check_certificate.specs.Words.{IsTrue, list_all, IsCatalogue, Identity, Mark, Registered}
+use Rattle.check_certificate.specs.Words.{Submitted, ring_of_slots, Happening, all_happenings}
+use Rattle.check_certificate.specs.Words.{first_of_call, IsFaultless, IsLegalLog, PointOrder, Point}
+use Rattle.std.specs.Prelude.{◌≡◌, ◌+◌, ◌≤◌}
 use Rattle.fx_ring.specs.Ring.{RingState}
-use Rattle.fx_flight.specs.Events.{Happening, all_happenings, first_of_call}
-use Rattle.fx_flight.specs.Faults.{IsFaultless}
-use Rattle.fx_flight.specs.Flight.{IsLegalLog}
 use Rattle.check_certificate.specs.Times.{AreTimes}
 use Rattle.check_certificate.specs.declared.beginning.LogBeginning.{LogBeginning}
-use Rattle.check_certificate.specs.declared.certificate.PointOrder.{PointOrder}
-use Rattle.check_certificate.specs.declared.certificate.Point.{Point}
 
 abbrev pub log_of_beginning : LogBeginning → List Happening
 log_of_beginning b = all_happenings b.events.now

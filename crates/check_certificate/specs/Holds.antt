@@ -1,17 +1,15 @@
 -- The files that may be at a slot just before an access, by the known orders and by the answers of
 -- the members that install them.
-use Rattle.std.specs.Prelude.{ℕ, ◌+◌, ◌-◌, ◌==◌, zero, suc, nat_lt, nat_le, Bool, true, false, not}
-use Rattle.std.specs.Prelude.{◌&&◌, ◌||◌, List, length, slice_index_or, Option, Some, None}
-use Rattle.std.specs.Prelude.{if◌then◌else◌}
-use Rattle.std.specs.List.{list_any}
-use Rattle.std.specs.Option.{is_none, is_some}
-use Rattle.fx_base.specs.Identity.{Identity}
-use Rattle.fx_base.specs.declared.mark.Mark.{Mark}
-use Rattle.fx_base.specs.declared.mark.Mark.TheVariants.{Registered, Submitted}
+use Rattle.check_certificate.specs.Words.{ℕ, zero, suc, nat_lt, nat_le, Bool, true, false, not}
+use Rattle.check_certificate.specs.Words.{List, length, slice_index_or, Option, Some, None}
+use Rattle.check_certificate.specs.Words.{list_any, is_some, Identity, Mark, Registered, Submitted}
+use Rattle.check_certificate.specs.Words.{Place, Intent, Allocate, Holding, OnlyFile, Nothing}
+use Rattle.check_certificate.specs.Words.{PutBefore, GoneAfter, PointOrder, Event, Gone, Evidence}
+use Rattle.check_certificate.specs.Words.{Full, Installs, Removes, Sees, MemberAccess}
+use Rattle.std.specs.Prelude.{◌+◌, ◌-◌, ◌==◌, ◌&&◌, ◌||◌, if◌then◌else◌}
+use Rattle.std.specs.Option.{is_none}
 use Rattle.fx_chain.specs.contracts.completion.PlacePartialEq.TheImpl.{eq-value as equality}
-use Rattle.fx_chain.specs.declared.completion.Place.{Place}
-use Rattle.fx_chain.specs.declared.intent.Intent.{Intent}
-use Rattle.fx_chain.specs.declared.intent.Intent.TheVariants.{Allocate, Put as Install}
+use Rattle.fx_chain.specs.declared.intent.Intent.TheVariants.{Put as Install}
 use Rattle.check_certificate.specs.Absent.{is_negative}
 use Rattle.check_certificate.specs.Contents.{other_read}
 use Rattle.check_certificate.specs.Made.{made}
@@ -19,16 +17,7 @@ use Rattle.check_certificate.specs.Rules.{before, not_after, same_point, joined,
 use Rattle.check_certificate.specs.Rules.{begins, ends, installs, empties}
 use Rattle.check_certificate.specs.Said.{◌>>=◌, Given, slots_of, only_if, same_file, call_of}
 use Rattle.check_certificate.specs.Said.{done_at}
-use Rattle.check_certificate.specs.declared.certificate.Holding.{Holding}
-use Rattle.check_certificate.specs.declared.certificate.OnlyFile.{OnlyFile}
-use Rattle.check_certificate.specs.declared.certificate.OnlyFile.TheVariants.{Nothing, PutBefore}
-use Rattle.check_certificate.specs.declared.certificate.OnlyFile.TheVariants.{GoneAfter}
-use Rattle.check_certificate.specs.declared.certificate.PointOrder.{PointOrder}
-use Rattle.check_certificate.specs.declared.certificate.Point.TheVariants.{Event, Access, Put, Gone}
-use Rattle.check_certificate.specs.declared.evidence.Evidence.{Evidence}
-use Rattle.check_certificate.specs.declared.evidence.Evidence.TheVariants.{Full, Installs, Removes}
-use Rattle.check_certificate.specs.declared.evidence.Evidence.TheVariants.{Sees}
-use Rattle.check_certificate.specs.declared.walk.MemberAccess.{MemberAccess}
+use Rattle.check_certificate.specs.declared.certificate.Point.TheVariants.{Access, Put}
 
 -- two places are equal
 abbrev pub same_place : Place → Place → Bool

@@ -1,11 +1,10 @@
 -- Accesses that may install a file: at which slot.
-use Rattle.std.specs.Prelude.{◌≡◌, true}
-use Rattle.fx_chain.specs.declared.intent.Intent.{Intent}
-use Rattle.fx_chain.specs.declared.intent.Intent.TheVariants.{Put, Allocate}
+use Rattle.check_certificate.specs.Words.{true, Intent, Allocate, Event, Landing}
+use Rattle.std.specs.Prelude.{◌≡◌}
+use Rattle.fx_chain.specs.declared.intent.Intent.TheVariants.{Put}
 use Rattle.check_certificate.specs.Forced.{IsForced}
 use Rattle.check_certificate.specs.declared.beginning.LogBeginning.{LogBeginning}
-use Rattle.check_certificate.specs.declared.certificate.Point.TheVariants.{Event, Put as Installed}
-use Rattle.check_certificate.specs.declared.walk.Landing.{Landing}
+use Rattle.check_certificate.specs.declared.certificate.Point.TheVariants.{Put as Installed}
 
 -- the file was installed before the event
 abbrev pub IsInstalledBefore : LogBeginning → Landing → Type 0

@@ -1,12 +1,9 @@
 -- The accesses that don't take a file from its slot: by the slot, by a known order, or by the
 -- answer of their member.
-use Rattle.std.specs.Prelude.{ℕ, ◌==◌, Bool, true, not, ◌&&◌, ◌||◌, List, Option, Some, None}
-use Rattle.std.specs.Prelude.{if◌then◌else◌}
-use Rattle.std.specs.List.{list_any}
-use Rattle.std.specs.Option.{is_some, option_eq}
-use Rattle.fx_base.specs.Identity.{Identity}
-use Rattle.fx_chain.specs.declared.completion.Place.{Place}
-use Rattle.fx_chain.specs.declared.intent.Intent.{Intent}
+use Rattle.check_certificate.specs.Words.{ℕ, Bool, true, not, List, Option, Some, None, list_any}
+use Rattle.check_certificate.specs.Words.{is_some, option_eq, Identity, Place, Intent, Point, Event}
+use Rattle.check_certificate.specs.Words.{Gone, PointOrder, Leaving, MemberAccess}
+use Rattle.std.specs.Prelude.{◌==◌, ◌&&◌, ◌||◌, if◌then◌else◌}
 use Rattle.fx_chain.specs.declared.intent.Intent.TheVariants.{Put as Install}
 use Rattle.check_certificate.specs.Absent.{is_negative}
 use Rattle.check_certificate.specs.Holds.{answer_of, is_answered_at, is_some_so, same_place}
@@ -15,11 +12,7 @@ use Rattle.check_certificate.specs.Rules.{before, same_point, joined, events_in_
 use Rattle.check_certificate.specs.Rules.{installs}
 use Rattle.check_certificate.specs.Said.{◌>>=◌, Given, same_file, call_at, done_at}
 use Rattle.check_certificate.specs.Taken.{slot_taken}
-use Rattle.check_certificate.specs.declared.certificate.Point.{Point}
-use Rattle.check_certificate.specs.declared.certificate.Point.TheVariants.{Event, Access, Put, Gone}
-use Rattle.check_certificate.specs.declared.certificate.PointOrder.{PointOrder}
-use Rattle.check_certificate.specs.declared.walk.Leaving.{Leaving}
-use Rattle.check_certificate.specs.declared.walk.MemberAccess.{MemberAccess}
+use Rattle.check_certificate.specs.declared.certificate.Point.TheVariants.{Access, Put}
 
 -- an order says that a point comes before another one, at another time
 abbrev pub says : PointOrder → Point → Point → Bool

@@ -16,3 +16,4 @@ pub mod Absent
 pub mod Taken
 pub mod Landed
 pub mod Walked
+pub mod Words

@@ -1,20 +1,14 @@
 -- The evidence for an access, by the call of its member and the member's answer.
-use Rattle.std.specs.Prelude.{ℕ, ◌-◌, ◌==◌, nat_lt, ◌&&◌, ◌||◌, List, slice_get}
-use Rattle.std.specs.Prelude.{Option, Some, None, option_map, if◌then◌else◌}
-use Rattle.fx_base.specs.Catalogue.{FileEntry}
-use Rattle.fx_base.specs.Identity.{Identity}
-use Rattle.fx_base.specs.declared.errno.Errno.TheVariants.{ECANCELED, ENOMEM}
-use Rattle.fx_chain.specs.Completed.{Completed, is_error}
-use Rattle.fx_chain.specs.Intents.{intent_by, opened_by}
-use Rattle.fx_chain.specs.Operation.{Asked, Operation}
-use Rattle.fx_chain.specs.declared.completion.Place.{Place}
-use Rattle.fx_chain.specs.declared.intent.Intent.{Intent}
-use Rattle.fx_flight.specs.Events.{Happening, Called, Answered, LookCalled, LookAnswered}
+use Rattle.check_certificate.specs.Words.{ℕ, nat_lt, List, slice_get, Option, Some, None}
+use Rattle.check_certificate.specs.Words.{option_map, FileEntry, Identity, ECANCELED, ENOMEM}
+use Rattle.check_certificate.specs.Words.{Completed, is_error, intent_by, opened_by, Asked}
+use Rattle.check_certificate.specs.Words.{Operation, Place, Intent, Happening, Called, Answered}
+use Rattle.check_certificate.specs.Words.{LookCalled, LookAnswered, Evidence, Empties, Never}
+use Rattle.std.specs.Prelude.{◌-◌, ◌==◌, ◌&&◌, ◌||◌, if◌then◌else◌}
 use Rattle.check_certificate.specs.Answers.{is_impossible}
 use Rattle.check_certificate.specs.Evidence.{evidence_of}
 use Rattle.check_certificate.specs.Said.{◌>>=◌, Given, event_at, only_if, slots_of}
-use Rattle.check_certificate.specs.declared.evidence.Evidence.{Evidence}
-use Rattle.check_certificate.specs.declared.evidence.Evidence.TheVariants.{Empties, Finds, Never}
+use Rattle.check_certificate.specs.declared.evidence.Evidence.TheVariants.{Finds}
 
 -- the access that a request at a place intends after `k` others, if there is one
 unfoldable pub intended : List FileEntry → ℕ → Place → Operation → ℕ → Option Intent

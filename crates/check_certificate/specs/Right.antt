@@ -1,24 +1,18 @@
 -- Right certificates: each step adds an order by its rule, until a point comes before itself.
-use Rattle.std.specs.Prelude.{ℕ, ◌^◌, ◌+◌, ◌-◌, nat_le, nat_lt, Bool, true, false, not, ◌&&◌, ◌||◌}
-use Rattle.std.specs.Prelude.{List, [], ◌∷◌, ◌++◌, length, slice_get, take, replicate, IsTrue}
-use Rattle.std.specs.Prelude.{Option, Some, None, option_map, is_none, if◌then◌else◌}
-use Rattle.std.specs.List.{list_all}
-use Rattle.fx_base.specs.Catalogue.{FileEntry}
-use Rattle.fx_flight.specs.Events.{all_happenings}
-use Rattle.fx_flight.specs.Faults.{IsFaultless}
-use Rattle.fx_flight.specs.declared.event.LogEvent.{LogEvent}
-use Rattle.fx_order.specs.declared.slots.Slots.{Slots}
+use Rattle.check_certificate.specs.Words.{ℕ, nat_le, nat_lt, Bool, true, false, not, List, []}
+use Rattle.check_certificate.specs.Words.{length, slice_get, take, replicate, IsTrue, Option, Some}
+use Rattle.check_certificate.specs.Words.{None, option_map, list_all, FileEntry, all_happenings}
+use Rattle.check_certificate.specs.Words.{IsFaultless, LogEvent, Slots, PointOrder, KnownOrders}
+use Rattle.std.specs.Prelude.{◌^◌, ◌+◌, ◌-◌, ◌&&◌, ◌||◌, ◌∷◌, ◌++◌, is_none, if◌then◌else◌}
 use Rattle.check_certificate.specs.Forced.{is_of_no_call}
 use Rattle.check_certificate.specs.Cut.{cut}
-use Rattle.check_certificate.specs.Holds as hold
 use Rattle.check_certificate.specs.Holds.{is_some_so}
-use Rattle.check_certificate.specs.Rules as rule
 use Rattle.check_certificate.specs.Said.{◌>>=◌, Given, only_if}
-use Rattle.check_certificate.specs.Walks as walk
-use Rattle.check_certificate.specs.declared.certificate.PointOrder.{PointOrder}
 use Rattle.check_certificate.specs.declared.certificate.Step.{Step}
+use Rattle.check_certificate.specs.Holds as hold
+use Rattle.check_certificate.specs.Rules as rule
+use Rattle.check_certificate.specs.Walks as walk
 use Rattle.check_certificate.specs.declared.certificate.Step.TheVariants as kind
-use Rattle.check_certificate.specs.declared.supposed.KnownOrders.{KnownOrders}
 
 -- the order that a step adds to the known ones, if its premises hold
 abbrev pub order_added : Given → List PointOrder → Step → Option PointOrder

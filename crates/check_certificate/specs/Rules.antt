@@ -1,21 +1,17 @@
 -- The rules of certificates, but those that look at all accesses: the order that each adds. A rule
 -- whose premises don't hold adds none.
-use Rattle.std.specs.Prelude.{ℕ, ◌==◌, nat_lt, nat_le, Bool, true, false, not, ◌&&◌, ◌||◌}
-use Rattle.std.specs.Prelude.{length, take}
-use Rattle.std.specs.Prelude.{Option, Some, None, option_map}
-use Rattle.std.specs.Option.{option_eq}
-use Rattle.fx_base.specs.Identity.{Identity}
+use Rattle.check_certificate.specs.Words.{ℕ, nat_lt, nat_le, Bool, true, false, not, length, take}
+use Rattle.check_certificate.specs.Words.{Option, Some, None, option_map, option_eq, Identity}
+use Rattle.check_certificate.specs.Words.{Point, Event, Gone, PointOrder, Evidence, Installs, Never}
+use Rattle.std.specs.Prelude.{◌==◌, ◌&&◌, ◌||◌}
 use Rattle.check_certificate.specs.Evidence.{left_at}
 use Rattle.check_certificate.specs.Made.{made}
 use Rattle.check_certificate.specs.Said.{◌>>=◌, Given, slots_of, only_if, same_file, call_of}
-use Rattle.check_certificate.specs.Said.{event_at, call_at}
-use Rattle.check_certificate.specs.Said.{close_at, found_at, is_settled, was_closed, was_freed}
+use Rattle.check_certificate.specs.Said.{event_at, call_at, close_at, found_at, is_settled}
+use Rattle.check_certificate.specs.Said.{was_closed, was_freed}
 use Rattle.check_certificate.specs.contracts.certificate.PointPartialEq.TheImpl.{eq-value as same}
-use Rattle.check_certificate.specs.declared.certificate.Point.{Point}
-use Rattle.check_certificate.specs.declared.certificate.Point.TheVariants.{Event, Access, Put, Gone}
-use Rattle.check_certificate.specs.declared.certificate.PointOrder.{PointOrder}
-use Rattle.check_certificate.specs.declared.evidence.Evidence.{Evidence}
-use Rattle.check_certificate.specs.declared.evidence.Evidence.TheVariants.{Finds, Installs, Never}
+use Rattle.check_certificate.specs.declared.certificate.Point.TheVariants.{Access, Put}
+use Rattle.check_certificate.specs.declared.evidence.Evidence.TheVariants.{Finds}
 
 -- two points are equal
 abbrev pub same_point : Point → Point → Bool

@@ -1,17 +1,12 @@
 -- The events of a beginning by their positions, and the marks of files.
-use Rattle.std.specs.Prelude.{ℕ, ◌==◌, Bool, true, false, List, length, slice_get, Option}
-use Rattle.std.specs.Prelude.{Some, None, option_and_then}
-use Rattle.std.specs.List.{list_any}
-use Rattle.fx_base.specs.Catalogue.{FileEntry}
-use Rattle.fx_base.specs.Identity.{Identity}
+use Rattle.check_certificate.specs.Words.{ℕ, Bool, true, false, List, length, slice_get, Option}
+use Rattle.check_certificate.specs.Words.{Some, None, option_and_then, list_any, FileEntry}
+use Rattle.check_certificate.specs.Words.{Identity, Mark, Registered, Submitted, Completed}
+use Rattle.check_certificate.specs.Words.{Happening, Called, Answered, LookCalled, LookAnswered}
+use Rattle.check_certificate.specs.Words.{Freed, FileClosed, AllSettled, all_happenings}
+use Rattle.check_certificate.specs.Words.{happening_of, LogEvent, Slots}
+use Rattle.std.specs.Prelude.{◌==◌}
 use Rattle.fx_base.specs.contracts.open_file.ClosedPartialEq.TheImpl.{eq-value as equality}
-use Rattle.fx_base.specs.declared.mark.Mark.{Mark}
-use Rattle.fx_base.specs.declared.mark.Mark.TheVariants.{Registered, Submitted}
-use Rattle.fx_chain.specs.Completed.{Completed}
-use Rattle.fx_flight.specs.Events.{Happening, Called, Answered, LookCalled, LookAnswered, Freed}
-use Rattle.fx_flight.specs.Events.{FileClosed, AllSettled, all_happenings, happening_of}
-use Rattle.fx_flight.specs.declared.event.LogEvent.{LogEvent}
-use Rattle.fx_order.specs.declared.slots.Slots.{Slots}
 use Rattle.check_certificate.specs.declared.beginning.LogBeginning.{LogBeginning}
 
 -- what a certificate is about: a catalogue, the slots before a log, and its first events

@@ -1,9 +1,7 @@
 -- Orders that are supposed of the flights of a beginning.
-use Rattle.std.specs.Prelude.{Option, None, All}
+use Rattle.check_certificate.specs.Words.{Option, None, All, PointOrder, KnownOrders}
 use Rattle.check_certificate.specs.Forced.{IsForced, TimedFlight}
 use Rattle.check_certificate.specs.declared.beginning.LogBeginning.{LogBeginning}
-use Rattle.check_certificate.specs.declared.certificate.PointOrder.{PointOrder}
-use Rattle.check_certificate.specs.declared.supposed.KnownOrders.{KnownOrders}
 
 -- the beginning, of which an order is supposed or none
 abbrev pub under : LogBeginning → Option PointOrder → LogBeginning

@@ -1,25 +1,16 @@
 -- Accesses that may take a file from its slot.
-use Rattle.std.specs.Prelude.{◌≡◌, ℕ, ◌++◌, ◌∷◌, ◌-◌, List, length, slice_get, Option, Some, None}
-use Rattle.fx_base.specs.Identity.{Identity}
-use Rattle.fx_chain.specs.Completed.{Completed}
-use Rattle.fx_chain.specs.Operation.{Operation}
-use Rattle.fx_chain.specs.declared.completion.Place.{Place}
-use Rattle.fx_chain.specs.declared.intent.Intent.{Intent}
-use Rattle.fx_chain.specs.declared.intent.Intent.TheVariants.{Put, Clear, Take, Look, Allocate}
-use Rattle.fx_flight.specs.Flight.{Moment, made_by}
-use Rattle.fx_order.specs.Access.{IsOf}
-use Rattle.fx_order.specs.Requests.{IsRequestDone}
+use Rattle.check_certificate.specs.Words.{ℕ, List, length, slice_get, Option, Some, None, Identity}
+use Rattle.check_certificate.specs.Words.{Completed, Operation, Place, Intent, Clear, Take, Look}
+use Rattle.check_certificate.specs.Words.{Allocate, Moment, made_by, IsOf, IsRequestDone, Clears}
+use Rattle.check_certificate.specs.Words.{Puts, Takes, Point, Gone, Leaving, MemberAccess}
+use Rattle.std.specs.Prelude.{◌≡◌, ◌++◌, ◌∷◌, ◌-◌}
+use Rattle.fx_chain.specs.declared.intent.Intent.TheVariants.{Put}
 use Rattle.fx_order.specs.declared.access.Access.{Access}
-use Rattle.fx_order.specs.declared.access.Access.TheVariants.{Clears, Puts, Takes}
 use Rattle.check_certificate.specs.Absent.{IsInEach}
 use Rattle.check_certificate.specs.Evidence.{slot_count}
 use Rattle.check_certificate.specs.Forced.{TimedFlight}
 use Rattle.check_certificate.specs.Times.{IsAccessAt}
 use Rattle.check_certificate.specs.declared.beginning.LogBeginning.{LogBeginning}
-use Rattle.check_certificate.specs.declared.certificate.Point.{Point}
-use Rattle.check_certificate.specs.declared.certificate.Point.TheVariants.{Gone}
-use Rattle.check_certificate.specs.declared.walk.Leaving.{Leaving}
-use Rattle.check_certificate.specs.declared.walk.MemberAccess.{MemberAccess}
 
 -- the slot from which an access that is intended takes a file, if it takes one
 abbrev pub slot_taken : Intent → Option ℕ

@@ -1,22 +1,14 @@
 -- The times of the points of a flight: the number of moments before each.
-use Rattle.std.specs.Prelude.{◌≡◌, ◌⊎◌, ℕ, ◌-◌, ◌<◌, ◌≤◌, List, ◌∷◌, ◌++◌, length, slice_get}
-use Rattle.std.specs.Prelude.{Option, Some}
-use Rattle.fx_base.specs.declared.errno.Errno.TheVariants.{ECANCELED}
-use Rattle.fx_base.specs.Catalogue.{FileEntry}
-use Rattle.fx_base.specs.Identity.{Identity}
-use Rattle.fx_chain.specs.Completed.{Completed, refusal}
-use Rattle.fx_chain.specs.Operation.{Asked}
-use Rattle.fx_order.specs.Access.{Table}
+use Rattle.check_certificate.specs.Words.{ℕ, List, length, slice_get, Option, Some, ECANCELED}
+use Rattle.check_certificate.specs.Words.{FileEntry, Identity, Completed, refusal, Asked, Table}
+use Rattle.check_certificate.specs.Words.{IsRequestDone, Puts, Allocates, Happening, Called}
+use Rattle.check_certificate.specs.Words.{Answered, LookCalled, LookAnswered, Moment, Logged}
+use Rattle.check_certificate.specs.Words.{Accesses, WasLogged, log_of, table_left_by, FlightSetting}
+use Rattle.check_certificate.specs.Words.{IsLookDone, made_by, Point, Event, Gone}
+use Rattle.std.specs.Prelude.{◌≡◌, ◌⊎◌, ◌-◌, ◌<◌, ◌≤◌, ◌∷◌, ◌++◌}
 use Rattle.fx_order.specs.Order.{table_of}
-use Rattle.fx_order.specs.Requests.{IsRequestDone}
 use Rattle.fx_order.specs.declared.access.Access.{Access}
-use Rattle.fx_order.specs.declared.access.Access.TheVariants.{Puts, Allocates}
-use Rattle.fx_flight.specs.Events.{Happening, Called, Answered, LookCalled, LookAnswered}
-use Rattle.fx_flight.specs.Flight.{Moment, Logged, Accesses, WasLogged, log_of, table_left_by}
-use Rattle.fx_flight.specs.Flight.{FlightSetting, IsLookDone, made_by}
-use Rattle.check_certificate.specs.declared.certificate.Point.{Point}
-use Rattle.check_certificate.specs.declared.certificate.Point.TheVariants.{Event, Gone, Put}
-use Rattle.check_certificate.specs.declared.certificate.Point.TheVariants.{Access as At}
+use Rattle.check_certificate.specs.declared.certificate.Point.TheVariants.{Put, Access as At}
 
 -- the first one is what was before a moment of the other one, or the whole
 abbrev pub IsOlderPart : List Moment → List Moment → Type 0

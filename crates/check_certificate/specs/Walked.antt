@@ -1,17 +1,14 @@
 -- The accesses that calls intend before an event: none of them is one that a rule excludes.
-use Rattle.std.specs.Prelude.{◌≡◌, ℕ, ◌+◌, ◌<◌, List, slice_get, Some}
-use Rattle.fx_chain.specs.Intents.{IsIntent}
-use Rattle.fx_chain.specs.Operation.{Operation, Asked}
-use Rattle.fx_chain.specs.declared.completion.Place.{Place}
-use Rattle.fx_chain.specs.declared.intent.Intent.{Intent}
-use Rattle.fx_flight.specs.Events.{Happening, Called}
+use Rattle.check_certificate.specs.Words.{ℕ, List, slice_get, Some, IsIntent, Operation, Asked}
+use Rattle.check_certificate.specs.Words.{Place, Intent, Happening, Called, WalkAim, Leaves, Lands}
+use Rattle.check_certificate.specs.Words.{Misses}
+use Rattle.std.specs.Prelude.{◌≡◌, ◌+◌, ◌<◌}
 use Rattle.check_certificate.specs.Absent.{InstallsNone}
 use Rattle.check_certificate.specs.Evidence.{IsEventAt, slot_count}
 use Rattle.check_certificate.specs.Landed.{LandsThere, MissesThere}
 use Rattle.check_certificate.specs.Taken.{TakesNone}
 use Rattle.check_certificate.specs.declared.beginning.LogBeginning.{LogBeginning}
-use Rattle.check_certificate.specs.declared.walk.WalkAim.{WalkAim}
-use Rattle.check_certificate.specs.declared.walk.WalkAim.TheVariants.{Finds, Leaves, Lands, Misses}
+use Rattle.check_certificate.specs.declared.walk.WalkAim.TheVariants.{Finds}
 
 -- the position of the event before which the calls begin
 abbrev pub end_of : WalkAim → ℕ

@@ -1,12 +1,12 @@
 -- The rules of certificates that look at all accesses that calls intend before an event.
-use Rattle.std.specs.Prelude.{ℕ, zero, suc, ◌+◌, ◌==◌, nat_lt, Bool, true, not, ◌&&◌, ◌||◌, List}
-use Rattle.std.specs.Prelude.{length, slice_get, Option, Some, None}
-use Rattle.fx_chain.specs.Intents.{positions_of}
-use Rattle.fx_chain.specs.Operation.{Asked, Operation}
-use Rattle.fx_chain.specs.declared.completion.Place.{Place}
-use Rattle.fx_chain.specs.declared.intent.Intent.{Intent}
-use Rattle.fx_chain.specs.declared.intent.Intent.TheVariants.{Allocate, Put as Install}
-use Rattle.fx_flight.specs.Events.{Happening, Called}
+use Rattle.check_certificate.specs.Words.{ℕ, zero, suc, nat_lt, Bool, true, not, List, length}
+use Rattle.check_certificate.specs.Words.{slice_get, Option, Some, None, positions_of, Asked}
+use Rattle.check_certificate.specs.Words.{Operation, Place, Intent, Allocate, Happening, Called}
+use Rattle.check_certificate.specs.Words.{Holding, OnlyFile, Nothing, PutBefore, GoneAfter, Point}
+use Rattle.check_certificate.specs.Words.{Event, Gone, PointOrder, Landing, Leaving, MemberAccess}
+use Rattle.check_certificate.specs.Words.{WalkAim, Leaves, Lands, Misses}
+use Rattle.std.specs.Prelude.{◌+◌, ◌==◌, ◌&&◌, ◌||◌}
+use Rattle.fx_chain.specs.declared.intent.Intent.TheVariants.{Put as Install}
 use Rattle.check_certificate.specs.Holds.{finds_file, installs_none, is_empty_at_first}
 use Rattle.check_certificate.specs.Leaves.{takes_none}
 use Rattle.check_certificate.specs.Made.{intended, made}
@@ -15,18 +15,8 @@ use Rattle.check_certificate.specs.Rules.{put_of}
 use Rattle.check_certificate.specs.Said.{◌>>=◌, Given, slots_of, only_if, same_file, call_of}
 use Rattle.check_certificate.specs.Said.{event_at}
 use Rattle.check_certificate.specs.Walked.{end_of, member_of}
-use Rattle.check_certificate.specs.declared.certificate.Holding.{Holding}
-use Rattle.check_certificate.specs.declared.certificate.OnlyFile.{OnlyFile}
-use Rattle.check_certificate.specs.declared.certificate.OnlyFile.TheVariants.{Nothing, PutBefore}
-use Rattle.check_certificate.specs.declared.certificate.OnlyFile.TheVariants.{GoneAfter}
-use Rattle.check_certificate.specs.declared.certificate.Point.{Point}
-use Rattle.check_certificate.specs.declared.certificate.Point.TheVariants.{Event, Access, Put, Gone}
-use Rattle.check_certificate.specs.declared.certificate.PointOrder.{PointOrder}
-use Rattle.check_certificate.specs.declared.walk.Landing.{Landing}
-use Rattle.check_certificate.specs.declared.walk.Leaving.{Leaving}
-use Rattle.check_certificate.specs.declared.walk.MemberAccess.{MemberAccess}
-use Rattle.check_certificate.specs.declared.walk.WalkAim.{WalkAim}
-use Rattle.check_certificate.specs.declared.walk.WalkAim.TheVariants.{Finds, Leaves, Lands, Misses}
+use Rattle.check_certificate.specs.declared.certificate.Point.TheVariants.{Access, Put}
+use Rattle.check_certificate.specs.declared.walk.WalkAim.TheVariants.{Finds}
 
 -- it is so of each number below a number
 abbrev pub all_below : ℕ → (ℕ → Bool) → Bool

@@ -1,11 +1,11 @@
 //! Orders that show that a file isn't at a slot just before an access.
-ghost use Rattle.std.specs.Prelude.{◌≡◌, ℕ, IfSome, IsTrue, true};
-ghost use Rattle.fx_base.specs.declared.mark.Mark.TheVariants.{Submitted};
+ghost use Rattle.check_certificate.specs.Words.{ℕ, IfSome, IsTrue, true, Submitted, Gone};
+ghost use Rattle.std.specs.Prelude.{◌≡◌};
 ghost use Rattle.check_certificate.specs.Absent.{is_negative};
 ghost use Rattle.check_certificate.specs.Forced.{IsForced};
+ghost use Rattle.check_certificate.specs.declared.certificate.Point.TheVariants.{Access, Put};
 ghost use Rattle.check_certificate.specs.Holds as hold;
 ghost use Rattle.check_certificate.specs.Said as said;
-ghost use Rattle.check_certificate.specs.declared.certificate.Point.TheVariants.{Access, Gone, Put};
 
 use crate::beginning::LogBeginning;
 use crate::certificate::{Holding, Point, PointOrder};

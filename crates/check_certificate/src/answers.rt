@@ -1,10 +1,7 @@
 //! Answers that a request can't have, whatever its accesses find.
-ghost use Rattle.std.specs.Prelude.{◌≡◌, IsTrue};
-ghost use Rattle.fx_base.specs.Catalogue.{IsCatalogue};
-ghost use Rattle.fx_chain.specs.Completed.{completed_of};
-ghost use Rattle.fx_chain.specs.Operation.{asked_of, operation_of};
-ghost use Rattle.check_certificate.specs.Answers.{IsImpossible, fits_refusal};
-ghost use Rattle.check_certificate.specs.Answers.{is_impossible, is_possible, is_severed};
+ghost use Rattle.check_certificate.specs.Words.{IsTrue, IsCatalogue, completed_of, asked_of, operation_of};
+ghost use Rattle.std.specs.Prelude.{◌≡◌};
+ghost use Rattle.check_certificate.specs.Answers.{IsImpossible, fits_refusal, is_impossible, is_possible, is_severed};
 
 use fx_base::{Catalogue, Errno};
 use fx_chain::{Completion, Request, refusal_of};

@@ -1,6 +1,6 @@
 //! The beginning of a log that is to be refuted.
-ghost use Rattle.std.specs.Prelude.{◌≡◌, length, map};
-ghost use Rattle.fx_base.specs.Catalogue.{IsCatalogue};
+ghost use Rattle.check_certificate.specs.Words.{length, map, IsCatalogue};
+ghost use Rattle.std.specs.Prelude.{◌≡◌};
 
 use crate::certificate::PointOrder;
 use fx_base::Catalogue;

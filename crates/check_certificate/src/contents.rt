@@ -1,8 +1,6 @@
 //! The rule of the bytes that a read answers: a file of other bytes isn't at the slot of the read.
-ghost use Rattle.std.specs.Prelude.{◌≡◌, IfOk, IfSome, map};
-ghost use Rattle.fx_chain.specs.Completed.{completed_of};
-ghost use Rattle.fx_chain.specs.Intents.{bytes_read};
-ghost use Rattle.fx_chain.specs.Operation.{asked_of, operation_of};
+ghost use Rattle.check_certificate.specs.Words.{IfOk, IfSome, map, completed_of, bytes_read, asked_of, operation_of};
+ghost use Rattle.std.specs.Prelude.{◌≡◌};
 ghost use Rattle.check_certificate.specs.Absent.{IsAbsent};
 ghost use Rattle.check_certificate.specs.Contents as rule;
 ghost use Rattle.check_certificate.specs.Said as said;

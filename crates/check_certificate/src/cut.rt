@@ -1,11 +1,9 @@
 //! The rule of two members of a chain that follow each other: the later one is canceled if and only
 //! if the earlier one severs the chain or is canceled itself.
-ghost use Rattle.std.specs.Prelude.{◌≡◌, IfSome, option_map};
-ghost use Rattle.fx_chain.specs.Completed.{completed_of};
-ghost use Rattle.fx_chain.specs.Operation.{asked_of};
-ghost use Rattle.fx_flight.specs.Events.{happening_of};
-ghost use Rattle.check_certificate.specs.Cut as rule;
+ghost use Rattle.check_certificate.specs.Words.{IfSome, option_map, completed_of, asked_of, happening_of};
+ghost use Rattle.std.specs.Prelude.{◌≡◌};
 ghost use Rattle.check_certificate.specs.Forced.{IsForced};
+ghost use Rattle.check_certificate.specs.Cut as rule;
 ghost use Rattle.check_certificate.specs.Said as said;
 
 use crate::beginning::LogBeginning;

@@ -1,8 +1,7 @@
 //! The events of a beginning of a log, and the marks of files.
-ghost use Rattle.std.specs.Prelude.{◌≡◌, Contains, IfSome, IsTrue, Some, option_map};
-ghost use Rattle.fx_chain.specs.Completed.{completed_of};
-ghost use Rattle.fx_flight.specs.Events.{AllSettled, Answered, FileClosed, Freed, LookAnswered};
-ghost use Rattle.fx_flight.specs.Events.{all_happenings, happening_of};
+ghost use Rattle.check_certificate.specs.Words.{Contains, IfSome, IsTrue, Some, option_map, completed_of, AllSettled, Answered, FileClosed, Freed};
+ghost use Rattle.check_certificate.specs.Words.{LookAnswered, all_happenings, happening_of};
+ghost use Rattle.std.specs.Prelude.{◌≡◌};
 ghost use Rattle.check_certificate.specs.Forced.{IsOfCall};
 ghost use Rattle.check_certificate.specs.Evidence.{IsCallAt, IsEventAt};
 ghost use Rattle.check_certificate.specs.Said as said;

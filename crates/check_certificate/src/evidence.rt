@@ -1,13 +1,9 @@
 //! Evidence in the answers of a log: accesses that were made, and the files that they install or
 //! find.
-ghost use Rattle.std.specs.Prelude.{◌≡◌, ◌-◌, IfSome, nat_lt, option_map, slice_get};
-ghost use Rattle.fx_chain.specs.Completed.{completed_of};
-ghost use Rattle.fx_chain.specs.Intents.{IsIntent};
-ghost use Rattle.fx_chain.specs.Operation.{all_asked, asked_of, operation_of};
-ghost use Rattle.fx_flight.specs.Events.{Called, LookCalled, happening_of};
-ghost use Rattle.check_certificate.specs.Evidence.{IsAccessMade, IsEvidentByMember};
-ghost use Rattle.check_certificate.specs.Evidence.{IsEvidentByLook, IsShownBy, left_at, slot_count};
-ghost use Rattle.check_certificate.specs.Evidence.{evidence_of};
+ghost use Rattle.check_certificate.specs.Words.{IfSome, nat_lt, option_map, slice_get, completed_of, IsIntent, all_asked, asked_of, operation_of};
+ghost use Rattle.check_certificate.specs.Words.{Called, LookCalled, happening_of};
+ghost use Rattle.std.specs.Prelude.{◌≡◌, ◌-◌};
+ghost use Rattle.check_certificate.specs.Evidence.{IsAccessMade, IsEvidentByMember, IsEvidentByLook, IsShownBy, left_at, slot_count, evidence_of};
 ghost use Rattle.check_certificate.specs.Made as rule;
 ghost use Rattle.check_certificate.specs.Said as said;
 

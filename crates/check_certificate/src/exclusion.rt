@@ -1,18 +1,16 @@
 //! Accesses that don't take a file from its slot: by the slot, by a known time, or by an answer.
-ghost use Rattle.std.specs.Prelude.{◌≡◌, ℕ, All, IfSome, IsTrue, option_map, true};
-ghost use Rattle.fx_chain.specs.Completed.{Completed, completed_of};
-ghost use Rattle.fx_chain.specs.Operation.{Operation};
+ghost use Rattle.check_certificate.specs.Words.{ℕ, All, IfSome, IsTrue, option_map, true, Completed, completed_of, Operation, Answered};
+ghost use Rattle.std.specs.Prelude.{◌≡◌};
 ghost use Rattle.fx_chain.specs.declared.intent.Intent.TheVariants.{Put as Installation};
-ghost use Rattle.fx_flight.specs.Events.{Answered};
 ghost use Rattle.check_certificate.specs.Absent.{is_negative};
 ghost use Rattle.check_certificate.specs.Evidence.{IsCallAt, IsEventAt};
 ghost use Rattle.check_certificate.specs.Forced.{IsForced, IsForcedBy};
-ghost use Rattle.check_certificate.specs.Holds as hold;
-ghost use Rattle.check_certificate.specs.Leaves as leave;
-ghost use Rattle.check_certificate.specs.Said as said;
 ghost use Rattle.check_certificate.specs.Taken.{IsNoOther, IsNoTaker, TakesNone, slot_taken};
 ghost use Rattle.check_certificate.specs.declared.beginning.LogBeginning.{LogBeginning as In};
 ghost use Rattle.check_certificate.specs.declared.certificate.Point.TheVariants.{Access, Put};
+ghost use Rattle.check_certificate.specs.Holds as hold;
+ghost use Rattle.check_certificate.specs.Leaves as leave;
+ghost use Rattle.check_certificate.specs.Said as said;
 
 use crate::absence::is_failure;
 use crate::beginning::LogBeginning;

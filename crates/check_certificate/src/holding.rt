@@ -1,13 +1,12 @@
 //! The rule of an access that finds a file at its slot: each other file isn't there.
-ghost use Rattle.std.specs.Prelude.{◌≡◌, All, IfSome, IsTrue};
-ghost use Rattle.std.specs.List.{list_any};
+ghost use Rattle.check_certificate.specs.Words.{All, IfSome, IsTrue, list_any};
+ghost use Rattle.std.specs.Prelude.{◌≡◌};
 ghost use Rattle.check_certificate.specs.Forced.{IsForced};
-ghost use Rattle.check_certificate.specs.Absent.{FindsFile, InstallsNone, IsAbsent, IsEmptyAtFirst};
-ghost use Rattle.check_certificate.specs.Absent.{IsOnlyFile};
+ghost use Rattle.check_certificate.specs.Absent.{FindsFile, InstallsNone, IsAbsent, IsEmptyAtFirst, IsOnlyFile};
+ghost use Rattle.check_certificate.specs.declared.beginning.LogBeginning.{LogBeginning as In};
 ghost use Rattle.check_certificate.specs.Holds as hold;
 ghost use Rattle.check_certificate.specs.Said as said;
 ghost use Rattle.check_certificate.specs.Walks as walk;
-ghost use Rattle.check_certificate.specs.declared.beginning.LogBeginning.{LogBeginning as In};
 
 use crate::absence::{is_gone, is_later};
 use crate::beginning::LogBeginning;

@@ -1,9 +1,10 @@
 //! Points that are at different times by a known order.
-ghost use Rattle.std.specs.Prelude.{◌≡◌, All, IsTrue, true};
+ghost use Rattle.check_certificate.specs.Words.{All, IsTrue, true};
+ghost use Rattle.std.specs.Prelude.{◌≡◌};
 ghost use Rattle.check_certificate.specs.Absent.{IsInEach};
 ghost use Rattle.check_certificate.specs.Forced.{IsForced};
-ghost use Rattle.check_certificate.specs.Leaves as leave;
 ghost use Rattle.check_certificate.specs.declared.beginning.LogBeginning.{LogBeginning as In};
+ghost use Rattle.check_certificate.specs.Leaves as leave;
 
 use crate::certificate::{Point, PointOrder};
 

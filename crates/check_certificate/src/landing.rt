@@ -1,5 +1,6 @@
 //! The rule of a file that was installed: at the only slot at which a call may install it.
-ghost use Rattle.std.specs.Prelude.{◌≡◌, All, IfSome, IsTrue};
+ghost use Rattle.check_certificate.specs.Words.{All, IfSome, IsTrue};
+ghost use Rattle.std.specs.Prelude.{◌≡◌};
 ghost use Rattle.check_certificate.specs.Forced.{IsForced, IsForcedBy};
 ghost use Rattle.check_certificate.specs.Landed.{IsInstalledBefore, LandsThere, MissesThere};
 ghost use Rattle.check_certificate.specs.Said as said;

@@ -1,8 +1,8 @@
 //! The rules of certificates that have known orders as premises, and those that contradict.
-ghost use Rattle.std.specs.Prelude.{◌≡◌, IfSome, true};
+ghost use Rattle.check_certificate.specs.Words.{IfSome, true, Event, Gone};
+ghost use Rattle.std.specs.Prelude.{◌≡◌};
 ghost use Rattle.check_certificate.specs.Forced.{IsForced, IsForcedBy, IsForcedByBoth};
-ghost use Rattle.check_certificate.specs.declared.certificate.Point.TheVariants.{Event, Gone, Put};
-ghost use Rattle.check_certificate.specs.declared.certificate.Point.TheVariants.{Access};
+ghost use Rattle.check_certificate.specs.declared.certificate.Point.TheVariants.{Put, Access};
 ghost use Rattle.check_certificate.specs.Rules as rule;
 ghost use Rattle.check_certificate.specs.Said as said;
 

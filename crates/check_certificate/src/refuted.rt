@@ -1,12 +1,7 @@
 //! The check of a certificate: the order that each step adds, and what the log is to be.
-ghost use Rattle.std.specs.Prelude.{◌≡◌, ◌↔◌, ℕ, All, IfOk, IfSome, IsTrue, option_map};
-ghost use Rattle.std.specs.Prelude.{slice_get, take};
-ghost use Rattle.std.specs.List.{list_all};
-ghost use Rattle.fx_base.specs.Catalogue.{IsCatalogue};
-ghost use Rattle.fx_order.specs.Slots.{ring_of_slots};
-ghost use Rattle.fx_flight.specs.Events.{all_happenings};
-ghost use Rattle.fx_flight.specs.Faults.{IsFaultless};
-ghost use Rattle.fx_flight.specs.Flight.{IsLegalLog};
+ghost use Rattle.check_certificate.specs.Words.{ℕ, All, IfOk, IfSome, IsTrue, option_map, slice_get, take, list_all, IsCatalogue, ring_of_slots};
+ghost use Rattle.check_certificate.specs.Words.{all_happenings, IsFaultless, IsLegalLog};
+ghost use Rattle.std.specs.Prelude.{◌≡◌, ◌↔◌};
 ghost use Rattle.check_certificate.specs.Forced.{IsForced, is_of_no_call, is_registered};
 ghost use Rattle.check_certificate.specs.Right.{IsRightCertificate, order_added};
 ghost use Rattle.check_certificate.specs.Said.{given_of};

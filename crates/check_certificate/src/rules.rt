@@ -1,5 +1,6 @@
 //! The rules of certificates: the order that each step adds, if its premises hold.
-ghost use Rattle.std.specs.Prelude.{◌≡◌, IfSome, false, true};
+ghost use Rattle.check_certificate.specs.Words.{IfSome, false, true};
+ghost use Rattle.std.specs.Prelude.{◌≡◌};
 ghost use Rattle.check_certificate.specs.Forced.{IsForced, IsForcedByBoth};
 ghost use Rattle.check_certificate.specs.Rules as rule;
 ghost use Rattle.check_certificate.specs.Said as said;

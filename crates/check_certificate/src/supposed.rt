@@ -1,11 +1,11 @@
 //! The steps of a certificate, one after another, and the order that some of them suppose.
-ghost use Rattle.std.specs.Prelude.{◌≡◌, All, IfOk, IfSome, IsTrue, None, option_map};
+ghost use Rattle.check_certificate.specs.Words.{All, IfOk, IfSome, IsTrue, None, option_map, PointOrder as Order};
+ghost use Rattle.std.specs.Prelude.{◌≡◌};
 ghost use Rattle.check_certificate.specs.Forced.{IsContradicted, IsForced};
-ghost use Rattle.check_certificate.specs.Right as right;
 ghost use Rattle.check_certificate.specs.Said.{given_of};
 ghost use Rattle.check_certificate.specs.Supposed.{AreKnownOrders, IsKeptByNone, under};
 ghost use Rattle.check_certificate.specs.declared.beginning.LogBeginning.{LogBeginning as In};
-ghost use Rattle.check_certificate.specs.declared.certificate.PointOrder.{PointOrder as Order};
+ghost use Rattle.check_certificate.specs.Right as right;
 
 use crate::beginning::LogBeginning;
 use crate::certificate::{PointOrder, Step};

@@ -1,10 +1,10 @@
 //! The rules of a file that leaves its slot: some access takes it, and the others are excluded.
-ghost use Rattle.std.specs.Prelude.{◌≡◌, All, IfSome, true};
+ghost use Rattle.check_certificate.specs.Words.{All, IfSome, true, Event, Gone};
+ghost use Rattle.std.specs.Prelude.{◌≡◌};
 ghost use Rattle.check_certificate.specs.Forced.{IsForced, IsForcedBy};
 ghost use Rattle.check_certificate.specs.Rules as rule;
 ghost use Rattle.check_certificate.specs.Said as said;
 ghost use Rattle.check_certificate.specs.Walks as walk;
-ghost use Rattle.check_certificate.specs.declared.certificate.Point.TheVariants.{Event, Gone};
 
 use crate::beginning::LogBeginning;
 use crate::certificate::{Point, PointOrder};

@@ -1,14 +1,11 @@
 //! The walk over all accesses that calls intend before an event. A rule about a file that may be
 //! anywhere excludes each of them, but for those that it names.
-ghost use Rattle.std.specs.Prelude.{◌≡◌, All, IsTrue, Some};
-ghost use Rattle.fx_base.specs.Catalogue.{IsCatalogue};
-ghost use Rattle.fx_chain.specs.Operation.{Operation, all_asked, asked_of, operation_of};
-ghost use Rattle.fx_chain.specs.declared.intent.Intent.{Intent as Purpose};
-ghost use Rattle.fx_flight.specs.Events.{happening_of};
+ghost use Rattle.check_certificate.specs.Words.{All, IsTrue, Some, IsCatalogue, Operation, all_asked, asked_of, operation_of, Intent as Purpose};
+ghost use Rattle.check_certificate.specs.Words.{happening_of};
+ghost use Rattle.std.specs.Prelude.{◌≡◌};
 ghost use Rattle.check_certificate.specs.Forced.{IsForced};
+ghost use Rattle.check_certificate.specs.Walked.{AreAllRuledOut, AreRuledOut, IsCallRuledOut, IsRuledOut, IsWalked, end_of, member_of};
 ghost use Rattle.check_certificate.specs.Said as said;
-ghost use Rattle.check_certificate.specs.Walked.{AreAllRuledOut, AreRuledOut, IsCallRuledOut};
-ghost use Rattle.check_certificate.specs.Walked.{IsRuledOut, IsWalked, end_of, member_of};
 ghost use Rattle.check_certificate.specs.Walks as walk;
 
 use crate::beginning::LogBeginning;

@@ -1,14 +1,13 @@
 -- All states that flights reach, from event to event.
-use Rattle.check_flight.proofs.Words.{◌+◌, Access, Accesses, Answered, AreCalls, AreLooksSeen, Asked, ChainAccess, Completed, Contains, Contains-append_right}
-use Rattle.check_flight.proofs.Words.{FlightSetting, Happening, Identity, IsFlight, List, Logged, LookAnswered, LookCalled, Looks, Moment, Option, RingState}
-use Rattle.check_flight.proofs.Words.{WasLogged, ap, arith, by_equality, contains_head, either_way, if◌then◌else◌, inl, inr, leb-true, log_of, made_by, nat_le}
-use Rattle.check_flight.proofs.Words.{setting_of, sym, ℕ, ⊎_elim, ◌++◌, ◌∙◌, ◌∷◌, ◌≡◌, ◌≤◌, ◌⊎◌, [], length, refl, ◌-◌, subst, Contains-push_cases}
-use Rattle.check_flight.proofs.Words.{get_or_append_left, get_or_at, run_at, length-append, rules_of, append-nil, append_assoc, IsNumbered, runs_with}
-use Rattle.check_flight.proofs.Words.{AreReached, AreAnswers, AreFollowed, ArePassed, HasNoFlightBy, Bool, IsInTurnIf, IsTrue, IsWholeIf, IsStopped, GoesOnTo}
-use Rattle.check_flight.proofs.Words.{FlightView, Called, Freed, FileClosed, AllSettled, MayFollow}
+use Rattle.check_flight.proofs.Words.{◌+◌, Access, Accesses, Answered, AreCalls, AreLooksSeen, Asked, ChainAccess, Completed, Contains}
+use Rattle.check_flight.proofs.Words.{Contains-append_right, FlightSetting, Happening, Identity, IsFlight, List, Logged, LookAnswered, LookCalled}
+use Rattle.check_flight.proofs.Words.{Looks, Moment, Option, RingState, WasLogged, ap, arith, by_equality, contains_head, either_way, if◌then◌else◌}
+use Rattle.check_flight.proofs.Words.{inl, inr, leb-true, log_of, made_by, nat_le, setting_of, sym, ℕ, ⊎_elim, ◌++◌, ◌∙◌, ◌∷◌, ◌≡◌, ◌≤◌, ◌⊎◌, []}
+use Rattle.check_flight.proofs.Words.{length, refl, ◌-◌, subst, Contains-push_cases, get_or_append_left, get_or_at, run_at, length-append, rules_of}
+use Rattle.check_flight.proofs.Words.{append-nil, append_assoc, IsNumbered, runs_with, AreReached, AreAnswers, AreFollowed, ArePassed, HasNoFlightBy}
+use Rattle.check_flight.proofs.Words.{Bool, IsInTurnIf, IsTrue, IsWholeIf, IsStopped, GoesOnTo, FlightView, Called, Freed, FileClosed, AllSettled}
+use Rattle.check_flight.proofs.Words.{MayFollow, lasts, was_logged, made_by-parts, was_read, was_seen}
 use Rattle.check_flight.specs.Refutations.{IsRefutation, IsRefutedFrom}
-use Rattle.fx_flight.proofs.Beginnings.{lasts, logged as was_logged}
-use Rattle.fx_flight.proofs.InTime.{made_by-parts, in_log as was_read, seen as was_seen}
 use Rattle.check_flight.proofs.Steps.{event_leads, followed_on, in_turn, looks_on, not_stopped, shifted}
 
 -- a look that was answered is past the size, or what it found first is its answer

@@ -1,21 +1,19 @@
 -- The states of the judge, call by call, and where an access, a call or a close leads.
-use Rattle.check_flight.proofs.Words.{IsStatePassed, runs_with, take_more, happening_of, LogEvent, all_happenings, length-map, get_or-map, ◌≡◌, ℕ, ◌+◌, ◌-◌}
-use Rattle.check_flight.proofs.Words.{◌<◌, ◌≤◌, List, [], ◌∷◌, ◌++◌, length, refl, sym, ap, ◌∙◌, arith, ⊎_elim, Access, Asked, Bool, Completed, Contains}
-use Rattle.check_flight.proofs.Words.{Option, Rest, Rules, false, over, subst, suc, zero, file_removed_by, run_at, settled_at, slice_index_or, step}
-use Rattle.check_flight.proofs.Words.{Contains-append_cases, Contains-push_cases, Contains-append_left, Contains-append_right, option_to_list, table_with}
-use Rattle.check_flight.proofs.Words.{if◌then◌else◌, Identity, inl, inr, take, eq-eqb, true, ◌⊎◌, false≢true, append_assoc, get_or_append_left, get_or_at}
-use Rattle.check_flight.proofs.Words.{one_more_of, nat_le, slice_set, IsPermutation, map, nat_eq, filter, not, take-append_seam, cases_Bool, drop_all}
-use Rattle.check_flight.proofs.Words.{get_or-set_other, get_or-set_same, get_or-drop, IsPermutation-sym, not_begun, table_of_slots, drop, file_Decides}
-use Rattle.check_flight.proofs.Words.{map-append, take-append-drop, Progress, Contains-permutation, first_of_call, Happening, same_file, IsAccessFollowed}
-use Rattle.check_flight.proofs.Words.{IsCallFollowed, IsFrontOf, IsWhollyFollowed, catalogue_in, flight_view, flight_views, log_in, rest_of, runs_of_calls}
-use Rattle.check_flight.proofs.Words.{IsOneDenied, IsStateFollowed, AreFewer, AreWith, AreWithout, FlightView, LeadsByCall, StepsByAccess, ChainCall, JudgedLog}
-use Rattle.check_flight.proofs.Words.{WaitingLook, IsMarked, file_number, IndexSet, Updates, FlightState, IsInTurnIf, length-drop, Place, moved}
+use Rattle.check_flight.proofs.Words.{IsStatePassed, runs_with, take_more, happening_of, LogEvent, all_happenings, length-map, get_or-map, ◌≡◌, ℕ}
+use Rattle.check_flight.proofs.Words.{◌+◌, ◌-◌, ◌<◌, ◌≤◌, List, [], ◌∷◌, ◌++◌, length, refl, sym, ap, ◌∙◌, arith, ⊎_elim, Access, Asked, Bool}
+use Rattle.check_flight.proofs.Words.{Completed, Contains, Option, Rest, Rules, false, over, subst, suc, zero, file_removed_by, run_at, settled_at}
+use Rattle.check_flight.proofs.Words.{slice_index_or, step, Contains-append_cases, Contains-push_cases, Contains-append_left, Contains-append_right}
+use Rattle.check_flight.proofs.Words.{option_to_list, table_with, if◌then◌else◌, Identity, inl, inr, take, eq-eqb, true, ◌⊎◌, false≢true}
+use Rattle.check_flight.proofs.Words.{append_assoc, get_or_append_left, get_or_at, one_more_of, nat_le, slice_set, IsPermutation, map, nat_eq, filter}
+use Rattle.check_flight.proofs.Words.{not, take-append_seam, cases_Bool, drop_all, get_or-set_other, get_or-set_same, get_or-drop, IsPermutation-sym}
+use Rattle.check_flight.proofs.Words.{not_begun, table_of_slots, drop, file_Decides, map-append, take-append-drop, Progress, Contains-permutation}
+use Rattle.check_flight.proofs.Words.{first_of_call, Happening, same_file, IsAccessFollowed, IsCallFollowed, IsFrontOf, IsWhollyFollowed}
+use Rattle.check_flight.proofs.Words.{catalogue_in, flight_view, flight_views, log_in, rest_of, runs_of_calls, IsOneDenied, IsStateFollowed, AreFewer}
+use Rattle.check_flight.proofs.Words.{AreWith, AreWithout, FlightView, LeadsByCall, StepsByAccess, ChainCall, JudgedLog, WaitingLook, IsMarked}
+use Rattle.check_flight.proofs.Words.{file_number, IndexSet, Updates, FlightState, IsInTurnIf, length-drop, Place, moved, contains_map, contains_tail}
+use Rattle.check_flight.proofs.Words.{cases_lt, le-leb, leb-false, lt-leb, All-contains, All-contains_itself, All-filter, filter_passes}
+use Rattle.check_flight.proofs.Words.{IsAccessPassage, IsCopy, IsPassage, IsTakenIn, add-zero}
 use Rattle.check_outcomes.specs.Stands.{HasEachNext, StepsChain, rest_for, rest_in}
-use Rattle.fx_table.proofs.SumLemmas.{contains_map, contains_tail}
-use Rattle.std.proofs.lemmas.Bool.{cases_lt, le-leb, leb-false, lt-leb}
-use Rattle.std.proofs.lemmas.List.Elements.{All-contains, All-contains_itself, All-filter, filter_passes}
-use Rattle.check_flight.specs.Judged.{IsAccessPassage, IsCopy, IsPassage, IsTakenIn}
-use Rattle.std.proofs.Common.{add-zero}
 use Rattle.check_flight.specs.declared.passage.Passage.{Passage}
 use Rattle.check_flight.specs.declared.passage.Passage.TheVariants.{IsUnfit, Leads, Stops}
 use Rattle.check_flight.proofs.Steps.{taken, taken_by}

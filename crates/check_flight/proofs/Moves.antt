@@ -1,20 +1,18 @@
 -- The player's flight goes on, by an access or an event.
-use Rattle.check_flight.proofs.Words.{◌≡◌, ◌⊎◌, ℕ, ◌+◌, ◌-◌, ◌<◌, List, [], ◌∷◌, ◌++◌, length, take, refl, sym, ap, ◌∙◌, arith, inl, inr, ⊎_elim, Access, Asked}
-use Rattle.check_flight.proofs.Words.{ChainAccess, Completed, Contains, IsChainDone, Option, Some, Table, cases_eq, file_removed_by, get_or_append_left}
-use Rattle.check_flight.proofs.Words.{get_or_at, length-append, ne_eqb, option_to_list, slice_index_or, suc, zero, table_with, Contains-append_cases}
-use Rattle.check_flight.proofs.Words.{Contains-append_left, Contains-append_right, contains_head, Identity, RingState, Permits, all_asked, drop, get_or-map}
-use Rattle.check_flight.proofs.Words.{get_or-set_other, get_or-set_same, slice_set, table_of, table_of_slots, take-append-drop, cases_Bool, eq-eqb, false≢true}
-use Rattle.check_flight.proofs.Words.{file_Decides, same_file, drop-cons, length-set, length-take-le, take-take, take_more, Happening, Called, Answered}
-use Rattle.check_flight.proofs.Words.{LookAnswered, Freed, FileClosed, AllSettled, first_of_call, Accesses, IsLookDone, Logged, MayAccess, MayFollow, Moment}
-use Rattle.check_flight.proofs.Words.{WasLogged, made_by, taken_in, IsCallDone, IsMemberMade, HasMadeFlight, IsCallMade, IsRingOf, accesses_in}
-use Rattle.check_flight.proofs.Words.{accesses_of_plan, answers_in, AreCallsMade, AreFilesTaken, AreFoundHeld, IsLookAnswered, IsCallLogged, IsMarked}
-use Rattle.check_flight.proofs.Words.{IsPlanned, answers_of_plan, begun_by, HeldFile, IndexSet, AreWithout, setting_of, JudgedLog, FlightCall, subst, None}
-use Rattle.check_flight.proofs.Words.{IsTrue, IsBetweenMembers, FlightSetting}
-use Rattle.check_flight.specs.Player.{IsMembersEnd}
-use Rattle.fx_flight.specs.Whole.{AreOfMembers}
+use Rattle.check_flight.proofs.Words.{◌≡◌, ◌⊎◌, ℕ, ◌+◌, ◌-◌, ◌<◌, List, [], ◌∷◌, ◌++◌, length, take, refl, sym, ap, ◌∙◌, arith, inl, inr, ⊎_elim}
+use Rattle.check_flight.proofs.Words.{Access, Asked, ChainAccess, Completed, Contains, IsChainDone, Option, Some, Table, cases_eq, file_removed_by}
+use Rattle.check_flight.proofs.Words.{get_or_append_left, get_or_at, length-append, ne_eqb, option_to_list, slice_index_or, suc, zero, table_with}
+use Rattle.check_flight.proofs.Words.{Contains-append_cases, Contains-append_left, Contains-append_right, contains_head, Identity, RingState, Permits}
+use Rattle.check_flight.proofs.Words.{all_asked, drop, get_or-map, get_or-set_other, get_or-set_same, slice_set, table_of, table_of_slots}
+use Rattle.check_flight.proofs.Words.{take-append-drop, cases_Bool, eq-eqb, false≢true, file_Decides, same_file, drop-cons, length-set}
+use Rattle.check_flight.proofs.Words.{length-take-le, take-take, take_more, Happening, Called, Answered, LookAnswered, Freed, FileClosed, AllSettled}
+use Rattle.check_flight.proofs.Words.{first_of_call, Accesses, IsLookDone, Logged, MayAccess, MayFollow, Moment, WasLogged, made_by, taken_in}
+use Rattle.check_flight.proofs.Words.{IsCallDone, IsMemberMade, HasMadeFlight, IsCallMade, IsRingOf, accesses_in, accesses_of_plan, answers_in}
+use Rattle.check_flight.proofs.Words.{AreCallsMade, AreFilesTaken, AreFoundHeld, IsLookAnswered, IsCallLogged, IsMarked, IsPlanned, answers_of_plan}
+use Rattle.check_flight.proofs.Words.{begun_by, HeldFile, IndexSet, AreWithout, setting_of, JudgedLog, FlightCall, subst, None, IsTrue}
+use Rattle.check_flight.proofs.Words.{IsBetweenMembers, FlightSetting, IsMembersEnd, AreOfMembers, CallPlan}
 use Rattle.check_flight.specs.declared.plan.CallKind.{CallKind}
 use Rattle.check_flight.specs.declared.plan.CallKind.TheVariants.{Look, Chain as ChainCall}
-use Rattle.check_flight.specs.declared.plan.CallPlan.{CallPlan}
 use Rattle.check_flight.specs.declared.player.FlightPlayer.{FlightPlayer}
 use Rattle.check_flight.proofs.Steps.{shifted, taken}
 

@@ -1,9 +1,7 @@
 -- A verdict with a reason is right.
-use Rattle.check_flight.proofs.Words.{◌≡◌, ℕ, ◌+◌, ◌<◌, ◌∙◌, ap, sym, refl, length, List, Option, None, Some, take, take-map, subst, all_happenings}
-use Rattle.check_flight.proofs.Words.{happening_of, ring_of_slots, Happening, HaveNoFlight, JudgedLog, Slots, catalogue_in, log_in}
+use Rattle.check_flight.proofs.{◌≡◌, ℕ, ◌+◌, ◌<◌, ◌∙◌, ap, sym, refl, length, List, Option, None, Some, take, take-map, subst, all_happenings}
+use Rattle.check_flight.proofs.{happening_of, ring_of_slots, Happening, HaveNoFlight, JudgedLog, Slots, catalogue_in, log_in, IsLegalLog, IsRight}
 use Rattle.std.specs.Prelude.{IfSome}
-use Rattle.fx_flight.specs.Flight.{IsLegalLog}
-use Rattle.check_flight.specs.Judged.{IsRight}
 use Rattle.check_flight.specs.declared.verdict.FlightVerdict.TheVariants.{NotLegal}
 use Rattle.check_reason.specs.declared.reason.LogReason.{LogReason}
 

@@ -1,15 +1,14 @@
 -- A refutation, from front to front.
-use Rattle.check_flight.proofs.Words.{◌≡◌, ℕ, ◌+◌, ◌<◌, ◌≤◌, List, [], ◌∷◌, ◌++◌, length, take, refl, sym, ap, ◌∙◌, arith, subst, Asked, FileEntry, RingState}
-use Rattle.check_flight.proofs.Words.{contains_head, Contains, inl, inr, ⊎_elim, drop, length-map, length-append, take-take, take_more, Happening}
-use Rattle.check_flight.proofs.Words.{AllSettled, ring_of_slots, Slots, WaitingLook, IsFrontOf, catalogue_in, flight_view, flight_views, log_in}
-use Rattle.check_flight.proofs.Words.{requests_of, rules_of_log, runs_of_calls, IsInitialState, IsNextFront, IsReached, IsReachedBy, IsReachedFrom, ReachedStates, event_at, rules_of}
-use Rattle.check_flight.proofs.Words.{AreFollowed, ArePassed, FlightView, GoesOnTo, HasNoFlightBy, IsNumbered, runs_with, ChainCall, JudgedLog, FlightState}
-use Rattle.check_flight.proofs.Words.{take-append-drop, Contains-append_left, IsTableOf, nil_from_length, take_all, AreCalls}
+use Rattle.check_flight.proofs.Words.{◌≡◌, ℕ, ◌+◌, ◌<◌, ◌≤◌, List, [], ◌∷◌, ◌++◌, length, take, refl, sym, ap, ◌∙◌, arith, subst, Asked, FileEntry}
+use Rattle.check_flight.proofs.Words.{RingState, contains_head, Contains, inl, inr, ⊎_elim, drop, length-map, length-append, take-take, take_more}
+use Rattle.check_flight.proofs.Words.{Happening, AllSettled, ring_of_slots, Slots, WaitingLook, IsFrontOf, catalogue_in, flight_view, flight_views}
+use Rattle.check_flight.proofs.Words.{log_in, requests_of, rules_of_log, runs_of_calls, IsInitialState, IsNextFront, IsReached, IsReachedBy}
+use Rattle.check_flight.proofs.Words.{IsReachedFrom, ReachedStates, event_at, rules_of, AreFollowed, ArePassed, FlightView, GoesOnTo, HasNoFlightBy}
+use Rattle.check_flight.proofs.Words.{IsNumbered, runs_with, ChainCall, JudgedLog, FlightState, take-append-drop, Contains-append_left, IsTableOf}
+use Rattle.check_flight.proofs.Words.{nil_from_length, take_all, AreCalls, map-append, slice_index_or, Bool, IsInTurnIf, IsCopy}
 use Rattle.check_flight.proofs.Fronts.{all_next, calls_with, from_start, no_calls, none_left}
 use Rattle.check_flight.proofs.Judging.{copied, views_more}
 use Rattle.check_flight.proofs.Steps.{only_one}
-use Rattle.check_flight.proofs.Words.{map-append, slice_index_or, Bool, IsInTurnIf}
-use Rattle.check_flight.specs.Judged.{IsCopy}
 
 -- before the first event
 pub reached_first : (whole : Bool) (slots : Slots) (catalogue : List FileEntry) (log : List Happening) (submissions registrations : ℕ) (calls : List ChainCall)

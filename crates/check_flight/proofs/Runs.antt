@@ -1,12 +1,12 @@
 -- The places of a chain's completions, its accesses one after another, and how few members are left
 -- after them.
-use Rattle.check_flight.specs.declared.plan.CallPlan.{CallPlan}
-use Rattle.check_flight.proofs.Words.{subst, IsCallDone, JudgedLog, Request, Completion, AreChainsDone, ChainAccess, Chain, accesses_of_chain, append-nil}
-use Rattle.check_flight.proofs.Words.{first_of_call, members_of, map, take_all, take-map, all_asked, all_completed, answers_of_plan, asked_of, completed_of}
-use Rattle.check_flight.proofs.Words.{◌-◌, slice_index_or, length, ◌≡◌, ℕ, ◌+◌, ◌≤◌, List, [], ◌∷◌, ◌++◌, take, refl, sym, ap, arith, suc, zero, Access, Asked}
-use Rattle.check_flight.proofs.Words.{AllByRecursion, Completed, FileEntry, HasMemory, IsChainDone, MatchBool, Place, Rest, Rules, AreRight, behind, canceled}
-use Rattle.check_flight.proofs.Words.{either_way, last_of, ne_eqb, eq-eqb, cases_Bool, ⊎_elim, next_member, over, rest_at, settled_at, severs, step, step_of}
-use Rattle.check_flight.proofs.Words.{Some, None, ◌==◌, length-take, rest_after, ◌<◌, ◌∙◌, Contains, moved}
+use Rattle.check_flight.proofs.Words.{CallPlan, subst, IsCallDone, JudgedLog, Request, Completion, AreChainsDone, ChainAccess, Chain}
+use Rattle.check_flight.proofs.Words.{accesses_of_chain, append-nil, first_of_call, members_of, map, take_all, take-map, all_asked, all_completed}
+use Rattle.check_flight.proofs.Words.{answers_of_plan, asked_of, completed_of, ◌-◌, slice_index_or, length, ◌≡◌, ℕ, ◌+◌, ◌≤◌, List, [], ◌∷◌, ◌++◌}
+use Rattle.check_flight.proofs.Words.{take, refl, sym, ap, arith, suc, zero, Access, Asked, AllByRecursion, Completed, FileEntry, HasMemory}
+use Rattle.check_flight.proofs.Words.{IsChainDone, MatchBool, Place, Rest, Rules, AreRight, behind, canceled, either_way, last_of, ne_eqb, eq-eqb}
+use Rattle.check_flight.proofs.Words.{cases_Bool, ⊎_elim, next_member, over, rest_at, settled_at, severs, step, step_of, Some, None, ◌==◌}
+use Rattle.check_flight.proofs.Words.{length-take, rest_after, ◌<◌, ◌∙◌, Contains, moved}
 use Rattle.fx_chain.proofs.ChainGoesOn.{canceled_count}
 use Rattle.fx_order.proofs.RequestCases.{request_place}
 

@@ -1,21 +1,19 @@
 -- Where a flight leads: its accesses and its events, one after another.
-use Rattle.check_flight.proofs.Words.{◌≡◌, ℕ, ◌+◌, ◌<◌, ◌≤◌, List, [], ◌∷◌, ◌++◌, length, take, refl, sym, ap, ◌∙◌, arith, inl, inr, ⊎_elim, suc, zero, Access}
-use Rattle.check_flight.proofs.Words.{AllByRecursion, Asked, ChainAccess, Completed, Contains, HasMemory, IsNext, None, Option, Some, Place, Rest, Rules}
-use Rattle.check_flight.proofs.Words.{append_assoc, by_equality, cases_eq, file_removed_by, get_or_append_left, get_or_at, length-append, ne_eqb}
-use Rattle.check_flight.proofs.Words.{option_to_list, rules_of, run_at, settled_at, settles, step, table_with, Contains-append_cases, Contains-push_cases}
-use Rattle.check_flight.proofs.Words.{Contains-append_left, RingState, ◌-◌, Table, subst, Contains-append_right, Identity, if◌then◌else◌, contains_head, eq-eqb}
-use Rattle.check_flight.proofs.Words.{over, table_of, AreAnswers, AreCalls, IsLed, IsOneDenied, IsStopped, StepsByAccess, LeadsByCall, AreFewer, AreLooksSeen}
-use Rattle.check_flight.proofs.Words.{AreWaitsDenied, IsStateFollowed, GoesOnTo, FlightView, rest_after, setting_of, IsNumbered, runs_with, WaitingLook}
-use Rattle.check_flight.proofs.Words.{Happening, Called, Answered, LookCalled, LookAnswered, Freed, FileClosed, AllSettled, first_of_call, Accesses, IsBegun}
-use Rattle.check_flight.proofs.Words.{IsLookDone, Logged, MayFollow, Moment, WasLogged, log_of, made_by, taken_in, table_left_by, Permits, Looks, both_parts}
-use Rattle.check_flight.proofs.Words.{Bool, IsBetweenMembers, IsInTurn, IsInTurnIf}
-use Rattle.check_flight.specs.States.{origin_of}
+use Rattle.check_flight.proofs.Words.{◌≡◌, ℕ, ◌+◌, ◌<◌, ◌≤◌, List, [], ◌∷◌, ◌++◌, length, take, refl, sym, ap, ◌∙◌, arith, inl, inr, ⊎_elim, suc}
+use Rattle.check_flight.proofs.Words.{zero, Access, AllByRecursion, Asked, ChainAccess, Completed, Contains, HasMemory, IsNext, None, Option, Some}
+use Rattle.check_flight.proofs.Words.{Place, Rest, Rules, append_assoc, by_equality, cases_eq, file_removed_by, get_or_append_left, get_or_at}
+use Rattle.check_flight.proofs.Words.{length-append, ne_eqb, option_to_list, rules_of, run_at, settled_at, settles, step, table_with}
+use Rattle.check_flight.proofs.Words.{Contains-append_cases, Contains-push_cases, Contains-append_left, RingState, ◌-◌, Table, subst}
+use Rattle.check_flight.proofs.Words.{Contains-append_right, Identity, if◌then◌else◌, contains_head, eq-eqb, over, table_of, AreAnswers, AreCalls}
+use Rattle.check_flight.proofs.Words.{IsLed, IsOneDenied, IsStopped, StepsByAccess, LeadsByCall, AreFewer, AreLooksSeen, AreWaitsDenied}
+use Rattle.check_flight.proofs.Words.{IsStateFollowed, GoesOnTo, FlightView, rest_after, setting_of, IsNumbered, runs_with, WaitingLook, Happening}
+use Rattle.check_flight.proofs.Words.{Called, Answered, LookCalled, LookAnswered, Freed, FileClosed, AllSettled, first_of_call, Accesses, IsBegun}
+use Rattle.check_flight.proofs.Words.{IsLookDone, Logged, MayFollow, Moment, WasLogged, log_of, made_by, taken_in, table_left_by, Permits, Looks}
+use Rattle.check_flight.proofs.Words.{both_parts, Bool, IsBetweenMembers, IsInTurn, IsInTurnIf, origin_of, size_stays, was_read, was_logged}
 use Rattle.check_outcomes.proofs.Playing.{OfChain, steps_on}
 use Rattle.check_outcomes.proofs.Requests.{are_right}
 use Rattle.fx_flight.proofs.Chains.{answer_place}
-use Rattle.fx_flight.proofs.InTime.{size_stays, in_log as was_read}
 use Rattle.check_flight.proofs.Runs.{AreAt, chain_at, member_at, same_place, after_both, after_fewer, done_members, over_stays, settled_made}
-use Rattle.fx_flight.proofs.Beginnings.{logged as was_logged}
 
 -- A flight's events are those of its log.
 

@@ -1,33 +1,22 @@
 -- The states of the judge, as contracts see them, the effect of an event on a state, and a step
 -- from one front to the next.
-use Rattle.std.specs.Prelude.{◌≡◌, ℕ, ◌+◌, ◌-◌, ◌≤◌, nat_le, List, length, map, take, IfSome}
-use Rattle.std.specs.Prelude.{if◌then◌else◌, ◌⊎◌, [], drop, Bool, Contains, Option, slice_index_or}
-use Rattle.fx_base.specs.Catalogue.{FileEntry}
-use Rattle.fx_base.specs.Identity.{Identity}
-use Rattle.fx_chain.specs.Operation.{Asked, all_asked}
-use Rattle.fx_order.specs.Access.{Permits}
-use Rattle.fx_order.specs.Slots.{table_of_slots, ring_of_slots}
-use Rattle.fx_order.specs.declared.access.Access.{Access}
-use Rattle.fx_order.specs.declared.access.Access.TheVariants.{Looks}
-use Rattle.check_outcomes.specs.Rests.{IsNext, Rest, Rules, over, rules_of, step}
-use Rattle.check_outcomes.specs.Stands.{rest_in}
-use Rattle.check_outcomes.specs.Views.{not_begun, run_at}
-use Rattle.fx_flight.specs.Events.{Happening, all_happenings, first_of_call, AllSettled}
-use Rattle.fx_flight.specs.Whole.{IsLegalBy}
+use Rattle.check_flight.specs.Words.{ℕ, nat_le, List, length, map, take, IfSome, [], drop, Bool}
+use Rattle.check_flight.specs.Words.{Contains, Option, slice_index_or, FileEntry, Identity, Asked}
+use Rattle.check_flight.specs.Words.{all_asked, Permits, table_of_slots, ring_of_slots, Access}
+use Rattle.check_flight.specs.Words.{Looks, IsNext, Rest, Rules, over, rules_of, step, rest_in}
+use Rattle.check_flight.specs.Words.{not_begun, run_at, Happening, all_happenings, first_of_call}
+use Rattle.check_flight.specs.Words.{AllSettled, IsLegalBy, RingState, WaitingLook, Slots, Faulty}
+use Rattle.check_flight.specs.Words.{Legal, NotLegal, Undecided}
+use Rattle.std.specs.Prelude.{◌≡◌, ◌+◌, ◌-◌, ◌≤◌, if◌then◌else◌, ◌⊎◌}
 use Rattle.check_flight.specs.States.{AreWaitsDenied, FlightView, IsFollowed, IsLookDenied}
 use Rattle.check_flight.specs.States.{IsStateFollowed, AreFollowed, ArePassed, HasNoFlightBy, IsLed}
 use Rattle.check_flight.specs.States.{IsNumbered, IsOneDenied, IsStopped, StepsByAccess, runs_with}
 use Rattle.check_flight.specs.States.{AreCalls, AreReached, IsInTurnIf}
-use Rattle.fx_ring.specs.Ring.{RingState}
 use Rattle.check_flight.specs.declared.reached.ReachedStates.{ReachedStates}
 use Rattle.check_flight.specs.declared.judged.ChainCall.{ChainCall}
 use Rattle.check_flight.specs.declared.judged.JudgedLog.{JudgedLog}
 use Rattle.check_flight.specs.declared.state.FlightState.{FlightState}
-use Rattle.check_flight.specs.declared.state.WaitingLook.{WaitingLook}
-use Rattle.fx_order.specs.declared.slots.Slots.{Slots}
 use Rattle.check_flight.specs.declared.verdict.FlightVerdict.{FlightVerdict}
-use Rattle.check_flight.specs.declared.verdict.FlightVerdict.TheVariants.{Faulty, Legal, NotLegal}
-use Rattle.check_flight.specs.declared.verdict.FlightVerdict.TheVariants.{Undecided}
 use Rattle.check_flight.specs.Reasons.{IsReasonOf}
 use Rattle.check_flight.specs.declared.passage.Passage.{Passage}
 use Rattle.check_flight.specs.declared.passage.Passage.TheVariants.{Stops, Leads, IsUnfit}

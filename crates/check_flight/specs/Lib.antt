@@ -3,3 +3,4 @@ pub mod Refutations
 pub mod States
 pub mod Judged
 pub mod Player
+pub mod Words

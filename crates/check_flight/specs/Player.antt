@@ -1,29 +1,19 @@
 -- A flight that the player makes move by move.
-use Rattle.std.specs.Prelude.{◌≡◌, ◌⊎◌, ℕ, ◌+◌, ◌*◌, ◌-◌, ◌%◌, ◌<◌, ◌≤◌, true, List, [], ◌∷◌, ◌++◌}
-use Rattle.std.specs.Prelude.{length, map, take, slice_index_or, nat_eq, Contains, IsTrue, None}
-use Rattle.std.specs.Prelude.{Option, Some}
-use Rattle.indexmap.specs.IndexSet.{IndexSet, contains}
-use Rattle.fx_base.specs.Identity.{Identity}
+use Rattle.check_flight.specs.Words.{ℕ, true, List, [], length, map, take, slice_index_or, nat_eq}
+use Rattle.check_flight.specs.Words.{Contains, IsTrue, None, Option, Some, IndexSet, contains}
+use Rattle.check_flight.specs.Words.{Identity, Completed, all_completed, Asked, all_asked}
+use Rattle.check_flight.specs.Words.{RingState, table_of, table_of_slots, Access, Looks, Happening}
+use Rattle.check_flight.specs.Words.{Called, LookCalled, LookAnswered, Freed, FileClosed}
+use Rattle.check_flight.specs.Words.{first_of_call, IsFlight, IsLookDone, Moment, WasLogged, log_of}
+use Rattle.check_flight.specs.Words.{made_by, FlightSetting, table_left_by, taken_in}
+use Rattle.check_flight.specs.Words.{IsBetweenMembers, IsWholeIf, HeldFile, CallPlan}
+use Rattle.std.specs.Prelude.{◌≡◌, ◌⊎◌, ◌+◌, ◌*◌, ◌-◌, ◌%◌, ◌<◌, ◌≤◌, ◌∷◌, ◌++◌}
 use Rattle.fx_base.specs.declared.mark.Mark.{Mark}
 use Rattle.fx_base.specs.declared.mark.Mark.TheVariants.{Registered, Submitted}
-use Rattle.fx_chain.specs.Completed.{Completed, all_completed}
-use Rattle.fx_chain.specs.Operation.{Asked, all_asked}
-use Rattle.fx_ring.specs.Ring.{RingState}
-use Rattle.fx_order.specs.Order.{table_of}
 use Rattle.fx_order.specs.Requests.{IsChainDone}
-use Rattle.fx_order.specs.Slots.{table_of_slots}
-use Rattle.fx_order.specs.declared.access.Access.{Access}
-use Rattle.fx_order.specs.declared.access.Access.TheVariants.{Looks}
-use Rattle.fx_flight.specs.Events.{Happening, Called, LookCalled, LookAnswered, Freed, FileClosed}
-use Rattle.fx_flight.specs.Events.{first_of_call}
-use Rattle.fx_flight.specs.Flight.{IsFlight, IsLookDone, Moment, WasLogged, log_of, made_by}
-use Rattle.fx_flight.specs.Flight.{FlightSetting, table_left_by, taken_in}
-use Rattle.fx_flight.specs.Whole.{IsBetweenMembers, IsWholeIf}
 use Rattle.check_flight.specs.Judged.{catalogue_in}
 use Rattle.check_flight.specs.States.{setting_of}
-use Rattle.check_flight.specs.declared.player.HeldFile.{HeldFile}
 use Rattle.check_flight.specs.declared.judged.JudgedLog.{JudgedLog}
-use Rattle.check_flight.specs.declared.plan.CallPlan.{CallPlan}
 use Rattle.check_flight.specs.declared.plan.CallKind.{CallKind}
 use Rattle.check_flight.specs.declared.plan.CallKind.TheVariants.{Chain, Look}
 use Rattle.check_flight.specs.declared.player.FlightPlayer.{FlightPlayer}

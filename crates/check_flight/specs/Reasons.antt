@@ -1,12 +1,8 @@
 -- What the reason of a verdict says of a log.
-use Rattle.std.specs.Prelude.{◌≡◌, ◌<◌, ℕ, List, length, take}
-use Rattle.fx_base.specs.Catalogue.{FileEntry}
-use Rattle.fx_order.specs.Slots.{ring_of_slots}
-use Rattle.fx_order.specs.declared.slots.Slots.{Slots}
-use Rattle.fx_flight.specs.Events.{all_happenings}
-use Rattle.fx_flight.specs.Flight.{IsLegalLog}
+use Rattle.check_flight.specs.Words.{ℕ, List, length, take, FileEntry, ring_of_slots, Slots}
+use Rattle.check_flight.specs.Words.{all_happenings, IsLegalLog, LogReason}
+use Rattle.std.specs.Prelude.{◌≡◌, ◌<◌}
 use Rattle.fx_flight.specs.declared.event.LogEvent.{LogEvent}
-use Rattle.check_reason.specs.declared.reason.LogReason.{LogReason}
 
 -- the reason is one that `check_reason::explain` returns for the first `count` events, from these
 -- slots on: each field is a clause of it

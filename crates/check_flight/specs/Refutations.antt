@@ -1,9 +1,7 @@
 -- Refutations of a log: all states that flights reach, event by event, until none is left.
-use Rattle.std.specs.Prelude.{◌≡◌, ◌++◌, Bool, List, [], ◌∷◌, length, Contains}
-use Rattle.fx_chain.specs.Operation.{Asked}
-use Rattle.fx_ring.specs.Ring.{RingState}
-use Rattle.fx_flight.specs.Events.{Happening}
-use Rattle.check_outcomes.specs.Rests.{rules_of}
+use Rattle.check_flight.specs.Words.{Bool, List, [], length, Contains, Asked, RingState, Happening}
+use Rattle.check_flight.specs.Words.{rules_of}
+use Rattle.std.specs.Prelude.{◌≡◌, ◌++◌, ◌∷◌}
 use Rattle.check_flight.specs.States.{AreFollowed, ArePassed, HasNoFlightBy, IsNumbered, GoesOnTo}
 use Rattle.check_flight.specs.States.{FlightView, runs_with}
 

@@ -1,25 +1,16 @@
 -- The states that a flight can reach: the table, where each call is, the files that were removed,
 -- and the looks that wait.
-use Rattle.std.specs.Prelude.{◌≡◌, ◌⊎◌, ◌↔◌, ℕ, ◌+◌, ◌<◌, ◌≤◌, Bool, IsTrue, List, []}
-use Rattle.std.specs.Prelude.{◌∷◌, ◌++◌, length, Contains, Option, Some}
+use Rattle.check_flight.specs.Words.{ℕ, Bool, IsTrue, List, [], length, Contains, Option, Some}
+use Rattle.check_flight.specs.Words.{FileEntry, Identity, Completed, Asked, Table, Permits}
+use Rattle.check_flight.specs.Words.{file_removed_by, table_with, table_of, Access, Looks}
+use Rattle.check_flight.specs.Words.{RingState, HasMemory, IsNext, Rest, Rules, rules_of}
+use Rattle.check_flight.specs.Words.{settled_at, step, run_at, Happening, Called, Answered}
+use Rattle.check_flight.specs.Words.{LookCalled, LookAnswered, Freed, FileClosed, AllSettled}
+use Rattle.check_flight.specs.Words.{first_of_call, FlightSetting, HasFlight, IsFlight, IsLookDone}
+use Rattle.check_flight.specs.Words.{Moment, WasLogged, log_of, made_by, taken_in, table_left_by}
+use Rattle.check_flight.specs.Words.{IsLegalBy, IsWholeIf, WaitingLook}
+use Rattle.std.specs.Prelude.{◌≡◌, ◌⊎◌, ◌↔◌, ◌+◌, ◌<◌, ◌≤◌, ◌∷◌, ◌++◌}
 use Rattle.std.specs.List.{AllByRecursion}
-use Rattle.fx_base.specs.Catalogue.{FileEntry}
-use Rattle.fx_base.specs.Identity.{Identity}
-use Rattle.fx_chain.specs.Completed.{Completed}
-use Rattle.fx_chain.specs.Operation.{Asked}
-use Rattle.fx_order.specs.Access.{Table, Permits, file_removed_by, table_with}
-use Rattle.fx_order.specs.Order.{table_of}
-use Rattle.fx_order.specs.declared.access.Access.{Access}
-use Rattle.fx_order.specs.declared.access.Access.TheVariants.{Looks}
-use Rattle.fx_ring.specs.Ring.{RingState}
-use Rattle.check_outcomes.specs.Rests.{HasMemory, IsNext, Rest, Rules, rules_of, settled_at, step}
-use Rattle.check_outcomes.specs.Views.{run_at}
-use Rattle.fx_flight.specs.Events.{Happening, Called, Answered, LookCalled, LookAnswered, Freed}
-use Rattle.fx_flight.specs.Events.{FileClosed, AllSettled, first_of_call}
-use Rattle.fx_flight.specs.Flight.{FlightSetting, HasFlight, IsFlight, IsLookDone, Moment}
-use Rattle.fx_flight.specs.Flight.{WasLogged, log_of, made_by, taken_in, table_left_by}
-use Rattle.fx_flight.specs.Whole.{IsLegalBy, IsWholeIf}
-use Rattle.check_flight.specs.declared.state.WaitingLook.{WaitingLook}
 
 pub record FlightView : Type 0 where
   pub table : Table

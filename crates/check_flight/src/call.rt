@@ -1,9 +1,7 @@
 //! The chains that a log calls.
-ghost use Rattle.std.specs.Prelude.{◌≡◌, ◌+◌, ◌<◌, ◌≤◌, ◌^◌, All, IfOk, IfSome, IsTrue, length};
-ghost use Rattle.fx_chain.specs.Accepted.{IsWithinLimits};
-ghost use Rattle.fx_chain.specs.Operation.{all_asked, asked_of};
-ghost use Rattle.fx_flight.specs.Events.{first_of_call, happening_of};
-ghost use Rattle.check_outcomes.specs.Views.{run_at};
+ghost use Rattle.check_flight.specs.Words.{All, IfOk, IfSome, IsTrue, length, IsWithinLimits, all_asked, asked_of, first_of_call, happening_of};
+ghost use Rattle.check_flight.specs.Words.{run_at};
+ghost use Rattle.std.specs.Prelude.{◌≡◌, ◌+◌, ◌<◌, ◌≤◌, ◌^◌};
 ghost use Rattle.check_flight.specs.Judged.{IsFrontOf, runs_of_calls};
 ghost use Rattle.check_flight.specs.States.{runs_with};
 

@@ -1,12 +1,9 @@
 //! All states that flights reach after an event: those to which it leads from the states of a
 //! front, and each state that accesses reach from them.
-ghost use Rattle.std.specs.Prelude.{◌≡◌, ◌+◌, ◌<◌, ◌≤◌, IfOk, IfSome, IsTrue, length, take};
-ghost use Rattle.fx_flight.specs.Events.{happening_of};
-ghost use Rattle.fx_order.specs.Slots.{table_of_slots};
-ghost use Rattle.check_outcomes.specs.Stands.{HasEachNext};
-ghost use Rattle.check_flight.specs.Judged.{IsCallFollowed, IsFrontOf, IsWaitDeniedIn, IsWhollyFollowed};
-ghost use Rattle.check_flight.specs.Judged.{catalogue_in, flight_view, flight_views, log_in, rest_of};
-ghost use Rattle.check_flight.specs.Judged.{rules_of_log, runs_of_calls};
+ghost use Rattle.check_flight.specs.Words.{IfOk, IfSome, IsTrue, length, take, happening_of, table_of_slots, HasEachNext};
+ghost use Rattle.std.specs.Prelude.{◌≡◌, ◌+◌, ◌<◌, ◌≤◌};
+ghost use Rattle.check_flight.specs.Judged.{IsCallFollowed, IsFrontOf, IsWaitDeniedIn, IsWhollyFollowed, catalogue_in, flight_view, flight_views};
+ghost use Rattle.check_flight.specs.Judged.{log_in, rest_of, rules_of_log, runs_of_calls};
 ghost use Rattle.check_flight.specs.States.{AreFollowed, ArePassed, AreWaitsDenied, runs_with};
 
 use crate::call::{first_place, members_at};

@@ -1,6 +1,6 @@
 //! The states that a search met: the front of the flights at an event.
-ghost use Rattle.std.specs.Prelude.{◌≡◌, [], ◌∷◌, Contains, IfOk, IsTrue, List};
-ghost use Rattle.fx_chain.specs.Operation.{Asked};
+ghost use Rattle.check_flight.specs.Words.{[], Contains, IfOk, IsTrue, List, Asked};
+ghost use Rattle.std.specs.Prelude.{◌≡◌, ◌∷◌};
 ghost use Rattle.check_flight.specs.Judged.{IsFrontOf, flight_view, flight_views, IsTakenIn};
 
 use crate::passage::Passage;

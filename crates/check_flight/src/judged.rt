@@ -1,8 +1,6 @@
 //! The log that is judged, and the chains that it calls.
-ghost use Rattle.std.specs.Prelude.{◌<◌, ◌≤◌, ◌^◌, All, length};
-ghost use Rattle.fx_base.specs.Catalogue.{IsCatalogue};
-ghost use Rattle.fx_chain.specs.Accepted.{IsWithinLimits};
-ghost use Rattle.fx_chain.specs.Operation.{asked_of};
+ghost use Rattle.check_flight.specs.Words.{All, length, IsCatalogue, IsWithinLimits, asked_of};
+ghost use Rattle.std.specs.Prelude.{◌<◌, ◌≤◌, ◌^◌};
 ghost use Rattle.fx_chain.specs.declared.fault.TheConstants.{MOST_MEMBERS};
 
 use crate::limits::MovesLeft;

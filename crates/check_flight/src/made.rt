@@ -1,9 +1,7 @@
 //! Checks whether an answer, or the file that a look found, is that of the accesses that a call has
 //! made so far.
-ghost use Rattle.std.specs.Prelude.{◌≡◌, Contains, IfOk, IsTrue, Some, take};
-ghost use Rattle.fx_chain.specs.Completed.{all_completed, completed_of};
-ghost use Rattle.fx_chain.specs.Operation.{all_asked};
-ghost use Rattle.fx_flight.specs.Flight.{IsLookDone};
+ghost use Rattle.check_flight.specs.Words.{Contains, IfOk, IsTrue, Some, take, all_completed, completed_of, all_asked, IsLookDone};
+ghost use Rattle.std.specs.Prelude.{◌≡◌};
 ghost use Rattle.check_flight.specs.Player.{AreWholeMembers, IsLookPlan, IsMemberMade, IsMembersEnd, IsPlanned};
 
 use crate::judged::JudgedLog;

@@ -1,11 +1,7 @@
 //! The effect of an event of the log on a state: it leads to another one, or is impossible.
-ghost use Rattle.std.specs.Prelude.{◌≡◌, ◌+◌, ◌<◌, ◌≤◌, ℕ, [], Contains, IfOk, IsTrue, List};
-ghost use Rattle.std.specs.Prelude.{length, take};
-ghost use Rattle.fx_base.specs.Identity.{Identity};
-ghost use Rattle.fx_chain.specs.Operation.{Asked, all_asked};
-ghost use Rattle.fx_flight.specs.Events.{Called, FileClosed, Happening, LookCalled, happening_of};
-ghost use Rattle.fx_flight.specs.Flight.{IsLookDone};
-ghost use Rattle.check_outcomes.specs.Views.{run_at};
+ghost use Rattle.check_flight.specs.Words.{ℕ, [], Contains, IfOk, IsTrue, List, length, take, Identity, Asked, all_asked, Called, FileClosed};
+ghost use Rattle.check_flight.specs.Words.{Happening, LookCalled, happening_of, IsLookDone, run_at};
+ghost use Rattle.std.specs.Prelude.{◌≡◌, ◌+◌, ◌<◌, ◌≤◌};
 ghost use Rattle.check_flight.specs.Judged.{flight_view, log_in, rest_of, rules_of_log, runs_of_calls, IsPassage};
 ghost use Rattle.check_flight.specs.States.{IsNumbered, IsStopped, IsUnmade};
 

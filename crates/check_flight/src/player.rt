@@ -1,19 +1,11 @@
 //! A player of a flight: it makes a proposed flight move by move, and checks each move.
-ghost use Rattle.std.specs.Prelude.{◌≡◌, ◌++◌, [], ◌∷◌, ℕ, Contains, IfOk, IsTrue, List, None, Some};
-ghost use Rattle.std.specs.Prelude.{length};
-ghost use Rattle.std.specs.Option.{option_to_list};
-ghost use Rattle.indexmap.specs.IndexSet.{IsEmpty};
-ghost use Rattle.fx_base.specs.Identity.{Identity};
-ghost use Rattle.fx_chain.specs.Completed.{completed_of};
-ghost use Rattle.fx_flight.specs.Events.{Answered, FileClosed, AllSettled, Happening, Freed, LookAnswered};
-ghost use Rattle.fx_flight.specs.Events.{happening_of};
-ghost use Rattle.fx_order.specs.Access.{file_removed_by};
-ghost use Rattle.fx_order.specs.Slots.{table_of_slots};
+ghost use Rattle.check_flight.specs.Words.{[], ℕ, Contains, IfOk, IsTrue, List, None, Some, length, option_to_list, IsEmpty, Identity, completed_of};
+ghost use Rattle.check_flight.specs.Words.{Answered, FileClosed, AllSettled, Happening, Freed, LookAnswered, happening_of, file_removed_by};
+ghost use Rattle.check_flight.specs.Words.{table_of_slots, CallPlan as Plan, HeldFile as TheHold};
+ghost use Rattle.std.specs.Prelude.{◌≡◌, ◌++◌, ◌∷◌};
 ghost use Rattle.check_flight.specs.Judged.{HaveFlight, log_in};
 ghost use Rattle.check_flight.specs.Player.{Follows, IsLookAnswered, IsMarked, MovesOn, begun_by};
 ghost use Rattle.check_flight.specs.declared.judged.JudgedLog.{JudgedLog as TheLog};
-ghost use Rattle.check_flight.specs.declared.plan.CallPlan.{CallPlan as Plan};
-ghost use Rattle.check_flight.specs.declared.player.HeldFile.{HeldFile as TheHold};
 
 use crate::judged::JudgedLog;
 use crate::made::{amid_after, has_file, is_look_made, is_member_made, is_planned};

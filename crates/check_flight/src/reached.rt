@@ -1,11 +1,7 @@
 //! The states that flights of a log reach after its first events, saved for longer beginnings of
 //! the log.
-ghost use Rattle.std.specs.Prelude.{◌≡◌, ◌<◌, ℕ, Bool, IfOk, IfSome, IsTrue, List, length};
-ghost use Rattle.fx_base.specs.Catalogue.{FileEntry};
-ghost use Rattle.fx_order.specs.Slots.{ring_of_slots};
-ghost use Rattle.fx_order.specs.declared.slots.Slots.{Slots};
-ghost use Rattle.fx_flight.specs.Events.{Happening};
-ghost use Rattle.fx_ring.specs.Ring.{RingState};
+ghost use Rattle.check_flight.specs.Words.{ℕ, Bool, IfOk, IfSome, IsTrue, List, length, FileEntry, ring_of_slots, Slots, Happening, RingState};
+ghost use Rattle.std.specs.Prelude.{◌≡◌, ◌<◌};
 ghost use Rattle.check_flight.specs.Judged.{log_in, IsNextFront, IsReached, IsReachedFrom, IsTableOf};
 
 use crate::call::push_call;

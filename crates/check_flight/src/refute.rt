@@ -1,7 +1,7 @@
 //! The refutation of a beginning of a log: all states that flights reach, event by event, until
 //! none is left.
-ghost use Rattle.std.specs.Prelude.{◌≡◌, ◌≤◌, IfOk, IfSome, length, take};
-ghost use Rattle.fx_order.specs.declared.slots.Slots.{Slots};
+ghost use Rattle.check_flight.specs.Words.{IfOk, IfSome, length, take, Slots};
+ghost use Rattle.std.specs.Prelude.{◌≡◌, ◌≤◌};
 ghost use Rattle.check_flight.specs.Judged.{catalogue_in, log_in, HaveNoFlight, IsReachedFrom, IsTableOf};
 
 use crate::judged::JudgedLog;

@@ -1,7 +1,6 @@
 //! A state of the flights of a log.
-ghost use Rattle.std.specs.Prelude.{◌≡◌, ◌+◌, ◌<◌, ◌≤◌, ◌^◌, ℕ, Contains, IfOk, IsTrue};
-ghost use Rattle.std.specs.Prelude.{length, slice_index_or};
-ghost use Rattle.check_outcomes.specs.Views.{not_begun, run_at};
+ghost use Rattle.check_flight.specs.Words.{ℕ, Contains, IfOk, IsTrue, length, slice_index_or, not_begun, run_at};
+ghost use Rattle.std.specs.Prelude.{◌≡◌, ◌+◌, ◌<◌, ◌≤◌, ◌^◌};
 ghost use Rattle.check_flight.specs.Judged.{IsCopy, IsInitialState, IsWaitDenied, runs_of_calls, flight_view};
 ghost use Rattle.check_flight.specs.States.{AreFewer, AreWithout};
 

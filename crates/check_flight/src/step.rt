@@ -1,13 +1,7 @@
 //! The state that an access leads to.
-ghost use Rattle.std.specs.Prelude.{◌≡◌, ◌+◌, ◌++◌, ◌<◌, [], IfOk, IfSome, IsPermutation};
-ghost use Rattle.std.specs.Prelude.{length, slice_index_or, slice_set};
-ghost use Rattle.std.specs.Option.{option_to_list};
-ghost use Rattle.fx_chain.specs.Completed.{all_completed};
-ghost use Rattle.fx_order.specs.Access.{Permits, file_removed_by, table_with};
-ghost use Rattle.fx_order.specs.Slots.{table_of_slots};
-ghost use Rattle.fx_flight.specs.Events.{first_of_call};
-ghost use Rattle.check_outcomes.specs.Stands.{StepsChain};
-ghost use Rattle.check_outcomes.specs.Views.{not_begun, run_at};
+ghost use Rattle.check_flight.specs.Words.{[], IfOk, IfSome, IsPermutation, length, slice_index_or, slice_set, option_to_list, all_completed};
+ghost use Rattle.check_flight.specs.Words.{Permits, file_removed_by, table_with, table_of_slots, first_of_call, StepsChain, not_begun, run_at};
+ghost use Rattle.std.specs.Prelude.{◌≡◌, ◌+◌, ◌++◌, ◌<◌};
 ghost use Rattle.check_flight.specs.Judged.{rules_of_log, runs_of_calls, IsAccessPassage};
 ghost use Rattle.check_flight.specs.States.{AreFewer};
 

@@ -1,6 +1,7 @@
 //! The turn of a call among updates that must be whole: no other call may make an access, and no
 //! event may come, from the first step of an update to its last one.
-ghost use Rattle.std.specs.Prelude.{◌≡◌, ◌+◌, ◌<◌, IfOk, IsTrue, length};
+ghost use Rattle.check_flight.specs.Words.{IfOk, IsTrue, length};
+ghost use Rattle.std.specs.Prelude.{◌≡◌, ◌+◌, ◌<◌};
 ghost use Rattle.check_flight.specs.Judged.{flight_view, rest_of, runs_of_calls};
 ghost use Rattle.check_flight.specs.States.{AreFewer, IsInTurnIf};
 

@@ -1,16 +1,11 @@
 //! The judge of a log of calls in flight.
-ghost use Rattle.std.specs.Prelude.{◌≡◌, ◌↔◌, ◌+◌, ◌<◌, ◌≤◌, ◌^◌, [], ℕ, IfOk, IfSome};
-ghost use Rattle.std.specs.Prelude.{IsTrue, Option, Some, length, take};
-ghost use Rattle.fx_base.specs.Catalogue.{IsCatalogue};
-ghost use Rattle.fx_order.specs.Slots.{ring_of_slots};
-ghost use Rattle.fx_flight.specs.Events.{all_happenings};
+ghost use Rattle.check_flight.specs.Words.{[], ℕ, IfOk, IfSome, IsTrue, Option, Some, length, take, IsCatalogue, ring_of_slots, all_happenings};
+ghost use Rattle.check_flight.specs.Words.{IsLegalBy, Faulty, Legal, NotLegal, LogReason};
+ghost use Rattle.std.specs.Prelude.{◌≡◌, ◌↔◌, ◌+◌, ◌<◌, ◌≤◌, ◌^◌};
 ghost use Rattle.fx_flight.specs.Faults.{fault_of_log};
-ghost use Rattle.fx_flight.specs.Whole.{IsLegalBy};
 ghost use Rattle.check_flight.specs.Judged.{log_in, HaveFlight, HaveNoFlight, IsReachedFrom, IsRight, IsTableOf};
 ghost use Rattle.check_flight.specs.Reasons.{IsReasonOf};
 ghost use Rattle.check_flight.specs.States.{HasNoFlightBy};
-ghost use Rattle.check_flight.specs.declared.verdict.FlightVerdict.TheVariants.{Faulty, Legal, NotLegal};
-ghost use Rattle.check_reason.specs.declared.reason.LogReason.{LogReason};
 
 use crate::by_slot::wrong_by_slot;
 use crate::judged::JudgedLog;

@@ -1,6 +1,6 @@
 //! The first event with which no flight is left, as a search finds it, and whether the beginning up
 //! to it is refuted.
-ghost use Rattle.std.specs.Prelude.{IfOk, IsTrue};
+ghost use Rattle.check_flight.specs.Words.{IfOk, IsTrue};
 ghost use Rattle.check_flight.specs.Judged.{HaveNoFlight, IsTableOf};
 
 use crate::call::push_call;

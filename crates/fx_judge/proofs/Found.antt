@@ -1,10 +1,9 @@
 -- The texts that were found, as they are written.
-use Rattle.fx_judge.proofs.Words.{◌≡◌, ℕ, Bool, true, false, arith, IsTrue, List, [], ◌∷◌, All, Contains, length, map, take, ap, ◌∙◌, string_bytes, string_eq}
-use Rattle.fx_judge.proofs.Words.{String, Global, AllByRecursion, length-map, All-map, IsScript, Meaning, joined, lengths_in}
+use Rattle.fx_judge.proofs.{◌≡◌, ℕ, Bool, true, false, arith, IsTrue, List, [], ◌∷◌, All, Contains, length, map, take, ap, ◌∙◌, string_bytes}
+use Rattle.fx_judge.proofs.{string_eq, String, Global, AllByRecursion, length-map, All-map, IsScript, Meaning, joined, lengths_in, ◌++◌, concat}
+use Rattle.fx_judge.proofs.{map-append, append-nil, AreOutcomes, AreWritten, IsTextList, same_bytes}
 use Rattle.std.specs.List.{IsDistinct}
-use Rattle.fx_judge.proofs.Words.{◌++◌, concat, map-append, append-nil}
 use Rattle.check_texts.specs.Texts.{IsTextFound}
-use Rattle.fx_judge.specs.Outcomes.{AreOutcomes, AreWritten, IsTextList, same_bytes}
 use Rattle.fx_judge.specs.declared.codes.TheConstants.{ALL, SOME}
 use Rattle.fx_judge.specs.declared.outcomes.YachtTexts.{YachtTexts}
 use Rattle.std.proofs.lemmas.List.Folds.{concat-append}

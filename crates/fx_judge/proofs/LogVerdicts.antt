@@ -1,13 +1,11 @@
 -- The number of a verdict, as a statement of a log.
-use Rattle.fx_judge.proofs.Words.{◌≡◌, ◌↔◌, ℕ, ◌+◌, List, [], take, ap, sym, refl, subst, ◌∙◌, arith, Option, Some, None, take-map, Table}
-use Rattle.fx_judge.proofs.Words.{ring_of_slots, table_of_slots, Slots, RingState, new_ring, Happening, all_happenings, happening_of}
-use Rattle.fx_judge.proofs.Words.{HasNoFlight, HasNoFlightBy, IsNumberOf, IsReadAs, PassedLog, Bool, FileEntry, ◌<◌}
-use Rattle.fx_judge.specs.Logs.{IsLogVerdict, IsUnreadNumber, reading_in, reading_passed, steps_in}
-use Rattle.fx_judge.specs.Reading.{MeansRefusal}
+use Rattle.fx_judge.proofs.{◌≡◌, ◌↔◌, ℕ, ◌+◌, List, [], take, ap, sym, refl, subst, ◌∙◌, arith, Option, Some, None, take-map, Table, ring_of_slots}
+use Rattle.fx_judge.proofs.{table_of_slots, Slots, RingState, new_ring, Happening, all_happenings, happening_of, HasNoFlight, HasNoFlightBy}
+use Rattle.fx_judge.proofs.{IsNumberOf, IsReadAs, PassedLog, Bool, FileEntry, ◌<◌, IsLogVerdict, IsUnreadNumber, reading_in, reading_passed, steps_in}
+use Rattle.fx_judge.proofs.{MeansRefusal, Ok}
 use Rattle.check_flight.specs.Reasons.{IsReasonOf}
 use Rattle.check_reason.specs.declared.reason.LogReason.{LogReason}
 use Rattle.fx_judge.specs.declared.logs.ReadLog.{ReadLog}
-use Rattle.std.proofs.Common.{Ok}
 use Rattle.fx_flight.specs.Whole.{IsLegalBy}
 use Rattle.check_flight.specs.declared.verdict.FlightVerdict.{FlightVerdict}
 use Rattle.check_flight.specs.declared.verdict.FlightVerdict.TheVariants.{Faulty, Legal, NotLegal}

@@ -1,14 +1,11 @@
 -- The files of a catalogue: their names are text, and one more file leaves a catalogue.
-use Rattle.fx_judge.proofs.Words.{◌≡◌, ℕ, ◌<◌, true, List, [], ◌∷◌, ◌++◌, length, arith, nat_le, Option, Some, None, FileEntry}
-use Rattle.std.proofs.Common.{Ok, Err, IfSome, refl}
-use Rattle.std.specs.Prelude.{IsAscii, IsUtf8}
-use Rattle.std.specs.List.{list_all}
+use Rattle.fx_judge.proofs.{◌≡◌, ℕ, ◌<◌, true, List, [], ◌∷◌, ◌++◌, length, arith, nat_le, Option, Some, None, FileEntry, Ok, Err, IfSome, refl}
+use Rattle.fx_judge.proofs.{IsAscii, IsUtf8, list_all, IsCatalogue}
 use Rattle.std.proofs.lemmas.Bool.{and_parts}
 use Rattle.std.proofs.lemmas.Str.{IsUtf8-from_ascii}
 use Rattle.std.proofs.lemmas.Str.Ascii.{IsAscii-nil, IsAscii-cons}
 use Rattle.fx_base.proofs.Entries.{no_fault, one_more}
 use Rattle.fx_base.specs.AddFault.{add_fault_of}
-use Rattle.fx_base.specs.Catalogue.{IsCatalogue}
 use Rattle.fx_base.specs.Name.{is_name, name_byte}
 use Rattle.fx_base.specs.declared.catalogue.AddFault.{AddFault}
 

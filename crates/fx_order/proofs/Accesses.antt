@@ -1,13 +1,13 @@
 -- The accesses among the steps of a history, and the files that they remove.
 use Rattle.fx_order.proofs.Words.{◌≡◌, ℕ, ◌==◌, List, [], ◌∷◌, ◌++◌, map, filter, refl, sym, ap, subst, ◌∙◌, append_assoc, Option, Some, None}
-use Rattle.fx_order.proofs.Words.{same_identity, if◌then◌else◌, cond, append-nil, map-append, filter-append, Closed, File, Event, Action}
-use Rattle.fx_order.proofs.Words.{Look, Put, Clear, Take, Allocate, Full, State, opening, Allows, after, changed_at, ◌▷▷◌, state_after, AllowsAll}
-use Rattle.fx_order.proofs.Words.{action_of, part_of_chain, identity_of, by_equality, Table, Looks, Puts, Clears, Takes, Allocates, FindsFull}
-use Rattle.fx_order.proofs.Words.{PermitsAll, table_with, table_after, Access, access_of, accesses_of, accesses_of_chain, ChainAccess, ◌⊎◌, inl, inr}
-use Rattle.fx_order.proofs.Words.{Bool, false, true, ◌≢◌, ◌<◌, ◌≤◌, IsPermutation-push_more, arith, IsPermutation, IsPermutation-refl}
-use Rattle.fx_order.proofs.Words.{IsPermutation-sym, IsPermutation-trans, IsPermutation-cons, IsPermutation-middle, IsPermutation-map}
-use Rattle.fx_order.proofs.Words.{IsPermutation-pop_more, IsSettled, with_removed, closes_in, closed_by, IsStart}
-use Rattle.fx_order.proofs.Words.{files_removed_in, named, named_same, present, placed_one, tally, tally_all, tally_start, nat_tests}
+use Rattle.fx_order.proofs.Words.{same_identity, if◌then◌else◌, cond, append-nil, map-append, filter-append, Closed, File, Event, Action, Look, Put}
+use Rattle.fx_order.proofs.Words.{Clear, Take, Allocate, Full, State, opening, Allows, after, changed_at, ◌▷▷◌, state_after, AllowsAll, action_of}
+use Rattle.fx_order.proofs.Words.{part_of_chain, identity_of, by_equality, Table, Looks, Puts, Clears, Takes, Allocates, FindsFull, PermitsAll}
+use Rattle.fx_order.proofs.Words.{table_with, table_after, Access, access_of, accesses_of, accesses_of_chain, ChainAccess, ◌⊎◌, inl, inr, Bool, false}
+use Rattle.fx_order.proofs.Words.{true, ◌≢◌, ◌<◌, ◌≤◌, IsPermutation-push_more, arith, IsPermutation, IsPermutation-refl, IsPermutation-sym}
+use Rattle.fx_order.proofs.Words.{IsPermutation-trans, IsPermutation-cons, IsPermutation-middle, IsPermutation-map, IsPermutation-pop_more, IsSettled}
+use Rattle.fx_order.proofs.Words.{with_removed, closes_in, closed_by, IsStart, files_removed_in, named, named_same, present, placed_one, tally}
+use Rattle.fx_order.proofs.Words.{tally_all, tally_start, nat_tests}
 
 -- a state without its file numbers, holds and removed files
 abbrev pub shown : State → Table

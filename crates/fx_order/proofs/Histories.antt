@@ -1,22 +1,21 @@
-use Rattle.std.proofs.Common.{rules}
--- The history of an order: its accesses, each done at once.
-use Rattle.fx_order.proofs.Words.{EachOrderIsAHistory, ◌≡◌, ℕ, ◌+◌, ◌<◌, ◌≤◌, ◌==◌, true, List, [], ◌∷◌, ◌++◌, map, filter, cond, refl, sym, ap}
-use Rattle.fx_order.proofs.Words.{subst, ◌∙◌, append_assoc, All-contains, arith, All, Contains, append-nil, map-append, All-head, All-tail}
-use Rattle.fx_order.proofs.Words.{Contains-append_cases, filter-append, Event, Action, State, IsSettled, action_of, part_of_chain, AllowsAll, Leads}
-use Rattle.fx_order.proofs.Words.{AllReleaseTheirOwn, state_after, closes_in, by_equality, Table, PermitsAll, accesses_of}
-use Rattle.fx_order.proofs.Words.{accesses_of_chain, files_removed_in, table_after, Access, ChainAccess, leads_then, closes_in-then, ⊎_elim, All-map}
-use Rattle.fx_order.proofs.Words.{◌*◌, either_case, length, length-append, sum_by, sum_by-cons, FileEntry, IsAccepted, members_of, Completed}
-use Rattle.fx_order.proofs.Words.{next_member, severs, first_member, Asked, runs_of, Place, IsChainDone, AreChainsDone, chains_of, installs_of}
-use Rattle.fx_order.proofs.Words.{all_installs, accepted-chains, members-are-runs, lt-ltb, le-ltb, Closed, opening, state_of, numbers_for}
-use Rattle.fx_order.proofs.Words.{RingContents, RingState, HasClosed, ring_of, IsOneHistory, Reported, IsOneOrder, table_of, sum_by-le}
-use Rattle.fx_order.proofs.Accesses.{of_all, of_author, shown, shown-opening}
+use Rattle.fx_order.proofs.{rules, EachOrderIsAHistory, ◌≡◌, ℕ, ◌+◌, ◌<◌, ◌≤◌, ◌==◌, true, List, [], ◌∷◌, ◌++◌, map, filter, cond, refl, sym, ap}
+use Rattle.fx_order.proofs.{subst, ◌∙◌, append_assoc, All-contains, arith, All, Contains, append-nil, map-append, All-head, All-tail}
+use Rattle.fx_order.proofs.{Contains-append_cases, filter-append, Event, Action, State, IsSettled, action_of, part_of_chain, AllowsAll, Leads}
+use Rattle.fx_order.proofs.{AllReleaseTheirOwn, state_after, closes_in, by_equality, Table, PermitsAll, accesses_of, files_removed_in, table_after}
+use Rattle.fx_order.proofs.{Access, ChainAccess, leads_then, closes_in-then, ⊎_elim, All-map, ◌*◌, either_case, length, length-append, sum_by}
+use Rattle.fx_order.proofs.{sum_by-cons, FileEntry, IsAccepted, members_of, Completed, next_member, severs, first_member, Asked, runs_of, Place}
+use Rattle.fx_order.proofs.{IsChainDone, AreChainsDone, chains_of, installs_of, all_installs, accepted-chains, members-are-runs, lt-ltb, le-ltb}
+use Rattle.fx_order.proofs.{Closed, opening, state_of, numbers_for, RingContents, RingState, HasClosed, ring_of, IsOneHistory, Reported, IsOneOrder}
+use Rattle.fx_order.proofs.{table_of, sum_by-le, of_all, of_author, shown, shown-opening, chain_at}
+use Rattle.fx_order.proofs.Words.{accesses_of_chain}
 use Rattle.fx_order.proofs.RequestSteps.{AllDo, Done, by, done, installs, all_chains_explained}
 use Rattle.fx_order.proofs.Ordered.{IsWithin, ring_after, same_outline}
 use Rattle.fx_ring.proofs.Parts.{few_by_key}
-use Rattle.fx_order.proofs.ChainsFront.{chain_at}
 use Rattle.fx_order.proofs.Placed.{placed, placed-append, placed_by}
 use Rattle.fx_order.proofs.RequestCases.{few_placed}
 use Rattle.fx_order.proofs.OneRing.{NonePast, none_past_accesses, none_past_table, ring_with_files, shows_ring}
+
+-- The history of an order: its accesses, each done at once.
 
 -- a legal history of the order's accesses, from one settled state to another
 pub record Made (chains : ℕ) (st : State) (order : List ChainAccess) : Type 0 where

@@ -1,13 +1,11 @@
 -- A request's accesses are those that it intends, and its completion is the answer by what they
 -- found.
-use Rattle.fx_order.proofs.Words.{◌≡◌, ◌↔◌, ℕ, zero, suc, ◌+◌, ◌-◌, ◌≤◌, ℤ, pos, negsuc, List, [], ◌∷◌, ◌++◌, refl, ap, ◌∙◌, Some, None, inl}
-use Rattle.fx_order.proofs.Words.{⊎_elim, FileEntry, Completed, Operation, Opens, Reads, Closes, Updates, Place, Slot, Any, Access, IsCatalogue}
-use Rattle.fx_order.proofs.Words.{arith, length, positions_from, positions_of, slice_get, Bool, IsTrue, completed, drop}
-use Rattle.fx_order.proofs.Words.{refusal_of, slice_index_or, take, IsRequestDone, Allocates, Closed, FindsFull, Looks, Puts, Takes, installed}
-use Rattle.fx_order.proofs.Words.{name_at, IsOpened, allocated, answer_at_table, intents_of, list_intents, Intent, AllZip, IsOf, last_finding, Option}
-use Rattle.fx_chain.specs.declared.intent.Finding.TheVariants.{At, Free}
-use Rattle.fx_order.specs.Requests.{AreIntended, IsOwnEntry, LacksMemory}
-use Rattle.fx_order.proofs.ChainsFront.{first_and_rest}
+use Rattle.fx_order.proofs.{◌≡◌, ◌↔◌, ℕ, zero, suc, ◌+◌, ◌-◌, ◌≤◌, ℤ, pos, negsuc, List, [], ◌∷◌, ◌++◌, refl, ap, ◌∙◌, Some, None, inl, ⊎_elim}
+use Rattle.fx_order.proofs.{FileEntry, Completed, Operation, Opens, Reads, Closes, Updates, Place, Slot, Any, Access, IsCatalogue, arith, length}
+use Rattle.fx_order.proofs.{positions_from, positions_of, slice_get, Bool, IsTrue, completed, drop, refusal_of, slice_index_or, take, IsRequestDone}
+use Rattle.fx_order.proofs.{Allocates, Closed, FindsFull, Looks, Puts, Takes, installed, name_at, IsOpened, allocated, answer_at_table, intents_of}
+use Rattle.fx_order.proofs.{list_intents, Intent, AllZip, IsOf, Option, At, Free, AreIntended, IsOwnEntry, LacksMemory, first_and_rest}
+use Rattle.fx_order.proofs.Words.{last_finding}
 
 -- the accesses of a request that intends one
 pub single : (x : Intent) (Q : List Access → Type 0) (own : List Access) → AllZip IsOf (x ∷ []) own

@@ -10,3 +10,8 @@ pub mod ChainsFront
 pub mod Ordered
 pub mod PlacedNew
 pub mod OneRing
+-- The names that many of these proofs cite, passed on from one place.
+pub use Words.*
+pub use Accesses.*
+pub use Apart.*
+pub use ChainsFront.*

@@ -1,17 +1,16 @@
 -- The ring that a report of a submission leads to, and the tables that show a ring.
-use Rattle.fx_order.proofs.Words.{NoFileThatStaysIsClosed, EachClosedFileIsKnown, EachReportLeadsToOneRing, ◌≡◌, ℕ, ◌<◌, ◌≤◌, List, [], ◌∷◌, refl, ap}
-use Rattle.fx_order.proofs.Words.{◌∙◌, arith, Option, Some, None, FileEntry, Closed, State, vacant, numbered, ring_with, ring_with_slots, file_at}
-use Rattle.fx_order.proofs.Words.{changed_at, identity_of, RingContents, RingState, ring_of, Table, Puts, Clears, Takes, Allocates, PermitsAll}
-use Rattle.fx_order.proofs.Words.{table_after, Access, get_or-eq_default, inl, inr, ⊎_elim, ◌+◌, length, sym, subst, All, not_yet, same_from_decides}
-use Rattle.fx_order.proofs.Words.{IsDistinct-IsPermutation, apart_from_distinct, get_or_from_slice_get, slice_get_within, IsDistinct, Contains}
-use Rattle.fx_order.proofs.Words.{slice_get, slice_index_or, All-map, Contains-permutation, IsPermutation-sym, IsCatalogue, IsAccepted}
-use Rattle.fx_order.proofs.Words.{members_of, chains_of, first_member, Asked, runs_of, accepted-chains, members-are-runs, IsRing, Reported}
-use Rattle.fx_order.proofs.Words.{files_removed_in, accesses_of, accesses_of_chain, IsOfNext, IsOrderOf, table_of, ChainAccess, cases_lt, false≢true}
-use Rattle.fx_order.proofs.Words.{Decides-like, ring_so}
+use Rattle.fx_order.proofs.{NoFileThatStaysIsClosed, EachClosedFileIsKnown, EachReportLeadsToOneRing, ◌≡◌, ℕ, ◌<◌, ◌≤◌, List, [], ◌∷◌, refl, ap, ◌∙◌}
+use Rattle.fx_order.proofs.{arith, Option, Some, None, FileEntry, Closed, State, vacant, numbered, ring_with, ring_with_slots, file_at, changed_at}
+use Rattle.fx_order.proofs.{identity_of, RingContents, RingState, ring_of, Table, Puts, Clears, Takes, Allocates, PermitsAll, table_after, Access}
+use Rattle.fx_order.proofs.{get_or-eq_default, inl, inr, ⊎_elim, ◌+◌, length, sym, subst, All, not_yet, same_from_decides, IsDistinct-IsPermutation}
+use Rattle.fx_order.proofs.{apart_from_distinct, get_or_from_slice_get, slice_get_within, IsDistinct, Contains, slice_get, slice_index_or, All-map}
+use Rattle.fx_order.proofs.{Contains-permutation, IsPermutation-sym, IsCatalogue, IsAccepted, members_of, chains_of, first_member, Asked, runs_of}
+use Rattle.fx_order.proofs.{accepted-chains, members-are-runs, IsRing, Reported, files_removed_in, accesses_of, IsOfNext, IsOrderOf, table_of}
+use Rattle.fx_order.proofs.{ChainAccess, cases_lt, false≢true, Decides-like, ring_so, IsApart, alike, removed_is_gone, removes_once, mark_Decides}
+use Rattle.fx_order.proofs.Words.{accesses_of_chain}
 use Rattle.fx_ring.specs.OpenRings.{table_with_files}
 use Rattle.std.specs.Prelude.{option_map}
 use Rattle.fx_order.specs.declared.ring_slots.RingSlots.{RingSlots}
-use Rattle.fx_order.proofs.Apart.{IsApart, alike, removed_is_gone, removes_once, mark_Decides}
 use Rattle.fx_order.proofs.Placed.{Has, Removes, contains_removed, left_from, left_or_removed, placed, removed_from, removes_contained}
 use Rattle.fx_order.proofs.PlacedNew.{AnyPlace, InLimits, IsOfMembers, OwnOf, ReachesAll, chain_places, has_in_chain, has_of_chain, order_places_once}
 use Rattle.fx_order.proofs.PlacedNew.{reaches_all_any, reaches_all_limits, chains_same}

@@ -1,12 +1,11 @@
 -- The order of a history: its accesses, one after another.
-use Rattle.fx_order.proofs.Words.{EachHistoryIsAnOrder, ◌≡◌, ℕ, ◌+◌, List, [], ◌∷◌, length, sym, ap, ◌∙◌, Option, arith, Closed, Table, PermitsAll}
-use Rattle.fx_order.proofs.Words.{table_with, table_after, files_removed_in, accesses_of, ChainAccess, Access, ◌≤◌, map, refl, subst, All, Contains}
-use Rattle.fx_order.proofs.Words.{IsPermutation, opening_is_start, All-nil, All-append, IsPermutation-trans, Event, Action, State, opening, state_of}
-use Rattle.fx_order.proofs.Words.{action_of, closes_in, numbers_for, Asked, runs_of, RingState, ring_of, Looks, table_of, contains_head}
-use Rattle.fx_order.proofs.Words.{contains_tail, All-map, length-map, FileEntry, members_of, Chain, ring_left, ring_of_slots, table_of_slots, Slots}
-use Rattle.fx_order.proofs.Words.{IsTrue, false, ◌↔◌, false≢true}
-use Rattle.fx_order.proofs.Accesses.{shown, accesses_by, accesses_in, order_in, by_chain, accesses_of-order_in}
-use Rattle.fx_order.proofs.Accesses.{permitted_along, shown-opening, removed_is_closed}
+use Rattle.fx_order.proofs.{EachHistoryIsAnOrder, ◌≡◌, ℕ, ◌+◌, List, [], ◌∷◌, length, sym, ap, ◌∙◌, Option, arith, Closed, Table, PermitsAll}
+use Rattle.fx_order.proofs.{table_with, table_after, files_removed_in, accesses_of, ChainAccess, Access, ◌≤◌, map, refl, subst, All, Contains}
+use Rattle.fx_order.proofs.{IsPermutation, opening_is_start, All-nil, All-append, IsPermutation-trans, Event, Action, State, opening, state_of}
+use Rattle.fx_order.proofs.{action_of, closes_in, numbers_for, Asked, runs_of, RingState, ring_of, Looks, table_of, contains_head, contains_tail}
+use Rattle.fx_order.proofs.{All-map, length-map, FileEntry, members_of, Chain, ring_left, ring_of_slots, table_of_slots, Slots, IsTrue, false, ◌↔◌}
+use Rattle.fx_order.proofs.{false≢true, shown, accesses_by, accesses_in, order_in, by_chain, accesses_of-order_in, permitted_along, shown-opening}
+use Rattle.fx_order.proofs.{removed_is_closed}
 use Rattle.fx_order.proofs.RequestSteps.{all_explained}
 
 abbrev pub IsWithin : ℕ → ℕ → Type 0

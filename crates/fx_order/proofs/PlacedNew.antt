@@ -1,11 +1,10 @@
 -- The files that a submission places, and those that two orders place.
-use Rattle.fx_order.proofs.Words.{◌≡◌, inl, inr, ⊎_elim, ℕ, ◌+◌, ◌<◌, ◌≤◌, List, [], ◌∷◌, ◌++◌, length, either_way, sym, ap, subst, ◌∙◌, arith, All}
-use Rattle.fx_order.proofs.Words.{All-head, All-tail, FileEntry, Closed, IsWithinLimits, Completed, next_member, severs, first_member, MOST_MEMBERS}
-use Rattle.fx_order.proofs.Words.{LONGEST_UPDATE, Asked, Place, accesses_of, accesses_of_chain, Access, ChainAccess, IsChainDone, AreChainsDone}
-use Rattle.fx_order.proofs.Words.{InstallsAt, both_ways, IsCatalogue, by_equality, drop-append_seam, take-append_seam}
-use Rattle.fx_order.proofs.Accesses.{of_chain, own_first}
-use Rattle.fx_order.proofs.Apart.{Own, PlacesOnce, once_after, once_between, once_then, own_both, own_none}
-use Rattle.fx_order.proofs.ChainsFront.{chain_at, front_is, length-done}
+use Rattle.fx_order.proofs.{◌≡◌, inl, inr, ⊎_elim, ℕ, ◌+◌, ◌<◌, ◌≤◌, List, [], ◌∷◌, ◌++◌, length, either_way, sym, ap, subst, ◌∙◌, arith, All}
+use Rattle.fx_order.proofs.{All-head, All-tail, FileEntry, Closed, IsWithinLimits, Completed, next_member, severs, first_member, MOST_MEMBERS}
+use Rattle.fx_order.proofs.{LONGEST_UPDATE, Asked, Place, accesses_of, Access, ChainAccess, IsChainDone, AreChainsDone, InstallsAt, both_ways}
+use Rattle.fx_order.proofs.{IsCatalogue, by_equality, drop-append_seam, take-append_seam, of_chain, own_first, Own, PlacesOnce, once_after}
+use Rattle.fx_order.proofs.{once_between, once_then, own_both, own_none, chain_at, front_is, length-done}
+use Rattle.fx_order.proofs.Words.{accesses_of_chain}
 use Rattle.fx_order.proofs.RequestCases.{IsMarked, each_placed, listed_short, placed_same}
 use Rattle.fx_order.proofs.Placed.{Has, has_either, has_left, has_right, placed, placed_by, placed-append}
 

@@ -1,19 +1,17 @@
 -- A request's accesses and completion, by its operation and its entries. A new kind of request adds
 -- its cases here.
-use Rattle.fx_order.proofs.Words.{◌≡◌, ℕ, zero, suc, ◌+◌, ◌<◌, ◌≤◌, ℤ, pos, negsuc, false, if◌then◌else◌, List, [], ◌∷◌, ◌++◌, length, refl, sym, ap}
-use Rattle.fx_order.proofs.Words.{◌∙◌, arith, inl, inr, Option, Some, slice_get, slice_get_within, leb-false, list_any, or_parts, zero-add, add-zero}
-use Rattle.fx_order.proofs.Words.{int_eq, Submitted, Closed, Place, installed, is_bad_entry, list_installs, list_installs-cons, Access, FileEntry}
-use Rattle.fx_order.proofs.Words.{IsCatalogue, name_at, Errno, EBADF, ENFILE, ENOMEM, refusal_of, Operation, Opens, Updates, Target}
-use Rattle.fx_order.proofs.Words.{Completed, completed, refusal, Any, Slot, Allocates, completion_of_read, IsDoneAtTable, IsRequestDone, InstallsAt}
-use Rattle.fx_order.proofs.Words.{installs_of, is_long_update, LONGEST_UPDATE, positions_of, applied, None, either_option, IsOf, last_finding}
-use Rattle.fx_order.proofs.Words.{IsOpened, answer_at_table, close_answer, count_of, intents_of, list_intents, read_answer, Intent, AllZip}
-use Rattle.fx_order.proofs.Apart.{Own, own_both, own_none, own_one, own_weaker}
+use Rattle.fx_order.proofs.{◌≡◌, ℕ, zero, suc, ◌+◌, ◌<◌, ◌≤◌, ℤ, pos, negsuc, false, if◌then◌else◌, List, [], ◌∷◌, ◌++◌, length, refl, sym, ap, ◌∙◌}
+use Rattle.fx_order.proofs.{arith, inl, inr, Option, Some, slice_get, slice_get_within, leb-false, list_any, or_parts, zero-add, add-zero, int_eq}
+use Rattle.fx_order.proofs.{Submitted, Closed, Place, installed, is_bad_entry, list_installs, list_installs-cons, Access, FileEntry, IsCatalogue}
+use Rattle.fx_order.proofs.{name_at, Errno, EBADF, ENFILE, ENOMEM, refusal_of, Operation, Opens, Updates, Target, Completed, completed, refusal, Any}
+use Rattle.fx_order.proofs.{Slot, Allocates, completion_of_read, IsDoneAtTable, IsRequestDone, InstallsAt, installs_of, is_long_update}
+use Rattle.fx_order.proofs.{LONGEST_UPDATE, positions_of, applied, None, either_option, IsOf, IsOpened, answer_at_table, close_answer, count_of}
+use Rattle.fx_order.proofs.{intents_of, list_intents, read_answer, Intent, AllZip, Own, own_both, own_none, own_one, own_weaker, both_options, At}
+use Rattle.fx_order.proofs.Words.{last_finding}
 use Rattle.fx_order.proofs.Intents.{as_many, by_intents, same_opened}
 use Rattle.fx_order.proofs.Placed.{placed}
 use Rattle.fx_base.proofs.Entries.{entry_named}
-use Rattle.fx_chain.proofs.Cases.{both_options}
 use Rattle.fx_chain.specs.declared.intent.Finding.{Finding}
-use Rattle.fx_chain.specs.declared.intent.Finding.TheVariants.{At}
 use Rattle.fx_chain.specs.declared.intent.Intent.TheVariants.{Allocate, Put}
 
 -- a file of the catalogue without a tag, of a position in a request's list

@@ -1,18 +1,17 @@
 -- A request's accesses, and the steps that they are: each explains the answers that the other does.
 -- A new kind of request adds its cases here.
-use Rattle.fx_order.proofs.Words.{◌≡◌, ℕ, ◌+◌, ◌<◌, ◌≤◌, ◌==◌, true, false, List, [], ◌∷◌, ◌++◌, length, map, refl, sym, ◌∙◌, arith, Option, subst}
-use Rattle.fx_order.proofs.Words.{Some, None, ReleasesItsOwn, if◌then◌else◌, option_to_list, Closed, File, Event, Action, Look, Release, Put, Clear}
-use Rattle.fx_order.proofs.Words.{Take, Allocate, Full, State, IsSettled, ◌▷◌, ◌▷▷◌, state_after, AllowsAll, AllReleaseTheirOwn, held_by, close_of}
-use Rattle.fx_order.proofs.Words.{closes_in, identity_of, by_equality, Looks, Puts, Clears, Takes, Allocates, FindsFull, Permits, table_with}
-use Rattle.fx_order.proofs.Words.{file_removed_by, Access, table_after, closed_by, Allows, after, with_removed, ap, inl, inr, zero, suc, ℤ, pos}
-use Rattle.fx_order.proofs.Words.{negsuc, same_options, refusal_of, IsDoneAtTable, AnswersAtTable, TakesAt, file_told, append_assoc, append-nil}
-use Rattle.fx_order.proofs.Words.{FileEntry, Errno, ENOMEM, Refuses, MayClose, ReadsAt, AppliesList, Answers, Completed, Operation}
-use Rattle.fx_order.proofs.Words.{Reads, Place, IsRefused, IsRequestDone, installed, same_cases, action_of, part_of_chain, next_member, Explains}
-use Rattle.fx_order.proofs.Words.{severs, Asked, ExplainsParts, accesses_of_chain, ChainAccess, IsChainDone, AreChainsDone, answer_at_table}
-use Rattle.fx_order.proofs.Words.{close_answer, list_intents, read_answer, IsOf, last_finding, AllZip}
-use Rattle.fx_chain.specs.declared.intent.Finding.TheVariants.{At}
+use Rattle.fx_order.proofs.{◌≡◌, ℕ, ◌+◌, ◌<◌, ◌≤◌, ◌==◌, true, false, List, [], ◌∷◌, ◌++◌, length, map, refl, sym, ◌∙◌, arith, Option, subst, Some}
+use Rattle.fx_order.proofs.{None, ReleasesItsOwn, if◌then◌else◌, option_to_list, Closed, File, Event, Action, Look, Release, Put, Clear, Take}
+use Rattle.fx_order.proofs.{Allocate, Full, State, IsSettled, ◌▷◌, ◌▷▷◌, state_after, AllowsAll, AllReleaseTheirOwn, held_by, close_of, closes_in}
+use Rattle.fx_order.proofs.{identity_of, by_equality, Looks, Puts, Clears, Takes, Allocates, FindsFull, Permits, table_with, file_removed_by, Access}
+use Rattle.fx_order.proofs.{table_after, closed_by, Allows, after, with_removed, ap, inl, inr, zero, suc, ℤ, pos, negsuc, same_options, refusal_of}
+use Rattle.fx_order.proofs.{IsDoneAtTable, AnswersAtTable, TakesAt, file_told, append_assoc, append-nil, FileEntry, Errno, ENOMEM, Refuses, MayClose}
+use Rattle.fx_order.proofs.{ReadsAt, AppliesList, Answers, Completed, Operation, Reads, Place, IsRefused, IsRequestDone, installed, same_cases}
+use Rattle.fx_order.proofs.{action_of, part_of_chain, next_member, Explains, severs, Asked, ExplainsParts, ChainAccess, IsChainDone, AreChainsDone}
+use Rattle.fx_order.proofs.{answer_at_table, close_answer, list_intents, read_answer, IsOf, AllZip, At, accesses_by, at_itself, shown, accesses_in}
+use Rattle.fx_order.proofs.{accesses_in-then, order_in, accesses_of_chain-order_in}
+use Rattle.fx_order.proofs.Words.{accesses_of_chain, last_finding}
 use Rattle.fx_order.proofs.Intents.{by_intents}
-use Rattle.fx_order.proofs.Accesses.{accesses_by, at_itself, shown, accesses_in, accesses_in-then, order_in, accesses_of_chain-order_in}
 use Rattle.fx_order.proofs.Placed.{placed_by}
 
 -- the release of what a look-up found, if it found a file

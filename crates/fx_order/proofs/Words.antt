@@ -7,7 +7,7 @@ pub use Rattle.fx_base.specs.declared.errno.Errno.TheVariants.{EBADF, ECANCELED,
 pub use Rattle.fx_base.specs.declared.mark.Mark.{Mark}
 pub use Rattle.fx_base.specs.declared.mark.Mark.TheVariants.{Submitted}
 pub use Rattle.fx_base.specs.declared.open_file.Closed.{Closed}
-pub use Rattle.fx_chain.proofs.Cases.{both_ways, either_case, either_option, either_way, same_cases, same_options}
+pub use Rattle.fx_chain.proofs.Cases.{both_ways, either_case, either_option, either_way, same_cases, same_options, both_options}
 pub use Rattle.fx_chain.proofs.Accepted.{accepted-chains, members-are-runs, applied}
 pub use Rattle.fx_chain.proofs.EntryKinds.{list_installs-cons}
 pub use Rattle.fx_chain.specs.Accepted.{IsAccepted, IsChain, IsWithinLimits, members_of}
@@ -17,8 +17,8 @@ pub use Rattle.fx_chain.specs.Chains.{chains_of}
 pub use Rattle.fx_chain.specs.Completed.{Completed, all_completed, completed, completed_of, next_member, refusal}
 pub use Rattle.fx_chain.specs.Explains.{Explains, canceled, first_member, severs}
 pub use Rattle.fx_chain.specs.Faults.{is_long_update}
-pub use Rattle.fx_chain.specs.Intents.{InstallsAt, IsOpened, allocated, answer_at_table, close_answer, completion_of_read, count_of}
-pub use Rattle.fx_chain.specs.Intents.{intents_of, list_intents, positions_from, positions_of, read_answer}
+pub use Rattle.fx_chain.specs.Intents.{InstallsAt, IsOpened, allocated, answer_at_table, close_answer, completion_of_read, count_of, intents_of}
+pub use Rattle.fx_chain.specs.Intents.{list_intents, positions_from, positions_of, read_answer, intent_by}
 pub use Rattle.fx_chain.specs.Operation.{Asked, Closes, Opens, Operation, Reads, Updates, all_asked, asked_of, operation_of}
 pub use Rattle.fx_chain.specs.Runs.{runs_of}
 pub use Rattle.fx_chain.specs.Weights.{all_installs, installs_of, list_installs}
@@ -36,7 +36,7 @@ pub use Rattle.fx_order.specs.Access.{accesses_of_chain, file_removed_by, files_
 pub use Rattle.fx_order.specs.Laws.{AreKnown, EachClosedFileIsKnown, EachHistoryIsAnOrder, EachOrderIsAHistory, EachReportLeadsToOneRing, IsOfNext}
 pub use Rattle.fx_order.specs.Laws.{NoFileThatStaysIsClosed}
 pub use Rattle.fx_order.specs.Order.{IsOneOrder, IsOrderOf, ring_left, table_of}
-pub use Rattle.fx_order.specs.Requests.{AreChainsDone, IsChainDone, IsDoneAtTable, IsRefused, IsRequestDone}
+pub use Rattle.fx_order.specs.Requests.{AreChainsDone, IsChainDone, IsDoneAtTable, IsRefused, IsRequestDone, AreIntended, IsOwnEntry, LacksMemory}
 pub use Rattle.fx_order.specs.Slots.{ring_of_slots, table_of_slots, ring_with_slots}
 pub use Rattle.fx_order.specs.declared.access.Access.{Access}
 pub use Rattle.fx_order.specs.declared.access.ChainAccess.{ChainAccess}
@@ -62,9 +62,9 @@ pub use Rattle.fx_ring.specs.Submission.{ExplainsParts, IsOneHistory, Reported}
 pub use Rattle.fx_table.proofs.SumLemmas.{contains_cases, contains_head, contains_none, contains_tail}
 pub use Rattle.fx_table.specs.Numbers.{numbers_for}
 pub use Rattle.std.proofs.Common.{All, Bool, Contains, Decides, IfOk, IsPermutation, IsSome, IsTrue, List, None, Option, Result, Some, [], ap}
-pub use Rattle.std.proofs.Common.{append_assoc, arith, cond, drop, eq-eqb, false, filter, if◌then◌else◌, inl, inr, length, map, min, negsuc}
-pub use Rattle.std.proofs.Common.{not, pos, refl, rules, slice_get, slice_index_or, subst, suc, sym, take, true, zero, ℕ, ℤ, ⊎_elim}
-pub use Rattle.std.proofs.Common.{◌&&◌, ◌*◌, ◌++◌, ◌+◌, ◌-◌, ◌<◌, ◌==◌, ◌↔◌, ◌∙◌, ◌∷◌, ◌≡◌, ◌≢◌, ◌≤◌, ◌⊎◌, add-zero, zero-add}
+pub use Rattle.std.proofs.Common.{append_assoc, arith, cond, drop, eq-eqb, false, filter, if◌then◌else◌, inl, inr, length, map, min, negsuc, not, pos}
+pub use Rattle.std.proofs.Common.{refl, rules, slice_get, slice_index_or, subst, suc, sym, take, true, zero, ℕ, ℤ, ⊎_elim, ◌&&◌, ◌*◌, ◌++◌, ◌+◌, ◌-◌}
+pub use Rattle.std.proofs.Common.{◌<◌, ◌==◌, ◌↔◌, ◌∙◌, ◌∷◌, ◌≡◌, ◌≢◌, ◌≤◌, ◌⊎◌, add-zero, zero-add}
 pub use Rattle.std.proofs.Math.ListN.{get_or-eq_default}
 pub use Rattle.std.proofs.Math.Seq.{drop-append_seam, split_at, take-append_seam, take-length}
 pub use Rattle.std.proofs.lemmas.Bool.{cases_lt, false≢true, le-ltb, leb-false, lt-ltb, not-true, or_parts, cases_Bool}
@@ -86,3 +86,4 @@ pub use Rattle.std.specs.Global.{Vec}
 pub use Rattle.std.specs.List.{list_any, remove, sum_by, AllByRecursion, AllZip, IsDistinct}
 pub use Rattle.std.specs.Option.{option_to_list, option_eq}
 pub use Rattle.std.specs.Ordering.{is_lt, int_eq}
+pub use Rattle.fx_chain.specs.declared.intent.Finding.TheVariants.{At, Free}

@@ -1,19 +1,16 @@
 -- Accesses of a table that is only its size, its allocation range and the file at each slot. A
 -- request that reaches the table makes one access, and an update one for each entry of its list.
-use Rattle.std.specs.Prelude.{◌≡◌, ◌⊎◌, ℕ, ◌+◌, ◌<◌, ◌≤◌, ◌==◌, List, [], ◌∷◌, ◌++◌, map, filter}
-use Rattle.std.specs.Prelude.{Option, Some, None, IsSome}
+use Rattle.fx_order.specs.Words.{ℕ, List, [], map, filter, Option, Some, None, IsSome, Identity}
+use Rattle.fx_order.specs.Words.{Closed, Access, ChainAccess}
+use Rattle.std.specs.Prelude.{◌≡◌, ◌⊎◌, ◌+◌, ◌<◌, ◌≤◌, ◌==◌, ◌∷◌, ◌++◌}
 use Rattle.std.specs.Option.{option_to_list}
-use Rattle.fx_base.specs.Identity.{Identity}
-use Rattle.fx_base.specs.declared.open_file.Closed.{Closed}
 use Rattle.fx_plain.specs.Step.{changed_at}
 use Rattle.fx_chain.specs.declared.intent.Finding.{Finding}
 use Rattle.fx_chain.specs.declared.intent.Finding.TheVariants.{At, Free, Full}
 use Rattle.fx_chain.specs.declared.intent.Intent.{Intent}
 use Rattle.fx_chain.specs.declared.intent.Intent.TheVariants.{Look, Put, Clear, Take, Allocate}
-use Rattle.fx_order.specs.declared.access.Access.{Access}
 pub use Rattle.fx_order.specs.declared.access.Access.TheVariants.{Looks, Puts, Clears, Takes}
 pub use Rattle.fx_order.specs.declared.access.Access.TheVariants.{Allocates, FindsFull}
-use Rattle.fx_order.specs.declared.access.ChainAccess.{ChainAccess}
 
 pub record Table : Type 0 where
   -- the number of slots, which are numbered from 0

@@ -1,17 +1,12 @@
 -- Laws that relate orders to histories, and reports to rings.
-use Rattle.std.specs.Prelude.{◌≡◌, ◌⊎◌, ℕ, ◌+◌, ◌<◌, ◌≤◌, List, length, slice_get, Some, Contains}
-use Rattle.fx_base.specs.Catalogue.{IsCatalogue}
+use Rattle.fx_order.specs.Words.{ℕ, List, length, slice_get, Some, Contains, IsCatalogue, Identity}
+use Rattle.fx_order.specs.Words.{IsAccepted, Asked, runs_of, Place, RingContents, RingState, IsRing}
+use Rattle.fx_order.specs.Words.{ring_of, IsOneHistory, Reported}
+use Rattle.std.specs.Prelude.{◌≡◌, ◌⊎◌, ◌+◌, ◌<◌, ◌≤◌}
 use Rattle.fx_base.specs.declared.mark.Mark.TheVariants.{Submitted}
-use Rattle.fx_base.specs.Identity.{Identity}
 use Rattle.fx_plain.specs.declared.table.TheConstants.{MOST_SLOTS}
-use Rattle.fx_chain.specs.Accepted.{IsAccepted}
-use Rattle.fx_chain.specs.Operation.{Asked}
-use Rattle.fx_chain.specs.Runs.{runs_of}
-use Rattle.fx_chain.specs.declared.completion.Place.{Place}
 use Rattle.fx_chain.specs.declared.fault.TheConstants.{MOST_MEMBERS}
 use Rattle.fx_chain.specs.declared.request.TheConstants.{LONGEST_UPDATE}
-use Rattle.fx_ring.specs.Ring.{RingContents, RingState, IsRing, ring_of}
-use Rattle.fx_ring.specs.Submission.{IsOneHistory, Reported}
 use Rattle.fx_order.specs.Order.{IsOneOrder}
 
 -- one order leads to what one history leads to

@@ -4,3 +4,4 @@ pub mod Requests
 pub mod Order
 pub mod Laws
 pub mod SubmissionReport
+pub mod Words

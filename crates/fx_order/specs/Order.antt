@@ -1,12 +1,9 @@
 -- A submission as an order: its requests are done one at a time, in an order that keeps each
 -- chain's (an update entry by entry).
-use Rattle.std.specs.Prelude.{◌≡◌, ◌+◌, ◌≤◌, List, length, All}
-use Rattle.fx_chain.specs.Operation.{Asked}
-use Rattle.fx_chain.specs.Runs.{runs_of}
-use Rattle.fx_ring.specs.Ring.{RingState, HasClosed}
-use Rattle.fx_ring.specs.Submission.{Reported}
+use Rattle.fx_order.specs.Words.{List, length, All, Asked, runs_of, RingState, HasClosed, Reported}
+use Rattle.fx_order.specs.Words.{ChainAccess}
+use Rattle.std.specs.Prelude.{◌≡◌, ◌+◌, ◌≤◌}
 use Rattle.fx_order.specs.Access.{Table, PermitsAll, table_after, files_removed_in, accesses_of}
-use Rattle.fx_order.specs.declared.access.ChainAccess.{ChainAccess}
 use Rattle.fx_order.specs.Requests.{AreChainsDone}
 
 -- the table of a ring

@@ -1,21 +1,14 @@
 -- The answers that a request may get when it is done at once, by its accesses of a table of the
 -- given size: it makes the accesses that it intends, and answers by what they found. And the
 -- answers of a chain.
-use Rattle.std.specs.Prelude.{◌≡◌, ◌⊎◌, ℕ, ◌+◌, ◌<◌, List, [], ◌∷◌, ◌++◌, Some, MatchOption}
+use Rattle.fx_order.specs.Words.{ℕ, List, [], Some, MatchOption, AllZip, ENOMEM, FileEntry}
+use Rattle.fx_order.specs.Words.{Completed, refusal, next_member, canceled, first_member, severs}
+use Rattle.fx_order.specs.Words.{IsOpened, answer_at_table, bytes_asked, intents_of, Operation}
+use Rattle.fx_order.specs.Words.{Asked, refusal_of, Place, Access, ChainAccess}
+use Rattle.std.specs.Prelude.{◌≡◌, ◌⊎◌, ◌+◌, ◌<◌, ◌∷◌, ◌++◌}
 use Rattle.std.specs.Bool.{MatchBool}
-use Rattle.std.specs.List.{AllZip}
 use Rattle.fx_base.specs.declared.errno.Errno.{Errno}
-use Rattle.fx_base.specs.declared.errno.Errno.TheVariants.{ENOMEM}
-use Rattle.fx_base.specs.Catalogue.{FileEntry}
-use Rattle.fx_chain.specs.Completed.{Completed, refusal, next_member}
-use Rattle.fx_chain.specs.Explains.{canceled, first_member, severs}
-use Rattle.fx_chain.specs.Intents.{IsOpened, answer_at_table, bytes_asked, intents_of}
-use Rattle.fx_chain.specs.Operation.{Operation, Asked}
-use Rattle.fx_chain.specs.Refusal.{refusal_of}
-use Rattle.fx_chain.specs.declared.completion.Place.{Place}
 use Rattle.fx_order.specs.Access.{IsOf, accesses_of_chain, entry_installed, last_finding}
-use Rattle.fx_order.specs.declared.access.Access.{Access}
-use Rattle.fx_order.specs.declared.access.ChainAccess.{ChainAccess}
 
 -- the request didn't reach the table, and fails
 abbrev pub IsRefused : Place → Errno → List Access → Completed → Type 0

@@ -1,11 +1,9 @@
 -- A table's slots, as contracts see them.
-use Rattle.std.specs.Prelude.{◌≡◌, ℕ, ◌<◌, List, length, slice_index_or, Option, None}
-use Rattle.fx_base.specs.Identity.{Identity}
-use Rattle.fx_base.specs.Catalogue.{FileEntry}
-use Rattle.fx_ring.specs.Ring.{RingState}
+use Rattle.fx_order.specs.Words.{ℕ, List, length, slice_index_or, Option, None, Identity, FileEntry}
+use Rattle.fx_order.specs.Words.{RingState, Slots}
+use Rattle.std.specs.Prelude.{◌≡◌, ◌<◌}
 use Rattle.fx_order.specs.Access.{Table}
 use Rattle.fx_order.specs.declared.ring_slots.RingSlots.{RingSlots}
-use Rattle.fx_order.specs.declared.slots.Slots.{Slots}
 
 abbrev pub table_of_slots : Slots → Table
 table_of_slots slots = record {

@@ -1,10 +1,7 @@
 -- A submission and its report.
-use Rattle.std.specs.Prelude.{ℕ, ◌+◌}
-use Rattle.fx_chain.specs.Completed.{all_completed}
-use Rattle.fx_ring.specs.Submission.{Reported}
-use Rattle.fx_ring.specs.Ring.{RingState}
+use Rattle.fx_order.specs.Words.{ℕ, all_completed, Reported, RingState, Slots}
+use Rattle.std.specs.Prelude.{◌+◌}
 use Rattle.fx_order.specs.Slots.{ring_of_slots}
-use Rattle.fx_order.specs.declared.slots.Slots.{Slots}
 use Rattle.fx_order.specs.declared.submission_report.SubmissionReport.{SubmissionReport}
 
 -- the report; its list of closes may have any room

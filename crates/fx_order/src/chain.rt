@@ -1,9 +1,6 @@
 //! Checking the accesses and completions of a chain's members, one after another.
-ghost use Rattle.std.specs.Prelude.{◌≡◌, ◌<◌, ◌+◌, ◌^◌, ◌↔◌, All, IfOk, IsTrue, length};
-ghost use Rattle.fx_chain.specs.Accepted.{IsWithinLimits};
-ghost use Rattle.fx_chain.specs.Completed.{all_completed};
-ghost use Rattle.fx_chain.specs.Explains.{canceled};
-ghost use Rattle.fx_chain.specs.Operation.{all_asked, asked_of};
+ghost use Rattle.fx_order.specs.Words.{All, IfOk, IsTrue, length, IsWithinLimits, all_completed, canceled, all_asked, asked_of};
+ghost use Rattle.std.specs.Prelude.{◌≡◌, ◌<◌, ◌+◌, ◌^◌, ◌↔◌};
 ghost use Rattle.fx_order.specs.Requests.{IsChainDone};
 
 use crate::access::Access;

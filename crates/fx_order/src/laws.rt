@@ -1,9 +1,8 @@
 //! Laws that relate orders of requests to histories of a table, over definitions alone. Each is the
 //! contract of a function with an empty body.
 
-ghost use Rattle.fx_order.specs.Laws.{EachClosedFileIsKnown, EachHistoryIsAnOrder};
-ghost use Rattle.fx_order.specs.Laws.{EachOrderIsAHistory};
-ghost use Rattle.fx_order.specs.Laws.{EachReportLeadsToOneRing, NoFileThatStaysIsClosed};
+ghost use Rattle.fx_order.specs.Laws.{EachClosedFileIsKnown, EachHistoryIsAnOrder, EachOrderIsAHistory, EachReportLeadsToOneRing};
+ghost use Rattle.fx_order.specs.Laws.{NoFileThatStaysIsClosed};
 
 /// States that what one history of its table leads to for a submission, one order of its requests,
 /// done one at a time, leads to as well: the completions, the closes and the files at the slots

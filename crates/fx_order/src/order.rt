@@ -1,10 +1,8 @@
 //! Replaying an order of a submission's requests, access by access.
-ghost use Rattle.std.specs.Prelude.{◌≡◌, ℕ, ◌<◌, ◌↔◌, ◌≢◌, IfNone, IfOk, IfSome, IsTrue};
-ghost use Rattle.std.specs.Prelude.{IsPermutation, length, slice_index_or};
+ghost use Rattle.fx_order.specs.Words.{ℕ, IfNone, IfOk, IfSome, IsTrue, IsPermutation, length, slice_index_or, Closed as File};
+ghost use Rattle.std.specs.Prelude.{◌≡◌, ◌<◌, ◌↔◌, ◌≢◌};
 ghost use Rattle.fx_base.specs.CloseList.{IsInOrderOfMark};
-ghost use Rattle.fx_base.specs.declared.open_file.Closed.{Closed as File};
-ghost use Rattle.fx_order.specs.Access.{PermitsAll, table_after, accesses_of, accesses_of_chain};
-ghost use Rattle.fx_order.specs.Access.{files_removed_in};
+ghost use Rattle.fx_order.specs.Access.{PermitsAll, table_after, accesses_of, accesses_of_chain, files_removed_in};
 ghost use Rattle.fx_order.specs.Slots.{table_of_slots};
 
 use crate::access::{Access, ChainAccess};

@@ -1,9 +1,6 @@
 //! Checking whether an order of a submission's requests leads to its report.
-ghost use Rattle.std.specs.Prelude.{◌≡◌, ℕ, ◌<◌, ◌≤◌, ◌+◌, ◌^◌, ◌↔◌, All, IfOk, IfSome};
-ghost use Rattle.std.specs.Prelude.{IsSome, IsTrue, OnErr, false, length};
-ghost use Rattle.fx_chain.specs.Accepted.{IsAccepted};
-ghost use Rattle.fx_chain.specs.Operation.{all_asked};
-ghost use Rattle.fx_ring.specs.Submission.{reported};
+ghost use Rattle.fx_order.specs.Words.{ℕ, All, IfOk, IfSome, IsSome, IsTrue, OnErr, false, length, IsAccepted, all_asked, reported};
+ghost use Rattle.std.specs.Prelude.{◌≡◌, ◌<◌, ◌≤◌, ◌+◌, ◌^◌, ◌↔◌};
 ghost use Rattle.fx_order.specs.Order.{IsOrderOf, ring_left};
 ghost use Rattle.fx_order.specs.Slots.{ring_of_slots, ring_with_slots};
 ghost use Rattle.fx_order.specs.SubmissionReport.{report_of, ring_before};

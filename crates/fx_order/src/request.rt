@@ -1,19 +1,11 @@
 //! Checking a request's accesses and completion: the accesses are those that it intends, and its
 //! completion is the answer by what they found.
-ghost use Rattle.std.specs.Prelude.{◌≡◌, ◌<◌, ◌+◌, ◌^◌, ◌↔◌, IfNone, IfOk, IfSome, IsTrue};
-ghost use Rattle.std.specs.Prelude.{List, None, Some, ℕ};
-ghost use Rattle.std.specs.Prelude.{drop, length, take};
-ghost use Rattle.std.specs.List.{AllZip};
-ghost use Rattle.fx_base.specs.declared.errno.Errno.TheVariants.{ENOENT};
-ghost use Rattle.fx_chain.specs.Accepted.{IsWithinLimits};
-ghost use Rattle.fx_chain.specs.Completed.{completed_of};
-ghost use Rattle.fx_chain.specs.Intents.{IsOpened, answer_at_table, intents_of, positions_of};
-ghost use Rattle.fx_chain.specs.Operation.{asked_of, operation_of};
-ghost use Rattle.fx_chain.specs.Refusal.{refusal_of};
+ghost use Rattle.fx_order.specs.Words.{IfNone, IfOk, IfSome, IsTrue, List, None, Some, ℕ, drop, length, take, AllZip, ENOENT, IsWithinLimits};
+ghost use Rattle.fx_order.specs.Words.{completed_of, IsOpened, answer_at_table, intents_of, positions_of, asked_of, operation_of, refusal_of};
+ghost use Rattle.fx_order.specs.Words.{Access as Made};
+ghost use Rattle.std.specs.Prelude.{◌≡◌, ◌<◌, ◌+◌, ◌^◌, ◌↔◌};
 ghost use Rattle.fx_order.specs.Access.{IsOf, entry_installed, last_finding};
-ghost use Rattle.fx_order.specs.Requests.{AreIntended, IsOwnEntry, IsRefused, IsRequestDone};
-ghost use Rattle.fx_order.specs.Requests.{LacksMemory};
-ghost use Rattle.fx_order.specs.declared.access.Access.{Access as Made};
+ghost use Rattle.fx_order.specs.Requests.{AreIntended, IsOwnEntry, IsRefused, IsRequestDone, LacksMemory};
 
 use crate::access::Access;
 use fx_base::{Catalogue, Errno, NoMemory};

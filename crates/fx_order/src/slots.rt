@@ -1,6 +1,6 @@
 //! A table, as an order of accesses sees it.
-ghost use Rattle.std.specs.Prelude.{◌≡◌, ℕ, ◌+◌, ◌<◌, ◌≤◌, ◌↔◌, IfOk, IsTrue, IsSome, None};
-ghost use Rattle.std.specs.Prelude.{length, slice_index_or};
+ghost use Rattle.fx_order.specs.Words.{ℕ, IfOk, IsTrue, IsSome, None, length, slice_index_or};
+ghost use Rattle.std.specs.Prelude.{◌≡◌, ◌+◌, ◌<◌, ◌≤◌, ◌↔◌};
 ghost use Rattle.fx_order.specs.Access.{Permits, table_with, with_file};
 ghost use Rattle.fx_order.specs.Slots.{IsFoundAt, table_of_slots};
 

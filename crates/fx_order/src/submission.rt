@@ -1,9 +1,6 @@
 //! Checking the accesses and completions of a submission, chain by chain.
-ghost use Rattle.std.specs.Prelude.{◌≡◌, ◌<◌, ◌≤◌, ◌+◌, ◌^◌, ◌↔◌, All, IfOk, IsTrue};
-ghost use Rattle.std.specs.Prelude.{length, map};
-ghost use Rattle.fx_chain.specs.Accepted.{IsChain, IsWithinLimits, members_of};
-ghost use Rattle.fx_chain.specs.Completed.{all_completed};
-ghost use Rattle.fx_chain.specs.Operation.{all_asked, asked_of};
+ghost use Rattle.fx_order.specs.Words.{All, IfOk, IsTrue, length, map, IsChain, IsWithinLimits, members_of, all_completed, all_asked, asked_of};
+ghost use Rattle.std.specs.Prelude.{◌≡◌, ◌<◌, ◌≤◌, ◌+◌, ◌^◌, ◌↔◌};
 ghost use Rattle.fx_order.specs.Requests.{AreChainsDone};
 
 use crate::access::ChainAccess;

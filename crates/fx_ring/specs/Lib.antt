@@ -9,3 +9,4 @@ pub mod Outcomes
 pub mod Playing
 pub mod Laws
 pub mod OpenRings
+pub mod Words

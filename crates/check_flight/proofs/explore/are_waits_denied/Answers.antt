@@ -1,5 +1,4 @@
-use Rattle.check_flight.proofs.Words.{arith, one_more_at, subst, WaitingLook}
-use Rattle.check_flight.specs.Judged.{IsWaitDeniedIn}
+use Rattle.check_flight.proofs.{arith, one_more_at, subst, WaitingLook, IsWaitDeniedIn}
 use Rattle.check_flight.proofs.explore.are_waits_denied.Goals as goal
 
 abbrev no_look : WaitingLook

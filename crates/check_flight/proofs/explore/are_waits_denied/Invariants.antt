@@ -1,5 +1,4 @@
-use Rattle.check_flight.proofs.Words.{ℕ, ◌<◌, slice_index_or, WaitingLook}
-use Rattle.check_flight.specs.Judged.{IsWaitDeniedIn}
+use Rattle.check_flight.proofs.{ℕ, ◌<◌, slice_index_or, WaitingLook, IsWaitDeniedIn}
 use Rattle.check_flight.proofs.explore.are_waits_denied.Given as goal
 
 abbrev pub invariant-loop-look : goal.invariant-loop-look

@@ -1,5 +1,5 @@
-use Rattle.check_flight.proofs.Words.{◌+◌, length, length-map, refl, requests_of, arith, below_more, IsCallFollowed, runs_of_calls}
-use Rattle.check_flight.proofs.Judging.{call_more, front_on, state_followed}
+use Rattle.check_flight.proofs.{◌+◌, length, length-map, refl, requests_of, arith, below_more, IsCallFollowed, runs_of_calls, call_more, front_on}
+use Rattle.check_flight.proofs.{state_followed}
 use Rattle.check_flight.proofs.explore.follow.Goals as goal
 
 pub loop-j-preserved : goal.loop-j-preserved

@@ -1,4 +1,4 @@
-use Rattle.check_flight.proofs.Words.{ℕ, ◌+◌, ◌<◌, IsCallFollowed, IsFrontOf, runs_of_calls}
+use Rattle.check_flight.proofs.{ℕ, ◌+◌, ◌<◌, IsCallFollowed, IsFrontOf, runs_of_calls}
 use Rattle.check_flight.proofs.explore.follow.Given as goal
 
 abbrev pub invariant-loop-j : goal.invariant-loop-j

@@ -1,5 +1,4 @@
-use Rattle.check_flight.proofs.Words.{arith, flight_view, leb-true, runs_of_calls, subst, IsWhollyFollowed}
-use Rattle.check_flight.proofs.Judging.{copied, each_view, front_on, more_followed}
+use Rattle.check_flight.proofs.{arith, flight_view, leb-true, runs_of_calls, subst, IsWhollyFollowed, copied, each_view, front_on, more_followed}
 use Rattle.check_flight.proofs.explore.follow_all.Goals as goal
 
 pub loop-number-preserved : goal.loop-number-preserved

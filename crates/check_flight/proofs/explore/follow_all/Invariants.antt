@@ -1,4 +1,4 @@
-use Rattle.check_flight.proofs.Words.{ℕ, ◌<◌, slice_index_or, IsFrontOf, IsWhollyFollowed, FlightState, flight_view, runs_of_calls}
+use Rattle.check_flight.proofs.{ℕ, ◌<◌, slice_index_or, IsFrontOf, IsWhollyFollowed, FlightState, flight_view, runs_of_calls}
 use Rattle.check_flight.proofs.explore.follow_all.Given as goal
 
 abbrev pub invariant-loop-number : goal.invariant-loop-number

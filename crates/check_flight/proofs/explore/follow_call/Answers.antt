@@ -1,5 +1,5 @@
-use Rattle.check_flight.proofs.Words.{◌+◌, Access, None, arith, one_more_at, IsAccessFollowed, runs_of_calls, Looks}
-use Rattle.check_flight.proofs.Judging.{access_more, call_followed, followed_by, front_on}
+use Rattle.check_flight.proofs.{◌+◌, Access, None, arith, one_more_at, IsAccessFollowed, runs_of_calls, Looks, access_more, call_followed}
+use Rattle.check_flight.proofs.{followed_by, front_on}
 use Rattle.check_flight.proofs.explore.follow_call.Goals as goal
 
 pub loop-access-preserved : goal.loop-access-preserved

@@ -1,4 +1,4 @@
-use Rattle.check_flight.proofs.Words.{ℕ, ◌+◌, ◌<◌, Access, slice_index_or, IsAccessFollowed, IsFrontOf, runs_of_calls}
+use Rattle.check_flight.proofs.{ℕ, ◌+◌, ◌<◌, Access, slice_index_or, IsAccessFollowed, IsFrontOf, runs_of_calls}
 use Rattle.check_flight.proofs.explore.follow_call.Given as goal
 
 abbrev pub invariant-loop-access : goal.invariant-loop-access

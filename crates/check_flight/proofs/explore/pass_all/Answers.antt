@@ -1,6 +1,5 @@
-use Rattle.check_flight.proofs.Words.{arith, inl, inr, take, ⊎_elim, one_more_of, flight_view, log_in, runs_of_calls, IsStatePassed, runs_with}
-use Rattle.check_flight.proofs.Words.{FlightState, happening_of}
-use Rattle.check_flight.proofs.Judging.{each_view, passed_by, views_more}
+use Rattle.check_flight.proofs.{arith, inl, inr, take, ⊎_elim, one_more_of, flight_view, log_in, runs_of_calls, IsStatePassed, runs_with, FlightState}
+use Rattle.check_flight.proofs.{happening_of, each_view, passed_by, views_more}
 use Rattle.check_flight.proofs.explore.pass_all.Goals as goal
 
 pub loop-state-preserved : goal.loop-state-preserved

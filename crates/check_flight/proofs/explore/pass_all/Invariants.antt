@@ -1,4 +1,4 @@
-use Rattle.check_flight.proofs.Words.{ℕ, ◌<◌, take, slice_index_or, log_in, runs_of_calls, IsStatePassed, happening_of, FlightState, flight_view}
+use Rattle.check_flight.proofs.{ℕ, ◌<◌, take, slice_index_or, log_in, runs_of_calls, IsStatePassed, happening_of, FlightState, flight_view}
 use Rattle.check_flight.proofs.explore.pass_all.Given as goal
 
 abbrev pub invariant-loop-state : goal.invariant-loop-state

@@ -1,4 +1,4 @@
-use Rattle.check_flight.proofs.Words.{◌≡◌, ◌∙◌, ap, arith, inside_at, happening_of, rules, LookAnswered}
+use Rattle.check_flight.proofs.{◌≡◌, ◌∙◌, ap, arith, inside_at, happening_of, rules, LookAnswered}
 use Rattle.check_flight.proofs.log.is_found_at.Goals as goal
 
 pub returns-then-id-look : goal.returns-then-id-look

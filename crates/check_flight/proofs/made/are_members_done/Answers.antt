@@ -1,5 +1,4 @@
-use Rattle.check_flight.proofs.Words.{IfOk-weaker}
-use Rattle.check_flight.proofs.Runs.{first_done}
+use Rattle.check_flight.proofs.{IfOk-weaker, first_done}
 use Rattle.check_flight.proofs.made.are_members_done.Goals as goal
 
 pub returns : goal.returns

@@ -1,5 +1,4 @@
-use Rattle.check_flight.proofs.Words.{◌-◌, ◌<◌, ◌∙◌, ap, arith, length, sym, IfOk-weaker, get_or-map, length-map, completed_of}
-use Rattle.check_flight.proofs.Runs.{member_done}
+use Rattle.check_flight.proofs.{◌-◌, ◌<◌, ◌∙◌, ap, arith, length, sym, IfOk-weaker, get_or-map, length-map, completed_of, member_done}
 use Rattle.check_flight.proofs.made.is_member_made.Goals as goal
 
 pub returns : goal.returns

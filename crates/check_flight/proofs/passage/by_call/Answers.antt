@@ -1,5 +1,5 @@
-use Rattle.check_flight.proofs.Words.{ap, arith, length, length-map, log_in, rules_of_log, runs_of_calls, all_asked, requests_of, FlightState}
-use Rattle.check_flight.proofs.Judging.{called, denied_call}
+use Rattle.check_flight.proofs.{ap, arith, length, length-map, log_in, rules_of_log, runs_of_calls, all_asked, requests_of, FlightState, called}
+use Rattle.check_flight.proofs.{denied_call}
 use Rattle.check_flight.proofs.passage.by_call.Goals as goal
 
 pub returns-then-is_one_denied : goal.returns-then-is_one_denied

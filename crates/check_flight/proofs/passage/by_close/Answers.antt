@@ -1,5 +1,4 @@
-use Rattle.check_flight.proofs.Words.{ap, runs_of_calls, FlightView}
-use Rattle.check_flight.proofs.Judging.{copied}
+use Rattle.check_flight.proofs.{ap, runs_of_calls, FlightView, copied}
 use Rattle.check_flight.proofs.passage.by_close.Goals as goal
 
 pub returns : goal.returns

@@ -1,4 +1,4 @@
-use Rattle.check_flight.proofs.Judging.{fewer_more}
+use Rattle.check_flight.proofs.{fewer_more}
 use Rattle.check_flight.proofs.passage.by_look.Goals as goal
 
 pub returns : goal.returns

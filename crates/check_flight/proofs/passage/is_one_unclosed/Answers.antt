@@ -1,4 +1,4 @@
-use Rattle.check_flight.proofs.Words.{false≢true, slice_index_or, sym, ◌∙◌, happening_of, take-map, Contains-get_or, Identity}
+use Rattle.check_flight.proofs.{false≢true, slice_index_or, sym, ◌∙◌, happening_of, take-map, Contains-get_or, Identity}
 use Rattle.fx_base.specs.declared.mark.Mark.TheVariants.{Registered}
 use Rattle.check_flight.proofs.passage.is_one_unclosed.Goals as goal
 

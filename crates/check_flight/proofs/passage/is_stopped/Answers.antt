@@ -1,4 +1,4 @@
-use Rattle.check_flight.proofs.Words.{inr, runs_of_calls}
+use Rattle.check_flight.proofs.{inr, runs_of_calls}
 use Rattle.check_flight.proofs.passage.is_stopped.Goals as goal
 
 pub returns-else-is_found_closed : goal.returns-else-is_found_closed

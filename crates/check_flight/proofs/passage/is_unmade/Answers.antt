@@ -1,4 +1,4 @@
-use Rattle.check_flight.proofs.Words.{◌≡◌, ℕ, List, [], Contains, arith, length, slice_index_or, subst, Contains-get_or, WaitingLook, IsLookDone}
+use Rattle.check_flight.proofs.{◌≡◌, ℕ, List, [], Contains, arith, length, slice_index_or, subst, Contains-get_or, WaitingLook, IsLookDone}
 use Rattle.check_flight.proofs.passage.is_unmade.Goals as goal
 
 abbrev no_look : WaitingLook

@@ -1,4 +1,4 @@
-use Rattle.check_flight.proofs.Words.{ap, FlightView}
+use Rattle.check_flight.proofs.{ap, FlightView}
 use Rattle.check_flight.proofs.passage.passage_of.Goals as goal
 
 pub returns-then-is_out_of_turn : goal.returns-then-is_out_of_turn

@@ -1,6 +1,5 @@
-use Rattle.check_flight.proofs.Words.{◌≡◌, ◌∙◌, [], ◌∷◌, arith, length, sym, IfOk-weaker, length-map, map, members_of, all_completed, all_asked}
-use Rattle.check_flight.proofs.Words.{asked_of, Chain}
-use Rattle.check_flight.proofs.Runs.{one_done, one_chain}
+use Rattle.check_flight.proofs.{◌≡◌, ◌∙◌, [], ◌∷◌, arith, length, sym, IfOk-weaker, length-map, map, members_of, all_completed, all_asked, asked_of}
+use Rattle.check_flight.proofs.{Chain, one_done, one_chain}
 use Rattle.check_flight.proofs.plan.are_done.Goals as goal
 
 abbrev no_chain : Chain

@@ -1,4 +1,4 @@
-use Rattle.check_flight.proofs.Words.{◌≡◌, take, accesses_of_chain}
+use Rattle.check_flight.proofs.{◌≡◌, take, accesses_of_chain}
 use Rattle.check_flight.proofs.plan.order_of.Given as goal
 
 abbrev pub invariant-loop-access : goal.invariant-loop-access

@@ -1,5 +1,4 @@
-use Rattle.check_flight.proofs.Words.{refl, sym, IfOk-weaker, catalogue_in, IsRingOf, answers_in, ring_of_slots}
-use Rattle.check_flight.proofs.Moves.{moves_first}
+use Rattle.check_flight.proofs.{refl, sym, IfOk-weaker, catalogue_in, IsRingOf, answers_in, ring_of_slots, moves_first}
 use Rattle.check_flight.proofs.player.is_flight.Goals as goal
 
 pub returns : goal.returns

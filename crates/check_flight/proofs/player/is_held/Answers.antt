@@ -1,4 +1,4 @@
-use Rattle.check_flight.proofs.Words.{ap, arith, ◌∙◌}
+use Rattle.check_flight.proofs.{ap, arith, ◌∙◌}
 use Rattle.check_flight.proofs.player.is_held.Goals as goal
 
 pub returns : goal.returns

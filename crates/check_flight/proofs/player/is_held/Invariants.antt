@@ -1,4 +1,4 @@
-use Rattle.check_flight.proofs.Words.{◌≡◌, ℕ, ◌<◌, slice_index_or, HeldFile}
+use Rattle.check_flight.proofs.{◌≡◌, ℕ, ◌<◌, slice_index_or, HeldFile}
 use Rattle.check_flight.proofs.player.is_held.Given as goal
 
 abbrev pub invariant-loop-hold : goal.invariant-loop-hold

@@ -1,5 +1,4 @@
-use Rattle.check_flight.proofs.Words.{arith, refl, slice_index_or, sym, take, get_or-map, AllSettled, happening_of}
-use Rattle.check_flight.proofs.Refuting.{next_front_is}
+use Rattle.check_flight.proofs.{arith, refl, slice_index_or, sym, take, get_or-map, AllSettled, happening_of, next_front_is}
 use Rattle.check_flight.proofs.reached.advance.Goals as goal
 
 pub returns : goal.returns

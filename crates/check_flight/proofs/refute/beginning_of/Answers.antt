@@ -1,4 +1,4 @@
-use Rattle.check_flight.proofs.Words.{sym, happening_of, take-map}
+use Rattle.check_flight.proofs.{sym, happening_of, take-map}
 use Rattle.check_flight.proofs.refute.beginning_of.Goals as goal
 
 pub returns-clause-events : goal.returns-clause-events

@@ -1,5 +1,4 @@
-use Rattle.check_flight.proofs.Words.{◌∙◌, arith, sym, take, eqb-true, catalogue_in, log_in, ring_of_slots}
-use Rattle.check_flight.proofs.Refuting.{reached_by, reached_last}
+use Rattle.check_flight.proofs.{◌∙◌, arith, sym, take, eqb-true, catalogue_in, log_in, ring_of_slots, reached_by, reached_last}
 use Rattle.check_flight.proofs.refute.refute.Goals as goal
 
 pub returns-then-is_empty : goal.returns-then-is_empty

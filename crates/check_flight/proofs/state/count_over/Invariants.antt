@@ -1,4 +1,4 @@
-use Rattle.check_flight.proofs.Words.{ℕ, ◌+◌, ◌<◌, ◌≤◌, length, run_at, slice_index_or, runs_of_calls, not_begun}
+use Rattle.check_flight.proofs.{ℕ, ◌+◌, ◌<◌, ◌≤◌, length, run_at, slice_index_or, runs_of_calls, not_begun}
 use Rattle.check_flight.proofs.state.count_over.Given as goal
 
 abbrev pub invariant-loop-j : goal.invariant-loop-j

@@ -1,5 +1,4 @@
-use Rattle.check_flight.proofs.Words.{rules, filter_same}
-use Rattle.check_flight.proofs.Judging.{without_file}
+use Rattle.check_flight.proofs.{rules, filter_same, without_file}
 use Rattle.check_flight.proofs.state.remove_file.Goals as goal
 
 pub returns : goal.returns

@@ -1,5 +1,4 @@
-use Rattle.check_flight.proofs.Words.{slice_index_or, Contains-get_or, WaitingLook}
-use Rattle.check_flight.proofs.Judging.{waits_more}
+use Rattle.check_flight.proofs.{slice_index_or, Contains-get_or, WaitingLook, waits_more}
 use Rattle.check_flight.proofs.state.still_waiting.Goals.{then-waits+in_ok-push, else-waits}
 use Rattle.check_flight.proofs.state.still_waiting.Goals as goal
 

@@ -1,4 +1,4 @@
-use Rattle.check_flight.proofs.Words.{AreFewer}
+use Rattle.check_flight.proofs.{AreFewer}
 use Rattle.check_flight.proofs.state.still_waiting.Given as goal
 
 abbrev pub invariant-loop-look : goal.invariant-loop-look

@@ -1,5 +1,4 @@
-use Rattle.check_flight.proofs.Words.{runs_of_calls}
-use Rattle.check_flight.proofs.Judging.{without_first}
+use Rattle.check_flight.proofs.{runs_of_calls, without_first}
 use Rattle.check_flight.proofs.state.trimmed.Goals as goal
 
 pub returns : goal.returns

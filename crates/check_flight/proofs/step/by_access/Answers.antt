@@ -1,5 +1,6 @@
-use Rattle.check_flight.proofs.Words.{◌+◌, ◌∙◌, Rest, ap, file_removed_by, refl, step, subst, sym, log_in, rules_of_log, runs_of_calls, IsOneDenied}
-use Rattle.check_flight.proofs.Judging.{are_with, open_rest, stepped}
+use Rattle.check_flight.proofs.{◌+◌, ◌∙◌, Rest, ap, file_removed_by, refl, subst, sym, log_in, rules_of_log, runs_of_calls, IsOneDenied, are_with}
+use Rattle.check_flight.proofs.{open_rest, stepped}
+use Rattle.check_flight.proofs.Words.{step}
 use Rattle.check_flight.proofs.step.by_access.Goals as goal
 
 pub returns-then-is_out_of_turn : goal.returns-then-is_out_of_turn

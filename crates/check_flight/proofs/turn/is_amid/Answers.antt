@@ -1,5 +1,4 @@
-use Rattle.check_flight.proofs.Words.{◌<◌, ◌+◌, ap, arith, asked_of, length, length-map, run_at, runs_of_calls, sym}
-use Rattle.check_flight.proofs.Judging.{amid_rest}
+use Rattle.check_flight.proofs.{◌<◌, ◌+◌, ap, arith, asked_of, length, length-map, run_at, runs_of_calls, sym, amid_rest}
 use Rattle.check_flight.proofs.turn.is_amid.Goals as goal
 
 pub returns : goal.returns

@@ -1,6 +1,7 @@
-use Rattle.check_flight.proofs.Words.{◌-◌, arith, false≢true}
+use Rattle.check_flight.proofs.{◌-◌, arith, false≢true}
 use Rattle.check_flight.proofs.Reasons.{explained_right}
-use Rattle.check_flight.proofs.verdict.explained.Goals.{else-not-is_refuted-via-then-not-is_refuted+else-is_none, else-not-is_refuted-via-else-not-is_refuted}
+use Rattle.check_flight.proofs.verdict.explained.Goals.{else-not-is_refuted-via-then-not-is_refuted+else-is_none}
+use Rattle.check_flight.proofs.verdict.explained.Goals.{else-not-is_refuted-via-else-not-is_refuted}
 use Rattle.check_flight.proofs.verdict.explained.Goals as goal
 
 pub returns : goal.returns

@@ -1,4 +1,4 @@
-use Rattle.check_flight.proofs.Words.{List, IfOk-weaker, happening_of, subst, take-map, Happening, HasNoFlightBy, ring_of_slots, ◌+◌}
+use Rattle.check_flight.proofs.{List, IfOk-weaker, happening_of, subst, take-map, Happening, HasNoFlightBy, ring_of_slots, ◌+◌}
 use Rattle.check_flight.proofs.verdict.judge_events.Goals as goal
 
 pub returns-clause-not_legal : goal.returns-clause-not_legal

@@ -1,4 +1,4 @@
-use Rattle.check_flight.proofs.Words.{take, catalogue_in, log_in, length}
+use Rattle.check_flight.proofs.{take, catalogue_in, log_in, length}
 use Rattle.check_flight.proofs.verdict.refuted_beginning.Goals as goal
 
 pub shortest_refuted-requires-clause-refuted : goal.shortest_refuted-requires-clause-refuted

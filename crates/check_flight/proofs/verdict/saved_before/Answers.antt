@@ -1,5 +1,5 @@
-use Rattle.check_flight.proofs.Words.{◌≤◌, arith, length, take, IfOk-weaker, length-map, length-take-le, happening_of, catalogue_in, log_in, ring_of_slots}
-use Rattle.check_flight.proofs.Refuting.{reached_by, reached_longer}
+use Rattle.check_flight.proofs.{◌≤◌, arith, length, take, IfOk-weaker, length-map, length-take-le, happening_of, catalogue_in, log_in, ring_of_slots}
+use Rattle.check_flight.proofs.{reached_by, reached_longer}
 use Rattle.check_flight.proofs.verdict.saved_before.Goals as goal
 
 pub returns-in-Some : goal.returns-in-Some

@@ -1,4 +1,4 @@
-use Rattle.check_flight.proofs.Words.{arith}
+use Rattle.check_flight.proofs.{arith}
 use Rattle.check_flight.proofs.verdict.shortest_refuted.Goals.{then-branch, else-branch}
 use Rattle.check_flight.proofs.verdict.shortest_refuted.Goals as goal
 

@@ -1,4 +1,4 @@
-use Rattle.check_flight.proofs.Words.{ℕ, ◌≤◌, length, take, log_in, HaveNoFlight, IsReachedFrom}
+use Rattle.check_flight.proofs.{ℕ, ◌≤◌, length, take, log_in, HaveNoFlight, IsReachedFrom}
 use Rattle.check_flight.proofs.verdict.shortest_refuted.Given as goal
 
 abbrev pub invariant-loop : goal.invariant-loop

@@ -1,4 +1,4 @@
-use Rattle.check_flight.proofs.Words.{take, catalogue_in, log_in}
+use Rattle.check_flight.proofs.{take, catalogue_in, log_in}
 use Rattle.check_flight.proofs.wrong.is_refuted_alone.Goals as goal
 
 pub returns-in-Some : goal.returns-in-Some

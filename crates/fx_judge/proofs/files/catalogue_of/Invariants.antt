@@ -1,6 +1,4 @@
-use Rattle.fx_judge.proofs.Words.{◌≡◌, [], drop, file_passed}
-use Rattle.fx_base.specs.Catalogue.{IsCatalogue}
-use Rattle.fx_judge.specs.Reading.{all_after}
+use Rattle.fx_judge.proofs.{◌≡◌, [], drop, file_passed, IsCatalogue, all_after}
 use Rattle.fx_judge.proofs.files.catalogue_of.Given as goal
 
 -- the files so far are a catalogue, and with those that are left it is that of all

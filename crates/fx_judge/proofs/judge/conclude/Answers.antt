@@ -1,4 +1,4 @@
-use Rattle.fx_judge.proofs.Words.{arith, refl}
+use Rattle.fx_judge.proofs.{arith, refl}
 use Rattle.fx_judge.proofs.judge.conclude.Goals as goal
 
 pub returns-in-NotLegal : goal.returns-in-NotLegal

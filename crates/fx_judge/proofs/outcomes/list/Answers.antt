@@ -1,4 +1,4 @@
-use Rattle.fx_judge.proofs.Words.{◌≡◌, ◌+◌, [], ◌∷◌, ◌++◌, take, ap, sym, ◌∙◌, string_bytes, take_more}
+use Rattle.fx_judge.proofs.{◌≡◌, ◌+◌, [], ◌∷◌, ◌++◌, take, ap, sym, ◌∙◌, string_bytes, take_more}
 use Rattle.fx_judge.proofs.Found.{joined_more, lengths_more}
 use Rattle.fx_judge.proofs.outcomes.list.Goals as goal
 

@@ -1,4 +1,4 @@
-use Rattle.fx_judge.proofs.Words.{◌≡◌, map, string_bytes, take, joined, lengths_in}
+use Rattle.fx_judge.proofs.{◌≡◌, map, string_bytes, take, joined, lengths_in}
 use Rattle.fx_judge.proofs.outcomes.list.Given as goal
 
 -- the texts so far are listed

@@ -1,5 +1,4 @@
-use Rattle.fx_order.proofs.Words.{IfOk-weaker, sym, ◌∙◌}
-use Rattle.fx_order.proofs.ChainsFront.{member_goes_on, first_is}
+use Rattle.fx_order.proofs.{IfOk-weaker, sym, ◌∙◌, member_goes_on, first_is}
 use Rattle.fx_order.proofs.chain.+is_chain_done.Goals as goal
 
 pub returns : goal.returns

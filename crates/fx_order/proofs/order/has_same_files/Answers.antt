@@ -1,6 +1,5 @@
-use Rattle.fx_order.proofs.Words.{arith}
+use Rattle.fx_order.proofs.{arith, none_left, one_more, none_over}
 use Rattle.fx_order.proofs.Ordered.{never}
-use Rattle.fx_order.proofs.Apart.{none_left, one_more, none_over}
 use Rattle.fx_order.proofs.order.has_same_files.Goals as goal
 
 pub returns-in_default : goal.returns-in_default

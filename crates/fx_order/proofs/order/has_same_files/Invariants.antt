@@ -1,4 +1,4 @@
-use Rattle.fx_order.proofs.Words.{◌++◌, take, IsPermutation}
+use Rattle.fx_order.proofs.{◌++◌, take, IsPermutation}
 use Rattle.fx_order.proofs.order.has_same_files.Given as goal
 
 -- the files that were found, and those that are left

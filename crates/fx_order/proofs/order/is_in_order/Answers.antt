@@ -1,4 +1,4 @@
-use Rattle.fx_order.proofs.Words.{◌≡◌, ℕ, ◌+◌, ◌-◌, ◌<◌, false, List, length, arith, slice_index_or, is_lt, get_or_default, mark_cmp, Closed, ghosts}
+use Rattle.fx_order.proofs.{◌≡◌, ℕ, ◌+◌, ◌-◌, ◌<◌, false, List, length, arith, slice_index_or, is_lt, get_or_default, mark_cmp, Closed, ghosts}
 use Rattle.fx_order.proofs.order.is_in_order.Goals as goal
 
 in_order_here : (files : List Closed) {i : ℕ} (k : ℕ) (d e f : Closed) → i < length files → k + 1 ≡ i

@@ -1,4 +1,4 @@
-use Rattle.fx_order.proofs.Words.{◌≡◌, ℕ, ◌+◌, ◌<◌, false, slice_index_or, is_lt, mark_cmp, Closed}
+use Rattle.fx_order.proofs.{◌≡◌, ℕ, ◌+◌, ◌<◌, false, slice_index_or, is_lt, mark_cmp, Closed}
 use Rattle.fx_order.proofs.order.is_in_order.Given as goal
 
 abbrev pub invariant-loop-i : goal.invariant-loop-i

@@ -1,4 +1,4 @@
-use Rattle.fx_order.proofs.Words.{◌≡◌, ◌↔◌, drop, PermitsAll, table_after, accesses_of, table_of_slots}
+use Rattle.fx_order.proofs.{◌≡◌, ◌↔◌, drop, PermitsAll, table_after, accesses_of, table_of_slots}
 use Rattle.fx_order.proofs.order.make_all.Given as goal
 
 -- the accesses from here on are permitted if all were at first, and lead to the same table

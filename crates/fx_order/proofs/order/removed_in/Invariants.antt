@@ -1,4 +1,4 @@
-use Rattle.fx_order.proofs.Words.{◌≡◌, ◌++◌, drop, accesses_of, files_removed_in}
+use Rattle.fx_order.proofs.{◌≡◌, ◌++◌, drop, accesses_of, files_removed_in}
 use Rattle.fx_order.proofs.order.removed_in.Given as goal
 
 abbrev pub invariant-loop-x : goal.invariant-loop-x

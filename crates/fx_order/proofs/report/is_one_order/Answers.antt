@@ -1,5 +1,5 @@
-use Rattle.fx_order.proofs.Words.{◌≡◌, ℕ, ◌+◌, refl, sym, subst, ap, ◌∙◌, arith, all_completed, all_asked, ring_of_slots, Reported, IsOrderOf}
-use Rattle.fx_order.proofs.Words.{ring_with_slots}
+use Rattle.fx_order.proofs.{◌≡◌, ℕ, ◌+◌, refl, sym, subst, ap, ◌∙◌, arith, all_completed, all_asked, ring_of_slots, Reported, IsOrderOf}
+use Rattle.fx_order.proofs.{ring_with_slots}
 use Rattle.fx_order.proofs.report.is_one_order.Goals as goal
 
 pub returns-clause-order : goal.returns-clause-order

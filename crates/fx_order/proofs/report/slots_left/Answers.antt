@@ -1,4 +1,4 @@
-use Rattle.fx_order.proofs.Words.{◌≡◌, length, ◌∙◌, arith, all_asked, accesses_of, table_after, not_from_Decides}
+use Rattle.fx_order.proofs.{◌≡◌, length, ◌∙◌, arith, all_asked, accesses_of, table_after, not_from_Decides}
 use Rattle.fx_order.proofs.Ordered.{as_many, never, ring_left_is}
 use Rattle.fx_order.proofs.report.slots_left.Goals as goal
 

@@ -1,6 +1,5 @@
-use Rattle.fx_order.proofs.Words.{◌≡◌, Some, operation_of, slice_get, sym}
+use Rattle.fx_order.proofs.{◌≡◌, Some, operation_of, slice_get, sym, intent_by, intents_of}
 use Rattle.fx_order.proofs.Intents.{next_fits}
-use Rattle.fx_chain.specs.Intents.{intent_by, intents_of}
 use Rattle.fx_order.proofs.request.+are_intended.Goals as goal
 
 pub returns-then-is_of : goal.returns-then-is_of

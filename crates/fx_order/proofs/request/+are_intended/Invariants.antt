@@ -1,4 +1,4 @@
-use Rattle.fx_order.proofs.Words.{length}
+use Rattle.fx_order.proofs.{length}
 use Rattle.fx_order.proofs.request.+are_intended.Given as goal
 
 abbrev pub decreases-are_intended : goal.decreases-are_intended

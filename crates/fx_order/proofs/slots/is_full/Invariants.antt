@@ -1,4 +1,4 @@
-use Rattle.fx_order.proofs.Words.{ℕ, ◌+◌, ◌<◌, ◌≤◌, IsSome, None, slice_index_or}
+use Rattle.fx_order.proofs.{ℕ, ◌+◌, ◌<◌, ◌≤◌, IsSome, None, slice_index_or}
 use Rattle.fx_order.proofs.slots.is_full.Given as goal
 
 -- each slot of the range that was looked at has a file

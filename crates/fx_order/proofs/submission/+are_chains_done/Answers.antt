@@ -1,8 +1,7 @@
-use Rattle.fx_order.proofs.Words.{IfOk-weaker, ◌∙◌, rules, IsChain, all_asked, Chain, not_from_Decides}
-use Rattle.fx_order.proofs.ChainsFront.{few_completions, first_run, goes_on, not_first, others_completed, own_completed, all_of_rest}
+use Rattle.fx_order.proofs.{IfOk-weaker, ◌∙◌, rules, IsChain, all_asked, Chain, not_from_Decides, few_completions, first_run, goes_on, not_first}
+use Rattle.fx_order.proofs.{others_completed, own_completed, all_of_rest, arith}
 use Rattle.fx_order.proofs.Ordered.{never}
 use Rattle.fx_order.proofs.submission.+are_chains_done.Goals as goal
-use Rattle.std.proofs.Common.{arith}
 
 abbrev none : Chain
 none = record { first = 0; len = 0 }

@@ -1,4 +1,4 @@
-use Rattle.fx_order.proofs.Words.{length}
+use Rattle.fx_order.proofs.{length}
 use Rattle.fx_order.proofs.submission.+are_chains_done.Given as goal
 
 abbrev pub decreases-are_chains_done : goal.decreases-are_chains_done

@@ -1,5 +1,4 @@
-use Rattle.std.proofs.Common.{rules}
-use Rattle.fx_order.proofs.Words.{List, subst, All, arith, length-map, all_asked, asked_of, Request, get_or-map, IsWithinLimits}
+use Rattle.fx_order.proofs.{rules, List, subst, All, arith, length-map, all_asked, asked_of, Request, get_or-map, IsWithinLimits}
 use Rattle.fx_order.proofs.submission.members.Goals as goal
 
 limits_of : (requests : List Request) → All IsWithinLimits (all_asked requests) → All (λ (r : Request). IsWithinLimits (asked_of r)) requests

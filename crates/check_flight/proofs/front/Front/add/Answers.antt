@@ -1,7 +1,4 @@
-use Rattle.check_flight.proofs.Words.{[], ◌∷◌, ◌++◌, inside_at, flight_view, take-append_seam}
-use Rattle.fx_table.proofs.SumLemmas.{contains_mapped}
-use Rattle.std.proofs.lemmas.List.Elements.{Contains-push}
-use Rattle.check_flight.proofs.Judging.{copied}
+use Rattle.check_flight.proofs.{[], ◌∷◌, ◌++◌, inside_at, flight_view, take-append_seam, contains_mapped, Contains-push, copied}
 use Rattle.check_flight.proofs.front.Front.add.Goals as goal
 
 pub returns-then-is_new-clause-kept : goal.returns-then-is_new-clause-kept

@@ -1,5 +1,4 @@
-use Rattle.check_flight.proofs.Words.{arith, ap, ◌∙◌, take_all, flight_views}
-use Rattle.check_flight.proofs.Refuting.{views_copied}
+use Rattle.check_flight.proofs.{arith, ap, ◌∙◌, take_all, flight_views, views_copied}
 use Rattle.check_flight.proofs.front.Front.copy.Goals as goal
 
 pub loop-state-preserved : goal.loop-state-preserved

@@ -1,4 +1,4 @@
-use Rattle.check_flight.proofs.Words.{◌≡◌, List, Asked, take, flight_views}
+use Rattle.check_flight.proofs.{◌≡◌, List, Asked, take, flight_views}
 use Rattle.check_flight.proofs.front.Front.copy.Given as goal
 
 abbrev pub invariant-loop-state : goal.invariant-loop-state

@@ -1,4 +1,4 @@
-use Rattle.check_flight.proofs.Words.{IsWithinLimits, all_asked, arith, asked_of, get_or-map, length-map, subst}
+use Rattle.check_flight.proofs.{IsWithinLimits, all_asked, arith, asked_of, get_or-map, length-map, subst}
 use Rattle.fx_chain.proofs.Accepted.{accepted-each}
 use Rattle.check_flight.proofs.judged.ChainCall.of.Goals as goal
 

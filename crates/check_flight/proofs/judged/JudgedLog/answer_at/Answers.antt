@@ -1,4 +1,4 @@
-use Rattle.check_flight.proofs.Words.{ap, inside_at, happening_of}
+use Rattle.check_flight.proofs.{ap, inside_at, happening_of}
 use Rattle.check_flight.proofs.judged.JudgedLog.answer_at.Goals as goal
 
 pub returns-in-Some-Done : goal.returns-in-Some-Done

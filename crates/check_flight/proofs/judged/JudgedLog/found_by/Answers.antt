@@ -1,4 +1,4 @@
-use Rattle.check_flight.proofs.Words.{◌≡◌, ◌∙◌, ℕ, ap, arith, inside_at, happening_of, LookAnswered}
+use Rattle.check_flight.proofs.{◌≡◌, ◌∙◌, ℕ, ap, arith, inside_at, happening_of, LookAnswered}
 use Rattle.check_flight.proofs.judged.JudgedLog.found_by.Goals as goal
 
 pub returns-in-Some-Found : goal.returns-in-Some-Found

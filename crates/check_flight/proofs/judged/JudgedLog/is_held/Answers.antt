@@ -1,4 +1,4 @@
-use Rattle.check_flight.proofs.Words.{false≢true, happening_of, take-map}
+use Rattle.check_flight.proofs.{false≢true, happening_of, take-map}
 use Rattle.check_flight.proofs.judged.JudgedLog.is_held.Goals as goal
 
 pub returns : goal.returns

@@ -1,4 +1,4 @@
-use Rattle.check_flight.proofs.Words.{refl, inside_at, completed_of}
+use Rattle.check_flight.proofs.{refl, inside_at, completed_of}
 use Rattle.check_flight.proofs.judged.JudgedLog.is_one_denied.Goals as goal
 
 pub returns-then-is_denied : goal.returns-then-is_denied

@@ -1,5 +1,4 @@
-use Rattle.check_flight.proofs.Words.{arith}
-use Rattle.check_flight.proofs.Moves.{moves_begin, planned_at}
+use Rattle.check_flight.proofs.{arith, moves_begin, planned_at}
 use Rattle.check_flight.proofs.player.FlightPlayer.begin.Goals as goal
 
 pub returns : goal.returns

@@ -1,6 +1,4 @@
-use Rattle.check_flight.proofs.Words.{◌∙◌, false≢true, sym}
-use Rattle.check_flight.proofs.Judging.{marked_more}
-use Rattle.check_flight.proofs.Moves.{moves_close}
+use Rattle.check_flight.proofs.{◌∙◌, false≢true, sym, marked_more, moves_close}
 use Rattle.check_flight.proofs.player.FlightPlayer.close.Goals as goal
 
 pub returns : goal.returns

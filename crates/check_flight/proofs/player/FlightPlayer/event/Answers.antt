@@ -1,4 +1,4 @@
-use Rattle.check_flight.proofs.Words.{IfOk-weaker}
+use Rattle.check_flight.proofs.{IfOk-weaker}
 use Rattle.check_flight.proofs.player.FlightPlayer.event.Goals as goal
 
 pub returns-in-None : goal.returns-in-None

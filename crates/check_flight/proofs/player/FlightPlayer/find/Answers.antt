@@ -1,4 +1,4 @@
-use Rattle.check_flight.proofs.Moves.{moves_found}
+use Rattle.check_flight.proofs.{moves_found}
 use Rattle.check_flight.proofs.player.FlightPlayer.find.Goals as goal
 
 pub returns : goal.returns

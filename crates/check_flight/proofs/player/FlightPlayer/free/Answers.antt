@@ -1,6 +1,4 @@
-use Rattle.check_flight.proofs.Words.{◌≡◌, ne_eqb, refl, HeldFile, rules, filter_same, filter, nat_eq, not}
-use Rattle.check_flight.proofs.Judging.{in_filter}
-use Rattle.check_flight.proofs.Moves.{moves_free}
+use Rattle.check_flight.proofs.{◌≡◌, ne_eqb, refl, HeldFile, rules, filter_same, filter, nat_eq, not, in_filter, moves_free}
 use Rattle.check_flight.proofs.player.FlightPlayer.free.Goals as goal
 
 pub returns : goal.returns

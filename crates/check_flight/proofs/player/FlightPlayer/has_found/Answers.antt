@@ -1,5 +1,4 @@
-use Rattle.check_flight.proofs.Words.{◌≡◌, ◌+◌, ◌∙◌, arith, false≢true, sym, accesses_in}
-use Rattle.check_flight.proofs.Moves.{accesses_at}
+use Rattle.check_flight.proofs.{◌≡◌, ◌+◌, ◌∙◌, arith, false≢true, sym, accesses_in, accesses_at}
 use Rattle.check_flight.proofs.player.FlightPlayer.has_found.Goals as goal
 
 pub returns : goal.returns

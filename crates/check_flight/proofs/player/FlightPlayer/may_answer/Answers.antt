@@ -1,5 +1,4 @@
-use Rattle.check_flight.proofs.Words.{◌-◌, ◌<◌, arith, length, sym, IfOk-weaker}
-use Rattle.check_flight.proofs.Moves.{moves_answer}
+use Rattle.check_flight.proofs.{◌-◌, ◌<◌, arith, length, sym, IfOk-weaker, moves_answer}
 use Rattle.check_flight.proofs.player.FlightPlayer.may_answer.Goals as goal
 
 pub returns-in-Chain : goal.returns-in-Chain

@@ -1,5 +1,4 @@
-use Rattle.check_flight.proofs.Words.{arith, nil_from_length, sym, ◌∙◌, eqb-true}
-use Rattle.check_flight.proofs.Moves.{moves_end}
+use Rattle.check_flight.proofs.{arith, nil_from_length, sym, ◌∙◌, eqb-true, moves_end}
 use Rattle.check_flight.proofs.player.FlightPlayer.may_settle.Goals as goal
 
 pub returns : goal.returns

@@ -1,5 +1,4 @@
-use Rattle.check_flight.proofs.Words.{◌≡◌, arith, length, take, eqb-true, length-map, take_all, log_in, happening_of}
-use Rattle.check_flight.proofs.Judging.{read_more}
+use Rattle.check_flight.proofs.{◌≡◌, arith, length, take, eqb-true, length-map, take_all, log_in, happening_of, read_more}
 use Rattle.check_flight.proofs.player.FlightPlayer.play.Goals as goal
 
 pub loop-made-init : goal.loop-made-init

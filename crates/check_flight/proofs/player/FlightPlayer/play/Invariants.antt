@@ -1,4 +1,4 @@
-use Rattle.check_flight.proofs.Words.{[], ◌≤◌, length, take, log_in, MovesOn}
+use Rattle.check_flight.proofs.{[], ◌≤◌, length, take, log_in, MovesOn}
 use Rattle.check_flight.proofs.player.FlightPlayer.play.Given as goal
 
 abbrev pub invariant-loop-made : goal.invariant-loop-made

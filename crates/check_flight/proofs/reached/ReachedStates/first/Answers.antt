@@ -1,4 +1,4 @@
-use Rattle.check_flight.proofs.Refuting.{reached_first}
+use Rattle.check_flight.proofs.{reached_first}
 use Rattle.check_flight.proofs.reached.ReachedStates.first.Goals as goal
 
 pub returns : goal.returns

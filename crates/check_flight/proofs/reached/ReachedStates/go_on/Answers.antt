@@ -1,5 +1,4 @@
-use Rattle.check_flight.proofs.Words.{ℕ, arith, subst, length-map, happening_of, IsReachedBy, catalogue_in, log_in, ring_of_slots}
-use Rattle.check_flight.proofs.Refuting.{reached_next}
+use Rattle.check_flight.proofs.{ℕ, arith, subst, length-map, happening_of, IsReachedBy, catalogue_in, log_in, ring_of_slots, reached_next}
 use Rattle.check_flight.proofs.reached.ReachedStates.go_on.Goals as goal
 
 pub loop-at-init : goal.loop-at-init

@@ -1,4 +1,4 @@
-use Rattle.check_flight.proofs.Words.{ℕ, IsReachedBy, IsReachedFrom, IsTableOf, Slots, catalogue_in, log_in, ring_of_slots}
+use Rattle.check_flight.proofs.{ℕ, IsReachedBy, IsReachedFrom, IsTableOf, Slots, catalogue_in, log_in, ring_of_slots}
 use Rattle.check_flight.proofs.reached.ReachedStates.go_on.Given as goal
 
 abbrev pub invariant-loop-at : goal.invariant-loop-at

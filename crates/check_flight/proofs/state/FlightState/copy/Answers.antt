@@ -1,4 +1,4 @@
-use Rattle.check_flight.proofs.Words.{refl, rules, ap, arith, length, ◌-◌, ◌∙◌, drop, take_all, length-drop}
+use Rattle.check_flight.proofs.{refl, rules, ap, arith, length, ◌-◌, ◌∙◌, drop, take_all, length-drop}
 use Rattle.check_flight.proofs.state.FlightState.copy.Goals as goal
 
 pub returns : goal.returns

@@ -1,6 +1,5 @@
-use Rattle.check_flight.proofs.Words.{◌≡◌, ◌∙◌, sym, refl, slice_eq-Decides, file_Decides, rules, WaitingLook}
+use Rattle.check_flight.proofs.{◌≡◌, ◌∙◌, sym, refl, slice_eq-Decides, file_Decides, rules, WaitingLook, not-false}
 use Rattle.check_outcomes.proofs.Viewing.{progress_Decides}
-use Rattle.std.proofs.lemmas.Bool.{not-false}
 use Rattle.std.specs.Bool.{Decides}
 use Rattle.check_flight.specs.contracts.state.WaitingLookPartialEq.TheImpl.{eq-value as eq-of-look}
 use Rattle.check_flight.proofs.state.FlightState.is_same.Goals as goal

@@ -1,6 +1,4 @@
-use Rattle.fx_judge.proofs.Words.{◌≡◌, [], drop, all_asked, asked_passed}
-use Rattle.fx_judge.specs.Arrays.{passed_log}
-use Rattle.fx_judge.specs.Reading.{all_after}
+use Rattle.fx_judge.proofs.{◌≡◌, [], drop, all_asked, asked_passed, passed_log, all_after}
 use Rattle.fx_judge.proofs.arrays.LogReader.chain.Given as goal
 
 -- the requests so far, and those that are left, are all

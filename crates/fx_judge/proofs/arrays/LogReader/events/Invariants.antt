@@ -1,6 +1,4 @@
-use Rattle.fx_judge.proofs.Words.{◌≡◌, drop, length, all_happenings, happening_passed}
-use Rattle.fx_judge.specs.Arrays.{log_passed, passed_log}
-use Rattle.fx_judge.specs.Reading.{all_after}
+use Rattle.fx_judge.proofs.{◌≡◌, drop, length, all_happenings, happening_passed, log_passed, passed_log, all_after}
 use Rattle.fx_judge.proofs.arrays.LogReader.events.Given as goal
 
 -- the events so far, and those that are left, are all

@@ -1,6 +1,5 @@
-use Rattle.fx_order.proofs.Words.{◌≡◌, rules, length, slice_index_or, None}
+use Rattle.fx_order.proofs.{◌≡◌, rules, length, slice_index_or, None, file_Decides, option_Decides}
 use Rattle.std.proofs.lemmas.Slice.Eq.{slice_eq-Decides}
-use Rattle.fx_order.proofs.Apart.{file_Decides, option_Decides}
 use Rattle.fx_order.proofs.slots.Slots.is_same.Goals as goal
 
 pub returns-then-eq-clause-same : goal.returns-then-eq-clause-same
