@@ -51,7 +51,7 @@ fn push_break(
 }
 
 // Appends a break at a place, with the facts of the submission there. A function of its own, since
-// the borrow checker wants the facts, the question and the break at lifetimes of one signature.
+// the borrow checker requires the facts, the question and the break at lifetimes of one signature.
 fn push_reason(
     report: &mut Words,
     question: &Question<'_>,

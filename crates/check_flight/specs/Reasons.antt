@@ -1,4 +1,4 @@
--- What the reason of a verdict says of a log.
+-- The meaning of a verdict's reason.
 use Rattle.check_flight.specs.Words.{ℕ, List, length, take, FileEntry, ring_of_slots, Slots}
 use Rattle.check_flight.specs.Words.{all_happenings, IsLegalLog, LogReason}
 use Rattle.std.specs.Prelude.{◌≡◌, ◌<◌}

@@ -70,7 +70,7 @@ impl SlotState {
             return false;
         }
         match need.call {
-            Some((j, wanted)) => self.made.get(j).is_some_and(|made| *made >= wanted),
+            Some((j, needed)) => self.made.get(j).is_some_and(|made| *made >= needed),
             None => true,
         }
     }
@@ -255,9 +255,9 @@ impl<'a> SlotRun<'a> {
         let Some(call) = self.calls.get(j) else {
             return Ok(());
         };
-        let (mut wanted, count) = (0usize, call.acts.len());
+        let (mut needed, count) = (0usize, call.acts.len());
         for (own, act) in &call.acts {
-            wanted = wanted.saturating_add(usize::from(*own <= member));
+            needed = needed.saturating_add(usize::from(*own <= member));
             if *own == member
                 && let Some(file) = act.file()
                 && !log.positions.close_of(file).is_some_and(|close| close < at)
@@ -265,9 +265,9 @@ impl<'a> SlotRun<'a> {
                 self.unclosed = self.unclosed.saturating_add(1);
             }
         }
-        let (call, gone) = (Some((j, wanted)), None);
+        let (call, gone) = (Some((j, needed)), None);
         self.reach(log, Need { call, gone })?;
-        if wanted < count {
+        if needed < count {
             return Ok(());
         }
         self.forget(j)

@@ -62,7 +62,7 @@ module _ {A : Type 0} {print : A → List ℕ} {fits : A → Type 0} {may : List
 pub goes_on : (word : List ℕ) {rest : List ℕ} (tail : List ℕ) → rest ≡ word ++ tail → (behind : List ℕ) → ¬ (StartsWith behind word) → rest ≡ behind → ⊥
 goes_on word tail begins behind over same = over (ap (take (length word)) (sym same ∙ begins) ∙ take_at word tail (length word) refl)
 
--- the text of a closed file's line behind its word
+-- the text of a closed file's line after its word
 pub tail_of_close : {rest tail : List ℕ} → rest ≡ codes "closed " ++ tail → (close : NamedClose) (more : List ℕ) → rest ≡ named_line close ++ more
     → tail ≡ mark_text close.mark ++ (32 ∷ (close.name ++ (10 ∷ more)))
 tail_of_close {rest} {tail} begins close more same = append_cancel_left (codes "closed ") tail _ (sym begins ∙ same ∙ simp append_assoc)

@@ -17,8 +17,8 @@ HasLength count items rest = length items ≡ count
 abbrev pub AreAll : {A : Type 0} → List ℕ → List A → List ℕ → Type 0
 AreAll word items rest = ¬ (StartsWith rest word)
 
--- lines that fit, and the rest of the text that begins with them. Lines that fit, and that the rest
--- of the text may follow, are no others
+-- lines that fit, and the rest of the text that begins with them. They are the only lines that fit
+-- and that the rest of the text may follow
 pub record AreFirst {A : Type 0} (print : A → List ℕ) (fits : A → Type 0)
     (may : List A → List ℕ → Type 0) (text : List ℕ) (items : List A) (rest : List ℕ) :
     Type 0 where

@@ -31,7 +31,7 @@ IsLayer catalogue layer =
 abbrev pub commands_in : List Layer → List Instruction
 commands_in layers = map (λ layer. instruction_of layer.command.now) layers
 
--- the ways that begin with these exits; `behind` gives those of a ring by its number
+-- the ways that begin with these exits; `behind` has those of a ring by its number
 abbrev pub ways_from : (ℕ → List (List (List ℕ))) → List KeptExit → List (List (List ℕ))
 ways_from behind exits =
     flat_map (λ exit. ways_after (string_bytes exit.line) (behind exit.number)) exits
@@ -59,7 +59,7 @@ abbrev pub AreAllCounted : List (List KeptWays) → Type 0
 AreAllCounted [] = Unit {0}
 AreAllCounted (rests ∷ behind) = All (AreCounted behind) rests × AreAllCounted behind
 
--- these are ways of a ring by the commands and the end of the script, and so many are known
+-- these are ways of a ring by the commands and the end of the script, and known ones are counted
 abbrev pub AreWaysOf : List FileEntry → List Instruction → RingSlots → List (List (List ℕ))
     → KeptWays → Type 0
 AreWaysOf catalogue commands ring ways rest =
