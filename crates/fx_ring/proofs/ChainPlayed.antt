@@ -1,11 +1,13 @@
 -- A worker goes on by one chain that its pass drew.
-use Rattle.fx_ring.proofs.{common_steps, ◌≡◌, ◌≢◌, ℕ, ◌+◌, ◌-◌, ◌<◌, ◌≤◌, List, [], ◌∷◌, ◌++◌, map, length, sym, ap, subst, ◌∙◌, All, Contains, Some}
-use Rattle.fx_ring.proofs.{None, ⊎_elim, length-append, arith, map-append, map-id, map-map, All-append, FileEntry, CloseListView, Closed, Event, ◌▷◌}
-use Rattle.fx_ring.proofs.{Action, action_of, closes_in, part_of_chain, Opening, size_of, PassView, event_of, Completed, Explains, first_member}
-use Rattle.fx_ring.proofs.{Asked, all_weights, IsEnoughFor, WorkerState, worker_state, run_of_chain, completions_of_chain, drop, HasWorked, HasRoom}
-use Rattle.fx_ring.proofs.{slice_index_or, sum_by, sum_by-drop_more, drop-drop, Contains-append_cases, sum_by-take-drop, closes_in-then, Draws, Use}
-use Rattle.fx_ring.proofs.{contains_head, contains_tail, contains_cases, contains_map, each_all, PlaysChain, player, looks_least, explained_count}
-use Rattle.fx_ring.proofs.{only_first, only_second, not_first, not_second, explained_of_members}
+use Rattle.fx_ring.proofs.Words.{common_steps, ◌≡◌, ◌≢◌, ℕ, ◌+◌, ◌-◌, ◌<◌, ◌≤◌, List, [], ◌∷◌, ◌++◌, map, length, sym, ap, subst, ◌∙◌, All, Contains}
+use Rattle.fx_ring.proofs.Words.{Some, None, ⊎_elim, length-append, arith, map-append, map-id, map-map, All-append, FileEntry, CloseListView, Closed}
+use Rattle.fx_ring.proofs.Words.{Event, ◌▷◌, Action, action_of, closes_in, part_of_chain, Opening, size_of, PassView, event_of, Completed, Explains}
+use Rattle.fx_ring.proofs.Words.{first_member, Asked, all_weights, IsEnoughFor, WorkerState, worker_state, run_of_chain, completions_of_chain, drop}
+use Rattle.fx_ring.proofs.Words.{HasWorked, HasRoom, slice_index_or, sum_by, sum_by-drop_more, drop-drop, Contains-append_cases, sum_by-take-drop}
+use Rattle.fx_ring.proofs.Words.{closes_in-then, Draws, Use, contains_head, contains_tail, contains_cases, contains_map, each_all, PlaysChain, player}
+use Rattle.fx_ring.proofs.Words.{looks_least, explained_count}
+use Rattle.fx_ring.proofs.Parts.{only_first, only_second, not_first, not_second}
+use Rattle.fx_ring.proofs.CompletionPlaces.{explained_of_members}
 
 -- the element at a further place of a list, counted from 1, and the elements after it
 pub sum_behind : {X : Type 0} (f : X → ℕ) (xs : List X) (d : X) (i : ℕ) {c : ℕ} → i < c → c ≤ length xs

@@ -1,13 +1,14 @@
 -- Crews: new ones, and those whose passes have played.
-use Rattle.fx_ring.proofs.{rules, length-map, sum_by-cons, new_passes, all_weights, Completion, HasRoomFor, PASS_LOOKS, All-weaker, WorkerState, ◌≡◌}
-use Rattle.fx_ring.proofs.{FileEntry, PassView, weight_of, HasWorked, sum_by-le, IsShortRun, AreCutInto, map-append, IsAccepted, all_asked, ℕ, ◌≤◌}
-use Rattle.fx_ring.proofs.{◌∷◌, map, All, sum_by, refl, sym, ap, ◌∙◌, arith, Asked, Worker, map-id, ◌*◌, Chain, Closed, ◌+◌, ◌<◌, take, List}
-use Rattle.fx_ring.proofs.{vec_capacity, All-contains, worker_state, contains_map, MOST_MEMBERS, completed_of, flat_map-map, operation_of, []}
-use Rattle.fx_ring.proofs.{length-flat_map, contains_mapped, length-map-range_with_len, state_of_worker, accepted-length, all_weights-small, flat_map}
-use Rattle.fx_ring.proofs.{sum_by-append, all_completed, contains_none, range_with_len, slice_index_or, sum_by_more_le, accepted-each, length, subst}
-use Rattle.fx_ring.proofs.{map-map, All-nil, new_pass, runs_of, HasRoom, Outcome, Contains, each_all, asked_of, Request, sum_map, as_many}
-use Rattle.fx_ring.proofs.{runs_within, made_of_parts}
+use Rattle.fx_ring.proofs.Words.{rules, length-map, sum_by-cons, new_passes, all_weights, Completion, HasRoomFor, PASS_LOOKS, All-weaker, WorkerState}
+use Rattle.fx_ring.proofs.Words.{◌≡◌, FileEntry, PassView, weight_of, HasWorked, sum_by-le, IsShortRun, AreCutInto, map-append, IsAccepted, all_asked}
+use Rattle.fx_ring.proofs.Words.{ℕ, ◌≤◌, ◌∷◌, map, All, sum_by, refl, sym, ap, ◌∙◌, arith, Asked, Worker, map-id, ◌*◌, Chain, Closed, ◌+◌, ◌<◌, take}
+use Rattle.fx_ring.proofs.Words.{List, vec_capacity, All-contains, worker_state, contains_map, MOST_MEMBERS, completed_of, flat_map-map, operation_of}
+use Rattle.fx_ring.proofs.Words.{[], length-flat_map, contains_mapped, length-map-range_with_len, state_of_worker, accepted-length, all_weights-small}
+use Rattle.fx_ring.proofs.Words.{flat_map, sum_by-append, all_completed, contains_none, range_with_len, slice_index_or, sum_by_more_le, accepted-each}
+use Rattle.fx_ring.proofs.Words.{length, subst, map-map, All-nil, new_pass, runs_of, HasRoom, Outcome, Contains, each_all, asked_of, Request, sum_map}
+use Rattle.fx_ring.proofs.CompletionPlaces.{as_many, runs_within}
 use Rattle.fx_chain.proofs.Runs.{are_runs}
+use Rattle.fx_ring.proofs.Parts.{made_of_parts}
 use Rattle.fx_ring.proofs.WorkersTogether.{pass_of, completed_by, closed_by_worker}
 
 -- what holds of all elements holds of what they were made into

@@ -12,10 +12,3 @@ pub mod Crews
 pub mod LonePlays
 pub mod SubmittedRing
 pub mod Rings
--- The names that many of these proofs cite, passed on from one place.
-pub use Words.*
-pub use CompletionPlaces.*
-pub use ListSteps.*
-pub use Origins.*
-pub use Parts.*
-pub use Rings.*

@@ -1,18 +1,20 @@
 -- A pass alone plays the chains of a submission, one after another.
-use Rattle.fx_ring.proofs.{common_steps, rules, ◌≡◌, ◌≢◌, ℕ, ◌+◌, ◌-◌, ◌*◌, ◌<◌, ◌≤◌, false, cond, List, [], ◌∷◌, ◌++◌, map, length, refl, sym, ap}
-use Rattle.fx_ring.proofs.{nat_tests, subst, ◌∙◌, arith, Option, None, All, All-head, All-tail, All-weaker, Contains, by_equality, Closed}
-use Rattle.fx_ring.proofs.{IsPermutation, IsNonDecreasingBy, FileEntry, CloseListView, State, opening, IsLegal, action_of, closes_in, closed_by}
-use Rattle.fx_ring.proofs.{part_of_chain, File, Event, Action, Opening, size_of, state_at, PassView, numbers_for, Completed, Explains, Asked}
-use Rattle.fx_ring.proofs.{first_member, runs_of, IsShortRun, HasClosed, ring_of, ring_with, with_table, installed_by, sum_by, sum_by-cons, ◌▷◌}
-use Rattle.fx_ring.proofs.{IsOneHistory, HasWorked, worker_state, completions_of_chain, run_of_chain, MOST_SLOTS, same_size, start_of, Some}
-use Rattle.fx_ring.proofs.{IsSettledSoFar, contains_map, contains_mapped, each_all, table_with_files, chain_less, begun_after, sum_by-le, Draws}
-use Rattle.fx_ring.proofs.{map-map, map-append, append_assoc, IsIdle, event_of, HasRoom, vec_capacity, all_completed, HasRoomFor, MOST_MEMBERS}
-use Rattle.fx_ring.proofs.{Outcome, add-one, PlaysChain, player, chains_to, zero, suc, filter_passes, contains_head, contains_tail, IsFront}
-use Rattle.fx_ring.proofs.{stays_at_rest, begins_at_rest, legal_behind, ◌▷▷◌, held_by, looks_least, opened_so, ring_so, size_there, few_by_key}
-use Rattle.fx_ring.proofs.{drawn_inside, in_order_explained}
+use Rattle.fx_ring.proofs.Words.{common_steps, rules, ◌≡◌, ◌≢◌, ℕ, ◌+◌, ◌-◌, ◌*◌, ◌<◌, ◌≤◌, false, cond, List, [], ◌∷◌, ◌++◌, map, length, refl, sym}
+use Rattle.fx_ring.proofs.Words.{ap, nat_tests, subst, ◌∙◌, arith, Option, None, All, All-head, All-tail, All-weaker, Contains, by_equality, Closed}
+use Rattle.fx_ring.proofs.Words.{IsPermutation, IsNonDecreasingBy, FileEntry, CloseListView, State, opening, IsLegal, action_of, closes_in, closed_by}
+use Rattle.fx_ring.proofs.Words.{part_of_chain, File, Event, Action, Opening, size_of, state_at, PassView, numbers_for, Completed, Explains, Asked}
+use Rattle.fx_ring.proofs.Words.{first_member, runs_of, IsShortRun, HasClosed, ring_of, ring_with, with_table, installed_by, sum_by, sum_by-cons, ◌▷◌}
+use Rattle.fx_ring.proofs.Words.{IsOneHistory, HasWorked, worker_state, completions_of_chain, run_of_chain, MOST_SLOTS, same_size, start_of, Some}
+use Rattle.fx_ring.proofs.Words.{IsSettledSoFar, contains_map, contains_mapped, each_all, table_with_files, chain_less, begun_after, sum_by-le, Draws}
+use Rattle.fx_ring.proofs.Words.{map-map, map-append, append_assoc, IsIdle, event_of, HasRoom, vec_capacity, all_completed, HasRoomFor, MOST_MEMBERS}
+use Rattle.fx_ring.proofs.Words.{Outcome, add-one, PlaysChain, player, chains_to, zero, suc, filter_passes, contains_head, contains_tail, IsFront}
+use Rattle.fx_ring.proofs.Words.{stays_at_rest, begins_at_rest, legal_behind, ◌▷▷◌, held_by, looks_least}
 use Rattle.fx_plain.specs.Reopening.{Renaming, renamed, renamed_event, numbers_given, with_number_of, IsTableAtRest, HasOtherNumbers}
 use Rattle.fx_plain.proofs.OpenedAnew.{opened_anew}
 use Rattle.fx_chain.proofs.OtherNumbers.{explains, few_given, given_one}
+use Rattle.fx_ring.proofs.Rings.{opened_so, ring_so, size_there}
+use Rattle.fx_ring.proofs.Parts.{few_by_key}
+use Rattle.fx_ring.proofs.CompletionPlaces.{drawn_inside, in_order_explained}
 use Rattle.fx_ring.proofs.Crews.{IsNew, new_has_worked, new_has_room}
 use Rattle.fx_ring.proofs.ChainPlayed.{GoesOn, drawing, worked_on, room_left}
 

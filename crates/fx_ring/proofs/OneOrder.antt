@@ -2,7 +2,8 @@
 use Rattle.fx_ring.proofs.Words.{Bool, false, ◌∙◌, ◌≢◌, length, contains_head, contains_none, contains_tail, ◌≡◌, ℕ, suc, ◌<◌, List, [], ◌∷◌, All, ap}
 use Rattle.fx_ring.proofs.Words.{Contains, IsPermutation, refl, sym, ◌==◌, arith, ⊎_elim, slice_index_or, eq-eqb, ne_eqb, IsNonDecreasingBy}
 use Rattle.fx_ring.proofs.Words.{All-contains, Contains-permutation, IsPermutation-sym, contains_cases, IsDistinct-IsPermutation, IsDistinct-cons}
-use Rattle.fx_ring.proofs.Words.{apart_from_distinct, false≢true, nat_tests, recursion_from_All, IsDistinct}
+use Rattle.fx_ring.proofs.Words.{apart_from_distinct, false≢true, nat_tests, recursion_from_All}
+use Rattle.std.specs.List.{IsDistinct}
 
 module _ {X : Type 0} (key : X → ℕ) where
   -- each element's key is below the keys of those after it

@@ -1,12 +1,13 @@
 -- Rings after a submission, and rings whose table is opened or closed.
-use Rattle.fx_ring.proofs.{common_steps, rules, ◌≡◌, ℕ, ◌+◌, ◌<◌, ◌≤◌, List, [], ◌∷◌, length, map, Contains, refl, sym, ap, subst, ◌∙◌, ⊎_elim, inl}
-use Rattle.fx_ring.proofs.{Some, arith, FileEntry, Closed, State, IsSettled, opening, state_of, action_of, closes_in, File, Event, Action, Completed}
-use Rattle.fx_ring.proofs.{by_equality, numbers_for, first_member, Asked, runs_of, RingContents, RingState, IsRing, IsAtRest, ◌-◌, HasCounted}
-use Rattle.fx_ring.proofs.{AreEntries, ring_of, with_table, ExplainsParts, Reported, IsOneHistory, MOST_SUBMISSIONS, ◌*◌, Contents, All, ◌++◌}
-use Rattle.fx_ring.proofs.{All-head, length-map, length-append, new_passes, Opening, state_at, PassView, IsIdle, new_pass, ring_with, ClosesTable}
-use Rattle.fx_ring.proofs.{same_size, MOST_SLOTS, MAX_CHAINS, IsOpenedFor, HasSameFiles, start_of, IsSettledSoFar, contains_none, same_identity}
-use Rattle.fx_ring.proofs.{ring_led_by, IsKeptOpen, IsAloneAt, MOST_MEMBERS, vec_capacity, contains_head, HoldsOfAll, holds_of_closes, all_closes_in}
-use Rattle.fx_ring.proofs.{counted_still, file_told, not_yet, opening_files, entries_closed, told_at, size_there, table_settled}
+use Rattle.fx_ring.proofs.Words.{common_steps, rules, ◌≡◌, ℕ, ◌+◌, ◌<◌, ◌≤◌, List, [], ◌∷◌, length, map, Contains, refl, sym, ap, subst, ◌∙◌, ⊎_elim}
+use Rattle.fx_ring.proofs.Words.{inl, Some, arith, FileEntry, Closed, State, IsSettled, opening, state_of, action_of, closes_in, File, Event, Action}
+use Rattle.fx_ring.proofs.Words.{Completed, by_equality, numbers_for, first_member, Asked, runs_of, RingContents, RingState, IsRing, IsAtRest, ◌-◌}
+use Rattle.fx_ring.proofs.Words.{HasCounted, AreEntries, ring_of, with_table, ExplainsParts, Reported, IsOneHistory, MOST_SUBMISSIONS, ◌*◌, Contents}
+use Rattle.fx_ring.proofs.Words.{All, ◌++◌, All-head, length-map, length-append, new_passes, Opening, state_at, PassView, IsIdle, new_pass, ring_with}
+use Rattle.fx_ring.proofs.Words.{ClosesTable, same_size, MOST_SLOTS, MAX_CHAINS, IsOpenedFor, HasSameFiles, start_of, IsSettledSoFar, contains_none}
+use Rattle.fx_ring.proofs.Words.{same_identity, ring_led_by, IsKeptOpen, IsAloneAt, MOST_MEMBERS, vec_capacity, contains_head, HoldsOfAll}
+use Rattle.fx_ring.proofs.Words.{holds_of_closes, all_closes_in}
+use Rattle.fx_ring.proofs.Rings.{counted_still, file_told, not_yet, opening_files, entries_closed, told_at, size_there, table_settled}
 use Rattle.fx_ring.proofs.MarksApart.{IsPut, Puts, IsOfChain, part_actions, put_in_part, installed_put, whole_new, IsApart, IsUnlike, apart_after}
 use Rattle.fx_ring.proofs.Installs.{IsOfMembers, explained_puts}
 use Rattle.std.specs.Global.{Vec}

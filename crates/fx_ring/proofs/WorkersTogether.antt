@@ -1,13 +1,15 @@
 -- The work of a submission's workers, taken together.
-use Rattle.fx_ring.proofs.{◌≡◌, ℕ, ◌+◌, ◌-◌, ◌<◌, ◌≤◌, ◌==◌, true, List, [], map, flat_map, length, All, sum_by, count_by, slice_index_or, refl}
-use Rattle.fx_ring.proofs.{closed_by, filter, filter-append, sym, ap, subst, ◌∙◌, arith, eqb, IsNonDecreasingBy, All-contains, FileEntry, Event}
-use Rattle.fx_ring.proofs.{IsPermutation-trans, length_permutation, IsInOrderOfMark, CloseListView, Closed, Contents, action_of, part_of_chain}
-use Rattle.fx_ring.proofs.{ClosesTable, times_drawn, Opening, size_of, state_at, PassView, IsOfDrawnChains, some_times, part_of_drawn, sum_map}
-use Rattle.fx_ring.proofs.{Completed, Explains, first_member, Asked, IsShortRun, runs_of, all_weights, ring_with, IsOneHistory, WorkerState}
-use Rattle.fx_ring.proofs.{HasWorked, run_of_chain, completions_of_chain, Contains, IsPermutation, contains_map, contains_mapped, each_all}
-use Rattle.fx_ring.proofs.{range_with_len, flat_map-map, false, start_is, in_part, closes_of, closes_by_key, closes_sum, number_within, one_part}
-use Rattle.fx_ring.proofs.{all_parts, made_of_parts, same_parts, few_by_key, none_kept, place_key, drawn_inside, one_of_each_request}
-use Rattle.fx_ring.proofs.{in_order_explained, ring_as}
+use Rattle.fx_ring.proofs.Words.{◌≡◌, ℕ, ◌+◌, ◌-◌, ◌<◌, ◌≤◌, ◌==◌, true, List, [], map, flat_map, length, All, sum_by, count_by, slice_index_or, refl}
+use Rattle.fx_ring.proofs.Words.{closed_by, filter, filter-append, sym, ap, subst, ◌∙◌, arith, eqb, IsNonDecreasingBy, All-contains, FileEntry, Event}
+use Rattle.fx_ring.proofs.Words.{IsPermutation-trans, length_permutation, IsInOrderOfMark, CloseListView, Closed, Contents, action_of, part_of_chain}
+use Rattle.fx_ring.proofs.Words.{ClosesTable, times_drawn, Opening, size_of, state_at, PassView, IsOfDrawnChains, some_times, part_of_drawn, sum_map}
+use Rattle.fx_ring.proofs.Words.{Completed, Explains, first_member, Asked, IsShortRun, runs_of, all_weights, ring_with, IsOneHistory, WorkerState}
+use Rattle.fx_ring.proofs.Words.{HasWorked, run_of_chain, completions_of_chain, Contains, IsPermutation, contains_map, contains_mapped, each_all}
+use Rattle.fx_ring.proofs.Words.{range_with_len, flat_map-map, false, start_is, in_part}
+use Rattle.fx_ring.proofs.Parts.{closes_of, closes_by_key, closes_sum, number_within, one_part, all_parts, made_of_parts, same_parts, few_by_key}
+use Rattle.fx_ring.proofs.Parts.{none_kept}
+use Rattle.fx_ring.proofs.CompletionPlaces.{place_key, drawn_inside, one_of_each_request, in_order_explained}
+use Rattle.fx_ring.proofs.Rings.{ring_as}
 
 abbrev pub pass_of : WorkerState → PassView
 pass_of w = w.pass

@@ -1,13 +1,17 @@
 -- The failures of a ring's calls, and their lists of closes (the order of the refusals is
 -- this project's own).
-use Rattle.fx_ring.specs.Words.{ℕ, nat_le, nat_lt, List, Option, Some, None, Result, Err, IfSome}
-use Rattle.fx_ring.specs.Words.{IfNone, IsOkUnless, CloseListView, Closed, MAX_PASSES, Asked}
-use Rattle.fx_ring.specs.Words.{MOST_SUBMISSIONS, Workers, Cut, TooMany}
-use Rattle.std.specs.Prelude.{◌≡◌, ◌==◌, ◌||◌, if◌then◌else◌}
+use Rattle.std.specs.Prelude.{◌≡◌, ℕ, ◌==◌, ◌||◌, nat_le, nat_lt, List, if◌then◌else◌, Option}
+use Rattle.std.specs.Prelude.{Some, None, Result, Err, IfSome, IfNone, IsOkUnless}
+use Rattle.fx_base.specs.CloseListView.{CloseListView}
+use Rattle.fx_base.specs.declared.open_file.Closed.{Closed}
+use Rattle.fx_table.specs.declared.limits.TheConstants.{MAX_PASSES}
 use Rattle.fx_chain.specs.Faults.{fault_of}
+use Rattle.fx_chain.specs.Operation.{Asked}
 use Rattle.fx_chain.specs.declared.fault.CutFault.{CutFault}
 use Rattle.fx_ring.specs.Ring.{AreEntries, HasClosed, RingState}
+use Rattle.fx_ring.specs.declared.ring.TheConstants.{MOST_SUBMISSIONS}
 use Rattle.fx_ring.specs.declared.report.SubmitFault.{SubmitFault}
+use Rattle.fx_ring.specs.declared.report.SubmitFault.TheVariants.{Workers, Cut, TooMany}
 
 -- the call fails with its refusal, if there is one, and otherwise only if an allocation fails
 pub record FailsOnlyAs {A E : Type 0} (refusal : Option E) (no_memory : E) (result : Result A E)

@@ -1,11 +1,16 @@
 -- The effect of a submission on files, from the promises of `submit` alone.
-use Rattle.fx_ring.specs.Words.{ℕ, List, [], length, Some, State, opening, state_of, part_of_pass}
-use Rattle.fx_ring.specs.Words.{File, Event, numbers_for, Asked, runs_of}
-use Rattle.std.specs.Prelude.{◌≡◌, ◌⊎◌, ◌≤◌}
-use Rattle.fx_plain.specs.History.{◌▷◌, ◌▷▷◌}
+use Rattle.std.specs.Prelude.{◌≡◌, ◌⊎◌, ℕ, ◌≤◌, List, [], length, Some}
+use Rattle.fx_plain.specs.State.{State, opening}
+use Rattle.fx_plain.specs.Contents.{state_of}
+use Rattle.fx_plain.specs.History.{◌▷◌, ◌▷▷◌, part_of_pass}
 use Rattle.fx_plain.specs.Laws.{closes_of, releases_in, IsAtSlot, IsInstalled, IsStillThere}
 use Rattle.fx_plain.specs.Laws.{IsClosedOnce}
+use Rattle.fx_plain.specs.declared.event.File.{File}
+use Rattle.fx_plain.specs.declared.event.Event.{Event}
 use Rattle.fx_plain.specs.declared.event.Action.TheVariants.{Look}
+use Rattle.fx_table.specs.Numbers.{numbers_for}
+use Rattle.fx_chain.specs.Operation.{Asked}
+use Rattle.fx_chain.specs.Runs.{runs_of}
 use Rattle.fx_ring.specs.Ring.{RingContents, ring_of}
 use Rattle.fx_ring.specs.Submission.{IsOneHistory, Reported}
 

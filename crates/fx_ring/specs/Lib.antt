@@ -9,4 +9,3 @@ pub mod Outcomes
 pub mod Playing
 pub mod Laws
 pub mod OpenRings
-pub mod Words

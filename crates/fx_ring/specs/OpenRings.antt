@@ -1,15 +1,29 @@
 -- A ring whose table stays open between submissions of one worker.
-use Rattle.fx_ring.specs.Words.{ℕ, false, zero, suc, List, [], map, replicate, vec_capacity, length}
-use Rattle.fx_ring.specs.Words.{All, Contains, Option, Some, None, IsPermutation, range_with_len}
-use Rattle.fx_ring.specs.Words.{IsNonDecreasingBy, FileEntry, CloseListView, State, Contents, File}
-use Rattle.fx_ring.specs.Words.{Event, MOST_SLOTS, Opening, size_of, state_at, PassView, IsIdle}
-use Rattle.fx_ring.specs.Words.{IsShortRun, Completed, Asked, runs_of, all_installs, MOST_MEMBERS}
-use Rattle.std.specs.Prelude.{◌≡◌, ◌+◌, ◌-◌, ◌*◌, ◌≤◌}
+use Rattle.std.specs.Prelude.{◌≡◌, ℕ, false, zero, suc, ◌+◌, ◌-◌, ◌*◌, ◌≤◌, List, []}
 use Rattle.std.specs.Global.{Vec}
+use Rattle.std.specs.Prelude.{map, replicate, vec_capacity}
+use Rattle.std.specs.Prelude.{length, All, Contains, Option, Some, None, IsPermutation}
+use Rattle.std.specs.List.{range_with_len}
+use Rattle.std.specs.List.Sorted.{IsNonDecreasingBy}
+use Rattle.fx_base.specs.Catalogue.{FileEntry}
+use Rattle.fx_base.specs.CloseListView.{CloseListView}
+use Rattle.fx_plain.specs.State.{State}
+use Rattle.fx_plain.specs.Contents.{Contents}
 use Rattle.fx_plain.specs.History.{◌▷◌, ◌▷▷◌}
+use Rattle.fx_plain.specs.declared.event.File.{File}
+use Rattle.fx_plain.specs.declared.event.Event.{Event}
 use Rattle.fx_plain.specs.declared.node.Node.{Node}
 use Rattle.fx_plain.specs.declared.node.Node.TheVariants.{At, Gone}
+use Rattle.fx_plain.specs.declared.table.TheConstants.{MOST_SLOTS}
+use Rattle.fx_table.specs.Opening.{Opening, size_of, state_at}
+use Rattle.fx_table.specs.Pass.{PassView, IsIdle}
 use Rattle.fx_table.specs.Settling.{IsSettledSoFar}
+use Rattle.fx_chain.specs.Accepted.{IsShortRun}
+use Rattle.fx_chain.specs.Completed.{Completed}
+use Rattle.fx_chain.specs.Operation.{Asked}
+use Rattle.fx_chain.specs.Runs.{runs_of}
+use Rattle.fx_chain.specs.Weights.{all_installs}
+use Rattle.fx_chain.specs.declared.fault.TheConstants.{MOST_MEMBERS}
 use Rattle.fx_ring.specs.Ring.{RingContents, HasClosed, IsAtRest, ring_with}
 use Rattle.fx_ring.specs.Submission.{IsOneHistory}
 use Rattle.fx_ring.specs.Work.{HasWorked, worker_state}

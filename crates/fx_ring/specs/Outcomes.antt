@@ -1,6 +1,7 @@
 -- The outcomes of workers, as lists that have their room from the start.
-use Rattle.fx_ring.specs.Words.{ℕ, List, [], length, All, vec_capacity, Asked, all_weights}
-use Rattle.std.specs.Prelude.{◌≡◌, ◌≤◌}
+use Rattle.std.specs.Prelude.{◌≡◌, ◌≤◌, ℕ, List, [], length, All, vec_capacity}
+use Rattle.fx_chain.specs.Operation.{Asked}
+use Rattle.fx_chain.specs.Weights.{all_weights}
 use Rattle.fx_ring.specs.declared.outcome.Outcome.{Outcome}
 use Rattle.fx_ring.specs.declared.crew.Room.{Room}
 

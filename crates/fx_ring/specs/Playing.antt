@@ -1,12 +1,18 @@
 -- The play of a submission, and a worker between two of its chains.
-use Rattle.fx_ring.specs.Words.{ℕ, true, List, vec_capacity, FileEntry, size_of, PassView, IsIdle}
-use Rattle.fx_ring.specs.Words.{Contents, all_completed, Asked, all_asked, runs_of, Report}
-use Rattle.std.specs.Prelude.{◌≡◌, ◌+◌}
+use Rattle.std.specs.Prelude.{◌≡◌, ◌+◌, ℕ, true, List, vec_capacity}
+use Rattle.fx_base.specs.Catalogue.{FileEntry}
+use Rattle.fx_table.specs.Opening.{size_of}
+use Rattle.fx_table.specs.Pass.{PassView, IsIdle}
+use Rattle.fx_plain.specs.Contents.{Contents}
+use Rattle.fx_chain.specs.Completed.{all_completed}
+use Rattle.fx_chain.specs.Operation.{Asked, all_asked}
+use Rattle.fx_chain.specs.Runs.{runs_of}
 use Rattle.fx_ring.specs.Work.{WorkerState, worker_state, HasWorked, HasRoom}
 use Rattle.fx_ring.specs.Ring.{ring_with}
 use Rattle.fx_ring.specs.Submission.{IsOneHistory, reported}
 use Rattle.fx_ring.specs.declared.play.Play.{Play}
 use Rattle.fx_ring.specs.declared.play.Submission.{Submission}
+use Rattle.fx_ring.specs.declared.report.Report.{Report}
 use Rattle.fx_ring.specs.declared.worker.Worker.{Worker}
 
 -- where its pass is, and the outcome of its chains

@@ -1,15 +1,26 @@
 -- The refusals of the calls between submissions, and the rings that they leave
 -- (io_uring_register(2); the order of the refusals is this project's own).
-use Rattle.fx_ring.specs.Words.{ℕ, zero, suc, nat_le, nat_lt, Bool, ℤ, pos, negsuc, List, []}
-use Rattle.fx_ring.specs.Words.{length, slice_get, Option, Some, None, Result, IfOk, OnOk, OnErr}
-use Rattle.fx_ring.specs.Words.{list_any, option_to_list, FileEntry, ENXIO, EBADF, EAGAIN, EBUSY}
-use Rattle.fx_ring.specs.Words.{EINVAL, EMFILE, ENOMEM, Mark, Registered, CloseListView, Identity}
-use Rattle.fx_ring.specs.Words.{Closed, is_bad_entry, MOST_SLOTS, MOST_REGISTRATIONS}
-use Rattle.std.specs.Prelude.{◌+◌, ◌-◌, ◌==◌, ◌||◌, ◌∷◌, ◌++◌, if◌then◌else◌, ◌≡◌}
+use Rattle.std.specs.Prelude.{ℕ, zero, suc, ◌+◌, ◌-◌, ◌==◌, ◌||◌, nat_le, nat_lt, Bool, ℤ, pos}
+use Rattle.std.specs.Prelude.{negsuc}
+use Rattle.std.specs.Prelude.{List, [], ◌∷◌, ◌++◌, length, slice_get, Option, Some, None}
+use Rattle.std.specs.Prelude.{if◌then◌else◌, ◌≡◌, Result, IfOk, OnOk, OnErr}
+use Rattle.std.specs.List.{list_any}
+use Rattle.std.specs.Option.{option_to_list}
+use Rattle.fx_base.specs.Catalogue.{FileEntry}
 use Rattle.fx_base.specs.declared.errno.Errno.{Errno}
+use Rattle.fx_base.specs.declared.errno.Errno.TheVariants.{ENXIO, EBADF, EAGAIN, EBUSY, EINVAL}
+use Rattle.fx_base.specs.declared.errno.Errno.TheVariants.{EMFILE, ENOMEM}
+use Rattle.fx_base.specs.declared.mark.Mark.{Mark}
+use Rattle.fx_base.specs.declared.mark.Mark.TheVariants.{Registered}
+use Rattle.fx_base.specs.CloseListView.{CloseListView}
+use Rattle.fx_base.specs.Identity.{Identity}
+use Rattle.fx_base.specs.declared.open_file.Closed.{Closed}
+use Rattle.fx_chain.specs.Answers.{is_bad_entry}
+use Rattle.fx_plain.specs.declared.table.TheConstants.{MOST_SLOTS}
 use Rattle.fx_ring.specs.Calls.{FailsOnlyAs, ListsFiles}
 use Rattle.fx_ring.specs.Ring.{RingContents, RingState, new_ring, ring_of}
 use Rattle.fx_ring.specs.Tags.{are_bad_tags, tag_at}
+use Rattle.fx_ring.specs.declared.ring.TheConstants.{MOST_REGISTRATIONS}
 
 -- a number of a registration that is neither an empty slot nor an entry of the catalogue
 abbrev pub is_bad_file : ℕ → ℤ → Bool

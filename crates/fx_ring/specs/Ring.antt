@@ -1,10 +1,18 @@
 -- A ring as contracts see it (io_uring_setup(2); the counts and the marks are this project's own).
-use Rattle.fx_ring.specs.Words.{ℕ, zero, suc, List, [], length, All, Option, Some, None}
-use Rattle.fx_ring.specs.Words.{IsPermutation, option_to_list, FileEntry, IsInOrderOfMark}
-use Rattle.fx_ring.specs.Words.{CloseListView, Mark, Registered, Submitted, Identity, Closed, State}
-use Rattle.fx_ring.specs.Words.{IsSettled, Contents, state_of, identity_of, MOST_SUBMISSIONS}
-use Rattle.fx_ring.specs.Words.{MOST_REGISTRATIONS}
-use Rattle.std.specs.Prelude.{◌≡◌, ◌<◌, ◌≤◌, ◌++◌}
+use Rattle.std.specs.Prelude.{◌≡◌, ℕ, zero, suc, ◌<◌, ◌≤◌, List, [], ◌++◌, length, All, Option}
+use Rattle.std.specs.Prelude.{Some, None, IsPermutation}
+use Rattle.std.specs.Option.{option_to_list}
+use Rattle.fx_base.specs.Catalogue.{FileEntry}
+use Rattle.fx_base.specs.CloseList.{IsInOrderOfMark}
+use Rattle.fx_base.specs.CloseListView.{CloseListView}
+use Rattle.fx_base.specs.declared.mark.Mark.{Mark}
+use Rattle.fx_base.specs.declared.mark.Mark.TheVariants.{Registered, Submitted}
+use Rattle.fx_base.specs.Identity.{Identity}
+use Rattle.fx_base.specs.declared.open_file.Closed.{Closed}
+use Rattle.fx_plain.specs.State.{State, IsSettled}
+use Rattle.fx_plain.specs.Contents.{Contents, state_of}
+use Rattle.fx_plain.specs.Table.{identity_of}
+use Rattle.fx_ring.specs.declared.ring.TheConstants.{MOST_SUBMISSIONS, MOST_REGISTRATIONS}
 
 -- what a ring keeps
 pub record RingContents : Type 0 where

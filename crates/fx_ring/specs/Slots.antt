@@ -1,10 +1,16 @@
 -- The files of a table, without their numbers, and how they change.
-use Rattle.fx_ring.specs.Words.{ℕ, Bool, true, ℤ, List, [], length, Option, Some, None}
-use Rattle.fx_ring.specs.Words.{option_to_list, CloseListView, Registered, Identity, Closed, State}
-use Rattle.fx_ring.specs.Words.{IsSettled, close_of, identity_of}
-use Rattle.std.specs.Prelude.{◌≡◌, ◌+◌, ◌<◌, ◌≤◌, ◌++◌}
+use Rattle.std.specs.Prelude.{◌≡◌, ℕ, ◌+◌, ◌<◌, ◌≤◌, Bool, true, ℤ, List, [], ◌++◌, length, Option}
+use Rattle.std.specs.Prelude.{Some, None}
+use Rattle.std.specs.Option.{option_to_list}
+use Rattle.fx_base.specs.CloseListView.{CloseListView}
+use Rattle.fx_base.specs.declared.mark.Mark.TheVariants.{Registered}
+use Rattle.fx_base.specs.Identity.{Identity}
+use Rattle.fx_base.specs.declared.open_file.Closed.{Closed}
 use Rattle.fx_plain.specs.declared.event.Action.{Action}
+use Rattle.fx_plain.specs.State.{State, IsSettled}
 use Rattle.fx_plain.specs.Step.{changed_at}
+use Rattle.fx_plain.specs.History.{close_of}
+use Rattle.fx_plain.specs.Table.{identity_of}
 use Rattle.fx_ring.specs.Registration.{file_after, files_after, removed_by_number, removed_from}
 
 -- the file at each slot, its number aside

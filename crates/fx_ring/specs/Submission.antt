@@ -1,10 +1,18 @@
 -- A submission: its completions come from one legal history of a sequential file table.
-use Rattle.fx_ring.specs.Words.{ℕ, List, [], length, map, Contains, FileEntry, CloseListView, State}
-use Rattle.fx_ring.specs.Words.{IsSettled, opening, state_of, IsLegal, part_of_chain, action_of}
-use Rattle.fx_ring.specs.Words.{closes_in, Event, numbers_for, Completed, all_completed, Explains}
-use Rattle.fx_ring.specs.Words.{first_member, Asked, runs_of, Report}
-use Rattle.std.specs.Prelude.{◌≡◌, ◌+◌, ◌≤◌, ◌∷◌, ◌++◌}
+use Rattle.std.specs.Prelude.{◌≡◌, ℕ, ◌+◌, ◌≤◌, List, [], ◌∷◌, ◌++◌, length, map, Contains}
+use Rattle.fx_base.specs.Catalogue.{FileEntry}
+use Rattle.fx_base.specs.CloseListView.{CloseListView}
+use Rattle.fx_plain.specs.State.{State, IsSettled, opening}
+use Rattle.fx_plain.specs.Contents.{state_of}
+use Rattle.fx_plain.specs.History.{IsLegal, part_of_chain, action_of, closes_in}
+use Rattle.fx_plain.specs.declared.event.Event.{Event}
+use Rattle.fx_table.specs.Numbers.{numbers_for}
+use Rattle.fx_chain.specs.Completed.{Completed, all_completed}
+use Rattle.fx_chain.specs.Explains.{Explains, first_member}
+use Rattle.fx_chain.specs.Operation.{Asked}
+use Rattle.fx_chain.specs.Runs.{runs_of}
 use Rattle.fx_ring.specs.Ring.{RingContents, HasClosed, ring_of, with_table}
+use Rattle.fx_ring.specs.declared.report.Report.{Report}
 
 -- the completions are those of the chains from this one on, in order of place; each chain's are
 -- explained by the part of the history that is the chain's

@@ -1,9 +1,10 @@
 -- The tags that go with a list, one for each of its numbers (io_uring_register(2),
 -- "IORING_REGISTER_FILES2").
-use Rattle.fx_ring.specs.Words.{ℕ, not, Bool, false, ℤ, pos, negsuc, List, length, map, slice_get}
-use Rattle.fx_ring.specs.Words.{Option, Some, None, option_map, unwrap_or, list_any, zip}
-use Rattle.std.specs.Prelude.{◌==◌, ◌||◌}
+use Rattle.std.specs.Prelude.{ℕ, ◌==◌, ◌||◌, not, Bool, false, ℤ, pos, negsuc, List, length, map}
+use Rattle.std.specs.Prelude.{slice_get}
+use Rattle.std.specs.Prelude.{Option, Some, None, option_map, unwrap_or}
 use Rattle.std.specs.Borrow.{Bor}
+use Rattle.std.specs.List.{list_any, zip}
 
 -- the tags of a list without any: 0 for each of its numbers
 abbrev pub no_tags : List ℤ → List ℕ

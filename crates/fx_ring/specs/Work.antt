@@ -1,10 +1,17 @@
 -- The work of a submission's worker.
-use Rattle.fx_ring.specs.Words.{ℕ, List, [], map, filter, length, drop, All, Contains, sum_by}
-use Rattle.fx_ring.specs.Words.{slice_index_or, FileEntry, CloseListView, action_of, closes_in}
-use Rattle.fx_ring.specs.Words.{part_of_chain, PassView, IsOfDrawnChains, MAX_CHAINS, IsAccepted}
-use Rattle.fx_ring.specs.Words.{IsChain, members_of, Completed, Explains, first_member, Asked}
-use Rattle.fx_ring.specs.Words.{runs_of, all_installs, all_weights}
-use Rattle.std.specs.Prelude.{◌≡◌, ◌+◌, ◌-◌, ◌==◌, ◌≤◌}
+use Rattle.std.specs.Prelude.{◌≡◌, ℕ, ◌+◌, ◌-◌, ◌==◌, ◌≤◌, List, [], map, filter, length, drop, All}
+use Rattle.std.specs.Prelude.{Contains, sum_by, slice_index_or}
+use Rattle.fx_base.specs.Catalogue.{FileEntry}
+use Rattle.fx_base.specs.CloseListView.{CloseListView}
+use Rattle.fx_plain.specs.History.{action_of, closes_in, part_of_chain}
+use Rattle.fx_table.specs.Pass.{PassView, IsOfDrawnChains}
+use Rattle.fx_table.specs.declared.limits.TheConstants.{MAX_CHAINS}
+use Rattle.fx_chain.specs.Accepted.{IsAccepted, IsChain, members_of}
+use Rattle.fx_chain.specs.Completed.{Completed}
+use Rattle.fx_chain.specs.Explains.{Explains, first_member}
+use Rattle.fx_chain.specs.Operation.{Asked}
+use Rattle.fx_chain.specs.Runs.{runs_of}
+use Rattle.fx_chain.specs.Weights.{all_installs, all_weights}
 use Rattle.fx_chain.specs.declared.chain.Chain.{Chain}
 
 -- what a worker has at a moment

@@ -1,9 +1,11 @@
 //! The errors of calls between submissions, apart from failed allocations. If several apply, the
 //! first in the manual's order is returned. They depend on the catalogue, the number of
 //! slots (0 without a table) and the number of accepted registrations.
-ghost use Rattle.fx_ring.specs.Words.{[], IfNone, false, length, list_any, is_bad_entry};
-ghost use Rattle.std.specs.Prelude.{◌≡◌, ◌+◌, ◌<◌, ◌≤◌};
-ghost use Rattle.fx_ring.specs.Registration.{counted_ring, is_bad_file, register_refusal, sparse_refusal, update_refusal};
+ghost use Rattle.std.specs.Prelude.{◌≡◌, ◌+◌, ◌<◌, ◌≤◌, [], IfNone, false, length};
+ghost use Rattle.std.specs.List.{list_any};
+ghost use Rattle.fx_chain.specs.Answers.{is_bad_entry};
+ghost use Rattle.fx_ring.specs.Registration.{counted_ring, is_bad_file, register_refusal};
+ghost use Rattle.fx_ring.specs.Registration.{sparse_refusal, update_refusal};
 ghost use Rattle.fx_ring.specs.Tags.{tags_for};
 
 use crate::list::{are_bad_tags, has_bad_file};

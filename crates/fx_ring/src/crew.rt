@@ -1,7 +1,8 @@
 //! The crew of a submission: its workers are made of passes before they play, and taken apart
 //! afterwards.
-ghost use Rattle.fx_ring.specs.Words.{[], length, map, IfOk, vec_capacity, IsAccepted, all_asked};
-ghost use Rattle.std.specs.Prelude.{◌≡◌, ◌≤◌};
+ghost use Rattle.std.specs.Prelude.{◌≡◌, ◌≤◌, [], length, map, IfOk, vec_capacity};
+ghost use Rattle.fx_chain.specs.Accepted.{IsAccepted};
+ghost use Rattle.fx_chain.specs.Operation.{all_asked};
 ghost use Rattle.fx_ring.specs.Outcomes.{HasRoomForCrew};
 
 use crate::outcome::Outcome;

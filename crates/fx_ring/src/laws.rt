@@ -2,10 +2,11 @@
 //! the clause `one_history` of `Ring::submit` alone. Each law is the contract of a function that
 //! does nothing.
 
-ghost use Rattle.fx_ring.specs.Words.{MOST_SUBMISSIONS, MOST_REGISTRATIONS};
 ghost use Rattle.std.specs.Prelude.{◌≡◌};
-ghost use Rattle.fx_ring.specs.Laws.{NoHeldFileCloses, NoFileClosesTwice, NoFileIsLost, SameRingsDoTheSame};
+ghost use Rattle.fx_ring.specs.Laws.{NoHeldFileCloses, NoFileClosesTwice, NoFileIsLost};
+ghost use Rattle.fx_ring.specs.Laws.{SameRingsDoTheSame};
 ghost use Rattle.fx_ring.specs.OpenRings.{PartIsOneHistory};
+ghost use Rattle.fx_ring.specs.declared.ring.TheConstants.{MOST_SUBMISSIONS, MOST_REGISTRATIONS};
 
 /// States that a ring accepts at most 65,535 submissions, and at most 65,535 registrations and
 /// updates together.

@@ -1,8 +1,12 @@
 //! Lists of numbers, one for each slot, and their tags.
-ghost use Rattle.fx_ring.specs.Words.{ℕ, ℤ, pos, List, OnErr, OnOk, false, true, length, slice_index_or, list_any, zip, IsSettled, state_of};
-ghost use Rattle.fx_ring.specs.Words.{MOST_SLOTS, is_bad_entry};
-ghost use Rattle.std.specs.Prelude.{◌≡◌, ◌+◌, ◌<◌, ◌≤◌};
+ghost use Rattle.std.specs.Prelude.{◌≡◌, ◌+◌, ◌<◌, ◌≤◌, ℕ, ℤ, pos, List, OnErr, OnOk, false};
+ghost use Rattle.std.specs.Prelude.{true, length, slice_index_or};
+ghost use Rattle.std.specs.List.{list_any, zip};
+ghost use Rattle.fx_plain.specs.State.{IsSettled};
+ghost use Rattle.fx_plain.specs.Contents.{state_of};
+ghost use Rattle.fx_plain.specs.declared.table.TheConstants.{MOST_SLOTS};
 ghost use Rattle.fx_base.specs.declared.catalogue.TheConstants.{MOST_ENTRIES};
+ghost use Rattle.fx_chain.specs.Answers.{is_bad_entry};
 ghost use Rattle.fx_ring.specs.Registration.{is_bad_file, removed_by_number, removed_from};
 ghost use Rattle.fx_ring.specs.Tags.{are_bad_tags, is_bad_tag, tag_at, tags_for};
 ghost use Rattle.fx_ring.specs.Slots.{SetsList, SetsNumber, files_at};

@@ -1,6 +1,8 @@
 //! The needs of a submission's chains: a file number for each file that they install.
-ghost use Rattle.fx_ring.specs.Words.{ℕ, CHAIN_NUMBERS, all_asked, all_installs};
-ghost use Rattle.std.specs.Prelude.{◌≡◌, ◌≤◌};
+ghost use Rattle.std.specs.Prelude.{◌≡◌, ◌≤◌, ℕ};
+ghost use Rattle.fx_table.specs.declared.limits.TheConstants.{CHAIN_NUMBERS};
+ghost use Rattle.fx_chain.specs.Operation.{all_asked};
+ghost use Rattle.fx_chain.specs.Weights.{all_installs};
 ghost use Rattle.fx_ring.specs.Work.{InstallAtMost};
 
 use crate::play::Submission;

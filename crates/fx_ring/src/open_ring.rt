@@ -1,11 +1,14 @@
 //! Rings whose table stays open from one submission to the next, for one worker.
-ghost use Rattle.fx_ring.specs.Words.{IfOk, IfErr, IfSome, IfNone, OnErr, MatchOption, ℕ, length, CHAIN_NUMBERS, MAX_CHAINS, all_asked, MOST_MEMBERS};
-ghost use Rattle.fx_ring.specs.Words.{NoMemory as Refused};
-ghost use Rattle.std.specs.Prelude.{◌≡◌, ◌+◌, ◌*◌, ◌≤◌};
+ghost use Rattle.std.specs.Prelude.{IfOk, IfErr, IfSome, IfNone, OnErr, MatchOption, ◌≡◌, ◌+◌, ◌*◌};
+ghost use Rattle.std.specs.Prelude.{◌≤◌, ℕ, length};
+ghost use Rattle.fx_table.specs.declared.limits.TheConstants.{CHAIN_NUMBERS, MAX_CHAINS};
+ghost use Rattle.fx_chain.specs.Operation.{all_asked};
+ghost use Rattle.fx_chain.specs.declared.fault.TheConstants.{MOST_MEMBERS};
 ghost use Rattle.fx_ring.specs.Calls.{FailsOnlyAs, submit_refusal};
 ghost use Rattle.fx_ring.specs.Outcomes.{HasRoomFor};
 ghost use Rattle.fx_ring.specs.OpenRings.{HasUsed, IsAloneAt, IsRoomFor, ring_led_by};
 ghost use Rattle.fx_ring.specs.Submission.{IsOneHistory, reported};
+ghost use Rattle.fx_ring.specs.declared.report.SubmitFault.TheVariants.{NoMemory as Refused};
 ghost use Rattle.fx_ring.specs.Work.{InstallAtMost};
 ghost use Rattle.fx_ring.specs.Ring.{AreEntries, ring_of};
 

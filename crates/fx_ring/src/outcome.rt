@@ -1,7 +1,12 @@
 //! The completions and closes of a submission's chains, of one worker or of all.
-ghost use Rattle.fx_ring.specs.Words.{[], length, flat_map, sum_by, All, IfOk, IsPermutation, vec_capacity, IsNonDecreasingBy, IsInOrderOfMark};
-ghost use Rattle.fx_ring.specs.Words.{IsAccepted, all_completed, all_asked, all_weights};
-ghost use Rattle.std.specs.Prelude.{◌≡◌, ◌+◌, ◌*◌, ◌≤◌};
+ghost use Rattle.std.specs.Prelude.{◌≡◌, ◌+◌, ◌*◌, ◌≤◌, [], length, flat_map, sum_by, All, IfOk};
+ghost use Rattle.std.specs.Prelude.{IsPermutation, vec_capacity};
+ghost use Rattle.std.specs.List.Sorted.{IsNonDecreasingBy};
+ghost use Rattle.fx_base.specs.CloseList.{IsInOrderOfMark};
+ghost use Rattle.fx_chain.specs.Accepted.{IsAccepted};
+ghost use Rattle.fx_chain.specs.Completed.{all_completed};
+ghost use Rattle.fx_chain.specs.Operation.{all_asked};
+ghost use Rattle.fx_chain.specs.Weights.{all_weights};
 ghost use Rattle.fx_ring.specs.Outcomes.{HasRoomFor};
 ghost use Rattle.fx_ring.specs.Submission.{reported};
 

@@ -1,8 +1,13 @@
 //! The values that stay the same while a submission is played, and the play of one chain.
-ghost use Rattle.fx_ring.specs.Words.{length, vec_capacity, IsIdle, all_completed, all_asked, runs_of, MOST_SUBMISSIONS};
-ghost use Rattle.std.specs.Prelude.{◌≡◌, ◌+◌, ◌<◌, ◌≤◌};
+ghost use Rattle.std.specs.Prelude.{◌≡◌, ◌+◌, ◌<◌, ◌≤◌, length, vec_capacity};
+ghost use Rattle.fx_table.specs.Pass.{IsIdle};
+ghost use Rattle.fx_chain.specs.Completed.{all_completed};
+ghost use Rattle.fx_chain.specs.Operation.{all_asked};
 ghost use Rattle.fx_chain.specs.Performs.{PlaysChain, player};
-ghost use Rattle.fx_ring.specs.Work.{AreCutInto, InstallAtMost, IsEnoughFor, run_of_chain, worker_state};
+ghost use Rattle.fx_chain.specs.Runs.{runs_of};
+ghost use Rattle.fx_ring.specs.Work.{AreCutInto, InstallAtMost, IsEnoughFor, run_of_chain};
+ghost use Rattle.fx_ring.specs.Work.{worker_state};
+ghost use Rattle.fx_ring.specs.declared.ring.TheConstants.{MOST_SUBMISSIONS};
 
 use crate::outcome::Outcome;
 use crate::ring::MOST_SUBMISSIONS;

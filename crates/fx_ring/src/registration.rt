@@ -1,9 +1,13 @@
 //! The calls between submissions: registrations, updates, the allocation range.
-ghost use Rattle.fx_ring.specs.Words.{false, length, Ok, Err, IfSome, IfNone, IfOk, OnOk, OnErr, ENOMEM, list_any, is_bad_entry};
-ghost use Rattle.std.specs.Prelude.{◌≡◌, ◌<◌, ◌≤◌};
+ghost use Rattle.std.specs.Prelude.{◌≡◌, ◌<◌, ◌≤◌, false, length, Ok, Err, IfSome, IfNone, IfOk};
+ghost use Rattle.std.specs.Prelude.{OnOk, OnErr};
+ghost use Rattle.fx_base.specs.declared.errno.Errno.TheVariants.{ENOMEM};
+ghost use Rattle.std.specs.List.{list_any};
+ghost use Rattle.fx_chain.specs.Answers.{is_bad_entry};
 ghost use Rattle.fx_ring.specs.Ring.{files_of_ring, ring_of, without_table};
 ghost use Rattle.fx_ring.specs.Calls.{FailsOnlyAs, ListsFiles};
-ghost use Rattle.fx_ring.specs.Registration.{Registers, Updates, is_bad_file, range_refusal, register_refusal, registered_sparse, sparse_refusal};
+ghost use Rattle.fx_ring.specs.Registration.{Registers, Updates, is_bad_file, range_refusal};
+ghost use Rattle.fx_ring.specs.Registration.{register_refusal, registered_sparse, sparse_refusal};
 ghost use Rattle.fx_ring.specs.Registration.{unregister_refusal, update_refusal};
 ghost use Rattle.fx_ring.specs.Tags.{no_tags, tags_for};
 

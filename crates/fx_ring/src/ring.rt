@@ -1,6 +1,5 @@
 //! The type of a ring: how one is made, read and ended.
-ghost use Rattle.fx_ring.specs.Words.{IfOk, IfErr};
-ghost use Rattle.std.specs.Prelude.{◌≡◌};
+ghost use Rattle.std.specs.Prelude.{◌≡◌, IfOk, IfErr};
 ghost use Rattle.fx_ring.specs.Calls.{ListsFiles};
 ghost use Rattle.fx_ring.specs.Ring.{IsRing, files_of_ring, new_ring, ring_of};
 

@@ -1,7 +1,11 @@
 //! Updates of one slot of a settled table: the old file is closed.
-ghost use Rattle.fx_ring.specs.Words.{ℕ, true, length, Some, None, option_to_list, IsSettled, Leads, state_of, leaving};
-ghost use Rattle.std.specs.Prelude.{◌≡◌, ◌+◌, ◌<◌, ◌≤◌, ◌++◌};
-ghost use Rattle.fx_ring.specs.Slots.{SetsSlot, CanRetire, closes_of_removed, file_removed, files_at};
+ghost use Rattle.std.specs.Prelude.{◌≡◌, ◌+◌, ◌<◌, ◌≤◌, ◌++◌, ℕ, true, length, Some, None};
+ghost use Rattle.std.specs.Option.{option_to_list};
+ghost use Rattle.fx_plain.specs.State.{IsSettled};
+ghost use Rattle.fx_plain.specs.History.{Leads};
+ghost use Rattle.fx_plain.specs.Contents.{state_of, leaving};
+ghost use Rattle.fx_ring.specs.Slots.{SetsSlot, CanRetire, closes_of_removed, file_removed};
+ghost use Rattle.fx_ring.specs.Slots.{files_at};
 
 use fx_base::{CloseList, OpenFile};
 use fx_plain::PlainTable;

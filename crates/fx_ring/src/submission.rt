@@ -1,13 +1,18 @@
 //! Submissions, played by several workers on a table that is opened for each of them.
-ghost use Rattle.fx_ring.specs.Words.{length, All, map, IfOk, IfErr, OnErr, IsSettled, state_of, IsGivenBack, IsIdle, new_passes, MAX_PASSES};
-ghost use Rattle.fx_ring.specs.Words.{all_asked, NoMemory as Refused};
-ghost use Rattle.std.specs.Prelude.{◌≡◌, ◌<◌, ◌≤◌, ◌+◌};
+ghost use Rattle.std.specs.Prelude.{◌≡◌, ◌<◌, ◌≤◌, ◌+◌, length, All, map, IfOk, IfErr, OnErr};
+ghost use Rattle.fx_plain.specs.State.{IsSettled};
+ghost use Rattle.fx_plain.specs.Contents.{state_of};
+ghost use Rattle.fx_table.specs.Opening.{IsGivenBack};
+ghost use Rattle.fx_table.specs.Pass.{IsIdle, new_passes};
+ghost use Rattle.fx_table.specs.declared.limits.TheConstants.{MAX_PASSES};
+ghost use Rattle.fx_chain.specs.Operation.{all_asked};
 ghost use Rattle.fx_ring.specs.Calls.{FailsOnlyAs, refusal_after, submit_refusal};
 ghost use Rattle.fx_ring.specs.Outcomes.{HasRoomForCrew};
 ghost use Rattle.fx_ring.specs.Ring.{AreEntries, ring_of};
 ghost use Rattle.fx_ring.specs.Playing.{IsPlayOf};
 ghost use Rattle.fx_ring.specs.Work.{AreCutInto, InstallAtMost};
 ghost use Rattle.fx_ring.specs.Submission.{IsOneHistory, reported};
+ghost use Rattle.fx_ring.specs.declared.report.SubmitFault.TheVariants.{NoMemory as Refused};
 
 use crate::crew::{Room, gather, scatter};
 use crate::play::{Play, Submission};

@@ -1,6 +1,5 @@
 //! The workers of a submission, each with a pass of the shared table.
-ghost use Rattle.fx_ring.specs.Words.{length, map, All};
-ghost use Rattle.std.specs.Prelude.{◌≡◌, ◌<◌};
+ghost use Rattle.std.specs.Prelude.{◌≡◌, ◌<◌, length, map, All};
 ghost use Rattle.fx_ring.specs.Playing.{IsDoneFor, IsReadyFor, number_of_worker};
 
 use crate::outcome::Outcome;

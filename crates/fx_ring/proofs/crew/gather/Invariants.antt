@@ -1,4 +1,4 @@
-use Rattle.fx_ring.proofs.{◌≡◌, ◌≤◌, ◌++◌, ◌+◌, length, map, vec_capacity}
+use Rattle.fx_ring.proofs.Words.{◌≡◌, ◌≤◌, ◌++◌, ◌+◌, length, map, vec_capacity}
 use Rattle.fx_ring.proofs.crew.gather.Given as goal
 
 abbrev pub invariant-loop-crew : goal.invariant-loop-crew

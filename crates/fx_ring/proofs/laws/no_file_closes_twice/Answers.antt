@@ -1,4 +1,4 @@
-use Rattle.fx_ring.proofs.{state_of, opening_is_start, closed_at_most_once}
+use Rattle.fx_ring.proofs.Words.{state_of, opening_is_start, closed_at_most_once}
 use Rattle.fx_ring.proofs.laws.no_file_closes_twice.Goals as goal
 
 pub returns : goal.returns

@@ -1,4 +1,4 @@
-use Rattle.fx_ring.proofs.{state_of, opening_is_start, every_removed_file_is_closed}
+use Rattle.fx_ring.proofs.Words.{state_of, opening_is_start, every_removed_file_is_closed}
 use Rattle.fx_ring.proofs.laws.no_file_is_lost.Goals as goal
 
 pub returns : goal.returns

@@ -1,4 +1,4 @@
-use Rattle.fx_ring.proofs.{List, subst, IsLegal, ◌▷◌, ◌▷▷◌, Event, no_close_while_held}
+use Rattle.fx_ring.proofs.Words.{List, subst, IsLegal, ◌▷◌, ◌▷▷◌, Event, no_close_while_held}
 use Rattle.fx_ring.specs.Laws.{start_of_submission}
 use Rattle.fx_ring.proofs.laws.no_held_file_closes.Goals as goal
 

@@ -1,5 +1,6 @@
-use Rattle.fx_ring.proofs.{◌+◌, ◌≡◌, ◌∙◌, ap, arith, length, State, state_of, all_applied, none_applied, applied_next, opening_files}
-use Rattle.fx_ring.proofs.ListSteps.{room_next}
+use Rattle.fx_ring.proofs.Words.{◌+◌, ◌≡◌, ◌∙◌, ap, arith, length, State, state_of}
+use Rattle.fx_ring.proofs.ListSteps.{all_applied, none_applied, room_next, applied_next}
+use Rattle.fx_ring.proofs.Rings.{opening_files}
 use Rattle.fx_ring.proofs.list.apply_list.Goals as goal
 
 pub apply_number-requires-clause-fresh : goal.apply_number-requires-clause-fresh

@@ -1,4 +1,5 @@
-use Rattle.fx_ring.proofs.{◌+◌, length, state_of, tags_for, AreFresh, IsApplied}
+use Rattle.fx_ring.proofs.Words.{◌+◌, length, state_of, tags_for, AreFresh}
+use Rattle.fx_ring.proofs.ListSteps.{IsApplied}
 use Rattle.fx_ring.proofs.list.apply_list.Given as goal
 
 abbrev pub invariant-loop-i : goal.invariant-loop-i

@@ -1,4 +1,4 @@
-use Rattle.fx_ring.proofs.{◌≡◌, take, sum_by, operation_of, installs_of}
+use Rattle.fx_ring.proofs.Words.{◌≡◌, take, sum_by, operation_of, installs_of}
 use Rattle.fx_ring.proofs.needs.installs_of_chain.Given as goal
 
 abbrev pub invariant-loop-member : goal.invariant-loop-member

@@ -1,6 +1,7 @@
-use Rattle.fx_ring.proofs.{◌≡◌, ◌+◌, ◌-◌, ◌≤◌, [], length, arith, sym, ap, subst, Some, PassView, all_asked, runs_of, Reported, IsOneHistory}
-use Rattle.fx_ring.proofs.{IsSettledSoFar, ring_led_by, as_many, runs_within}
+use Rattle.fx_ring.proofs.Words.{◌≡◌, ◌+◌, ◌-◌, ◌≤◌, [], length, arith, sym, ap, subst, Some, PassView, all_asked, runs_of, Reported, IsOneHistory}
+use Rattle.fx_ring.proofs.Words.{IsSettledSoFar, ring_led_by}
 use Rattle.fx_ring.proofs.Crews.{few_of_chains}
+use Rattle.fx_ring.proofs.CompletionPlaces.{as_many, runs_within}
 use Rattle.fx_ring.proofs.ChainPlayed.{enough}
 use Rattle.fx_ring.proofs.LonePlays.{begins, goes_on, authors_of, all_drawn, part_is_one_history}
 use Rattle.fx_ring.proofs.open_ring.play_alone.Goals as goal

@@ -1,4 +1,4 @@
-use Rattle.fx_ring.proofs.{◌+◌, PassView, all_asked, all_completed, vec_capacity}
+use Rattle.fx_ring.proofs.Words.{◌+◌, PassView, all_asked, all_completed, vec_capacity}
 use Rattle.fx_ring.proofs.LonePlays.{IsPlaying}
 use Rattle.fx_ring.proofs.open_ring.play_alone.Given as goal
 

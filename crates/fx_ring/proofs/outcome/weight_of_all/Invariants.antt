@@ -1,4 +1,4 @@
-use Rattle.fx_ring.proofs.{◌≡◌, take, sum_by, operation_of, weight_of}
+use Rattle.fx_ring.proofs.Words.{◌≡◌, take, sum_by, operation_of, weight_of}
 use Rattle.fx_ring.proofs.outcome.weight_of_all.Given as goal
 
 abbrev pub invariant-loop-request : goal.invariant-loop-request

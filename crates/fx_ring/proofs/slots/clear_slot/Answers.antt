@@ -1,4 +1,5 @@
-use Rattle.fx_ring.proofs.{ℕ, refl, ap, None, State, state_of, leaving, can_retire, removed_and_closed}
+use Rattle.fx_ring.proofs.Words.{ℕ, refl, ap, None, State, state_of, leaving}
+use Rattle.fx_ring.proofs.Origins.{can_retire, removed_and_closed}
 use Rattle.fx_ring.proofs.slots.clear_slot.Goals as goal
 
 pub close_removed-requires-clause-removed : goal.close_removed-requires-clause-removed

@@ -1,4 +1,5 @@
-use Rattle.fx_ring.proofs.{ℕ, refl, ap, ◌∙◌, arith, Some, State, state_of, leaving, numbered, changed_else, can_retire, removed_and_closed}
+use Rattle.fx_ring.proofs.Words.{ℕ, refl, ap, ◌∙◌, arith, Some, State, state_of, leaving, numbered, changed_else}
+use Rattle.fx_ring.proofs.Origins.{can_retire, removed_and_closed}
 use Rattle.fx_ring.proofs.slots.fill_slot.Goals as goal
 
 pub close_removed-requires-clause-removed : goal.close_removed-requires-clause-removed

@@ -1,9 +1,10 @@
-use Rattle.fx_ring.proofs.{◌+◌, List, length, sym, ap, subst, ◌∙◌, arith, PassView, IsIdle, all_asked, runs_of, Completed, all_completed, ◌≡◌}
-use Rattle.fx_ring.proofs.{HasRoomFor, ring_with, IsOneHistory, Reported, Worker, Completion, CloseListView, Closed, IsPermutation, ClosesTable}
-use Rattle.fx_ring.proofs.{accepted-length, PASS_LOOKS, true, All, All-map, HasWorked, map-map, size_of, state_of_worker, as_many, runs_within}
+use Rattle.fx_ring.proofs.Words.{◌+◌, List, length, sym, ap, subst, ◌∙◌, arith, PassView, IsIdle, all_asked, runs_of, Completed, all_completed, ◌≡◌}
+use Rattle.fx_ring.proofs.Words.{HasRoomFor, ring_with, IsOneHistory, Reported, Worker, Completion, CloseListView, Closed, IsPermutation, ClosesTable}
+use Rattle.fx_ring.proofs.Words.{accepted-length, PASS_LOOKS, true, All, All-map, HasWorked, map-map, size_of, state_of_worker}
 use Rattle.fx_ring.proofs.Crews.{IsNew, all_gathered, all_new, numbers_are, as_many_passes, new_has_worked, new_has_room, runs_have_all, states}
 use Rattle.fx_ring.proofs.Crews.{runs_weigh_all, scattered_views, completions_joined, files_joined, as_many_completions, as_many_files}
 use Rattle.fx_ring.proofs.WorkersTogether.{HavePlayed, number_of, one_of_each, closes_weigh, one_history}
+use Rattle.fx_ring.proofs.CompletionPlaces.{as_many, runs_within}
 use Rattle.fx_ring.proofs.submission.play_open.Given.{Over}
 use Rattle.fx_ring.proofs.submission.play_open.Goals.{After-close-left}
 use Rattle.fx_ring.proofs.submission.play_open.Goals as goal

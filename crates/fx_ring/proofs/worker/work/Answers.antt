@@ -1,6 +1,7 @@
-use Rattle.fx_ring.proofs.{◌≡◌, ◌≤◌, length, sym, ap, ◌∙◌, arith, PassView, all_asked, runs_of, as_many}
+use Rattle.fx_ring.proofs.Words.{◌≡◌, ◌≤◌, length, sym, ap, ◌∙◌, arith, PassView, all_asked, runs_of}
 use Rattle.fx_ring.specs.declared.play.Play.{Play}
 use Rattle.fx_ring.proofs.ChainPlayed.{enough, worked_next, room_next, worked_all}
+use Rattle.fx_ring.proofs.CompletionPlaces.{as_many}
 use Rattle.fx_ring.proofs.worker.work.Goals as goal
 
 count : {T R G P : Type 0} {t : _} (play : Play T R G P t)

@@ -1,4 +1,4 @@
-use Rattle.fx_ring.proofs.{◌≡◌, ◌-◌, number_of_worker, IsReadyFor}
+use Rattle.fx_ring.proofs.Words.{◌≡◌, ◌-◌, number_of_worker, IsReadyFor}
 use Rattle.fx_ring.proofs.worker.work.Given as goal
 
 abbrev pub invariant-loop-chain : goal.invariant-loop-chain

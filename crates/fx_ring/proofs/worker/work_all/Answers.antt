@@ -1,4 +1,4 @@
-use Rattle.fx_ring.proofs.{rules, ◌≡◌, ℕ, suc, ◌<◌, List, [], ◌∷◌, map, length, slice_index_or, refl, arith}
+use Rattle.fx_ring.proofs.Words.{rules, ◌≡◌, ℕ, suc, ◌<◌, List, [], ◌∷◌, map, length, slice_index_or, refl, arith}
 use Rattle.fx_ring.proofs.worker.work_all.Goals as goal
 
 -- two lists that are the same at each place by what is asked of their elements

@@ -1,4 +1,4 @@
-use Rattle.fx_ring.proofs.{rules, ◌≡◌, ◌∙◌, [], ◌∷◌, ap, ring_of, OpenRingContents}
+use Rattle.fx_ring.proofs.Words.{rules, ◌≡◌, ◌∙◌, [], ◌∷◌, ap, ring_of, OpenRingContents}
 use Rattle.fx_ring.proofs.SubmittedRing.{closed_ring}
 use Rattle.fx_ring.proofs.open_ring.OpenRing.close.Goals as goal
 

@@ -1,4 +1,4 @@
-use Rattle.fx_ring.proofs.{◌∙◌, ap, ring_of, OpenRingContents}
+use Rattle.fx_ring.proofs.Words.{◌∙◌, ap, ring_of, OpenRingContents}
 use Rattle.fx_ring.proofs.SubmittedRing.{size_shown}
 use Rattle.fx_ring.proofs.open_ring.OpenRing.size.Goals as goal
 

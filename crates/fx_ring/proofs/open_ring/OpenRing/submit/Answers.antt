@@ -1,4 +1,5 @@
-use Rattle.fx_ring.proofs.{ap, arith, rules, OpenRingContents, ◌≤◌, All-weaker, all_installs, runs_of, all_asked, as_many}
+use Rattle.fx_ring.proofs.Words.{ap, arith, rules, OpenRingContents, ◌≤◌, All-weaker, all_installs, runs_of, all_asked}
+use Rattle.fx_ring.proofs.CompletionPlaces.{as_many}
 use Rattle.fx_ring.proofs.SubmittedRing.{kept_after, entries_after}
 use Rattle.fx_ring.proofs.open_ring.OpenRing.submit.Goals as goal
 

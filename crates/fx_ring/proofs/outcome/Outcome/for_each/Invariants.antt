@@ -1,4 +1,4 @@
-use Rattle.fx_ring.proofs.{◌≡◌, ◌≤◌, length, All, vec_capacity, all_asked, HasRoomFor}
+use Rattle.fx_ring.proofs.Words.{◌≡◌, ◌≤◌, length, All, vec_capacity, all_asked, HasRoomFor}
 use Rattle.fx_ring.proofs.outcome.Outcome.for_each.Given as goal
 
 abbrev pub invariant-loop : goal.invariant-loop

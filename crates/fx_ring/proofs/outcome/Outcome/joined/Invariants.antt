@@ -1,4 +1,4 @@
-use Rattle.fx_ring.proofs.{◌≡◌, ◌≤◌, ◌++◌, ◌+◌, length, flat_map, sum_by, vec_len, vec_capacity}
+use Rattle.fx_ring.proofs.Words.{◌≡◌, ◌≤◌, ◌++◌, ◌+◌, length, flat_map, sum_by, vec_len, vec_capacity}
 use Rattle.fx_ring.proofs.outcome.Outcome.joined.Given as goal
 
 abbrev pub invariant-loop-others : goal.invariant-loop-others

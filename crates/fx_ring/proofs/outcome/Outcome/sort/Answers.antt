@@ -1,5 +1,5 @@
-use Rattle.fx_ring.proofs.{◌+◌, ◌*◌, rules, IsPermutation-map, IsNonDecreasingBy-from_sort_by_key, completed_of, ℕ, List, [], ◌∷◌, map, arith, ap}
-use Rattle.fx_ring.proofs.{IsNonDecreasingBy, get_or-map, length-map}
+use Rattle.fx_ring.proofs.Words.{◌+◌, ◌*◌, rules, IsPermutation-map, IsNonDecreasingBy-from_sort_by_key, completed_of, ℕ, List, [], ◌∷◌, map, arith}
+use Rattle.fx_ring.proofs.Words.{ap, IsNonDecreasingBy, get_or-map, length-map}
 use Rattle.fx_ring.proofs.outcome.Outcome.sort.Goals as goal
 
 IsNonDecreasingBy-map : {X Y : Type 0} (f : X → Y) (n : Y → ℕ) (xs : List X) → IsNonDecreasingBy (λ x. n (f x)) xs

@@ -1,5 +1,6 @@
-use Rattle.fx_ring.proofs.{◌∙◌, ◌≤◌, List, slice_index_or, take, ap, subst, arith, take_all, All, All-more, All-weaker, members_of, Asked, []}
-use Rattle.fx_ring.proofs.{all_asked, all_installs, Chain, common_steps, as_many, run_at, runs_install}
+use Rattle.fx_ring.proofs.Words.{◌∙◌, ◌≤◌, List, slice_index_or, take, ap, subst, arith, take_all, All, All-more, All-weaker, members_of, Asked, []}
+use Rattle.fx_ring.proofs.Words.{all_asked, all_installs, Chain, common_steps}
+use Rattle.fx_ring.proofs.CompletionPlaces.{as_many, run_at, runs_install}
 use Rattle.fx_ring.proofs.play.Submission.most_installs.Goals as goal
 
 abbrev none : Chain

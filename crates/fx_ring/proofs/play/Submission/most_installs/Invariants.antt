@@ -1,4 +1,4 @@
-use Rattle.fx_ring.proofs.{◌≤◌, ℕ, All, take, all_asked, all_installs, members_of, InstallAtMost}
+use Rattle.fx_ring.proofs.Words.{◌≤◌, ℕ, All, take, all_asked, all_installs, members_of, InstallAtMost}
 use Rattle.fx_ring.proofs.play.Submission.most_installs.Given as goal
 
 abbrev pub invariant-loop-chain : goal.invariant-loop-chain

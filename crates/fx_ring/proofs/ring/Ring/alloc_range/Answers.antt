@@ -1,4 +1,5 @@
-use Rattle.fx_ring.proofs.{ap, sym, subst, ◌∙◌, State, IsSettled, RingContents, IsRing, ring_of, with_table, contents_of}
+use Rattle.fx_ring.proofs.Words.{ap, sym, subst, ◌∙◌, State, IsSettled, RingContents, IsRing, ring_of, with_table}
+use Rattle.fx_ring.proofs.Rings.{contents_of}
 use Rattle.fx_ring.proofs.ring.Ring.alloc_range.Goals as goal
 
 pub invariant_of-self-2 : goal.invariant_of-self-2

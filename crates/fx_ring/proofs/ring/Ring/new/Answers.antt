@@ -1,4 +1,5 @@
-use Rattle.fx_ring.proofs.{refl, sym, ap, subst, arith, State, IsSettled, identity_of, none_rings}
+use Rattle.fx_ring.proofs.Words.{refl, sym, ap, subst, arith, State, IsSettled, identity_of}
+use Rattle.fx_ring.proofs.Rings.{none_rings}
 use Rattle.fx_ring.proofs.ring.Ring.new.Goals as goal
 
 pub invariant_of-result : goal.invariant_of-result

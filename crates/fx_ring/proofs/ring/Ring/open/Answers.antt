@@ -1,4 +1,5 @@
-use Rattle.fx_ring.proofs.{◌∙◌, ap, rules, ring_of, IsIdle, PassView, given_back_at_rest}
+use Rattle.fx_ring.proofs.Words.{◌∙◌, ap, rules, ring_of, IsIdle, PassView}
+use Rattle.fx_ring.proofs.Rings.{given_back_at_rest}
 use Rattle.fx_ring.proofs.SubmittedRing.{kept_opened, only_pass, opened_ring}
 use Rattle.fx_ring.proofs.ring.Ring.open.Goals as goal
 

@@ -1,6 +1,9 @@
-use Rattle.fx_ring.proofs.{◌≡◌, ◌+◌, ap, sym, subst, ◌∙◌, false, length, arith, rules, list_any, IsSettled, Contents, State, state_of, Closed, Option}
-use Rattle.fx_ring.proofs.{ℕ, RingContents, IsRing, ring_of, ring_with, registered, updated, is_bad_entry, removed_from, tags_for, with_table}
-use Rattle.fx_ring.proofs.{files_at, good_files, none_removed, is_updated, ring_updated, contents_of, none_rings, vacant_empty}
+use Rattle.fx_ring.proofs.Words.{◌≡◌, ◌+◌, ap, sym, subst, ◌∙◌, false, length, arith, rules, list_any, IsSettled, Contents, State, state_of, Closed}
+use Rattle.fx_ring.proofs.Words.{Option, ℕ, RingContents, IsRing, ring_of, ring_with, registered, updated, is_bad_entry, removed_from, tags_for}
+use Rattle.fx_ring.proofs.Words.{with_table, files_at}
+use Rattle.fx_ring.proofs.ListSteps.{good_files}
+use Rattle.fx_ring.proofs.Origins.{none_removed, is_updated, ring_updated}
+use Rattle.fx_ring.proofs.Rings.{contents_of, none_rings, vacant_empty}
 use Rattle.fx_ring.proofs.ring.Ring.register_list.Goals.{After-replace}
 use Rattle.fx_ring.proofs.ring.Ring.register_list.Goals as goal
 

@@ -1,4 +1,5 @@
-use Rattle.fx_ring.proofs.{◌<◌, ap, sym, ◌∙◌, rules, state_of, ring_of, MOST_SUBMISSIONS, emptied_settled, given_back_rings, given_back_at_rest}
+use Rattle.fx_ring.proofs.Words.{◌<◌, ap, sym, ◌∙◌, rules, state_of, ring_of, MOST_SUBMISSIONS}
+use Rattle.fx_ring.proofs.Rings.{emptied_settled, given_back_rings, given_back_at_rest}
 use Rattle.fx_ring.proofs.SubmittedRing.{submitted_at_rest, submitted_entries}
 use Rattle.fx_ring.proofs.ring.Ring.submit.Goals as goal
 

@@ -1,4 +1,5 @@
-use Rattle.fx_ring.proofs.{rules, all_closed}
+use Rattle.fx_ring.proofs.Words.{rules}
+use Rattle.fx_ring.proofs.Rings.{all_closed}
 use Rattle.fx_ring.proofs.ring.Ring.tear_down.Goals as goal
 
 pub returns-clause-closes : goal.returns-clause-closes

@@ -1,4 +1,5 @@
-use Rattle.fx_ring.proofs.{ap, rules, State, identity_of, all_closed, none_rings}
+use Rattle.fx_ring.proofs.Words.{ap, rules, State, identity_of}
+use Rattle.fx_ring.proofs.Rings.{all_closed, none_rings}
 use Rattle.fx_ring.proofs.ring.Ring.unregister.Goals as goal
 
 pub returns-clause-closes : goal.returns-clause-closes

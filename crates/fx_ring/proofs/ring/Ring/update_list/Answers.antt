@@ -1,5 +1,7 @@
-use Rattle.fx_ring.proofs.{◌≡◌, [], ap, sym, subst, ◌∙◌, length, rules, arith, state_of, RingContents, ListsFiles, ring_of, updated, tags_for}
-use Rattle.fx_ring.proofs.{removed_from, files_at, few_removed, is_updated, ring_updated, list_updated, contents_of}
+use Rattle.fx_ring.proofs.Words.{◌≡◌, [], ap, sym, subst, ◌∙◌, length, rules, arith, state_of, RingContents, ListsFiles, ring_of, updated, tags_for}
+use Rattle.fx_ring.proofs.Words.{removed_from, files_at}
+use Rattle.fx_ring.proofs.Origins.{few_removed, is_updated, ring_updated, list_updated}
+use Rattle.fx_ring.proofs.Rings.{contents_of}
 use Rattle.fx_ring.proofs.ring.Ring.update_list.Goals as goal
 
 pub apply_list-requires-clause-room : goal.apply_list-requires-clause-room
