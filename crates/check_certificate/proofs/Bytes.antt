@@ -1,11 +1,9 @@
 -- The bytes that a read answers are those of the file that it finds.
-use Rattle.check_certificate.proofs.Words.{common_steps, ◌≡◌, ℕ, zero, suc, ◌-◌, List, [], ◌∷◌, sym, ap, ◌∙◌, arith, Some, None, map}
-use Rattle.check_certificate.proofs.Words.{Option, slice_get, Access, Asked, Place, Completed, FileEntry, Identity, Happening, Answered, Called, true}
-use Rattle.check_certificate.proofs.Words.{Looks, cases_Bool, take, ◌+◌, ◌++◌, IsAbsent, asked_by, IsAccessMade, IsEventAt, Holding}
-use Rattle.check_certificate.proofs.Words.{IsMemberDoneBy, LogBeginning, Evidence, Sees, bytes_at, part_of, size_at, answer_at_table, is_read}
-use Rattle.check_certificate.proofs.Words.{bytes_read, part_read, is_count, Operation, drop}
-use Rattle.check_certificate.proofs.Words.{last_finding, nat_tests, AreIntended, map_push, slice_get-map, not}
-use Rattle.check_certificate.proofs.Words.{option_map}
+use Rattle.check_certificate.proofs.Words.{common_steps, ◌≡◌, ℕ, zero, suc, ◌-◌, List, [], ◌∷◌, sym, ap, ◌∙◌, arith, Some, None, map, Option}
+use Rattle.check_certificate.proofs.Words.{slice_get, Access, Asked, Place, Completed, FileEntry, Identity, Happening, Answered, Called, true, Looks}
+use Rattle.check_certificate.proofs.Words.{cases_Bool, take, ◌+◌, ◌++◌, IsAbsent, asked_by, IsAccessMade, IsEventAt, Holding, IsMemberDoneBy}
+use Rattle.check_certificate.proofs.Words.{LogBeginning, Evidence, Sees, bytes_at, part_of, size_at, answer_at_table, is_read, bytes_read, part_read}
+use Rattle.check_certificate.proofs.Words.{is_count, Operation, drop, last_finding, nat_tests, AreIntended, map_push, slice_get-map, not, option_map}
 use Rattle.check_certificate.proofs.Cutting.{asked_so}
 use Rattle.check_certificate.proofs.Forcing.{gone_by}
 use Rattle.check_certificate.proofs.Orders.{older, said, said_may}

@@ -1,12 +1,10 @@
 -- The answers of a chain: after a member that severs it, or that is canceled, each one is canceled,
 -- and no other one is.
-use Rattle.check_certificate.proofs.Words.{common_steps, ◌≡◌, ℕ, zero, suc, ◌+◌, ◌-◌, ◌<◌, List, [], ◌∷◌, arith}
-use Rattle.check_certificate.proofs.Words.{Some, slice_get, Access, Asked, Place, Completed, FileEntry, IsChainDone, IsRequestDone, not}
-use Rattle.check_certificate.proofs.Words.{Bool, true, false, refusal, ECANCELED, either_way, severs, next_member, canceled, Answered, Called}
-use Rattle.check_certificate.proofs.Words.{cases_Bool, by_equality, Happening, asked_by, is_next}
-use Rattle.check_certificate.proofs.Words.{is_cut_wrongly, IsEventAt, IsForced, LogBeginning, Event, Errno, table_may_answer, is_error, may_answer}
-use Rattle.check_certificate.proofs.Words.{Operation, refusal_of, Decides-and, Decides-ltb, ◌||◌}
-use Rattle.check_certificate.proofs.Words.{if◌then◌else◌, first_of_call}
+use Rattle.check_certificate.proofs.Words.{common_steps, ◌≡◌, ℕ, zero, suc, ◌+◌, ◌-◌, ◌<◌, List, [], ◌∷◌, arith, Some, slice_get, Access, Asked}
+use Rattle.check_certificate.proofs.Words.{Place, Completed, FileEntry, IsChainDone, IsRequestDone, not, Bool, true, false, refusal, ECANCELED}
+use Rattle.check_certificate.proofs.Words.{either_way, severs, next_member, canceled, Answered, Called, cases_Bool, by_equality, Happening, asked_by}
+use Rattle.check_certificate.proofs.Words.{is_next, is_cut_wrongly, IsEventAt, IsForced, LogBeginning, Event, Errno, table_may_answer, is_error}
+use Rattle.check_certificate.proofs.Words.{may_answer, Operation, refusal_of, Decides-and, Decides-ltb, ◌||◌, if◌then◌else◌, first_of_call}
 use Rattle.check_certificate.proofs.Called.{answer_is}
 use Rattle.check_certificate.proofs.Forcing.{strict_from}
 use Rattle.check_certificate.proofs.Impossible.{error_Decides, or_left, or_right}

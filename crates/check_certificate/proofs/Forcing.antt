@@ -1,14 +1,13 @@
 -- Each rule of certificates adds an order that every flight keeps.
-use Rattle.check_certificate.proofs.Words.{common_steps, ◌≡◌, ℕ, ◌<◌, ◌≤◌, List, [], ◌∷◌, ◌++◌, length, take, refl, sym, ap, ◌∙◌, arith, Some}
-use Rattle.check_certificate.proofs.Words.{None, Option, ⊎_elim, Contains, contains_head, cases_lt, slice_get, Moment, Logged, Accesses, Access, true}
+use Rattle.check_certificate.proofs.Words.{common_steps, ◌≡◌, ℕ, ◌<◌, ◌≤◌, List, [], ◌∷◌, ◌++◌, length, take, refl, sym, ap, ◌∙◌, arith, Some, None}
+use Rattle.check_certificate.proofs.Words.{Option, ⊎_elim, Contains, contains_head, cases_lt, slice_get, Moment, Logged, Accesses, Access, true}
 use Rattle.check_certificate.proofs.Words.{IsLeftAt, false, Identity, IsOlderPart, Table, table_with, table_left_by, Happening, WasLogged, Permits}
-use Rattle.check_certificate.proofs.Words.{LookAnswered, Freed, FileClosed, AllSettled, Looks, zero, suc, contains_tail}
-use Rattle.check_certificate.proofs.Words.{subst, IsForced, IsOfCall, IsInOrder, TimedFlight, log_of_beginning, IsEventAt, At}
-use Rattle.check_certificate.proofs.Words.{IsAccessMade, IsEvident, left_at, slot_count, LogBeginning, Point, Event, Gone, Put}
-use Rattle.check_certificate.proofs.Words.{PointOrder, Evidence, Finds, Installs, Never, logged, in_log, size_stays}
-use Rattle.check_certificate.proofs.Words.{IsCallOf, Asked, all_asked, asked_of, Request, all_happenings, happening_of, LogEvent, at_itself, front_is}
-use Rattle.check_certificate.proofs.Words.{length-map, slice_get-get_or, slice_get-map, slice_get_past, slice_get_read, list_any, map}
-use Rattle.check_certificate.proofs.Words.{IfSome, option_map, slice_index_or, Bool}
+use Rattle.check_certificate.proofs.Words.{LookAnswered, Freed, FileClosed, AllSettled, Looks, zero, suc, contains_tail, subst, IsForced, IsOfCall}
+use Rattle.check_certificate.proofs.Words.{IsInOrder, TimedFlight, log_of_beginning, IsEventAt, At, IsAccessMade, IsEvident, left_at, slot_count}
+use Rattle.check_certificate.proofs.Words.{LogBeginning, Point, Event, Gone, Put, PointOrder, Evidence, Finds, Installs, Never, logged, in_log}
+use Rattle.check_certificate.proofs.Words.{size_stays, IsCallOf, Asked, all_asked, asked_of, Request, all_happenings, happening_of, LogEvent}
+use Rattle.check_certificate.proofs.Words.{at_itself, front_is, length-map, slice_get-get_or, slice_get-map, slice_get_past, slice_get_read, list_any}
+use Rattle.check_certificate.proofs.Words.{map, IfSome, option_map, slice_index_or, Bool}
 use Rattle.check_certificate.proofs.Leaving.{same_moment, taken_gone, there_after, there_or_taken}
 use Rattle.check_certificate.proofs.Life.{IsPutAt, is_gone, put_before, put_here}
 use Rattle.check_certificate.proofs.Marks.{mark_at}

@@ -1,11 +1,10 @@
 -- An access that finds a file at its slot: some file was installed there before.
 use Rattle.check_certificate.proofs.Words.{◌≡◌, ℕ, ◌+◌, ◌-◌, ◌<◌, ◌≤◌, List, [], ◌∷◌, ◌++◌, refl, sym, ◌∙◌, arith, subst, ⊎_elim, append_assoc, Some}
 use Rattle.check_certificate.proofs.Words.{Option, None, slice_get, Moment, Logged, Accesses, IsOlderPart, Access, IsAccessAt, IsPut, Identity, Table}
-use Rattle.check_certificate.proofs.Words.{table_with, table_left_by, Happening, Completed, Answered, made_by, Permits, Looks}
-use Rattle.check_certificate.proofs.Words.{Submitted, true, Has, placed, IsAccessMade, IsEventAt, IsEvident, IsForced, IsOfCall, ℤ}
-use Rattle.check_certificate.proofs.Words.{TimedFlight, FindsFile, IsOnlyFile, is_negative, IsEmptyAtFirst, IsWalked, Aimed, LogBeginning, Holding}
-use Rattle.check_certificate.proofs.Words.{Event, Gone, Put, At, Evidence, Installs, IsCatalogue, negsuc}
-use Rattle.check_certificate.proofs.Words.{size_stays, first_of_call, pos, IsSome}
+use Rattle.check_certificate.proofs.Words.{table_with, table_left_by, Happening, Completed, Answered, made_by, Permits, Looks, Submitted, true, Has}
+use Rattle.check_certificate.proofs.Words.{placed, IsAccessMade, IsEventAt, IsEvident, IsForced, IsOfCall, ℤ, TimedFlight, FindsFile, IsOnlyFile}
+use Rattle.check_certificate.proofs.Words.{is_negative, IsEmptyAtFirst, IsWalked, Aimed, LogBeginning, Holding, Event, Gone, Put, At, Evidence}
+use Rattle.check_certificate.proofs.Words.{Installs, IsCatalogue, negsuc, size_stays, first_of_call, pos, IsSome}
 use Rattle.check_certificate.proofs.Forcing.{loose_order, not_after, strict_from, strict_order}
 use Rattle.check_certificate.proofs.Intended.{chain_number, may_install}
 use Rattle.check_certificate.proofs.Leaving.{same_moment, same_slot}

@@ -1,9 +1,8 @@
 -- Answers that a request can't have.
-use Rattle.check_certificate.proofs.Words.{arith, ◌≡◌, ℕ, List, sym, ap, ◌∙◌, inl, inr, None, Option, Access, Place, Bool}
-use Rattle.check_certificate.proofs.Words.{Completed, FileEntry, refusal, true, Decides, Asked, IsImpossible, fits_refusal, is_severed, Errno}
-use Rattle.check_certificate.proofs.Words.{ECANCELED, ENOMEM, table_may_answer, is_error, answer_at_table, Operation}
-use Rattle.check_certificate.proofs.Words.{Decides-like, false≢true, nil_from_length, IsDoneAtTable, IsRefused}
-use Rattle.check_certificate.proofs.Words.{Decides-and, Decides-ltb, MatchOption, not, ◌||◌}
+use Rattle.check_certificate.proofs.Words.{arith, ◌≡◌, ℕ, List, sym, ap, ◌∙◌, inl, inr, None, Option, Access, Place, Bool, Completed, FileEntry}
+use Rattle.check_certificate.proofs.Words.{refusal, true, Decides, Asked, IsImpossible, fits_refusal, is_severed, Errno, ECANCELED, ENOMEM}
+use Rattle.check_certificate.proofs.Words.{table_may_answer, is_error, answer_at_table, Operation, Decides-like, false≢true, nil_from_length}
+use Rattle.check_certificate.proofs.Words.{IsDoneAtTable, IsRefused, Decides-and, Decides-ltb, MatchOption, not, ◌||◌}
 use Rattle.check_certificate.specs.Answers.{is_impossible}
 use Rattle.fx_chain.specs.declared.intent.Finding.{Finding}
 

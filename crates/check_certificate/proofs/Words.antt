@@ -21,13 +21,13 @@ pub use Rattle.check_certificate.specs.Evidence.{IsAccessMade, IsEventAt, slot_c
 pub use Rattle.check_certificate.specs.Evidence.{IsEvidentByMember, evidence_of}
 pub use Rattle.check_certificate.specs.Forced.{TimedFlight, IsForced, IsOfCall, IsContradicted, IsInOrder, gap_of, log_of_beginning, is_of_no_call}
 pub use Rattle.check_certificate.specs.Forced.{ring_of_beginning, is_registered}
-pub use Rattle.check_certificate.specs.Holds.{first_answer, is_answered_at, is_some_so, shows_absent}
+pub use Rattle.check_certificate.specs.Holds.{first_answer, is_answered_at, shows_absent}
 pub use Rattle.check_certificate.specs.Leaves.{is_apart, says}
 pub use Rattle.check_certificate.specs.Made.{intended}
 pub use Rattle.check_certificate.specs.Right.{known_of, leads_on, nothing, opposite}
 pub use Rattle.check_certificate.specs.Said.{Given, given_of, slots_of, event_at, closes_file, frees_look}
 pub use Rattle.check_certificate.specs.Supposed.{AreKnownOrders, IsKeptByNone, under}
-pub use Rattle.check_certificate.specs.Taken.{IsNoOther, IsTakenThen, IsTaking, TakesNone, slot_taken}
+pub use Rattle.check_certificate.specs.Taken.{IsNoOther, IsTakenThen, IsTaking, TakesNone}
 pub use Rattle.check_certificate.specs.Walked.{IsWalked, AreAllRuledOut, AreRuledOut, AreRuledOutTo, IsCallRuledOut, IsRuledOut, end_of, member_of}
 pub use Rattle.check_certificate.specs.Walks.{all_below, is_asked_ruled_out, is_ruled_out, is_call_ruled_out}
 pub use Rattle.check_certificate.specs.declared.beginning.LogBeginning.{LogBeginning}
@@ -36,7 +36,7 @@ pub use Rattle.check_certificate.specs.declared.certificate.Point.{Point}
 pub use Rattle.check_certificate.specs.declared.certificate.Point.TheVariants.{Event, Gone, Put, Access as At}
 pub use Rattle.check_certificate.specs.declared.certificate.PointOrder.{PointOrder}
 pub use Rattle.check_certificate.specs.declared.evidence.Evidence.{Evidence}
-pub use Rattle.check_certificate.specs.declared.evidence.Evidence.TheVariants.{Sees, Empties, Finds, Full, Installs, Never, Removes}
+pub use Rattle.check_certificate.specs.declared.evidence.Evidence.TheVariants.{Sees, Empties, Finds, Installs, Never}
 pub use Rattle.check_certificate.specs.declared.walk.WalkAim.{WalkAim}
 pub use Rattle.check_certificate.specs.declared.walk.WalkAim.TheVariants.{Finds as Aimed, Leaves, Lands, Misses}
 pub use Rattle.fx_base.specs.Catalogue.{bytes_at, part_of, size_at, IsCatalogue}
@@ -44,13 +44,13 @@ pub use Rattle.fx_base.specs.declared.errno.Errno.{Errno}
 pub use Rattle.fx_base.specs.declared.errno.Errno.TheVariants.{ENOMEM}
 pub use Rattle.fx_chain.proofs.Cases.{both_options}
 pub use Rattle.fx_chain.proofs.MayAnswer.{table_may_answer, entry_opened}
-pub use Rattle.fx_chain.specs.Completed.{is_error, negated, completed_of}
+pub use Rattle.fx_chain.specs.Completed.{is_error, completed_of}
 pub use Rattle.fx_chain.specs.Intents.{answer_at_table, bytes_read, is_read, part_read, IsIntent, IsOpened, intents_of, none_if, opened_by}
 pub use Rattle.fx_chain.specs.Intents.{list_intents, close_answer, positions_of}
 pub use Rattle.fx_chain.specs.MayAnswer.{is_count, may_answer}
-pub use Rattle.fx_chain.specs.Operation.{Operation, Opens, Reads, Closes, Updates, all_asked, asked_of, operation_of}
+pub use Rattle.fx_chain.specs.Operation.{Operation, Opens, Reads, Closes, all_asked, asked_of, operation_of}
 pub use Rattle.fx_chain.specs.Refusal.{refusal_of}
-pub use Rattle.fx_chain.specs.declared.intent.Finding.TheVariants.{Free, At as Found}
+pub use Rattle.fx_chain.specs.declared.intent.Finding.TheVariants.{At as Found}
 pub use Rattle.fx_chain.specs.declared.intent.Intent.{Intent}
 pub use Rattle.fx_chain.specs.declared.intent.Intent.TheVariants.{Look, Clear, Take, Allocate, Put as Install}
 pub use Rattle.fx_chain.specs.declared.request.Request.{Request}
@@ -67,10 +67,9 @@ pub use Rattle.fx_order.proofs.ChainsFront.{front_is}
 pub use Rattle.fx_order.proofs.Intents.{same_opened, zip_at, by_intents, as_many_intents}
 pub use Rattle.fx_order.proofs.RequestCases.{each_placed, request_place}
 pub use Rattle.fx_order.specs.Requests.{AreIntended, IsDoneAtTable, IsRefused}
-pub use Rattle.std.proofs.Math.Seq.{take-length, drop-cons}
-pub use Rattle.std.proofs.lemmas.Bool.Decides.{Decides-and, Decides-ltb, Decides-int_eq}
+pub use Rattle.std.proofs.lemmas.Bool.Decides.{Decides-and, Decides-ltb}
 pub use Rattle.std.proofs.lemmas.Grind.{common_steps}
-pub use Rattle.std.proofs.lemmas.List.{map_push, length-map, drop_all}
+pub use Rattle.std.proofs.lemmas.List.{map_push, length-map}
 pub use Rattle.std.proofs.lemmas.List.Elements.{All-get_or}
 pub use Rattle.std.proofs.lemmas.Option.{slice_get-map, slice_get_read, slice_get-get_or, slice_get_past}
 pub use Rattle.std.specs.List.{list_any, list_all}

@@ -1,5 +1,5 @@
 //! Accesses that don't take a file from its slot: by the slot, by a known time, or by an answer.
-ghost use Rattle.check_certificate.specs.Words.{ℕ, All, IfSome, IsTrue, option_map, true, Completed, completed_of, Operation, Answered};
+ghost use Rattle.check_certificate.specs.Words.{ℕ, All, IfSome, IsTrue, true, Completed, Operation, Answered};
 ghost use Rattle.std.specs.Prelude.{◌≡◌};
 ghost use Rattle.fx_chain.specs.declared.intent.Intent.TheVariants.{Put as Installation};
 ghost use Rattle.check_certificate.specs.Absent.{is_negative};

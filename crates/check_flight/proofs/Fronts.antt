@@ -5,8 +5,8 @@ use Rattle.check_flight.proofs.Words.{Looks, Moment, Option, RingState, WasLogge
 use Rattle.check_flight.proofs.Words.{inl, inr, leb-true, log_of, made_by, nat_le, setting_of, sym, ℕ, ⊎_elim, ◌++◌, ◌∙◌, ◌∷◌, ◌≡◌, ◌≤◌, ◌⊎◌, []}
 use Rattle.check_flight.proofs.Words.{length, refl, ◌-◌, subst, Contains-push_cases, get_or_append_left, get_or_at, run_at, length-append, rules_of}
 use Rattle.check_flight.proofs.Words.{append-nil, append_assoc, IsNumbered, runs_with, AreReached, AreAnswers, AreFollowed, ArePassed, HasNoFlightBy}
-use Rattle.check_flight.proofs.Words.{Bool, IsInTurnIf, IsTrue, IsWholeIf, IsStopped, GoesOnTo, FlightView, Called, Freed, FileClosed, AllSettled}
-use Rattle.check_flight.proofs.Words.{MayFollow, lasts, was_logged, made_by-parts, was_read, was_seen}
+use Rattle.check_flight.proofs.Words.{Bool, IsInTurnIf, IsWholeIf, IsStopped, GoesOnTo, FlightView, Called, Freed, FileClosed, AllSettled, MayFollow}
+use Rattle.check_flight.proofs.Words.{lasts, was_logged, made_by-parts, was_read, was_seen}
 use Rattle.check_flight.specs.Refutations.{IsRefutation, IsRefutedFrom}
 use Rattle.check_flight.proofs.Steps.{event_leads, followed_on, in_turn, looks_on, not_stopped, shifted}
 

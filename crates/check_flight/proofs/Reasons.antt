@@ -1,5 +1,5 @@
 -- A verdict with a reason is right.
-use Rattle.check_flight.proofs.{◌≡◌, ℕ, ◌+◌, ◌<◌, ◌∙◌, ap, sym, refl, length, List, Option, None, Some, take, take-map, subst, all_happenings}
+use Rattle.check_flight.proofs.{◌≡◌, ℕ, ◌+◌, ◌<◌, ◌∙◌, ap, refl, length, List, Option, None, Some, take, take-map, subst, all_happenings}
 use Rattle.check_flight.proofs.{happening_of, ring_of_slots, Happening, HaveNoFlight, JudgedLog, Slots, catalogue_in, log_in, IsLegalLog, IsRight}
 use Rattle.std.specs.Prelude.{IfSome}
 use Rattle.check_flight.specs.declared.verdict.FlightVerdict.TheVariants.{NotLegal}

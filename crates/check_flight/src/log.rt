@@ -1,7 +1,7 @@
 //! Reads of the log that is judged at a position: an answer, a close, a hold.
 ghost use Rattle.check_flight.specs.Words.{Contains, IfSome, IsTrue, Some, length, take, all_completed, completed_of, Answered, FileClosed};
 ghost use Rattle.check_flight.specs.Words.{LookAnswered, all_happenings};
-ghost use Rattle.std.specs.Prelude.{◌≡◌, ◌≤◌};
+ghost use Rattle.std.specs.Prelude.{◌≤◌};
 ghost use Rattle.check_flight.specs.Judged.{log_in};
 ghost use Rattle.check_flight.specs.States.{IsDenied, IsFoundClosed, IsHeld, IsLookDenied, IsOneDenied};
 

@@ -1,6 +1,6 @@
 //! The effect of an event of the log on a state: it leads to another one, or is impossible.
-ghost use Rattle.check_flight.specs.Words.{ℕ, [], Contains, IfOk, IsTrue, List, length, take, Identity, Asked, all_asked, Called, FileClosed};
-ghost use Rattle.check_flight.specs.Words.{Happening, LookCalled, happening_of, IsLookDone, run_at};
+ghost use Rattle.check_flight.specs.Words.{[], Contains, IfOk, IsTrue, List, length, take, Identity, Asked, all_asked, Called, FileClosed, Happening};
+ghost use Rattle.check_flight.specs.Words.{LookCalled, happening_of, IsLookDone, run_at};
 ghost use Rattle.std.specs.Prelude.{◌≡◌, ◌+◌, ◌<◌, ◌≤◌};
 ghost use Rattle.check_flight.specs.Judged.{flight_view, log_in, rest_of, rules_of_log, runs_of_calls, IsPassage};
 ghost use Rattle.check_flight.specs.States.{IsNumbered, IsStopped, IsUnmade};

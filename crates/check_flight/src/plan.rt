@@ -1,6 +1,6 @@
 //! A flight that a search proposes, and the check that the accesses of a call have its answers.
-ghost use Rattle.check_flight.specs.Words.{IfOk, IsTrue, length, all_completed, all_asked, accesses_of_chain};
-ghost use Rattle.std.specs.Prelude.{◌≡◌, ◌<◌, ◌^◌};
+ghost use Rattle.check_flight.specs.Words.{IfOk, IsTrue, all_completed, all_asked, accesses_of_chain};
+ghost use Rattle.std.specs.Prelude.{◌≡◌, ◌<◌};
 ghost use Rattle.check_flight.specs.Player.{IsCallDone};
 
 use crate::judged::JudgedLog;

@@ -1,9 +1,7 @@
 -- The names of other crates that definitions and clauses here use, passed on from one place.
-pub use Rattle.std.specs.Prelude.{◌≡◌, ℕ, ◌+◌, ◌<◌, ◌≤◌, pos, int_lt, true, List, [], ◌++◌, length}
-pub use Rattle.std.specs.Prelude.{slice_get, slice_index_or, Option, Some, None, Result, Ok, Err}
-pub use Rattle.std.specs.Prelude.{Bool, ◌∷◌, take, drop, ◌==◌, map, filter, All, Contains, IsTrue}
-pub use Rattle.std.specs.Prelude.{◌⊎◌, Any, if◌then◌else◌, ◌^◌, OnOk, string_bytes, IfOk, OnErr}
-pub use Rattle.std.specs.Prelude.{false, ◌↔◌, IfNone, IfSome, not}
+pub use Rattle.std.specs.Prelude.{ℕ, pos, List, [], length, slice_get, Option, Some, None, Result}
+pub use Rattle.std.specs.Prelude.{Ok, Err, take, map, filter, All, Contains, IsTrue, Any, OnOk}
+pub use Rattle.std.specs.Prelude.{string_bytes, IfOk, OnErr, false, IfNone, IfSome, not}
 pub use Rattle.std.specs.Global.{Vec}
 pub use Rattle.std.specs.List.{AllZip, AllByRecursion, list_any}
 pub use Rattle.fx_base.specs.Identity.{Identity}

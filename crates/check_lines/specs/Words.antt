@@ -1,8 +1,7 @@
 -- The names of other crates that definitions and clauses here use, passed on from one place.
-pub use Rattle.std.specs.Prelude.{◌≡◌, ℕ, ◌+◌, pos, nat_le, false, List, [], codes, length, Option}
-pub use Rattle.std.specs.Prelude.{Some, None, if◌then◌else◌, ◌++◌, All, IsTrue, get_or, ◌<◌, ◌^◌, ℤ}
-pub use Rattle.std.specs.Prelude.{◌==◌, Bool, not, negsuc, map, ◌≤◌, IfOk, OnOk, string_bytes}
-pub use Rattle.std.specs.Prelude.{unwrap_or, IfNone, IfSome, option_map, decimal, drop}
+pub use Rattle.std.specs.Prelude.{ℕ, pos, nat_le, false, List, [], codes, length, Option, Some}
+pub use Rattle.std.specs.Prelude.{None, All, IsTrue, get_or, ℤ, Bool, not, negsuc, map, IfOk, OnOk}
+pub use Rattle.std.specs.Prelude.{string_bytes, unwrap_or}
 pub use Rattle.std.specs.List.{list_any, flat_map, list_all}
 pub use Rattle.std.specs.Option.{MatchOption, option_to_list}
 pub use Rattle.fx_base.specs.declared.catalogue.TheConstants.{MOST_ENTRIES}

@@ -1,8 +1,7 @@
 -- The names of other crates that definitions and clauses here use, passed on from one place.
-pub use Rattle.std.specs.Prelude.{◌≡◌, ℕ, List, ◌∷◌, ◌++◌, length, Contains, Option, Some, None}
-pub use Rattle.std.specs.Prelude.{◌+◌, ◌<◌, ◌≤◌, ◌==◌, Bool, true, [], map, slice_index_or, false}
-pub use Rattle.std.specs.Prelude.{IsTrue, All, IsPermutation, if◌then◌else◌, option_map, ◌&&◌}
-pub use Rattle.std.specs.Prelude.{nat_le, drop, slice_set, ◌-◌, not, IfSome, ◌^◌, IfOk, OnOk}
+pub use Rattle.std.specs.Prelude.{ℕ, List, length, Contains, Option, Some, None, Bool, true, []}
+pub use Rattle.std.specs.Prelude.{map, slice_index_or, false, IsTrue, All, IsPermutation}
+pub use Rattle.std.specs.Prelude.{option_map, drop, not, IfSome, IfOk, OnOk}
 pub use Rattle.fx_base.specs.Catalogue.{FileEntry, IsCatalogue}
 pub use Rattle.fx_chain.specs.Completed.{Completed, all_completed, completed_of, negated}
 pub use Rattle.fx_chain.specs.Completed.{next_member}

@@ -1,8 +1,7 @@
 -- The names of other crates that definitions and clauses here use, passed on from one place.
-pub use Rattle.std.specs.Prelude.{◌≡◌, ℕ, List, [], ◌∷◌, Option, Some, None, true, Contains, IsTrue}
-pub use Rattle.std.specs.Prelude.{All, length, map, slice_get, string_bytes, take, ◌⊎◌, ◌+◌, ◌++◌}
-pub use Rattle.std.specs.Prelude.{Bool, false, codes, ◌≤◌, ◌<◌, ◌^◌, ◌-◌, IfOk, OnOk, IfNone}
-pub use Rattle.std.specs.Prelude.{IfSome, string_eq}
+pub use Rattle.std.specs.Prelude.{ℕ, List, [], Some, None, true, Contains, IsTrue, All, length, map}
+pub use Rattle.std.specs.Prelude.{slice_get, string_bytes, Bool, IfOk, OnOk, IfNone, IfSome}
+pub use Rattle.std.specs.Prelude.{string_eq}
 pub use Rattle.std.specs.List.{flat_map, concat}
 pub use Rattle.fx_base.specs.Catalogue.{FileEntry, IsCatalogue}
 pub use Rattle.fx_language.specs.Instruction.{Instruction, instruction_of, SubmitsAll}

@@ -1,6 +1,6 @@
 //! A table that never has to be closed. One thread replaces a file 100,000 times, and another one
 //! looks it up 100,000 times.
-ghost use Rattle.std.specs.Prelude.{◌≡◌, ◌<◌, All, IfOk, length};
+ghost use Rattle.std.specs.Prelude.{◌≡◌, ◌<◌, All, length};
 ghost use Rattle.fx_lasting.specs.Tables.{IsPassOfTable, opening_of_table, view_of};
 ghost use Rattle.fx_table.specs.Opening.{size_of};
 ghost use Rattle.fx_table.specs.Pass.{IsIdle};

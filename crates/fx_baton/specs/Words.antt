@@ -1,8 +1,6 @@
 -- The names of other crates and of types that definitions and clauses here use, from one place.
-pub use Rattle.std.specs.Prelude.{◌≡◌, ℕ, ◌==◌, List, [], ◌∷◌, Some, None, true, false, flat_map}
-pub use Rattle.std.specs.Prelude.{◌-◌, ◌≤◌, Bool, ◌≢◌, ◌+◌, ◌<◌, ◌⊎◌, if◌then◌else◌, map, Option}
-pub use Rattle.std.specs.Prelude.{Contains, sum_by, length, option_map, All, refl, ◌++◌, reverse}
-pub use Rattle.std.specs.Prelude.{IfOk, IfErr, vec_capacity}
+pub use Rattle.std.specs.Prelude.{ℕ, List, [], Some, None, true, false, Bool, map, Option, Contains}
+pub use Rattle.std.specs.Prelude.{sum_by, length, option_map, All, refl}
 pub use Rattle.atomic_table.specs.Table.{step, Splits, Joins, Allows, Me, Step}
 pub use Rattle.fx_plain.specs.Contents.{Contents, IsTable, state_of, leaving}
 pub use Rattle.fx_plain.specs.declared.event.Event.{Event}

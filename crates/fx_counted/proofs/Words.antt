@@ -1,5 +1,5 @@
 -- The names that these proofs cite, passed on from one place. Declares nothing.
-pub use Rattle.atomic_table.proofs.Lists.{at_map, at_set, exchanged, set_else, set_here}
+pub use Rattle.atomic_table.proofs.Lists.{at_map, at_set, set_else, set_here}
 pub use Rattle.atomic_table.specs.Seated.{TableId}
 pub use Rattle.atomic_table.specs.Table.{Act, Allows, Final, Seen, Valid, carried_after, gives, keeps, rest, step, stepped, takes, Splits}
 pub use Rattle.atomic_table.specs.declared.shared.Seat.{Seat}
@@ -41,9 +41,9 @@ pub use Rattle.fx_counted.specs.declared.view.Work.TheVariants.{Between, Emptyin
 pub use Rattle.fx_plain.proofs.Cells.{changed_else, changed_here}
 pub use Rattle.fx_plain.specs.Contents.{Contents, IsPrepared, state_of}
 pub use Rattle.fx_plain.specs.History.{IsLegal, ReleasesItsOwn, action_of, held_after, held_by, part_of_pass, ◌▷▷◌, ◌▷◌}
-pub use Rattle.fx_plain.specs.State.{IsSettled, State, file_numbered}
+pub use Rattle.fx_plain.specs.State.{IsSettled, State}
 pub use Rattle.fx_plain.specs.Step.{changed_at, with_removed}
-pub use Rattle.fx_plain.specs.Table.{identity_of, number_of, numbered}
+pub use Rattle.fx_plain.specs.Table.{number_of, numbered}
 pub use Rattle.fx_plain.specs.declared.event.Action.{Action}
 pub use Rattle.fx_plain.specs.declared.event.Action.TheVariants.{Allocate, Clear, Close, Full, Look, Put, Release, Take}
 pub use Rattle.fx_plain.specs.declared.event.Event.{Event}
@@ -58,7 +58,7 @@ pub use Rattle.fx_table.specs.Calls.{Adds, Draws, Use, both_uses, no_use, one_lo
 pub use Rattle.fx_table.specs.Closing.{ClosesTable, times_drawn}
 pub use Rattle.fx_table.specs.Numbers.{numbers_for, numbers_up_to, once}
 pub use Rattle.fx_table.specs.Opening.{HasSameFiles, range_of, size_of, start_of}
-pub use Rattle.fx_table.specs.Pass.{IsIdle, PassView, event_of, new_pass, next_number, retired_of, hold_of, IsFront}
+pub use Rattle.fx_table.specs.Pass.{IsIdle, PassView, event_of, new_pass, next_number, retired_of, hold_of}
 pub use Rattle.fx_table.specs.Settling.{IsSettledSoFar}
 pub use Rattle.fx_table.specs.Tasks.{activity_of, retiring}
 pub use Rattle.fx_table.specs.declared.limits.TheConstants.{MAX_CHAINS, MAX_PASSES}
@@ -69,8 +69,8 @@ pub use Rattle.fx_words.specs.Words.{born, control_word_of, end_amount_of, full_
 pub use Rattle.fx_words.specs.Words.{slot_word_of, takes_in}
 pub use Rattle.std.proofs.Common.{Bool, IsSome, List, None, Option, Some, [], ap, arith, cond, eq-eqb, eqb, false, get_or, get_or-set_other}
 pub use Rattle.std.proofs.Common.{get_or-set_same, inl, inr, le-ltb, length, length-set, lt-ltb, map, nat_eq, nat_lt, refl, reverse, rules, set}
-pub use Rattle.std.proofs.Common.{slice_index, subst, suc, sym, true, vec_capacity, zero, ℕ, ⊎_elim, ◌%◌, ◌&&◌, ◌*◌, ◌++◌, ◌+◌, ◌-◌, ◌/◌, ◌<◌, ◌^◌}
-pub use Rattle.std.proofs.Common.{◌∙◌, ◌∷◌, ◌≡◌, ◌≢◌, ◌≤◌, ◌⊎◌, not}
+pub use Rattle.std.proofs.Common.{slice_index, subst, suc, sym, true, vec_capacity, zero, ℕ, ⊎_elim, ◌%◌, ◌&&◌, ◌*◌, ◌++◌, ◌+◌, ◌-◌, ◌<◌, ◌^◌, ◌∙◌}
+pub use Rattle.std.proofs.Common.{◌∷◌, ◌≡◌, ◌≢◌, ◌≤◌, ◌⊎◌, not}
 pub use Rattle.std.proofs.Math.Nat.{mul-add, mul-le-mul_left, mul-le-mul_right}
 pub use Rattle.std.proofs.lemmas.List.{append-nil, length-map, set-get_or}
 pub use Rattle.std.proofs.lemmas.List.Elements.{All-contains, Contains-append_left}

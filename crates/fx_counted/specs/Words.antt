@@ -1,10 +1,7 @@
 -- The names of other crates and of types that definitions and clauses here use, from one place.
-pub use Rattle.std.specs.Prelude.{◌≡◌, ℕ, ◌+◌, ◌*◌, ◌<◌, ◌≤◌, true, List, length, slice_index}
-pub use Rattle.std.specs.Prelude.{Option, Some, None, ◌==◌, Contains, count_by, sum_by, ◌/◌, ◌%◌}
-pub use Rattle.std.specs.Prelude.{◌^◌, ℤ, pos, negsuc, Bool, false, [], ◌∷◌, ◌≢◌, zero, suc, nat_lt}
-pub use Rattle.std.specs.Prelude.{if◌then◌else◌, ◌-◌, ◌⊎◌, flat_map, option_map, ◌++◌, map, reverse}
-pub use Rattle.std.specs.Prelude.{All, refl, IfSome, slice_set, IfOk, IfErr, OnOk, OnErr, vec_len}
-pub use Rattle.std.specs.Prelude.{vec_capacity}
+pub use Rattle.std.specs.Prelude.{ℕ, true, List, length, slice_index, Option, Some, None, Contains}
+pub use Rattle.std.specs.Prelude.{count_by, sum_by, false, [], zero, suc, nat_lt, option_map, map}
+pub use Rattle.std.specs.Prelude.{reverse, All, refl, IfSome}
 pub use Rattle.fx_base.specs.Identity.{Identity}
 pub use Rattle.fx_plain.specs.History.{held_by, part_of_pass, ◌▷◌, IsSeenBy}
 pub use Rattle.fx_plain.specs.Table.{numbered}

@@ -3,7 +3,7 @@
 //! number that the slot has at first, and nothing else is on that line.
 ghost use Rattle.std.specs.Prelude.{◌≡◌, ◌<◌, ◌≤◌};
 ghost use Rattle.fx_counted.specs.Words.{MOST_SLOTS};
-ghost use Rattle.fx_counted.specs.Layout.{control_place, draw_place, slot_place, node_place, words_for, home_place, homes_for, HasNode};
+ghost use Rattle.fx_counted.specs.Layout.{slot_place, node_place, words_for, home_place, homes_for, HasNode};
 
 use fx_table::{CHAIN_NUMBERS, FIRST_CHAIN_NUMBER, MAX_CHAINS};
 

@@ -1,5 +1,5 @@
 //! Opening a table.
-ghost use Rattle.std.specs.Prelude.{◌≡◌, ◌+◌, ◌*◌, ◌<◌, ◌≤◌, [], length, map, slice_set, All, IfOk, IfErr, OnOk, OnErr, vec_len, vec_capacity};
+ghost use Rattle.std.specs.Prelude.{◌≡◌, ◌+◌, ◌*◌, ◌<◌, ◌≤◌, [], length, map, slice_set, All, IfOk, IfErr, vec_len, vec_capacity};
 ghost use Rattle.fx_counted.specs.Words.{IsSettled, state_of, IsPrepared, MOST_SLOTS, IsGivenBack, opening_of_chains, IsIdle, new_passes, IsShellOf};
 ghost use Rattle.fx_counted.specs.Words.{slot_word_of, born, first_view};
 ghost use Rattle.fx_counted.specs.Firsts.{AreFirstWords};

@@ -1,9 +1,8 @@
 -- Beginnings of flights, and the events in them.
-use Rattle.fx_flight.proofs.Words.{◌≡◌, ◌≤◌, List, [], ◌∷◌, ◌++◌, length, refl, sym, ap, ◌∙◌, arith, suc, ⊎_elim}
-use Rattle.fx_flight.proofs.Words.{append-nil, append_assoc, ℕ, length-append, Contains, contains_cases, contains_none, contains_tail}
-use Rattle.fx_flight.proofs.Words.{Contains-append_cases, Identity, RingState, Place, Happening, FileClosed, Moment, Logged, Accesses, FlightSetting}
-use Rattle.fx_flight.proofs.Words.{WasLogged, log_of, taken_in, IsFlight, MayFollow, HasFlight, IsLegalLog}
-use Rattle.fx_flight.specs.Events.{first_of_call}
+use Rattle.fx_flight.proofs.{◌≡◌, ◌≤◌, List, [], ◌∷◌, ◌++◌, length, refl, sym, ap, ◌∙◌, arith, suc, ⊎_elim, append-nil, append_assoc, ℕ}
+use Rattle.fx_flight.proofs.{length-append, Contains, contains_cases, contains_none, contains_tail, Contains-append_cases, Identity, RingState, Place}
+use Rattle.fx_flight.proofs.{Happening, FileClosed, Moment, Logged, Accesses, FlightSetting, WasLogged, log_of, taken_in, IsFlight, MayFollow}
+use Rattle.fx_flight.proofs.{HasFlight, IsLegalLog, first_of_call}
 use Rattle.fx_flight.specs.Whole.{IsLegalByWholeUpdates, IsWhole}
 
 -- a list in two ways as two parts, the second part of the longer one not empty

@@ -1,13 +1,10 @@
 -- Chains that were done: their answers determine the number of their accesses, and have the
 -- members' places.
 use Rattle.fx_flight.proofs.Words.{◌≡◌, ℕ, ◌+◌, List, [], ◌∷◌, ◌++◌, length, refl, sym, ap, ◌∙◌, arith, length-append, Completed, next_member}
-use Rattle.fx_flight.proofs.Words.{append_assoc, append-nil, suc, take, canceled, severs, Asked, Place, IsChainDone, IsRequestDone, Access}
-use Rattle.fx_base.specs.Catalogue.{FileEntry}
+use Rattle.fx_flight.proofs.Words.{append_assoc, append-nil, suc, take, canceled, severs, Asked, Place, IsChainDone, IsRequestDone, Access, FileEntry}
+use Rattle.fx_flight.proofs.Words.{both_ways, either_way, refusal, Bool, true, false}
 use Rattle.fx_base.specs.declared.errno.Errno.TheVariants.{ECANCELED}
-use Rattle.fx_chain.proofs.Cases.{both_ways, either_way}
-use Rattle.fx_chain.specs.Completed.{refusal}
 use Rattle.fx_order.proofs.RequestCases.{counted, request_place}
-use Rattle.std.proofs.Common.{Bool, true, false}
 use Rattle.std.specs.Bool.{MatchBool}
 
 none_left : {X Y : Type 0} (xs : List X) (ys : List Y) (b : Bool) → MatchBool b ((xs ≡ xs) × (ys ≡ ys)) ((xs ≡ xs) × (ys ≡ ys))

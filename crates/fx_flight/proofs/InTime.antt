@@ -1,24 +1,15 @@
 -- A chain whose answers were all seen is done. A call that is over before another one begins makes
 -- all its accesses before all of that one's.
-use Rattle.fx_flight.proofs.Words.{◌≡◌, ◌⊎◌, ◌+◌, ◌<◌, ◌≤◌, List, [], ◌∷◌, ◌++◌, take, refl, sym, arith, subst, Asked, Called, Moment, Logged, log_of}
-use Rattle.fx_flight.proofs.Words.{ℕ, length, Option, ⊎_elim, Access, Answered, Accesses, WasLogged, made_by, IsBegun, MayAccess, MayFollow, IsFlight}
-use Rattle.fx_flight.proofs.Words.{ap, ◌∙◌, inl, inr}
-use Rattle.fx_flight.proofs.Words.{append_assoc, append-nil, Identity, IsChainDone, Happening, LookCalled, LookAnswered, FlightSetting, table_left_by}
-use Rattle.fx_flight.proofs.Words.{length-append, Contains, Contains-append_left, Contains-append_right, contains_cases, contains_none, contains_tail}
+use Rattle.fx_flight.proofs.{◌≡◌, ◌⊎◌, ◌+◌, ◌<◌, ◌≤◌, List, [], ◌∷◌, ◌++◌, take, refl, sym, arith, subst, Asked, Called, Moment, Logged, log_of, ℕ}
+use Rattle.fx_flight.proofs.{length, Option, ⊎_elim, Access, Answered, Accesses, WasLogged, made_by, IsBegun, MayAccess, MayFollow, IsFlight, ap, ◌∙◌}
+use Rattle.fx_flight.proofs.{inl, inr, append_assoc, append-nil, Identity, IsChainDone, Happening, LookCalled, LookAnswered, FlightSetting}
+use Rattle.fx_flight.proofs.{table_left_by, length-append, Contains, Contains-append_left, Contains-append_right, contains_cases, contains_none}
+use Rattle.fx_flight.proofs.{contains_tail, answer_place, same_length, new_number, one_call, IsFaultless, IsCallOf, IsAllOver, either_way, Permits}
+use Rattle.fx_flight.proofs.{Table, table_of, by_equality, if◌then◌else◌, nil_from_length, take_all}
 use Rattle.fx_flight.proofs.Beginnings.{earlier_part}
-use Rattle.fx_flight.proofs.Chains.{answer_place, same_length}
-use Rattle.fx_flight.proofs.Numbers.{new_number, one_call}
-use Rattle.fx_flight.specs.Faults.{IsFaultless}
-use Rattle.fx_flight.specs.Laws.{IsCallOf, IsAllOver}
-use Rattle.fx_chain.proofs.Cases.{either_way}
 use Rattle.fx_order.proofs.ChainsFront.{length-done}
 use Rattle.fx_order.proofs.Placed.{same_size}
-use Rattle.fx_order.specs.Access.{Permits, Table}
-use Rattle.fx_order.specs.Order.{table_of}
 use Rattle.fx_order.specs.declared.access.Access.TheVariants.{Looks}
-use Rattle.fx_plain.proofs.Cells.{by_equality}
-use Rattle.std.proofs.Common.{if◌then◌else◌}
-use Rattle.std.proofs.lemmas.List.{nil_from_length, take_all}
 use Rattle.std.specs.List.{AllByRecursion}
 
 pub in_log : (flight : List Moment) (e : Happening) → WasLogged flight e → Contains (log_of flight) e

@@ -1,12 +1,10 @@
 -- The calls of a log: no two have the same number.
 use Rattle.fx_flight.proofs.Words.{◌≡◌, ℕ, ◌+◌, ◌<◌, ◌≤◌, List, [], ◌∷◌, ◌++◌, refl, sym, ◌∙◌, arith, Option, Some, None, ⊎_elim, Contains, Called}
 use Rattle.fx_flight.proofs.Words.{length, length-append, Contains-append_right, contains_cases, contains_head, contains_none, Happening, LookCalled}
-use Rattle.fx_flight.specs.Faults.{event_fault, fault_of_log, or_in_rest, progress_after}
-use Rattle.fx_flight.specs.Laws.{IsCallOf}
+use Rattle.fx_flight.proofs.Words.{event_fault, fault_of_log, or_in_rest, progress_after, IsCallOf, length-set}
 use Rattle.fx_flight.specs.declared.fault.EventFault.{EventFault}
 use Rattle.fx_flight.specs.declared.fault.LogFault.{LogFault}
 use Rattle.fx_flight.specs.declared.fault.CallProgress.{CallProgress}
-use Rattle.std.proofs.lemmas.List.{length-set}
 
 no_fault : (at : ℕ) (fault : Option EventFault) (later : Option LogFault) → or_in_rest at fault later ≡ None → (fault ≡ None) × (later ≡ None)
 no_fault at None later is = (refl, is)

@@ -1,27 +1,19 @@
 -- A submission that follows an order of its requests has a flight: all calls, then the order, then
 -- all answers, all closes.
-use Rattle.fx_flight.proofs.Words.{◌≡◌, ◌⊎◌, ◌+◌, ◌<◌, ◌≤◌, ◌==◌, List, [], ◌∷◌, ◌++◌, map, refl, sym, ap, ◌∙◌, inl, inr, Some, Asked, Logged, log_of}
-use Rattle.fx_flight.proofs.Words.{ℕ, append_assoc, contains_tail, IsChainDone, ChainAccess, LookAnswered, FlightSetting, table_left_by, first_member}
-use Rattle.fx_flight.proofs.Words.{length, arith, ⊎_elim, Contains, Identity, Access, Called, Answered, Moment, Accesses, made_by, taken_in, IsFlight}
-use Rattle.fx_flight.proofs.Words.{append-nil, Completed, RingState, Happening, FileClosed, AllSettled, WasLogged, MayAccess, MayFollow, HasFlight}
-use Rattle.fx_flight.proofs.Words.{Contains-append_cases, Contains-append_left, Contains-append_right, contains_cases, contains_head, contains_none}
-use Rattle.fx_flight.proofs.Chains.{answer_chain, part_done}
-use Rattle.fx_flight.specs.Laws.{answer_of_chain, calls_of, log_of_submission}
-use Rattle.fx_base.specs.Catalogue.{FileEntry}
+use Rattle.fx_flight.proofs.{◌≡◌, ◌⊎◌, ◌+◌, ◌<◌, ◌≤◌, ◌==◌, List, [], ◌∷◌, ◌++◌, map, refl, sym, ap, ◌∙◌, inl, inr, Some, Asked, Logged, log_of, ℕ}
+use Rattle.fx_flight.proofs.{append_assoc, contains_tail, IsChainDone, ChainAccess, LookAnswered, FlightSetting, table_left_by, first_member, length}
+use Rattle.fx_flight.proofs.{arith, ⊎_elim, Contains, Identity, Access, Called, Answered, Moment, Accesses, made_by, taken_in, IsFlight, append-nil}
+use Rattle.fx_flight.proofs.{Completed, RingState, Happening, FileClosed, AllSettled, WasLogged, MayAccess, MayFollow, HasFlight}
+use Rattle.fx_flight.proofs.{Contains-append_cases, Contains-append_left, Contains-append_right, contains_cases, contains_head, contains_none}
+use Rattle.fx_flight.proofs.{answer_chain, part_done, answer_of_chain, calls_of, log_of_submission, FileEntry, PermitsAll, Table, access_of}
+use Rattle.fx_flight.proofs.{accesses_of, accesses_of_chain, file_removed_by, files_removed_in, IsOneOrder, table_of, AreChainsDone, by_equality}
+use Rattle.fx_flight.proofs.{IsRing, contains_map, contains_mapped, filter, if◌then◌else◌, slice_get, slice_index_or, subst, suc, zero, map-append}
+use Rattle.fx_flight.proofs.{All-contains, filter-append}
 use Rattle.fx_chain.specs.Accepted.{IsAccepted}
 use Rattle.fx_chain.specs.Runs.{runs_of}
 use Rattle.fx_order.proofs.OneRing.{each_closed_file_is_known}
-use Rattle.fx_order.specs.Access.{PermitsAll, Table, access_of, accesses_of, accesses_of_chain, file_removed_by, files_removed_in}
 use Rattle.fx_order.specs.Laws.{AreKnown}
-use Rattle.fx_order.specs.Order.{IsOneOrder, table_of}
-use Rattle.fx_order.specs.Requests.{AreChainsDone}
-use Rattle.fx_plain.proofs.Cells.{by_equality}
-use Rattle.fx_ring.specs.Ring.{IsRing}
 use Rattle.fx_ring.specs.Submission.{Reported}
-use Rattle.fx_table.proofs.SumLemmas.{contains_map, contains_mapped}
-use Rattle.std.proofs.Common.{filter, if◌then◌else◌, slice_get, slice_index_or, subst, suc, zero}
-use Rattle.std.proofs.lemmas.List.{map-append}
-use Rattle.std.proofs.lemmas.List.Elements.{All-contains, filter-append}
 use Rattle.std.proofs.lemmas.List.Sorted.{Contains-permutation, IsPermutation-sym}
 use Rattle.std.specs.Option.{option_to_list}
 

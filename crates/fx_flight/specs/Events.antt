@@ -1,10 +1,6 @@
 -- The events of a log, without their places in memory.
-use Rattle.std.specs.Prelude.{ℕ, List, map, Option}
-use Rattle.fx_base.specs.Identity.{Identity}
-use Rattle.fx_chain.specs.Completed.{Completed, completed_of}
-use Rattle.fx_chain.specs.Explains.{first_member}
-use Rattle.fx_chain.specs.Operation.{Asked, all_asked}
-use Rattle.fx_chain.specs.declared.completion.Place.{Place}
+use Rattle.fx_flight.specs.Words.{ℕ, List, map, Option, Identity, Completed, completed_of}
+use Rattle.fx_flight.specs.Words.{first_member, Asked, all_asked, Place}
 use Rattle.fx_flight.specs.declared.event.LogEvent.{LogEvent}
 use Rattle.fx_flight.specs.declared.event.LogEvent.TheVariants.{Call, Done, Look, Found, Free}
 use Rattle.fx_flight.specs.declared.event.LogEvent.TheVariants.{Closed, Settled}

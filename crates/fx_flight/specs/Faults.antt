@@ -1,21 +1,16 @@
 -- The reasons why a list of events is not a log.
-use Rattle.std.specs.Prelude.{◌≡◌, ℕ, ◌+◌, ◌-◌, ◌==◌, nat_le, ◌&&◌, Bool, true, false, List, []}
-use Rattle.std.specs.Prelude.{◌∷◌, ◌++◌, length, slice_get, slice_set, Option, Some, None}
-use Rattle.std.specs.Prelude.{if◌then◌else◌}
-use Rattle.std.specs.List.{list_all}
-use Rattle.fx_base.specs.Identity.{Identity}
+use Rattle.fx_flight.specs.Words.{ℕ, nat_le, Bool, true, false, List, [], length, slice_get}
+use Rattle.fx_flight.specs.Words.{slice_set, Option, Some, None, list_all, Identity, Asked, runs_of}
+use Rattle.fx_flight.specs.Words.{Place}
+use Rattle.std.specs.Prelude.{◌≡◌, ◌+◌, ◌-◌, ◌==◌, ◌&&◌, ◌∷◌, ◌++◌, if◌then◌else◌}
 use Rattle.fx_chain.specs.Faults.{fault_of}
-use Rattle.fx_chain.specs.Operation.{Asked}
-use Rattle.fx_chain.specs.Runs.{runs_of}
-use Rattle.fx_chain.specs.declared.completion.Place.{Place}
 use Rattle.fx_chain.specs.declared.fault.CutFault.{CutFault}
 use Rattle.fx_flight.specs.Events.{Happening, Called, Answered, LookCalled, LookAnswered, Freed}
 use Rattle.fx_flight.specs.Events.{FileClosed, AllSettled}
 use Rattle.fx_flight.specs.declared.fault.EventFault.{EventFault}
 use Rattle.fx_flight.specs.declared.fault.EventFault.TheVariants.{WrongNumber, NotOneChain}
-use Rattle.fx_flight.specs.declared.fault.EventFault.TheVariants.{NotCalled}
-use Rattle.fx_flight.specs.declared.fault.EventFault.TheVariants.{OutOfTurn, AnsweredTwice, NotHeld}
-use Rattle.fx_flight.specs.declared.fault.EventFault.TheVariants.{StillOpen}
+use Rattle.fx_flight.specs.declared.fault.EventFault.TheVariants.{NotCalled, OutOfTurn}
+use Rattle.fx_flight.specs.declared.fault.EventFault.TheVariants.{AnsweredTwice, NotHeld, StillOpen}
 use Rattle.fx_flight.specs.declared.fault.LogFault.{LogFault}
 use Rattle.fx_flight.specs.declared.fault.CallProgress.{CallProgress}
 use Rattle.fx_flight.specs.declared.fault.CallProgress.TheVariants.{Chain, Looking, Holding, Over}

@@ -1,18 +1,12 @@
 -- Flights: the events of a log with the accesses of its calls between them. A flight has its newest
 -- moment first, as histories do.
-use Rattle.std.specs.Prelude.{◌≡◌, ◌⊎◌, ℕ, ◌+◌, ◌==◌, nat_le, if◌then◌else◌, List, [], ◌∷◌, ◌++◌}
-use Rattle.std.specs.Prelude.{length, take, Contains, Option, Some, None}
+use Rattle.fx_flight.specs.Words.{ℕ, nat_le, List, [], length, take, Contains, Option, Some, None}
+use Rattle.fx_flight.specs.Words.{Identity, Completed, Asked, Place, RingState, table_of}
+use Rattle.fx_flight.specs.Words.{IsChainDone, Access}
+use Rattle.std.specs.Prelude.{◌≡◌, ◌⊎◌, ◌+◌, ◌==◌, if◌then◌else◌, ◌∷◌, ◌++◌}
 use Rattle.std.specs.Bool.{MatchBool}
 use Rattle.std.specs.Option.{option_to_list}
-use Rattle.fx_base.specs.Identity.{Identity}
-use Rattle.fx_chain.specs.Completed.{Completed}
-use Rattle.fx_chain.specs.Operation.{Asked}
-use Rattle.fx_chain.specs.declared.completion.Place.{Place}
-use Rattle.fx_ring.specs.Ring.{RingState}
 use Rattle.fx_order.specs.Access.{Table, Permits, table_with, file_removed_by}
-use Rattle.fx_order.specs.Order.{table_of}
-use Rattle.fx_order.specs.Requests.{IsChainDone}
-use Rattle.fx_order.specs.declared.access.Access.{Access}
 use Rattle.fx_order.specs.declared.access.Access.TheVariants.{Looks}
 use Rattle.fx_order.specs.declared.access.ChainAccess.{ChainAccess}
 use Rattle.fx_flight.specs.Events.{Happening, Called, Answered, LookCalled, LookAnswered, Freed}

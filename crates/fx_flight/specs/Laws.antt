@@ -1,23 +1,16 @@
 -- Laws of flights. A flight is written with `▷` and `▷▷`, its oldest moment first.
-use Rattle.std.specs.Prelude.{◌≡◌, ◌⊎◌, ℕ, ◌+◌, List, [], ◌∷◌, ◌++◌, map, Contains, Option}
-use Rattle.std.specs.List.{AllByRecursion}
-use Rattle.fx_base.specs.Identity.{Identity}
+use Rattle.fx_flight.specs.Words.{ℕ, List, [], map, Contains, Option, AllByRecursion, Identity}
+use Rattle.fx_flight.specs.Words.{Completed, first_member, Asked, runs_of, RingState, IsRing}
+use Rattle.fx_flight.specs.Words.{IsOneOrder, IsChainDone}
+use Rattle.std.specs.Prelude.{◌≡◌, ◌⊎◌, ◌+◌, ◌∷◌, ◌++◌}
 use Rattle.fx_plain.specs.History.{◌▷◌, ◌▷▷◌}
 use Rattle.fx_chain.specs.Accepted.{IsAccepted}
-use Rattle.fx_chain.specs.Completed.{Completed}
-use Rattle.fx_chain.specs.Explains.{first_member}
-use Rattle.fx_chain.specs.Operation.{Asked}
-use Rattle.fx_chain.specs.Runs.{runs_of}
-use Rattle.fx_ring.specs.Ring.{RingState, IsRing}
 use Rattle.fx_ring.specs.Submission.{Reported}
-use Rattle.fx_order.specs.Order.{IsOneOrder}
-use Rattle.fx_order.specs.Requests.{IsChainDone}
 use Rattle.fx_flight.specs.Events.{Happening, Called, Answered, LookCalled, LookAnswered}
 use Rattle.fx_flight.specs.Events.{FileClosed, AllSettled}
 use Rattle.fx_flight.specs.Faults.{IsFaultless}
 use Rattle.fx_flight.specs.Flight.{Moment, Logged, WasLogged, log_of, made_by, taken_in}
-use Rattle.fx_flight.specs.Flight.{FlightSetting}
-use Rattle.fx_flight.specs.Flight.{IsFlight, HasFlight, IsLegalLog}
+use Rattle.fx_flight.specs.Flight.{FlightSetting, IsFlight, HasFlight, IsLegalLog}
 
 -- each beginning of a legal log is legal
 abbrev pub EachBeginningIsLegal : Type 0

@@ -3,3 +3,4 @@ pub mod Faults
 pub mod Flight
 pub mod Laws
 pub mod Whole
+pub mod Words

@@ -1,11 +1,8 @@
 -- Flights by whole updates: each call makes the accesses of one member together. Only an update
 -- makes more than one.
-use Rattle.std.specs.Prelude.{◌≡◌, ◌⊎◌, ℕ, List, [], ◌∷◌, ◌++◌, take, Bool, IsTrue, true}
-use Rattle.fx_chain.specs.Completed.{Completed}
-use Rattle.fx_chain.specs.Operation.{Asked}
-use Rattle.fx_ring.specs.Ring.{RingState}
-use Rattle.fx_order.specs.Requests.{IsChainDone}
-use Rattle.fx_order.specs.declared.access.Access.{Access}
+use Rattle.fx_flight.specs.Words.{ℕ, List, [], take, Bool, IsTrue, true, Completed, Asked}
+use Rattle.fx_flight.specs.Words.{RingState, IsChainDone, Access}
+use Rattle.std.specs.Prelude.{◌≡◌, ◌⊎◌, ◌∷◌, ◌++◌}
 use Rattle.fx_flight.specs.Events.{Happening, Called, LookCalled, first_of_call}
 use Rattle.fx_flight.specs.Flight.{FlightSetting, Moment, Logged, Accesses, WasLogged, made_by}
 use Rattle.fx_flight.specs.Flight.{IsLegalLog}

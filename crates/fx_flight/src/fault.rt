@@ -1,10 +1,9 @@
 //! Faults: why a list of events is not a log, whatever the accesses.
-ghost use Rattle.std.specs.Prelude.{◌≡◌, ℕ, [], IfOk, None};
-ghost use Rattle.std.specs.List.{list_all};
-ghost use Rattle.fx_chain.specs.Operation.{all_asked};
+ghost use Rattle.fx_flight.specs.Words.{[], IfOk, None, list_all, all_asked};
+ghost use Rattle.std.specs.Prelude.{◌≡◌};
 ghost use Rattle.fx_flight.specs.Events.{all_happenings, happening_of};
-ghost use Rattle.fx_flight.specs.Faults.{answer_fault, call_at, event_fault, fault_unless, fault_of_log};
-ghost use Rattle.fx_flight.specs.Faults.{is_answered, is_one_chain, progress_after, set_call};
+ghost use Rattle.fx_flight.specs.Faults.{answer_fault, call_at, event_fault, fault_unless, fault_of_log, is_answered, is_one_chain, progress_after};
+ghost use Rattle.fx_flight.specs.Faults.{set_call};
 
 use crate::event::LogEvent;
 use fx_base::NoMemory;

@@ -1,7 +1,7 @@
 //! Laws of flights, over definitions alone. Each is the contract of a function with an empty body.
 
-ghost use Rattle.fx_flight.specs.Laws.{EachAnsweredChainIsDone, EachBeginningIsLegal, EachCallIsInItsTime};
-ghost use Rattle.fx_flight.specs.Laws.{EachClosedFileWasRemoved, EachOrderIsAFlight, NoSecondClose};
+ghost use Rattle.fx_flight.specs.Laws.{EachAnsweredChainIsDone, EachBeginningIsLegal, EachCallIsInItsTime, EachClosedFileWasRemoved};
+ghost use Rattle.fx_flight.specs.Laws.{EachOrderIsAFlight, NoSecondClose};
 ghost use Rattle.fx_flight.specs.Whole.{EachBeginningIsLegalByWholeUpdates, EachLogOfWholeUpdatesIsLegal};
 
 /// States that each beginning of a legal log is legal. So a log that isn't legal has a first event

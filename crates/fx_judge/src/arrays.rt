@@ -3,9 +3,8 @@ ghost use Rattle.std.specs.Prelude.{◌≡◌};
 ghost use Rattle.fx_chain.specs.Completed.{completed_of};
 ghost use Rattle.fx_chain.specs.Operation.{all_asked, asked_of, operation_of};
 ghost use Rattle.fx_flight.specs.Events.{all_happenings, happening_of};
-ghost use Rattle.fx_judge.specs.Arrays.{answer_passed, are_known_flags, asked_passed, chain_passed};
-ghost use Rattle.fx_judge.specs.Arrays.{happening_passed, log_passed, named_passed, opens_passed};
-ghost use Rattle.fx_judge.specs.Arrays.{operation_passed, passed_log, place_passed};
+ghost use Rattle.fx_judge.specs.Arrays.{answer_passed, are_known_flags, asked_passed, chain_passed, happening_passed, log_passed, named_passed};
+ghost use Rattle.fx_judge.specs.Arrays.{opens_passed, operation_passed, passed_log, place_passed};
 ghost use Rattle.fx_judge.specs.Reading.{ReadsOrFails};
 ghost use Rattle.fx_judge.specs.declared.unread.LogRefusal.TheVariants.{Malformed};
 

@@ -1,11 +1,9 @@
 -- The names of other crates and of types that definitions and clauses here use, from one place.
-pub use Rattle.std.specs.Prelude.{◌≡◌, ℕ, ◌<◌, List, slice_index, ◌≤◌, ◌⊎◌, Bool, true, false, []}
-pub use Rattle.std.specs.Prelude.{◌∷◌, Option, ◌+◌, ◌%◌, ◌^◌, zero, suc, ◌==◌, if◌then◌else◌, ◌≢◌}
-pub use Rattle.std.specs.Prelude.{◌-◌, ◌*◌, ◌/◌, ◌↔◌, nat_lt, min, slice_set, ◌++◌, map, count_by}
-pub use Rattle.std.specs.Prelude.{Some, IsSome, bit_and, not, replicate, length, ◌&&◌, Err}
-pub use Rattle.std.specs.Prelude.{Contains, sum_by, flat_map, Result, Ok, IsTrue, is_some}
-pub use Rattle.std.specs.Prelude.{option_map, reverse, vec_len, vec_capacity, All, IfOk, IfSome}
-pub use Rattle.std.specs.Prelude.{IfErr}
+pub use Rattle.std.specs.Prelude.{ℕ, List, slice_index, Bool, true, false, [], Option, zero, suc}
+pub use Rattle.std.specs.Prelude.{nat_lt, min, slice_set, map, count_by, Some, IsSome, bit_and, not}
+pub use Rattle.std.specs.Prelude.{replicate, length, Err, Contains, sum_by, flat_map, Result, Ok}
+pub use Rattle.std.specs.Prelude.{IsTrue, is_some, option_map, reverse, vec_len, vec_capacity, All}
+pub use Rattle.std.specs.Prelude.{IfOk, IfSome, IfErr}
 pub use Rattle.fx_plain.specs.declared.event.Event.{Event}
 pub use Rattle.fx_lasting.specs.declared.view.Start.{Start}
 pub use Rattle.fx_base.specs.Identity.{Identity}

@@ -4,9 +4,9 @@ pub use Rattle.fx_lasting.proofs.Words.{action_of, part_of_pass, ◌▷▷◌, �
 pub use Rattle.fx_lasting.proofs.Words.{Take, Event, File, Adds, LookedUp, ReleasesFile, Use, one_look, Opening, PassView, new_pass, Doing, Holding}
 pub use Rattle.fx_lasting.proofs.Words.{Hold, Retired, All, Bool, Err, List, None, Ok, Option, Result, [], ap, arith, cond, false, inl, inr, le-ltb}
 pub use Rattle.fx_lasting.proofs.Words.{length, lt-ltb, length-append, map, nat_lt, ne_eqb, refl, reverse, rules, set, subst, suc, suc-mul, sym, zero}
-pub use Rattle.fx_lasting.proofs.Words.{ℕ, ◌*◌, ◌++◌, ◌+◌, ◌-◌, ◌/◌, ◌<◌, ◌==◌, ◌^◌, ◌∙◌, ◌∷◌, ◌≡◌, ◌≢◌, ◌≤◌, ◌⊎◌, append_assoc, length-map}
-pub use Rattle.fx_lasting.proofs.Words.{length-set, map-append, get_or-map-range_with_len, length-map-range_with_len, range_with_len, Some, Contents}
-pub use Rattle.fx_lasting.proofs.Words.{state_of, eq-eqb, dite, ℕ_discrete, dec_le}
+pub use Rattle.fx_lasting.proofs.Words.{ℕ, ◌*◌, ◌++◌, ◌+◌, ◌-◌, ◌/◌, ◌<◌, ◌^◌, ◌∙◌, ◌∷◌, ◌≡◌, ◌≢◌, ◌≤◌, ◌⊎◌, append_assoc, length-map, length-set}
+pub use Rattle.fx_lasting.proofs.Words.{map-append, get_or-map-range_with_len, length-map-range_with_len, range_with_len, Some, Contents, state_of}
+pub use Rattle.fx_lasting.proofs.Words.{eq-eqb, dite, ℕ_discrete, dec_le}
 pub use Rattle.fx_table.proofs.Words.{start_of, IsFront, event_of, drop, slice_index_or, take, get_or-map, take-append-drop, All-push}
 pub use Rattle.fx_table.proofs.Words.{map-range_with_len_more, common_steps}
 pub use Rattle.fx_plain.proofs.Words.{AllowsAll, state_after, IsInstalled, IsStart, installed_by, Allows, All-cons, All-nil}

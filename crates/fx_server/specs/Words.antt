@@ -1,8 +1,7 @@
 -- The names of other crates and of types that definitions and clauses here use, from one place.
-pub use Rattle.std.specs.Prelude.{◌≡◌, ◌⊎◌, ℕ, ℤ, pos, Bool, true, false, Option, Some, None}
-pub use Rattle.std.specs.Prelude.{Result, Ok, Err, ◌≢◌, List, ◌==◌, zero, suc, ◌+◌, ◌*◌, ◌^◌, ◌≤◌}
-pub use Rattle.std.specs.Prelude.{nat_lt, if◌then◌else◌, map, ◌/◌, ◌%◌, ◌<◌, length, slice_index_or}
-pub use Rattle.std.specs.Prelude.{[], ◌∷◌, All, is_some, IfOk, IfErr}
+pub use Rattle.std.specs.Prelude.{ℕ, ℤ, pos, Bool, true, false, Option, Some, None, Result, Ok, Err}
+pub use Rattle.std.specs.Prelude.{List, zero, suc, nat_lt, map, length, slice_index_or, All, IfOk}
+pub use Rattle.std.specs.Prelude.{IfErr}
 pub use Rattle.fx_base.specs.Identity.{Identity}
 pub use Rattle.fx_table.specs.Calls.{LookedUp, Placed, Released, Taken, HasRetired}
 pub use Rattle.fx_table.specs.Opening.{Opening, start_of, state_at, lasting_opening, size_of}

@@ -1,8 +1,6 @@
-use Rattle.fx_flight.proofs.Words.{◌≡◌, []}
+use Rattle.fx_flight.proofs.{◌≡◌, [], all_happenings, drop}
+use Rattle.fx_flight.proofs.Words.{fault_of_log}
 use Rattle.fx_flight.proofs.fault.fault_of_log.Given as goal
-use Rattle.fx_flight.specs.Events.{all_happenings}
-use Rattle.fx_flight.specs.Faults.{fault_of_log}
-use Rattle.std.proofs.Common.{drop}
 
 -- the first fault is that of the events that are left
 abbrev pub invariant-loop-i : goal.invariant-loop-i

@@ -4,8 +4,6 @@ use Rattle.check_certificate.specs.Walks.{is_walked}
 use Rattle.check_certificate.proofs.Forcing.{event_is}
 use Rattle.check_certificate.proofs.Walks.{all_more, event_inside, next_call, not_all, or_false}
 use Rattle.check_certificate.proofs.Impossible.{or_right}
-use Rattle.check_certificate.proofs.beginning.LogBeginning.is_walked.Goals.{else-at-end-via-then-at-end+else-not-is_call_ruled_out}
-use Rattle.check_certificate.proofs.beginning.LogBeginning.is_walked.Goals.{else-at-end-via-else-at-end}
 use Rattle.check_certificate.proofs.beginning.LogBeginning.is_walked.Goals as goal
 
 pub loop-at-preserved : goal.loop-at-preserved

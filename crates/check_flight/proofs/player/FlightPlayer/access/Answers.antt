@@ -1,4 +1,4 @@
-use Rattle.check_flight.proofs.{◌≡◌, ◌+◌, ◌<◌, ◌∙◌, ap, arith, false≢true, length, refl, sym, accesses_in, answers_in, answers_of_plan, FlightCall}
+use Rattle.check_flight.proofs.{◌≡◌, ◌+◌, ◌<◌, ◌∙◌, ap, arith, false≢true, length, refl, sym, accesses_in, answers_of_plan, FlightCall}
 use Rattle.check_flight.proofs.{get_or_default, accesses_at, answers_at, moves_access}
 use Rattle.std.specs.Vec.{with_item}
 use Rattle.check_flight.proofs.player.FlightPlayer.access.Goals as goal
