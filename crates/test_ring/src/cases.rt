@@ -54,30 +54,16 @@ fn refuted_order_leaves_the_opposite_one(rt: HostRuntime) {
 
 #[test]
 fn cases_are_whole(rt: HostRuntime) {
-    let supposed = supposes(2, 1);
+    let (supposed, next, last) = (supposes(2, 1), events(1, 2), Step::Otherwise);
     let log = stale_log(&rt, true).expect(&rt, "memory");
-    let case = [
-        supposed,
-        events(1, 2),
-        then(0, 1),
-        Step::Otherwise,
-        then(0, 1),
-    ];
+    let case = [supposed, next, then(0, 1), last, then(0, 1)];
     // the contradiction is one of the supposition, and what followed from that isn't known later
     for count in [3, 5] {
         assert!(rt; refutes(&rt, &log, 6, &case[..count]) == Ok(false));
     }
     // a case ends by a contradiction, nothing else ends, and one order is supposed at a time
-    let open = [supposed, events(1, 2), Step::Otherwise];
-    let nothing = [events(1, 2), Step::Otherwise];
-    let twice = [
-        supposed,
-        supposed,
-        events(1, 2),
-        then(1, 2),
-        Step::Otherwise,
-    ];
-    assert!(rt; refutes_from(&rt, &open, 1) == Ok(false));
-    assert!(rt; refutes_from(&rt, &nothing, 0) == Ok(false));
+    let twice = [supposed, supposed, next, then(1, 2), last];
+    assert!(rt; refutes_from(&rt, &[supposed, next, last], 1) == Ok(false));
+    assert!(rt; refutes_from(&rt, &[next, last], 0) == Ok(false));
     assert!(rt; refutes_from(&rt, &twice, 4) == Ok(false));
 }
