@@ -4,7 +4,8 @@ use Rattle.fx_order.proofs.Words.{length, take, drop, IsTrue, not-true, Decides-
 use Rattle.fx_order.proofs.Words.{IsPermutation, remove, Decides-eqb, append-nil, length-append, take_all, take_more, split_at, sum_by-IsPermutation}
 use Rattle.fx_order.proofs.Words.{length_permutation, IsPermutation-more, sum_by-append, sum_by-cons, ◌⊎◌, inl, inr, ⊎_elim, Table, Permits}
 use Rattle.fx_order.proofs.Words.{Contains-get_or, recursion_from_All, IsDistinct-cons, PermitsAll, table_with, table_after, file_removed_by, Access}
-use Rattle.fx_order.proofs.Words.{files_removed_in, false, option_to_list, rules, Option, Some, None, option_eq, IsDistinct}
+use Rattle.fx_order.proofs.Words.{files_removed_in, false, option_to_list, rules, Option, Some, None, option_eq}
+use Rattle.std.specs.List.{IsDistinct}
 use Rattle.fx_base.specs.contracts.mark.MarkPartialEq.TheImpl.{eq-value as eq_of_mark}
 use Rattle.fx_base.specs.contracts.open_file.ClosedPartialEq.TheImpl.{eq-value as eq_of_file}
 use Rattle.fx_order.proofs.Placed.{Has, Removes, emptied, has_either, has_left, has_right, left_from, placed, placed_by, removed_from}
