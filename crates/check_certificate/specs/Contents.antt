@@ -6,7 +6,7 @@ use Rattle.std.specs.Prelude.{◌==◌, ◌&&◌}
 use Rattle.std.specs.Str.{bytes_eq}
 use Rattle.check_certificate.specs.Cut.{asked_by}
 use Rattle.check_certificate.specs.Made.{made}
-use Rattle.check_certificate.specs.Said.{Given, event_at, done_at, only_if}
+use Rattle.check_certificate.specs.Said.{◌>>=◌, Given, event_at, done_at, only_if}
 
 -- an access with this evidence finds some file at the slot
 abbrev pub is_seen : Evidence → ℕ → Bool

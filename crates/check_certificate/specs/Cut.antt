@@ -5,7 +5,7 @@ use Rattle.check_certificate.specs.Words.{Completed, is_error, Asked, Happening,
 use Rattle.std.specs.Prelude.{◌+◌, ◌-◌, ◌==◌, ◌&&◌, ◌||◌, if◌then◌else◌}
 use Rattle.fx_chain.specs.Explains.{severs}
 use Rattle.check_certificate.specs.Rules.{never}
-use Rattle.check_certificate.specs.Said.{Given, event_at, done_at, only_if}
+use Rattle.check_certificate.specs.Said.{◌>>=◌, Given, event_at, done_at, only_if}
 
 -- the member after a request with this answer is canceled
 abbrev pub is_cut : Asked → Completed → Bool

@@ -10,7 +10,7 @@ use Rattle.check_certificate.specs.Holds.{answer_of, is_answered_at, is_some_so,
 use Rattle.check_certificate.specs.Made.{made}
 use Rattle.check_certificate.specs.Rules.{before, same_point, joined, events_in_order, ends}
 use Rattle.check_certificate.specs.Rules.{installs}
-use Rattle.check_certificate.specs.Said.{Given, same_file, call_at, done_at}
+use Rattle.check_certificate.specs.Said.{◌>>=◌, Given, same_file, call_at, done_at}
 use Rattle.check_certificate.specs.Taken.{slot_taken}
 use Rattle.check_certificate.specs.declared.certificate.Point.TheVariants.{Access, Put}
 
