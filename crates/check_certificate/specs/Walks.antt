@@ -12,7 +12,8 @@ use Rattle.check_certificate.specs.Leaves.{takes_none}
 use Rattle.check_certificate.specs.Made.{intended, made}
 use Rattle.check_certificate.specs.Rules.{before, not_after, same_point, event_of, gone_of, joined}
 use Rattle.check_certificate.specs.Rules.{put_of}
-use Rattle.check_certificate.specs.Said.{◌>>=◌, Given, slots_of, only_if, same_file, call_of, event_at}
+use Rattle.check_certificate.specs.Said.{◌>>=◌, Given, slots_of, only_if, same_file, call_of}
+use Rattle.check_certificate.specs.Said.{event_at}
 use Rattle.check_certificate.specs.Walked.{end_of, member_of}
 use Rattle.check_certificate.specs.declared.certificate.Point.TheVariants.{Access, Put}
 use Rattle.check_certificate.specs.declared.walk.WalkAim.TheVariants.{Finds}
