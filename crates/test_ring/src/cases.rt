@@ -1,6 +1,6 @@
 //! Certificates by cases: an order is supposed and refuted, and then the opposite one is known.
-//! What followed from the supposition is no longer known then. While an order is supposed, nothing
-//! ends a certificate.
+//! Orders that followed from it are no longer known then. While an order is supposed, nothing ends
+//! a certificate.
 use crate::certificates::{begins, empties, ends, events, installs, refutes, stale_log, then};
 use crate::setting::Host;
 use check_certificate::{Point, PointOrder, Step};
